@@ -1,0 +1,90 @@
+//! Tokens, blanks and comparison without case.
+ghost use Rattle.std.specs.Prelude.{◌≡◌};
+ghost use Rattle.std.specs.List.{list_all};
+ghost use Rattle.gate_bytes.specs.Tokens.{is_token, is_token_byte, is_blank, without_front, without_end, trimmed, equal_fold};
+
+/// Whether two texts are equal without ASCII case.
+pub fn eq_fold(a: &[u8], b: &[u8]) -> bool
+    ensures { result ≡ equal_fold a.now b.now }
+{
+    a.eq_ignore_ascii_case(b)
+}
+
+/// Whether a text is a token: one or more letters, digits or bytes of ``!#$%&'*+-.^_`|~``
+/// (RFC 2326, 15.1; RFC 7826, 20.1).
+pub fn is_token(text: &[u8]) -> bool
+    ensures { result ≡ is_token text.now }
+{
+    !text.is_empty() && has_token_bytes_alone(text)
+}
+
+/// Whether each byte of a text may stand in a token.
+fn has_token_bytes_alone(text: &[u8]) -> bool
+    ensures { result ≡ list_all is_token_byte text.now }
+{
+    text.iter().all(|byte| is_token_byte(*byte))
+}
+
+/// Whether a byte may stand in a token.
+fn is_token_byte(byte: u8) -> bool
+    ensures { result ≡ is_token_byte byte }
+{
+    byte.is_ascii_alphanumeric()
+        || matches!(
+            byte,
+            b'!' | b'#'
+                | b'$'
+                | b'%'
+                | b'&'
+                | b'\''
+                | b'*'
+                | b'+'
+                | b'-'
+                | b'.'
+                | b'^'
+                | b'_'
+                | b'`'
+                | b'|'
+                | b'~'
+        )
+}
+
+/// The text without the spaces and tabs at both ends.
+pub fn trim(text: &[u8]) -> &[u8]
+    ensures { result.now ≡ trimmed text.now }
+{
+    trim_end(trim_front(text))
+}
+
+/// Whether a byte is a space or a tab.
+fn is_blank(byte: u8) -> bool
+    ensures { result ≡ is_blank byte }
+{
+    byte == b' ' || byte == b'\t'
+}
+
+/// The text without the spaces and tabs at its front.
+fn trim_front(mut text: &[u8]) -> &[u8]
+    ensures { result.now ≡ without_front text.entry.now }
+{
+    while let [first, more @ ..] = text {
+        if !is_blank(*first) {
+            break;
+        }
+        text = more;
+    }
+    text
+}
+
+/// The text without the spaces and tabs at its end.
+fn trim_end(mut text: &[u8]) -> &[u8]
+    ensures { result.now ≡ without_end text.entry.now }
+{
+    while let [more @ .., last] = text {
+        if !is_blank(*last) {
+            break;
+        }
+        text = more;
+    }
+    text
+}
