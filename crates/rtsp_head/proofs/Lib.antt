@@ -1,0 +1,10 @@
+pub mod DigitLemmas
+pub mod LineLemmas
+pub mod SpanLemmas
+pub mod TrimLemmas
+pub mod TallyLemmas
+pub mod CutLemmas
+pub mod WriteLemmas
+pub mod FaultLemmas
+pub mod ListLemmas
+pub mod SoundLemmas

@@ -1,0 +1,7 @@
+use Rattle.std.proofs.Common.{rules}
+use Rattle.rtsp_head.proofs.SoundLemmas.{read_sound}
+use Rattle.rtsp_head.proofs.head.read_head.Goals as goal
+
+pub returns-clause-writable : goal.returns-clause-writable
+returns-clause-writable c =
+    read_sound c.args.bytes.now (record { start = c.in_ok-start.start; headers = c.in_ok-headers.headers }) (search rules)

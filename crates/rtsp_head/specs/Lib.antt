@@ -1,0 +1,10 @@
+pub mod Lines
+pub mod Starts
+pub mod Headers
+pub mod Heads
+pub mod Written
+pub mod Views
+pub mod Tallies
+pub mod Items
+pub mod Shapes
+pub mod Spellings

@@ -1,0 +1,77 @@
+-- What a check of the headers keeps in place of them: enough for the length of the body.
+use Rattle.std.specs.Prelude.{ℕ, ◌+◌, ◌==◌, nat_lt, codes, if◌then◌else◌, List, [], ◌∷◌, length, Option, Some, None, Result, Ok, Err}
+use Rattle.std.specs.Option.{option_or}
+use Rattle.gate_bytes.specs.Tokens.{equal_fold}
+use Rattle.gate_bytes.specs.Numbers.{number_in}
+use Rattle.rtsp_head.specs.declared.header.Header.{Header}
+use Rattle.rtsp_head.specs.declared.facts.Length.{Length}
+use Rattle.rtsp_head.specs.declared.facts.Length.TheVariants as lengths
+use Rattle.rtsp_head.specs.declared.fault.HeadFault.{HeadFault}
+use Rattle.rtsp_head.specs.declared.fault.HeadFault.TheVariants.{Colon, Many}
+use Rattle.rtsp_head.specs.declared.tally.Part.{Part}
+use Rattle.rtsp_head.specs.declared.tally.Part.TheVariants as parts
+use Rattle.rtsp_head.specs.declared.tally.Last.{Last}
+use Rattle.rtsp_head.specs.declared.tally.Last.TheVariants as lasts
+use Rattle.rtsp_head.specs.declared.tally.Tally.{Tally}
+use Rattle.rtsp_head.specs.Lines.{and_then}
+use Rattle.rtsp_head.specs.Headers.{Further, More, Begins, further_of}
+
+abbrev pub number_part : Option ℕ → Part
+number_part None = parts.Other
+number_part (Some n) = parts.Number n
+
+-- what a text says, where it may be a part of a length's text
+abbrev pub part_of : List ℕ → Part
+part_of text = if length text == 0 then parts.Blank else number_part (number_in 10 text)
+
+-- what two texts say that are joined by a space: two that aren't empty are no number
+abbrev pub joined : Part → Part → Part
+joined part parts.Blank = part
+joined parts.Blank (parts.Number n) = parts.Number n
+joined parts.Blank parts.Other = parts.Other
+joined (parts.Number m) (parts.Number n) = parts.Other
+joined (parts.Number m) parts.Other = parts.Other
+joined parts.Other (parts.Number n) = parts.Other
+joined parts.Other parts.Other = parts.Other
+
+abbrev pub last_part : Last → Option Part
+last_part lasts.Missing = None
+last_part lasts.Other = None
+last_part (lasts.Length part) = Some part
+
+abbrev pub last_of : List ℕ → List ℕ → Last
+last_of name value = if equal_fold name (codes "Content-Length") then lasts.Length (part_of value) else lasts.Other
+
+abbrev pub tally_more : Tally → Last → Part → Result Tally HeadFault
+tally_more tally lasts.Missing more = Err Colon
+tally_more tally lasts.Other more = Ok tally
+tally_more tally (lasts.Length part) more = Ok (record { count = tally.count; found = tally.found; last = lasts.Length (joined part more) })
+
+abbrev pub tally_header : Tally → Header → Result Tally HeadFault
+tally_header tally header =
+    if nat_lt tally.count 64 then Ok (record { count = tally.count + 1; found = option_or tally.found (last_part tally.last); last = last_of header.name header.value }) else Err Many
+
+abbrev pub tally_with : Tally → Further → Result Tally HeadFault
+tally_with tally (More text) = tally_more tally tally.last (part_of text)
+tally_with tally (Begins header) = tally_header tally header
+
+abbrev pub tally_line : Tally → List ℕ → Result Tally HeadFault
+tally_line tally line = and_then (tally_with tally) (further_of line)
+
+abbrev pub tally_lines : Tally → List (List ℕ) → Result Tally HeadFault
+tally_lines tally [] = Ok tally
+tally_lines tally (line ∷ lines) = and_then (λ next. tally_lines next lines) (tally_line tally line)
+
+abbrev pub part_length : Option Part → Length
+part_length None = lengths.Absent
+part_length (Some parts.Blank) = lengths.Bad
+part_length (Some (parts.Number n)) = lengths.Bytes n
+part_length (Some parts.Other) = lengths.Bad
+
+-- the length that the headers give
+abbrev pub tally_length : Tally → Length
+tally_length tally = part_length (option_or tally.found (last_part tally.last))
+
+-- no header yet
+abbrev pub empty_tally : Tally
+empty_tally = record { count = 0; found = None; last = lasts.Missing }

@@ -1,0 +1,23 @@
+-- What the private types of this crate say, without where it lies in memory.
+use Rattle.rtsp_head.specs.declared.start.Start.{Start}
+use Rattle.rtsp_head.specs.declared.start.Start.TheVariants.{Request, Status}
+use Rattle.rtsp_head.specs.declared.start.StartLine.{StartLine}
+use Rattle.rtsp_head.specs.declared.start.StartLine.TheVariants as start_lines
+use Rattle.rtsp_head.specs.declared.further.FurtherLine.{FurtherLine}
+use Rattle.rtsp_head.specs.declared.further.FurtherLine.TheVariants as further_lines
+use Rattle.rtsp_head.specs.declared.reading.Reading.{Reading}
+use Rattle.rtsp_head.specs.Headers.{Further, More, Begins, SoFar}
+
+-- what a first line says whose parts are borrowed
+abbrev pub start_seen : StartLine → Start
+start_seen (start_lines.Request method uri version) = Request method.now uri.now version.now
+start_seen (start_lines.Status version code reason) = Status version.now code reason.now
+
+-- what a further line says whose parts are borrowed
+abbrev pub further_seen : FurtherLine → Further
+further_seen (further_lines.More text) = More text.now
+further_seen (further_lines.Begins name value) = Begins (record { name = name.now; value = value.now })
+
+-- the headers that were read so far
+abbrev pub so_far : Reading → SoFar
+so_far reading = record { above = reading.above; last = reading.last }

@@ -1,0 +1,87 @@
+//! The list of a head's headers.
+ghost use Rattle.std.specs.Prelude.{◌≡◌, ◌<◌, ◌↔◌, [], ◌∷◌, ◌++◌, length, slice_get, option_map, IsTrue, IfErr, OnOk, OnErr};
+ghost use Rattle.rtsp_head.specs.Headers.{field_of};
+
+use crate::Header;
+use gate_bytes::{Memory, Text, eq_fold};
+use std::alloc::Global;
+use std::marker::Model;
+
+/// An owned list of headers. Contracts see it as that list.
+#[derive(Drop)]
+pub struct Headers {
+    items: Vec<Header>,
+}
+
+impl Model for Headers {
+    ghost use Rattle.std.specs.Prelude.{List};
+    ghost use Rattle.rtsp_head.specs.declared.header.Header.{Header};
+
+    ghost Value = { List Header };
+
+    ghost view = { λ h. h.items.items };
+}
+
+impl Headers {
+    /// The empty list. It takes no memory.
+    pub fn new(alloc: Global) -> Headers
+        ensures { result ≡ [] }
+    {
+        Headers {
+            items: Vec::new(alloc),
+        }
+    }
+
+    /// The number of headers.
+    pub fn len(&self) -> usize
+        ensures { result ≡ length self.now }
+    {
+        self.items.len()
+    }
+
+    /// Whether there is no header.
+    pub fn is_empty(&self) -> bool
+        ensures { IsTrue result ↔ (self.now ≡ []) }
+    {
+        self.items.is_empty()
+    }
+
+    /// The header at a place.
+    pub fn at(&self, place: usize) -> &Header
+        requires { place < length self.now }
+        ensures { slice_get self.now place ≡ Some result.now }
+    {
+        &self.items[place]
+    }
+
+    /// Appends a header. Where memory is wanting the header comes back.
+    pub fn push(&mut self, item: Header) -> Result<(), (Header, Memory)>
+        ensures ok { OnOk result (self.new ≡ self.old ++ item ∷ []) }
+        ensures err { IfErr result (λ refused. refused.0 ≡ item) }
+        ensures same { OnErr result (self.new ≡ self.old) }
+    {
+        match self.items.push(item) {
+            Ok(()) => Ok(()),
+            Err(failed) => Err((failed.value, Memory)),
+        }
+    }
+
+    /// The headers, in their order.
+    pub(crate) fn as_slice(&self) -> &[Header]
+        ensures { result.now ≡ self.now }
+    {
+        self.items.as_slice()
+    }
+
+    /// The value of the first header of a name, without ASCII case (RFC 7826, 5.2).
+    pub(crate) fn field(&self, name: &[u8]) -> Option<&[u8]>
+        ensures { option_map (λ value. value.now) result ≡ field_of self.now name.now }
+    {
+        for header in &self.items {
+            if eq_fold(header.name.as_bytes(), name) {
+                return Some(header.value.as_bytes());
+            }
+        }
+        None
+    }
+}

@@ -1,0 +1,91 @@
+//! Items: what stands on a stream, one after another.
+ghost use Rattle.std.specs.Prelude.{◌≡◌, length, take, Some};
+ghost use Rattle.rtsp_head.specs.Items.{first_extent, is_bad};
+
+use gate_bytes::{Text, before};
+
+/// Why an item is bad.
+#[derive(Clone, Copy, Debug, PartialEq, Eq)]
+pub enum BadKind {
+    /// 8,192 bytes of a head hold no empty line.
+    Head,
+    /// A line of the head holds a byte 0, or a CR that does not belong to its end.
+    Control,
+    /// The first line is neither a request line nor a status line.
+    Start,
+    /// A further line has no colon, or continues a header that is not there.
+    Colon,
+    /// What stands before a line's colon is not a token.
+    Name,
+    /// The head has more than 64 headers.
+    Many,
+    /// Its Content-Length is not 1 to 10 digits.
+    Length,
+    /// Its Content-Length is above 65,536.
+    Body,
+}
+
+/// What an item is.
+#[derive(Clone, Copy, Debug, PartialEq, Eq)]
+pub enum ItemKind {
+    /// A request: a head, then its body.
+    Request,
+    /// A response: a head that begins with a version, then its body.
+    Response,
+    /// An interleaved frame (RFC 2326, 10.12; RFC 7826, 14): `$`, the channel, two bytes of
+    /// length, the load.
+    Frame,
+    /// A head that is not sound, or a body that is not taken. Nothing is read after it.
+    Bad(BadKind),
+}
+
+impl ItemKind {
+    /// Whether it is bad, so that nothing is read after it.
+    pub fn is_bad(self) -> bool
+        ensures { result ≡ is_bad self }
+    {
+        matches!(self, ItemKind::Bad(_))
+    }
+}
+
+/// What stands at the front of some bytes, where it is a whole item.
+#[derive(Clone, Copy, Debug, PartialEq, Eq)]
+pub struct Span {
+    /// What it is.
+    pub kind: ItemKind,
+    /// Its bytes.
+    pub len: usize,
+    /// The bytes of its head: 0 for a frame, all of them for a bad item.
+    pub head: usize,
+}
+
+/// Where the first item of a stream stands.
+#[derive(Clone, Copy, Debug, PartialEq, Eq)]
+pub struct Extent {
+    /// The bytes of the empty lines before it.
+    pub skipped: usize,
+    /// What stands behind them.
+    pub span: Span,
+}
+
+/// One whole item of a stream.
+#[derive(Drop)]
+pub struct Item {
+    /// What it is.
+    pub kind: ItemKind,
+    /// Its bytes, without the empty lines before it.
+    pub bytes: Text,
+    /// The bytes of its head: 0 for a frame, all of them for a bad item.
+    pub head: usize,
+    /// The bytes are those of one item of this kind, and the head has this length.
+    pub ghost whole: { first_extent bytes ≡ Some (record { skipped = 0; span = record { kind = kind; len = length bytes; head = head } }) },
+}
+
+impl Item {
+    /// The bytes of its head.
+    pub fn head_bytes(&self) -> &[u8]
+        ensures { result.now ≡ take self.now.head self.now.bytes }
+    {
+        before(self.bytes.as_bytes(), self.head)
+    }
+}

@@ -1,0 +1,27 @@
+//! Heads of RTSP 1.0 and RTSP 2.0 messages: reading, checking, looking up and writing; and the
+//! items of a stream.
+#![tactic(auto)]
+
+mod facts;
+mod fault;
+mod further;
+mod head;
+mod header;
+mod headers;
+mod item;
+mod line;
+mod reading;
+mod start;
+mod tally;
+#[cfg(test)]
+mod tests;
+mod write;
+
+pub use facts::{Facts, Length, check_head};
+pub use fault::HeadFault;
+pub use head::{Head, read_head};
+pub use header::Header;
+pub use headers::Headers;
+pub use item::{BadKind, Extent, Item, ItemKind, Span};
+pub use start::Start;
+pub use write::write_head;

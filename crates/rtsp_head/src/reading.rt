@@ -1,0 +1,109 @@
+//! The headers of a head, line by line.
+ghost use Rattle.std.specs.Prelude.{◌≡◌, [], Option, Some, None, Ok, IfOk, IfErr, OnOk};
+ghost use Rattle.rtsp_head.specs.Lines.{FaultUnlessMemory, IsUnlessMemory};
+ghost use Rattle.rtsp_head.specs.Headers.{SoFar, closed, continued, with_header, with_line, headers_in, no_headers};
+ghost use Rattle.gate_bytes.specs.Tokens.{trimmed};
+ghost use Rattle.rtsp_head.specs.Views.{so_far};
+
+use crate::further::{FurtherLine, further_line};
+use crate::{HeadFault, Header, Headers};
+use gate_bytes::{Memory, Text, trim};
+use std::alloc::Global;
+
+/// The most headers that a head may have.
+pub(crate) const MOST_HEADERS: usize = 64;
+
+/// The headers of the lines so far: the last one apart, since the next line may go on with it.
+#[derive(Drop)]
+pub(crate) struct Reading {
+    pub(crate) above: Headers,
+    pub(crate) last: Option<Header>,
+}
+
+impl Reading {
+    /// No header yet.
+    pub(crate) fn new(alloc: Global) -> Reading
+        ensures { so_far result ≡ no_headers }
+    {
+        Reading {
+            above: Headers::new(alloc),
+            last: None,
+        }
+    }
+
+    /// Reads one more line. After an error the headers are of no use.
+    pub(crate) fn take_line(&mut self, alloc: Global, line: &[u8]) -> Result<(), HeadFault>
+        ensures ok { OnOk result (with_line (so_far self.old) line.now ≡ Ok (so_far self.new)) }
+        ensures err { IfErr result (λ fault. FaultUnlessMemory fault (with_line (so_far self.old) line.now)) }
+    {
+        match further_line(line)? {
+            FurtherLine::More(text) => self.go_on(text),
+            FurtherLine::Begins { name, value } => self.begin(alloc, name, value),
+        }
+    }
+
+    /// Joins a text to the value of the last header by one space.
+    fn go_on(&mut self, text: &[u8]) -> Result<(), HeadFault>
+        ensures ok { OnOk result (continued (so_far self.old) text.now self.old.last ≡ Ok (so_far self.new)) }
+        ensures err { IfErr result (λ fault. FaultUnlessMemory fault (continued (so_far self.old) text.now self.old.last)) }
+    {
+        let Some(mut header) = self.last.take() else {
+            return Err(HeadFault::Colon);
+        };
+        header.value.push_slice(b" ")?;
+        header.value.push_slice(text)?;
+        self.last = Some(header);
+        Ok(())
+    }
+
+    /// Begins a header.
+    fn begin(&mut self, alloc: Global, name: &[u8], value: &[u8]) -> Result<(), HeadFault>
+        ensures ok { OnOk result (with_header (so_far self.old) (record { name = name.now; value = value.now }) ≡ Ok (so_far self.new)) }
+        ensures err { IfErr result (λ fault. FaultUnlessMemory fault (with_header (so_far self.old) (record { name = name.now; value = value.now }))) }
+    {
+        self.close_last(alloc)?;
+        if self.above.len() >= MOST_HEADERS {
+            return Err(HeadFault::Many);
+        }
+        self.last = Some(Header {
+            name: Text::copy(alloc, name)?,
+            value: Text::copy(alloc, value)?,
+        });
+        Ok(())
+    }
+
+    /// Puts the last header to those above, with its value trimmed.
+    fn close_last(&mut self, alloc: Global) -> Result<(), Memory>
+        ensures { OnOk result ((self.new.above ≡ headers_in (so_far self.old)) × (self.new.last ≡ None)) }
+    {
+        let Some(header) = self.last.take() else {
+            return Ok(());
+        };
+        match self.above.push(close(alloc, header)?) {
+            Ok(()) => Ok(()),
+            Err(_) => Err(Memory),
+        }
+    }
+
+    /// All headers.
+    pub(crate) fn finish(mut self, alloc: Global) -> Result<Headers, Memory>
+        ensures { IfOk result (λ headers. headers ≡ headers_in (so_far self)) }
+    {
+        self.close_last(alloc)?;
+        Ok(self.above)
+    }
+}
+
+/// The header with its value trimmed.
+fn close(alloc: Global, header: Header) -> Result<Header, Memory>
+    ensures { IfOk result (λ it. it ≡ record { name = header.name; value = trimmed header.value }) }
+{
+    let value = trim(header.value.as_bytes());
+    if value.len() == header.value.len() {
+        return Ok(header);
+    }
+    Ok(Header {
+        value: Text::copy(alloc, value)?,
+        name: header.name,
+    })
+}

@@ -1,0 +1,151 @@
+//! The first line of a head.
+ghost use Rattle.std.specs.Prelude.{◌≡◌, IfOk, option_map, nat_eq};
+ghost use Rattle.rtsp_head.specs.Lines.{result_map};
+ghost use Rattle.rtsp_head.specs.Starts.{names_protocol, is_unspaced, code_of, request_of, status_of, start_of};
+ghost use Rattle.rtsp_head.specs.Views.{start_seen};
+
+use crate::HeadFault;
+use crate::line::{cut, has_control};
+use gate_bytes::{Memory, Text, read_decimal};
+use std::alloc::Global;
+
+/// What the first line of a head says.
+#[derive(Drop)]
+pub enum Start {
+    /// A request line: three parts without a space, of which the version begins with `RTSP/`.
+    Request {
+        /// The method, as it was written; it need not be a token.
+        method: Text,
+        /// The URI, as it was written.
+        uri: Text,
+        /// The version.
+        version: Text,
+    },
+    /// A status line.
+    Status {
+        /// The version, which begins with `RTSP/`.
+        version: Text,
+        /// The code, 100 to 999.
+        code: u16,
+        /// The reason, which may be empty.
+        reason: Text,
+    },
+}
+
+/// What a first line says, with its parts where they stand in it.
+#[derive(Clone, Copy)]
+pub(crate) enum StartLine<'a> {
+    Request {
+        method: &'a [u8],
+        uri: &'a [u8],
+        version: &'a [u8],
+    },
+    Status {
+        version: &'a [u8],
+        code: u16,
+        reason: &'a [u8],
+    },
+}
+
+impl StartLine<'_> {
+    /// The same, owned.
+    pub(crate) fn own(&self, alloc: Global) -> Result<Start, Memory>
+        ensures { IfOk result (λ start. start ≡ start_seen self.now) }
+    {
+        match self {
+            StartLine::Request {
+                method,
+                uri,
+                version,
+            } => Ok(Start::Request {
+                method: Text::copy(alloc, method)?,
+                uri: Text::copy(alloc, uri)?,
+                version: Text::copy(alloc, version)?,
+            }),
+            StartLine::Status {
+                version,
+                code,
+                reason,
+            } => Ok(Start::Status {
+                version: Text::copy(alloc, version)?,
+                code: *code,
+                reason: Text::copy(alloc, reason)?,
+            }),
+        }
+    }
+}
+
+/// What a first line says: a status line where it begins with `RTSP/`, else a request line.
+pub(crate) fn start_line(line: &[u8]) -> Result<StartLine<'_>, HeadFault>
+    ensures { result_map start_seen result ≡ start_of line.now }
+{
+    if has_control(line) {
+        return Err(HeadFault::Control);
+    }
+    let found = if names_protocol(line) {
+        status_line(line)
+    } else {
+        request_line(line)
+    };
+    found.ok_or(HeadFault::Start)
+}
+
+/// Three parts with one space between them, of which the third begins with `RTSP/`
+/// (RFC 2326, 6.1; RFC 7826, 20.2).
+fn request_line(line: &[u8]) -> Option<StartLine<'_>>
+    ensures { option_map start_seen result ≡ request_of line.now }
+{
+    let (method, rest) = cut(b' ', line)?;
+    let (uri, version) = cut(b' ', rest)?;
+    if !method.is_empty() && !uri.is_empty() && is_unspaced(version) && names_protocol(version) {
+        Some(StartLine::Request {
+            method,
+            uri,
+            version,
+        })
+    } else {
+        None
+    }
+}
+
+/// A version, a code, and nothing or a space and a reason (RFC 2326, 7.1; RFC 7826, 20.2).
+fn status_line(line: &[u8]) -> Option<StartLine<'_>>
+    ensures { option_map start_seen result ≡ status_of line.now }
+{
+    let (version, rest) = cut(b' ', line)?;
+    let (code, reason) = match cut(b' ', rest) {
+        Some(parts) => parts,
+        None => (rest, b"".as_slice()),
+    };
+    let code = read_code(code)?;
+    Some(StartLine::Status {
+        version,
+        code,
+        reason,
+    })
+}
+
+/// A code of three digits, 100 to 999.
+fn read_code(text: &[u8]) -> Option<u16>
+    ensures { result ≡ code_of text.now }
+{
+    let code = read_decimal(text, 3)?;
+    if code < 100 {
+        return None;
+    }
+    Some(code as u16)
+}
+
+/// Whether a text begins with `RTSP/`.
+fn names_protocol(text: &[u8]) -> bool
+    ensures { result ≡ names_protocol text.now }
+{
+    text.starts_with(b"RTSP/")
+}
+
+/// Whether no byte of a text is a space.
+fn is_unspaced(text: &[u8]) -> bool
+    ensures { result ≡ is_unspaced text.now }
+{
+    text.iter().all(|byte| *byte != b' ')
+}

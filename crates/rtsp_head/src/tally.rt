@@ -1,0 +1,150 @@
+//! The length of a body by the headers, line by line, without memory.
+ghost use Rattle.std.specs.Prelude.{◌≡◌, None, Ok, Err, IfErr, OnOk};
+ghost use Rattle.rtsp_head.specs.Tallies.{empty_tally, part_of, joined, last_part, last_of, tally_more, tally_header, tally_line, tally_length};
+
+use crate::further::{FurtherLine, further_line};
+use crate::reading::MOST_HEADERS;
+use crate::{HeadFault, Length};
+use gate_bytes::{eq_fold, read_decimal};
+
+/// What a text says, where it may be a part of a length's text.
+#[derive(Clone, Copy)]
+pub(crate) enum Part {
+    /// Nothing.
+    Blank,
+    /// A number of 1 to 10 digits.
+    Number(u64),
+    /// Anything else.
+    Other,
+}
+
+/// The last header so far.
+#[derive(Clone, Copy)]
+pub(crate) enum Last {
+    /// There is no header yet.
+    Missing,
+    /// It is no Content-Length.
+    Other,
+    /// It is one, whose value says this so far.
+    Length(Part),
+}
+
+/// What is kept of the headers so far: their number, the first Content-Length above the last header,
+/// and the last header.
+#[derive(Clone, Copy)]
+pub(crate) struct Tally {
+    pub(crate) count: usize,
+    pub(crate) found: Option<Part>,
+    pub(crate) last: Last,
+}
+
+impl Part {
+    /// What a text says.
+    fn of(text: &[u8]) -> Part
+        ensures { result ≡ part_of text.now }
+    {
+        if text.is_empty() {
+            return Part::Blank;
+        }
+        match read_decimal(text, 10) {
+            Some(number) => Part::Number(number),
+            None => Part::Other,
+        }
+    }
+
+    /// What two texts say that are joined by a space.
+    fn joined(self, more: Part) -> Part
+        ensures { result ≡ joined self more }
+    {
+        match (self, more) {
+            (part, Part::Blank) => part,
+            (Part::Blank, part) => part,
+            _ => Part::Other,
+        }
+    }
+}
+
+impl Last {
+    /// A header as the last one.
+    fn of(name: &[u8], value: &[u8]) -> Last
+        ensures { result ≡ last_of name.now value.now }
+    {
+        if eq_fold(name, b"Content-Length") {
+            Last::Length(Part::of(value))
+        } else {
+            Last::Other
+        }
+    }
+
+    /// What its value says, where it is a Content-Length.
+    fn part(self) -> Option<Part>
+        ensures { result ≡ last_part self }
+    {
+        match self {
+            Last::Length(part) => Some(part),
+            Last::Missing | Last::Other => None,
+        }
+    }
+}
+
+impl Tally {
+    /// No header yet.
+    pub(crate) fn new() -> Tally
+        ensures { result ≡ empty_tally }
+    {
+        Tally {
+            count: 0,
+            found: None,
+            last: Last::Missing,
+        }
+    }
+
+    /// The same with one more line.
+    pub(crate) fn with_line(self, line: &[u8]) -> Result<Tally, HeadFault>
+        ensures { result ≡ tally_line self line.now }
+    {
+        match further_line(line)? {
+            FurtherLine::More(text) => self.with_more(Part::of(text)),
+            FurtherLine::Begins { name, value } => self.with_header(name, value),
+        }
+    }
+
+    /// The same with more text of the last header.
+    fn with_more(self, more: Part) -> Result<Tally, HeadFault>
+        ensures { result ≡ tally_more self self.last more }
+    {
+        match self.last {
+            Last::Missing => Err(HeadFault::Colon),
+            Last::Other => Ok(self),
+            Last::Length(part) => Ok(Tally {
+                last: Last::Length(part.joined(more)),
+                ..self
+            }),
+        }
+    }
+
+    /// The same with one more header.
+    fn with_header(self, name: &[u8], value: &[u8]) -> Result<Tally, HeadFault>
+        ensures { result ≡ tally_header self (record { name = name.now; value = value.now }) }
+    {
+        if self.count >= MOST_HEADERS {
+            return Err(HeadFault::Many);
+        }
+        Ok(Tally {
+            count: self.count + 1,
+            found: self.found.or(self.last.part()),
+            last: Last::of(name, value),
+        })
+    }
+
+    /// The length that the headers give.
+    pub(crate) fn length(self) -> Length
+        ensures { result ≡ tally_length self }
+    {
+        match self.found.or(self.last.part()) {
+            None => Length::Absent,
+            Some(Part::Number(number)) => Length::Bytes(number),
+            Some(Part::Blank | Part::Other) => Length::Bad,
+        }
+    }
+}
