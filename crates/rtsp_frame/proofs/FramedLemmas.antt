@@ -1,0 +1,31 @@
+-- What a framer owes to a stream, when a piece comes.
+use Rattle.std.proofs.Common.{◌≡◌, ℕ, List, ◌++◌, Option, Some, None, sym, ap, ◌∙◌, append_assoc}
+use Rattle.rtsp_head.specs.Items.{Shape, Cut, cut}
+use Rattle.rtsp_frame.specs.Framing.{Held, Framed}
+use Rattle.rtsp_frame.proofs.CutLemmas.{joined_rest, cut_append}
+
+-- behind a bad item nothing is added
+pub framed_done : (held : Held) (stream piece : List ℕ) (given : List Shape) → held.rest ≡ None → Framed held stream given → Framed held (stream ++ piece) given
+framed_done held stream piece given none h =
+    let done : (cut stream).rest ≡ None = sym h.rest ∙ none in
+    let same : cut (stream ++ piece) ≡ record { items = (cut stream).items; rest = None } =
+    cut_append stream piece ∙ ap (λ (rest : Option (List ℕ)). joined_rest (cut stream).items rest piece) done in
+    record {
+      items = h.items ∙ ap (λ (c : Cut). c.items) (sym same);
+      rest = none ∙ ap (λ (c : Cut). c.rest) (sym same);
+    }
+
+-- otherwise the items of the rest and of the piece are added
+pub framed_more : (old new : Held) (stream piece rest : List ℕ) (given : List Shape) → old.rest ≡ Some rest → new.waiting ≡ old.waiting ++ (cut (rest ++ piece)).items → new.rest ≡ (cut (rest ++ piece)).rest → Framed old stream given → Framed new (stream ++ piece) given
+framed_more old new stream piece rest given some items left h =
+    let held : (cut stream).rest ≡ Some rest = sym h.rest ∙ some in
+    let more : cut (stream ++ piece) ≡ joined_rest (cut stream).items (Some rest) piece =
+    cut_append stream piece ∙ ap (λ (rest : Option (List ℕ)). joined_rest (cut stream).items rest piece) held in
+    record {
+      items =
+          ap (λ (l : List Shape). given ++ l) items
+          ∙ sym (append_assoc given old.waiting (cut (rest ++ piece)).items)
+          ∙ ap (λ (l : List Shape). l ++ (cut (rest ++ piece)).items) h.items
+          ∙ ap (λ (c : Cut). c.items) (sym more);
+      rest = left ∙ ap (λ (c : Cut). c.rest) (sym more);
+    }

@@ -1,0 +1,12 @@
+pub mod HeadLemmas
+pub mod ExtentLemmas
+pub mod CutLemmas
+pub mod LineLemmas
+pub mod AloneLemmas
+pub mod CuttingLemmas
+pub mod FramedLemmas
+pub mod FaultLemmas
+pub mod WholeLemmas
+pub mod SpellLemmas
+pub mod AreItemsLemmas
+pub mod EndLemmas
