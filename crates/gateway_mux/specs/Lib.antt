@@ -1,0 +1,4 @@
+pub mod Commits
+pub mod Plans
+pub mod Seats
+pub mod Stands
