@@ -1,0 +1,12 @@
+pub mod HeadLemmas
+pub mod ReaderLemmas
+pub mod ReadingLemmas
+pub mod RecordLemmas
+pub mod WordLemmas
+pub mod FedLemmas
+pub mod LessLemmas
+pub mod RunLemmas
+pub mod ProperLemmas
+pub mod ReplayLemmas
+pub mod SourceLemmas
+pub mod UsageLemmas

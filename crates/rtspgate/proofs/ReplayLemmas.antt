@@ -1,0 +1,136 @@
+-- Entries, one after another: what a replay has done so far.
+use Rattle.std.proofs.Common.{◌≡◌, ℕ, Bool, true, false, not, List, [], ◌∷◌, ◌++◌, Option, Some, None, Ok, Err, refl, sym, ◌∙◌, ap}
+use Rattle.std.proofs.lemmas.List.{append_assoc, append-nil}
+use Rattle.gate_history.specs.History.{Happening, History, happened}
+use Rattle.gateway_mux.specs.declared.mux.Mux.{Mux}
+use Rattle.gateway_mux.specs.Stands.{Stands}
+use Rattle.gateway_mux.proofs.StandLemmas.{not_entered_fresh}
+use Rattle.rtspgate.specs.declared.transcript.Entry.{Entry}
+use Rattle.rtspgate.specs.declared.transcript.EntryKind.{EntryKind}
+use Rattle.rtspgate.specs.declared.transcript.EntryKind.TheVariants.{Enter, Client, End}
+use Rattle.rtspgate.specs.declared.transcript.EntryFault.{EntryFault}
+use Rattle.rtspgate.specs.declared.transcript.EntryFault.TheVariants as entry_fault
+use Rattle.rtspgate.specs.declared.transcript.BadEntry.{BadEntry}
+use Rattle.rtspgate.specs.declared.transcript.reader.EntryReader.{EntryReader}
+use Rattle.rtspgate.specs.declared.streams.Streams.{Streams}
+use Rattle.rtspgate.specs.declared.run.TreatFault.{TreatFault}
+use Rattle.rtspgate.specs.declared.run.TreatFault.TheVariants.{Sink, Memory}
+use Rattle.rtspgate.specs.Transcript.{entered, may_come}
+use Rattle.rtspgate.specs.Reads.{ReadsSo, NextSays}
+use Rattle.rtspgate.specs.Events.{told_by, events_of}
+use Rattle.rtspgate.specs.Runs.{TakesEntry, ToldInPart, EntersFresh}
+use Rattle.rtspgate.specs.Stops.{stop_at, stop_of}
+use Rattle.rtspgate.specs.Replays.{SoFar, TellsFront, Interrupted, TreatedWhole, TreatedToFault, Treated}
+use Rattle.rtspgate.proofs.ReaderLemmas.{given_front}
+use Rattle.rtspgate.proofs.ProperLemmas.{reads_proper, entered_same}
+use Rattle.rtspgate.proofs.RunLemmas.{happened-append, writes_twice}
+
+fresh_by : (kind : EntryKind) (mux : Mux) (history : History) (entries : List Entry) (conn : ℕ) → Stands mux history → happened history ≡ events_of entries
+    → may_come (λ c. entered c entries) kind conn ≡ true → EntersFresh kind mux conn
+fresh_by Enter mux history entries conn stands told may = record {
+  absent = not_entered_fresh mux history stands conn (entered_same conn history entries told ∙ not_true (entered conn entries) may);
+}
+  where
+    not_true : (b : Bool) → not b ≡ true → b ≡ false
+    not_true true e = cc
+    not_true false e = refl
+fresh_by Client mux history entries conn stands told may = tt
+fresh_by End mux history entries conn stands told may = tt
+
+-- a connection that enters by the next entry is new
+pub enters_fresh : (reader next : EntryReader) (streams : Streams) (mux : Mux) (bytes : List ℕ) (before now : Option (List ℕ)) (e : Entry)
+    → SoFar reader streams mux bytes before now → NextSays reader next (Ok (Some e)) → EntersFresh e.kind mux e.conn
+enters_fresh reader next streams mux bytes before now e s says =
+    let proper = reads_proper next bytes (e ∷ s.entries) (says bytes s.entries s.reads) in
+    fresh_by e.kind mux s.history s.entries e.conn s.stands s.told proper.0
+
+-- one entry more
+pub so_far_more : (reader next : EntryReader) (streams streams_now : Streams) (mux mux_now : Mux) (bytes : List ℕ) (before mid now : Option (List ℕ)) (e : Entry)
+    → SoFar reader streams mux bytes before mid → NextSays reader next (Ok (Some e)) → TakesEntry streams streams_now mux mux_now e mid now (Ok tt)
+    → SoFar next streams_now mux_now bytes before now
+so_far_more reader next streams streams_now mux mux_now bytes before mid now e s says t = record {
+  entries = e ∷ s.entries;
+  history = t.more ++ s.history;
+  reads = says bytes s.entries s.reads;
+  fit = (t.told s.entries s.fit).0;
+  stands = t.advances s.history s.stands;
+  told =
+      happened-append t.more s.history
+      ∙ ap (λ (l : List Happening). l ++ happened t.more) s.told
+      ∙ ap (λ (l : List Happening). events_of s.entries ++ l) (t.told s.entries s.fit).1;
+  grown = writes_twice before mid now s.history t.more (Ok tt) s.grown t.written;
+}
+
+-- no entry more
+pub so_far_whole : (reader next : EntryReader) (streams : Streams) (mux : Mux) (bytes : List ℕ) (before now : Option (List ℕ))
+    → SoFar reader streams mux bytes before now → NextSays reader next (Ok None) → TreatedWhole next streams mux bytes before now
+so_far_whole reader next streams mux bytes before now s says =
+    let after = says bytes s.entries s.reads in record {
+      so_far = record { entries = s.entries; history = s.history; reads = after.0; fit = s.fit; stands = s.stands; told = s.told; grown = s.grown };
+      whole = after.1;
+    }
+
+pub so_far_bad : (reader next : EntryReader) (streams : Streams) (mux : Mux) (bytes : List ℕ) (before now : Option (List ℕ)) (bad : BadEntry)
+    → SoFar reader streams mux bytes before now → NextSays reader next (Err (entry_fault.Bad bad)) → TreatedToFault bad next streams mux bytes before now
+so_far_bad reader next streams mux bytes before now bad s says =
+    let after = says bytes s.entries s.reads in record {
+      so_far = record { entries = s.entries; history = s.history; reads = after.0; fit = s.fit; stands = s.stands; told = s.told; grown = s.grown };
+      stops = after.1;
+    }
+
+-- an interruption between two entries
+pub so_far_interrupted : (reader : EntryReader) (streams : Streams) (mux : Mux) (bytes : List ℕ) (before now : Option (List ℕ))
+    → SoFar reader streams mux bytes before now → Interrupted bytes before now
+so_far_interrupted reader streams mux bytes before now s =
+    let given = given_front reader bytes s.entries s.reads in record {
+      history = s.history;
+      is_history = s.stands.is_history;
+      tells = record {
+        front = given.front;
+        rest = given.rest;
+        whole = given.whole;
+        told = record { more = []; whole = append-nil (happened s.history) ∙ s.told ∙ ap events_of (sym given.entries) };
+      };
+      grown = s.grown;
+    }
+
+-- a fault of the reader
+pub so_far_faulted : (reader next : EntryReader) (streams : Streams) (mux : Mux) (bytes : List ℕ) (before now : Option (List ℕ)) (fault : EntryFault)
+    → SoFar reader streams mux bytes before now → NextSays reader next (Err fault) → Treated (Err (stop_at fault)) next streams mux bytes before now
+so_far_faulted reader next streams mux bytes before now (entry_fault.Bad bad) s says = so_far_bad reader next streams mux bytes before now bad s says
+so_far_faulted reader next streams mux bytes before now entry_fault.Memory s says = so_far_interrupted reader streams mux bytes before now s
+
+-- an interruption within an entry
+tells_part : (next : EntryReader) (bytes : List ℕ) (entries : List Entry) (e : Entry) (history more : History)
+    → ReadsSo next bytes (e ∷ entries) → happened history ≡ events_of entries → ToldInPart (happened more) (told_by e.kind e entries)
+    → TellsFront bytes (more ++ history)
+tells_part next bytes entries e history more reads told part =
+    let given = given_front next bytes (e ∷ entries) reads in record {
+      front = given.front;
+      rest = given.rest;
+      whole = given.whole;
+      told = record {
+        more = part.more;
+        whole =
+            ap (λ (l : List Happening). l ++ part.more) (happened-append more history ∙ ap (λ (l : List Happening). l ++ happened more) told)
+            ∙ append_assoc (events_of entries) (happened more) part.more
+            ∙ ap (λ (l : List Happening). events_of entries ++ l) part.whole
+            ∙ ap events_of (sym given.entries);
+      };
+    }
+
+pub so_far_stopped : (reader next : EntryReader) (streams streams_now : Streams) (mux mux_now : Mux) (bytes : List ℕ) (before mid now : Option (List ℕ)) (e : Entry) (fault : TreatFault)
+    → SoFar reader streams mux bytes before mid → NextSays reader next (Ok (Some e)) → TakesEntry streams streams_now mux mux_now e mid now (Err fault)
+    → Treated (Err (stop_of fault)) next streams_now mux_now bytes before now
+so_far_stopped reader next streams streams_now mux mux_now bytes before mid now e Sink s says t = record {
+  history = t.more ++ s.history;
+  is_history = (t.advances s.history s.stands).is_history;
+  tells = tells_part next bytes s.entries e s.history t.more (says bytes s.entries s.reads) s.told (t.told s.entries s.fit);
+  grown = writes_twice before mid now s.history t.more (Err Sink) s.grown t.written;
+}
+so_far_stopped reader next streams streams_now mux mux_now bytes before mid now e Memory s says t = record {
+  history = t.more ++ s.history;
+  is_history = (t.advances s.history s.stands).is_history;
+  tells = tells_part next bytes s.entries e s.history t.more (says bytes s.entries s.reads) s.told (t.told s.entries s.fit);
+  grown = writes_twice before mid now s.history t.more (Err Memory) s.grown t.written;
+}

@@ -1,0 +1,280 @@
+-- What was taken of a source, and how a replay ends.
+use Rattle.std.proofs.Common.{◌≡◌, ℕ, zero, suc, ◌+◌, ◌-◌, ◌<◌, ◌≤◌, Bool, true, false, cond, List, [], ◌∷◌, ◌++◌, length, take, drop, Option, Some, None, Ok, Err, refl, sym, ◌∙◌, ap, subst, arith, lit<}
+use Rattle.std.specs.Prelude.{nat_le, IfSome}
+use Rattle.std.proofs.lemmas.Bool.{le-leb, leb-true, leb-false, lt-leb}
+use Rattle.std.proofs.lemmas.List.{append_assoc, append-nil, length-append, take-append-drop, take-append-le, take-take, length-take-le}
+use Rattle.std.proofs.Math.Seq.{take-append-add, take-append_seam}
+use Rattle.gate_outside.specs.Contents.{Reads, TakesFront}
+use Rattle.gate_history.specs.History.{History, happened}
+use Rattle.gateway_mux.specs.declared.mux.Mux.{Mux}
+use Rattle.gateway_mux.specs.Stands.{Stands}
+use Rattle.rtspgate.specs.declared.status.Status.{Status}
+use Rattle.rtspgate.specs.declared.status.Status.TheVariants.{BadTranscript, TooLong}
+use Rattle.rtspgate.specs.declared.transcript.Entry.{Entry}
+use Rattle.rtspgate.specs.declared.transcript.BadEntry.{BadEntry}
+use Rattle.rtspgate.specs.declared.transcript.BadEntryKind.{BadEntryKind}
+use Rattle.rtspgate.specs.declared.transcript.BadEntryKind.TheVariants.{Magic, Kind, Conn, Length, Cut}
+use Rattle.rtspgate.specs.declared.transcript.reader.EntryReader.{EntryReader}
+use Rattle.rtspgate.specs.declared.streams.Streams.{Streams}
+use Rattle.rtspgate.specs.declared.replay.Stop.{Stop}
+use Rattle.rtspgate.specs.declared.replay.Stop.TheVariants as stop
+use Rattle.rtspgate.specs.Transcript.{reading, Reading}
+use Rattle.rtspgate.specs.Reads.{ReadsSo, GivenWhole, IsLasting, StopsAt, MayGoOn, IsUnfinished}
+use Rattle.rtspgate.specs.Events.{events_of}
+use Rattle.rtspgate.specs.Fed.{Fed}
+use Rattle.rtspgate.specs.Streams.{framer_at}
+use Rattle.rtspgate.specs.Stops.{status_of}
+use Rattle.rtspgate.specs.Replays.{limit, ends_by, cut_by_kind, cut_by_limit, ends_as, TakenFrom, SoFar, Interrupted, TreatedWhole, Treated, IsAtEnd, Ended, Broken, ReplaySays, FaultRose, StopRose, Going}
+use Rattle.rtspgate.proofs.RunLemmas.{grows_nothing}
+
+-- a piece more was fed
+pub so_far_fed : (reader next : EntryReader) (streams : Streams) (mux : Mux) (bytes piece : List ℕ) (before now : Option (List ℕ))
+    → SoFar reader streams mux bytes before now → ((stream : List ℕ) (given : List Entry) → ReadsSo reader stream given → ReadsSo next (stream ++ piece) given)
+    → SoFar next streams mux (bytes ++ piece) before now
+so_far_fed reader next streams mux bytes piece before now s fed = record {
+  entries = s.entries;
+  history = s.history;
+  reads = fed bytes s.entries s.reads;
+  fit = s.fit;
+  stands = s.stands;
+  told = s.told;
+  grown = s.grown;
+}
+
+-- an interruption before a piece is one after it
+pub interrupted_more : (bytes piece : List ℕ) (before now : Option (List ℕ)) → Interrupted bytes before now → Interrupted (bytes ++ piece) before now
+interrupted_more bytes piece before now i = record {
+  history = i.history;
+  is_history = i.is_history;
+  tells = record {
+    front = i.tells.front;
+    rest = i.tells.rest ++ piece;
+    whole = sym (append_assoc i.tells.front i.tells.rest piece) ∙ ap (λ (l : List ℕ). l ++ piece) i.tells.whole;
+    told = i.tells.told;
+  };
+  grown = i.grown;
+}
+
+-- a piece more was taken
+pub taken_more : (all left now : Option (List ℕ)) (bytes buffer : List ℕ) (n : ℕ) → TakenFrom all left bytes → Reads {E = Unit {0}} left now (Ok n) buffer
+    → TakenFrom all now (bytes ++ take n buffer)
+taken_more None left now bytes buffer n taken reads = subst (λ (o : Option (List ℕ)). Reads {E = Unit {0}} o now (Ok n) buffer) taken reads
+taken_more (Some whole) left now bytes buffer n taken reads =
+    let took : TakesFront taken.0 now n buffer = subst (λ (o : Option (List ℕ)). Reads {E = Unit {0}} o now (Ok n) buffer) taken.2 reads in (
+      drop n taken.0,
+      taken.1
+          ∙ ap (λ (l : List ℕ). bytes ++ l) (sym (take-append-drop n taken.0))
+          ∙ sym (append_assoc bytes (take n taken.0) (drop n taken.0))
+          ∙ ap (λ (l : List ℕ). (bytes ++ l) ++ drop n taken.0) (sym took.front),
+      took.left,
+    )
+
+-- a read that gave nothing
+pub read_end : (left now : Option (List ℕ)) (buffer : List ℕ) → Reads {E = Unit {0}} left now (Ok 0) buffer → IsAtEnd left × (now ≡ left)
+read_end None now buffer reads = (tt, reads)
+read_end (Some bytes) now buffer reads =
+    let none : bytes ≡ [] = reads.end refl in (
+      none,
+      reads.left ∙ ap (λ (l : List ℕ). let o : Option (List ℕ) = Some (drop 0 l) in o) none ∙ ap (λ (l : List ℕ). let o : Option (List ℕ) = Some l in o) (sym none),
+    )
+
+take_short : (n : ℕ) (l : List ℕ) → length l ≤ n → take n l ≡ l
+take_short zero [] h = refl
+take_short (suc n) [] h = refl
+take_short zero (x ∷ l) h = absurd (omega arith)
+take_short (suc n) (x ∷ l) h = ap (λ (t : List ℕ). x ∷ t) (take_short n l (omega arith))
+
+take_past : (n : ℕ) (one other : List ℕ) → length one ≤ n → take n (one ++ other) ≡ one ++ take (n - length one) other
+take_past n one other h =
+    let sum : n ≡ length one + (n - length one) = omega arith in
+    ap (λ (k : ℕ). take k (one ++ other)) sum ∙ take-append-add one other (n - length one)
+
+-- up to the limit a source ends as its transcript does
+within : (bytes : List ℕ) → length bytes ≤ limit → ends_as bytes ≡ ends_by (reading bytes).fault
+within bytes short =
+    ap (λ b. cond b (ends_by (reading bytes).fault) (cut_by_limit (reading (take limit bytes)).fault)) (le-leb (length bytes) limit short)
+
+-- past it, as the part within the limit does
+past : (bytes : List ℕ) → limit < length bytes → ends_as bytes ≡ cut_by_limit (reading (take limit bytes)).fault
+past bytes long =
+    ap (λ b. cond b (ends_by (reading bytes).fault) (cut_by_limit (reading (take limit bytes)).fault)) (lt-leb (length bytes) limit long)
+
+-- at the end of the source
+whole_end : (all left : Option (List ℕ)) (bytes : List ℕ) (history : History) (entries : List Entry) → TakenFrom all left bytes → IsAtEnd left → length bytes ≤ limit
+    → GivenWhole bytes entries → happened history ≡ events_of entries
+    → IfSome all (λ whole. (ends_by (reading bytes).fault ≡ ends_as whole) × (happened history ≡ events_of (reading (take limit whole)).entries))
+whole_end None left bytes history entries taken at_end short given told = tt
+whole_end (Some whole) left bytes history entries taken at_end short given told =
+    let none : taken.0 ≡ [] = subst (λ (o : Option (List ℕ)). IsAtEnd o) taken.2 at_end in
+    let same : whole ≡ bytes = taken.1 ∙ ap (λ (l : List ℕ). bytes ++ l) none ∙ append-nil bytes in (
+      sym (ap ends_as same ∙ within bytes short),
+      told ∙ ap events_of (sym given.entries) ∙ ap (λ (l : List ℕ). events_of (reading l).entries) (sym (ap (take limit) same ∙ take_short limit bytes short)),
+    )
+
+finish_by : (fault : Option BadEntry) (all left before now : Option (List ℕ)) → IsAtEnd left → Ended (ends_by fault) all before now → ReplaySays (ends_by fault) all left before now
+finish_by None all left before now at_end ended = (ended, at_end)
+finish_by (Some bad) all left before now at_end ended = ended
+
+pub finish_says : (reader : EntryReader) (streams : Streams) (mux : Mux) (room : ℕ) (all left before now : Option (List ℕ)) (status : Status)
+    → (going : Going reader streams mux room all left before now) → IsAtEnd left → status ≡ ends_by (reading going.bytes).fault → ReplaySays status all left before now
+finish_says reader streams mux room all left before now status going at_end answer =
+    let s = going.treated.so_far in
+    let short : length going.bytes ≤ limit = omega (arith, going.room_left) in
+    subst (λ (x : Status). ReplaySays x all left before now) (sym answer)
+    (finish_by (reading going.bytes).fault all left before now at_end (record {
+      history = s.history;
+      is_history = s.stands.is_history;
+      grown = s.grown;
+      ends = whole_end all left going.bytes s.history s.entries going.taken at_end short going.treated.whole s.told;
+    }))
+
+finish_rose : (fault : Option BadEntry) (a b c d : ℕ) → FaultRose (ends_by fault) a b c d
+finish_rose None a b c d = tt
+finish_rose (Some bad) a b c d = tt
+
+pub finish_cause : (fault : Option BadEntry) (status : Status) (a b c d : ℕ) → status ≡ ends_by fault → FaultRose status a b c d
+finish_cause fault status a b c d answer = subst (λ (x : Status). FaultRose x a b c d) (sym answer) (finish_rose fault a b c d)
+
+-- a fault that lasts
+lasting_kind : (kind : BadEntryKind) (bad : BadEntry) → IsLasting kind → cut_by_kind kind bad ≡ BadTranscript bad.place bad.kind
+lasting_kind Magic bad lasting = refl
+lasting_kind Kind bad lasting = refl
+lasting_kind Conn bad lasting = refl
+lasting_kind Length bad lasting = refl
+lasting_kind Cut bad lasting = absurd lasting
+
+lasting_ends : (bytes left : List ℕ) (bad : BadEntry) (entries : List Entry) (long : Bool) → nat_le (length (bytes ++ left)) limit ≡ long → length bytes ≤ limit → StopsAt bad bytes entries
+    → (BadTranscript bad.place bad.kind ≡ ends_as (bytes ++ left)) × (entries ≡ (reading (take limit (bytes ++ left))).entries)
+lasting_ends bytes left bad entries true e short stops =
+    let le : length (bytes ++ left) ≤ limit = leb-true (length (bytes ++ left)) limit e in (
+      sym (within (bytes ++ left) le ∙ ap (λ (r : Reading). ends_by r.fault) (stops.always left)),
+      sym (ap (λ (l : List ℕ). (reading l).entries) (take_short limit (bytes ++ left) le) ∙ ap (λ (r : Reading). r.entries) (stops.always left)),
+    )
+lasting_ends bytes left bad entries false e short stops =
+    let lt : limit < length (bytes ++ left) = leb-false (length (bytes ++ left)) limit e in
+    let cut : take limit (bytes ++ left) ≡ bytes ++ take (limit - length bytes) left = take_past limit bytes left short in
+    let reads : reading (take limit (bytes ++ left)) ≡ record { entries = entries; fault = Some bad } = ap reading cut ∙ stops.always (take (limit - length bytes) left) in (
+      sym (past (bytes ++ left) lt ∙ ap (λ (r : Reading). cut_by_limit r.fault) reads ∙ lasting_kind bad.kind bad stops.lasting),
+      sym (ap (λ (r : Reading). r.entries) reads),
+    )
+
+fault_ends : (all left : Option (List ℕ)) (bytes : List ℕ) (history : History) (entries : List Entry) (bad : BadEntry) → TakenFrom all left bytes → length bytes ≤ limit
+    → StopsAt bad bytes entries → happened history ≡ events_of entries
+    → IfSome all (λ whole. (BadTranscript bad.place bad.kind ≡ ends_as whole) × (happened history ≡ events_of (reading (take limit whole)).entries))
+fault_ends None left bytes history entries bad taken short stops told = tt
+fault_ends (Some whole) left bytes history entries bad taken short stops told =
+    let ends = lasting_ends bytes taken.0 bad entries (nat_le (length (bytes ++ taken.0)) limit) refl short stops in (
+      ends.0 ∙ ap ends_as (sym taken.1),
+      told ∙ ap events_of ends.1 ∙ ap (λ (l : List ℕ). events_of (reading (take limit l)).entries) (sym taken.1),
+    )
+
+pub stop_says : (stop : Stop) (reader : EntryReader) (streams : Streams) (mux : Mux) (bytes : List ℕ) (all left before now : Option (List ℕ))
+    → TakenFrom all left bytes → length bytes ≤ limit → Treated (Err stop) reader streams mux bytes before now → ReplaySays (status_of stop) all left before now
+stop_says (stop.Bad bad) reader streams mux bytes all left before now taken short t = record {
+  history = t.so_far.history;
+  is_history = t.so_far.stands.is_history;
+  grown = t.so_far.grown;
+  ends = fault_ends all left bytes t.so_far.history t.so_far.entries bad taken short t.stops t.so_far.told;
+}
+stop_says stop.Sink reader streams mux bytes all left before now taken short t = record { bytes = bytes; taken = taken; part = t }
+stop_says stop.Memory reader streams mux bytes all left before now taken short t = record { bytes = bytes; taken = taken; part = t }
+
+-- the source fails
+pub broken_says : (reader : EntryReader) (streams : Streams) (mux : Mux) (room : ℕ) (all left left_now before now : Option (List ℕ))
+    → Going reader streams mux room all left before now → left_now ≡ left → Broken all left_now before now
+broken_says reader streams mux room all left left_now before now going kept =
+    let s = going.treated.so_far in record {
+      bytes = going.bytes;
+      taken = subst (λ (o : Option (List ℕ)). TakenFrom all o going.bytes) (sym kept) going.taken;
+      history = s.history;
+      is_history = s.stands.is_history;
+      grown = s.grown;
+      told = s.told ∙ ap events_of (sym going.treated.whole.entries);
+    }
+
+-- the source holds more than the limit
+unfinished_cut : (fault : Option BadEntry) (bytes : List ℕ) → 8 ≤ length bytes → MayGoOn fault bytes → cut_by_limit fault ≡ TooLong
+unfinished_cut None bytes long may = refl
+unfinished_cut (Some bad) bytes long may = at bad.kind may
+  where
+    at : (kind : BadEntryKind) → IsUnfinished kind bytes → cut_by_kind kind bad ≡ TooLong
+    at Magic short = absurd (omega arith)
+    at Kind never = absurd never
+    at Conn never = absurd never
+    at Length never = absurd never
+    at Cut open_still = refl
+
+too_long_ends : (all left : Option (List ℕ)) (bytes : List ℕ) (history : History) (entries : List Entry) → TakenFrom all left bytes → IfSome left (λ l. 0 < length l) → length bytes ≡ limit → 8 ≤ length bytes
+    → GivenWhole bytes entries → happened history ≡ events_of entries
+    → IfSome all (λ whole. (TooLong ≡ ends_as whole) × (happened history ≡ events_of (reading (take limit whole)).entries))
+too_long_ends None left bytes history entries taken more full long given told = tt
+too_long_ends (Some whole) left bytes history entries taken more full long given told =
+    let some : 0 < length taken.0 = subst (λ (o : Option (List ℕ)). IfSome o (λ l. 0 < length l)) taken.2 more in
+    let size : length whole ≡ length bytes + length taken.0 = ap length taken.1 ∙ length-append bytes taken.0 in
+    let cut : take limit whole ≡ bytes = ap (take limit) taken.1 ∙ ap (λ (n : ℕ). take n (bytes ++ taken.0)) (sym full) ∙ take-append_seam bytes taken.0 in (
+      sym (past whole (omega arith) ∙ ap (λ (l : List ℕ). cut_by_limit (reading l).fault) cut ∙ unfinished_cut (reading bytes).fault bytes long given.unfinished),
+      told ∙ ap events_of (sym given.entries) ∙ ap (λ (l : List ℕ). events_of (reading l).entries) (sym cut),
+    )
+
+pub too_long_says : (reader : EntryReader) (streams : Streams) (mux : Mux) (all left before now : Option (List ℕ))
+    → Going reader streams mux 0 all left before now → IfSome left (λ l. 0 < length l) → Ended TooLong all before now
+unfolding limit
+too_long_says reader streams mux all left before now going more =
+    let s = going.treated.so_far in record {
+      history = s.history;
+      is_history = s.stands.is_history;
+      grown = s.grown;
+      ends = too_long_ends all left going.bytes s.history s.entries going.taken more (omega (arith, going.room_left)) (omega (arith, going.room_left)) going.treated.whole s.told;
+    }
+
+-- nothing was taken yet
+pub going_from : (reader : EntryReader) (streams : Streams) (mux : Mux) (all written : Option (List ℕ)) → ReadsSo reader [] [] → ((i : ℕ) → Fed (framer_at streams i) [] []) → Stands mux []
+    → Going reader streams mux limit all all written written
+going_from reader streams mux all written reads fed stands = record {
+  bytes = [];
+  taken = untaken all;
+  room_left = omega arith;
+  treated = record {
+    so_far = record { entries = []; history = []; reads = reads; fit = fed; stands = stands; told = refl; grown = grows_nothing written };
+    whole = record { entries = refl; unfinished = lit< tt };
+  };
+}
+  where
+    untaken : (all : Option (List ℕ)) → TakenFrom all all []
+    untaken None = refl
+    untaken (Some bytes) = (bytes, refl, refl)
+
+pub going_start : (reader : EntryReader) (streams : Streams) (mux : Mux) (all written : Option (List ℕ)) → ReadsSo reader [] [] → ((i : ℕ) → Fed (framer_at streams i) [] []) → Stands mux []
+    → Going reader streams mux 67108864 all all written written
+unfolding limit
+going_start reader streams mux all written reads fed stands = going_from reader streams mux all written reads fed stands
+
+-- a piece more was taken and treated
+pub going_on : (reader next : EntryReader) (streams streams_now : Streams) (mux mux_now : Mux) (room n : ℕ) (all left left_now before mid now : Option (List ℕ)) (buffer : List ℕ)
+    → (going : Going reader streams mux room all left before mid) → Reads {E = Unit {0}} left left_now (Ok n) buffer → n ≤ room → n ≤ length buffer
+    → TreatedWhole next streams_now mux_now (going.bytes ++ take n buffer) before now
+    → Going next streams_now mux_now (room - n) all left_now before now
+going_on reader next streams streams_now mux mux_now room n all left left_now before mid now buffer going reads fits enough treated =
+    let size : length (take n buffer) ≡ n = length-take-le n buffer enough in record {
+      bytes = going.bytes ++ take n buffer;
+      taken = taken_more all left left_now going.bytes buffer n going.taken reads;
+      room_left = omega (arith, length-append going.bytes (take n buffer), going.room_left);
+      treated = treated;
+    }
+
+-- and the bytes so far still fit
+pub piece_fits : (reader : EntryReader) (streams : Streams) (mux : Mux) (room n : ℕ) (all left before now : Option (List ℕ)) (buffer : List ℕ)
+    → (going : Going reader streams mux room all left before now) → n ≤ room → n ≤ length buffer → length (going.bytes ++ take n buffer) ≤ limit
+piece_fits reader streams mux room n all left before now buffer going fits enough =
+    let size : length (take n buffer) ≡ n = length-take-le n buffer enough in
+    omega (arith, length-append going.bytes (take n buffer), going.room_left)
+
+-- what made a stop rise
+pub stop_rose : (stop : Stop) (a b first c d : ℕ) → first ≤ c → StopRose c d (Err stop) → FaultRose (status_of stop) a b first d
+stop_rose (stop.Bad bad) a b first c d later rose = tt
+stop_rose stop.Sink a b first c d later rose = omega arith
+stop_rose stop.Memory a b first c d later rose = tt
+
+-- the front of a front, of one text and another
+pub front_of_front : (count n : ℕ) (one other : List ℕ) → count ≤ n → count ≤ length one → take count (take n (one ++ other)) ≡ take count one
+front_of_front count n one other le short = take-take count n (one ++ other) le ∙ take-append-le count one other short

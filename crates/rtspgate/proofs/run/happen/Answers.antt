@@ -1,0 +1,16 @@
+use Rattle.rtspgate.proofs.RunLemmas.{untaken, taken, taken_in_part}
+use Rattle.gate_history.specs.History.{happening_of}
+use Rattle.rtspgate.proofs.run.happen.Goals as goal
+
+pub returns-in-Err-clause-takes : goal.returns-in-Err-clause-takes
+returns-in-Err-clause-takes g c = untaken c.args.mux.now c.step.new.self (happening_of c.args.event) (g.K.Sink.written c.args.sink.now) c.in-Err.ensures.err
+
+pub returns-in-Ok-write_outcome-clause-takes : goal.returns-in-Ok-write_outcome-clause-takes
+returns-in-Ok-write_outcome-clause-takes g c =
+    taken c.args.mux.now c.step.new.self c.args.event c.in-Ok.outcome (g.K.Sink.written c.args.sink.now) (g.K.Sink.written c.write_outcome.new.sink)
+    c.in-Ok.ensures.ok c.in-Ok-write_outcome.ensures.bytes
+
+pub returns-clause-takes : goal.returns-clause-takes
+returns-clause-takes g c =
+    taken_in_part c.args.mux.now c.step.new.self c.args.event c.in-Ok.outcome (g.K.Sink.written c.args.sink.now) (g.K.Sink.written c.write_outcome.new.sink)
+    c.in-Ok.ensures.ok c.in-Err-write_outcome.ensures.bytes

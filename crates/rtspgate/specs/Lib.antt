@@ -1,0 +1,14 @@
+pub mod Connections
+pub mod Reads
+pub mod Records
+pub mod ExitCodes
+pub mod Steps
+pub mod Transcript
+pub mod Words
+pub mod Events
+pub mod Fed
+pub mod Replays
+pub mod Runs
+pub mod Stops
+pub mod Streams
+pub mod Written

@@ -1,0 +1,18 @@
+-- A record: a kind byte, the connection and the length of the body in four bytes each, the greatest byte first, and
+-- the body. This project's own.
+use Rattle.std.specs.Prelude.{ℕ, List, ◌∷◌, ◌++◌, length}
+use Rattle.std.specs.Int.{w32, to_be_bytes}
+use Rattle.rtspgate.specs.declared.records.RecordKind.{RecordKind}
+use Rattle.rtspgate.specs.declared.records.RecordKind.TheVariants.{Handed, Closed}
+
+-- T for bytes handed to a client, C for the close of its connection
+abbrev pub record_byte : RecordKind → ℕ
+record_byte Handed = 84
+record_byte Closed = 67
+
+-- what stands before a body of this length
+abbrev pub head_text : ℕ → ℕ → ℕ → List ℕ
+head_text kind conn size = kind ∷ (to_be_bytes w32 conn ++ to_be_bytes w32 size)
+
+abbrev pub record_text : ℕ → ℕ → List ℕ → List ℕ
+record_text kind conn body = head_text kind conn (length body) ++ body

@@ -1,0 +1,193 @@
+-- What a replay of a transcript does (this project's own).
+use Rattle.std.specs.Prelude.{◌≡◌, ℕ, ◌+◌, ◌<◌, ◌≤◌, nat_le, Bool, true, false, List, [], ◌++◌, length, take, Option, Some, None, IfSome, Result, Ok, Err, if◌then◌else◌}
+use Rattle.gate_outside.specs.Causes.{Rose}
+use Rattle.gate_outside.specs.Contents.{Grows, GrowsByFront}
+use Rattle.gate_outside.specs.declared.Failed.{Failed}
+use Rattle.gate_history.specs.History.{History, IsHistory, happened}
+use Rattle.gateway_mux.specs.declared.mux.Mux.{Mux}
+use Rattle.gateway_mux.specs.Stands.{Stands}
+use Rattle.rtspgate.specs.declared.status.Status.{Status}
+use Rattle.rtspgate.specs.declared.status.Status.TheVariants.{Done, Usage, SourceFault, SinkFault, BadTranscript, TooLong, Memory}
+use Rattle.rtspgate.specs.declared.transcript.Entry.{Entry}
+use Rattle.rtspgate.specs.declared.transcript.BadEntry.{BadEntry}
+use Rattle.rtspgate.specs.declared.transcript.BadEntryKind.{BadEntryKind}
+use Rattle.rtspgate.specs.declared.transcript.BadEntryKind.TheVariants.{Magic, Kind, Conn, Length, Cut}
+use Rattle.rtspgate.specs.declared.transcript.reader.EntryReader.{EntryReader}
+use Rattle.rtspgate.specs.declared.streams.Streams.{Streams}
+use Rattle.rtspgate.specs.declared.replay.Stop.{Stop}
+use Rattle.rtspgate.specs.declared.replay.Stop.TheVariants as stop
+use Rattle.rtspgate.specs.Transcript.{reading}
+use Rattle.rtspgate.specs.Reads.{ReadsSo, GivenWhole, StopsAt}
+use Rattle.rtspgate.specs.Events.{events_of}
+use Rattle.rtspgate.specs.Runs.{StreamsFit, ToldInPart}
+use Rattle.rtspgate.specs.Written.{records}
+
+-- the longest transcript that is replayed, in bytes
+unfoldable pub limit : ℕ
+limit = 67108864
+
+-- How a replay of a whole source ends, where nothing outside fails and memory is there. Up to the limit: by the
+-- transcript's fault, where it has one. Past it: by the fault of an entry within the limit; an entry that the limit
+-- cuts is none.
+abbrev pub ends_by : Option BadEntry → Status
+ends_by None = Done
+ends_by (Some bad) = BadTranscript bad.place bad.kind
+
+abbrev pub cut_by_kind : BadEntryKind → BadEntry → Status
+cut_by_kind Magic bad = BadTranscript bad.place bad.kind
+cut_by_kind Kind bad = BadTranscript bad.place bad.kind
+cut_by_kind Conn bad = BadTranscript bad.place bad.kind
+cut_by_kind Length bad = BadTranscript bad.place bad.kind
+cut_by_kind Cut bad = TooLong
+
+abbrev pub cut_by_limit : Option BadEntry → Status
+cut_by_limit None = TooLong
+cut_by_limit (Some bad) = cut_by_kind bad.kind bad
+
+abbrev pub ends_as : List ℕ → Status
+ends_as all = if nat_le (length all) limit then ends_by (reading all).fault else cut_by_limit (reading (take limit all)).fault
+
+-- These bytes were taken from the front of the source, where its content is told.
+abbrev pub TakenFrom : Option (List ℕ) → Option (List ℕ) → List ℕ → Type 0
+TakenFrom None now bytes = now ≡ None
+TakenFrom (Some all) now bytes = (left : List ℕ) × (all ≡ bytes ++ left) × (now ≡ Some left)
+
+-- The replay so far: these entries were given by the reader and treated, and the records of their history written.
+pub record SoFar (reader : EntryReader) (streams : Streams) (mux : Mux) (bytes : List ℕ) (before now : Option (List ℕ)) : Type 0 where
+  pub entries : List Entry
+  pub history : History
+  pub reads : ReadsSo reader bytes entries
+  pub fit : StreamsFit streams entries
+  pub stands : Stands mux history
+  pub told : happened history ≡ events_of entries
+  pub grown : Grows before now (records history)
+
+pub record SomeSoFar (reader : EntryReader) (streams : Streams) (mux : Mux) (now : Option (List ℕ)) : Type 0 where
+  pub bytes : List ℕ
+  pub before : Option (List ℕ)
+  pub so_far : SoFar reader streams mux bytes before now
+
+-- What happened is the first part of what the whole entries of some front of the bytes tell.
+pub record TellsFront (bytes : List ℕ) (history : History) : Type 0 where
+  pub front : List ℕ
+  pub rest : List ℕ
+  pub whole : front ++ rest ≡ bytes
+  pub told : ToldInPart (happened history) (events_of (reading front).entries)
+
+-- A replay that was interrupted: by want of memory, between two events, or by the sink, in one event's records.
+pub record Interrupted (bytes : List ℕ) (before now : Option (List ℕ)) : Type 0 where
+  pub history : History
+  pub is_history : IsHistory history
+  pub tells : TellsFront bytes history
+  pub grown : Grows before now (records history)
+
+pub record InterruptedInPart (bytes : List ℕ) (before now : Option (List ℕ)) : Type 0 where
+  pub history : History
+  pub is_history : IsHistory history
+  pub tells : TellsFront bytes history
+  pub grown : GrowsByFront before now (records history)
+
+pub record TreatedWhole (reader : EntryReader) (streams : Streams) (mux : Mux) (bytes : List ℕ) (before now : Option (List ℕ)) : Type 0 where
+  pub so_far : SoFar reader streams mux bytes before now
+  pub whole : GivenWhole bytes so_far.entries
+
+pub record TreatedToFault (bad : BadEntry) (reader : EntryReader) (streams : Streams) (mux : Mux) (bytes : List ℕ) (before now : Option (List ℕ)) : Type 0 where
+  pub so_far : SoFar reader streams mux bytes before now
+  pub stops : StopsAt bad bytes so_far.entries
+
+-- What treating all entries that the reader can give says, by how it ended.
+abbrev pub Treated : Result (Unit {0}) Stop → EntryReader → Streams → Mux → List ℕ → Option (List ℕ) → Option (List ℕ) → Type 0
+Treated (Ok u) reader streams mux bytes before now = TreatedWhole reader streams mux bytes before now
+Treated (Err (stop.Bad bad)) reader streams mux bytes before now = TreatedToFault bad reader streams mux bytes before now
+Treated (Err stop.Sink) reader streams mux bytes before now = InterruptedInPart bytes before now
+Treated (Err stop.Memory) reader streams mux bytes before now = Interrupted bytes before now
+
+abbrev pub StopRose : ℕ → ℕ → Result (Unit {0}) Stop → Type 0
+StopRose before now (Ok u) = Unit {0}
+StopRose before now (Err (stop.Bad bad)) = Unit {0}
+StopRose before now (Err stop.Sink) = Rose before now
+StopRose before now (Err stop.Memory) = Unit {0}
+
+pub record StopCause (before now : ℕ) (result : Result (Unit {0}) Stop) : Type 0 where
+  pub later : before ≤ now
+  pub rose : StopRose before now result
+
+-- The source is at its end, where its content is told.
+abbrev pub IsAtEnd : Option (List ℕ) → Type 0
+IsAtEnd now = IfSome now (λ left. left ≡ [])
+
+-- How the replay of a whole source ended: a history whose records were written, and where the source's content is
+-- told, the status that its bytes have, and the events that the whole entries tell which stand within the limit and
+-- before the first fault.
+pub record Ended (status : Status) (all before now : Option (List ℕ)) : Type 0 where
+  pub history : History
+  pub is_history : IsHistory history
+  pub grown : Grows before now (records history)
+  pub ends : IfSome all (λ bytes. (status ≡ ends_as bytes) × (happened history ≡ events_of (reading (take limit bytes)).entries))
+
+-- Where the source failed: the records of the whole entries of the bytes that were taken.
+pub record Broken (all left before now : Option (List ℕ)) : Type 0 where
+  pub bytes : List ℕ
+  pub taken : TakenFrom all left bytes
+  pub history : History
+  pub is_history : IsHistory history
+  pub grown : Grows before now (records history)
+  pub told : happened history ≡ events_of (reading bytes).entries
+
+pub record SinkBroken (all left before now : Option (List ℕ)) : Type 0 where
+  pub bytes : List ℕ
+  pub taken : TakenFrom all left bytes
+  pub part : InterruptedInPart bytes before now
+
+pub record MemoryWanting (all left before now : Option (List ℕ)) : Type 0 where
+  pub bytes : List ℕ
+  pub taken : TakenFrom all left bytes
+  pub part : Interrupted bytes before now
+
+-- What a replay's answer says of the source before and after it, and of what was written.
+abbrev pub ReplaySays : Status → Option (List ℕ) → Option (List ℕ) → Option (List ℕ) → Option (List ℕ) → Type 0
+ReplaySays Done all left before now = Ended Done all before now × IsAtEnd left
+ReplaySays (Usage place) all left before now = ⊥
+ReplaySays SourceFault all left before now = Broken all left before now
+ReplaySays SinkFault all left before now = SinkBroken all left before now
+ReplaySays (BadTranscript place fault) all left before now = Ended (BadTranscript place fault) all before now
+ReplaySays TooLong all left before now = Ended TooLong all before now
+ReplaySays Memory all left before now = MemoryWanting all left before now
+
+-- The count that tells of the answer's fault rose.
+abbrev pub FaultRose : Status → ℕ → ℕ → ℕ → ℕ → Type 0
+FaultRose Done source_before source_now sink_before sink_now = Unit {0}
+FaultRose (Usage place) source_before source_now sink_before sink_now = Unit {0}
+FaultRose SourceFault source_before source_now sink_before sink_now = Rose source_before source_now
+FaultRose SinkFault source_before source_now sink_before sink_now = Rose sink_before sink_now
+FaultRose (BadTranscript place fault) source_before source_now sink_before sink_now = Unit {0}
+FaultRose TooLong source_before source_now sink_before sink_now = Unit {0}
+FaultRose Memory source_before source_now sink_before sink_now = Unit {0}
+
+-- The loop of a replay: these bytes were taken, and what they hold was treated; there is room for so many more.
+pub record Going (reader : EntryReader) (streams : Streams) (mux : Mux) (room : ℕ) (all left before now : Option (List ℕ)) : Type 0 where
+  pub bytes : List ℕ
+  pub taken : TakenFrom all left bytes
+  pub room_left : length bytes + room ≡ limit
+  pub treated : TreatedWhole reader streams mux bytes before now
+
+-- Whether a source whose content is told holds more.
+abbrev pub TellsMore : Option (List ℕ) → Option (List ℕ) → Result Bool Failed → Type 0
+TellsMore left now (Ok true) = IfSome left (λ bytes. 0 < length bytes)
+TellsMore left now (Ok false) = IsAtEnd left × (now ≡ left)
+TellsMore left now (Err e) = now ≡ left
+
+-- Where the words are refused, nothing was read and nothing written.
+pub record IsUntouched (all left before now : Option (List ℕ)) : Type 0 where
+  pub source : left ≡ all
+  pub sink : now ≡ before
+
+-- What the answer of the top call says.
+abbrev pub PlainSays : Status → Option (List ℕ) → Option (List ℕ) → Option (List ℕ) → Option (List ℕ) → Type 0
+PlainSays (Usage place) all left before now = IsUntouched all left before now
+PlainSays Done all left before now = Ended Done all before now × IsAtEnd left
+PlainSays SourceFault all left before now = Broken all left before now
+PlainSays SinkFault all left before now = SinkBroken all left before now
+PlainSays (BadTranscript place fault) all left before now = Ended (BadTranscript place fault) all before now
+PlainSays TooLong all left before now = Ended TooLong all before now
+PlainSays Memory all left before now = MemoryWanting all left before now

@@ -1,0 +1,61 @@
+//! rtspgate: a gateway between players of RTSP 1.0 and a server of RTSP 2.0.
+#![tactic(auto)]
+
+mod plain;
+mod records;
+mod replay;
+mod run;
+mod standard;
+mod status;
+mod streams;
+mod transcript;
+mod words;
+
+use crate::plain::plain;
+use crate::standard::{ReadSource, WriteSink};
+use crate::status::Status;
+use std::env;
+use std::io::{self, BufWriter};
+use std::process::ExitCode;
+
+/// What the words mean.
+const USAGE: &str = "\
+usage: rtspgate replay FRONT UP < TRANSCRIPT > RECORDS
+       rtspgate --help | --version
+
+replay  reads a transcript of players' connections from standard input, and writes records of what each player is
+        handed, and of how its connection is closed, to standard output
+FRONT   the address by which players name the gateway, as rtsp://gate.example
+UP      the address of the media server, as rtsp://media.example
+";
+
+/// The program's name and version.
+const VERSION: &str = "rtspgate 0.1.0";
+
+fn main(rt: HostRuntime) -> io::Result<ExitCode> {
+    let mut words = Vec::new(rt.alloc());
+    for word in env::args(&rt)?.skip(1) {
+        words.push(word)?;
+    }
+    if words.len() == 1 && words[0].as_str() == "--help" {
+        print!(rt; "{USAGE}")?;
+        return Ok(ExitCode::SUCCESS);
+    }
+    if words.len() == 1 && words[0].as_str() == "--version" {
+        println!(rt; "{VERSION}")?;
+        return Ok(ExitCode::SUCCESS);
+    }
+    let mut source = ReadSource::new(rt.reader());
+    let mut sink = WriteSink::new(BufWriter::new(rt.alloc(), io::writer(&rt))?);
+    let mut status = plain(rt.alloc(), words.as_slice(), &mut source, &mut sink);
+    if sink.flush().is_err() && status != Status::SourceFault {
+        status = Status::SinkFault;
+    }
+    if status != Status::Done {
+        eprintln!(rt; "rtspgate: {status}")?;
+    }
+    if let Status::Usage { .. } = status {
+        eprint!(rt; "{USAGE}")?;
+    }
+    Ok(ExitCode::from(status.exit_code()))
+}

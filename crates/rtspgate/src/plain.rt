@@ -1,0 +1,66 @@
+//! The commands that must return. No lock, channel or thread is used.
+ghost use Rattle.std.specs.Prelude.{◌≡◌, ◌≤◌, ◌↔◌, ℕ, Some, map, string_bytes};
+ghost use Rattle.rtspgate.specs.Words.{word_fault};
+ghost use Rattle.rtspgate.specs.Replays.{PlainSays, ReplaySays, FaultRose};
+
+use crate::replay::replay;
+use crate::status::Status;
+use crate::words::{Command, WordsFault, read_words};
+use gate_bytes::Memory;
+use gate_outside::{Sink, Source};
+use gateway_mux::{Bases, Mux};
+use std::alloc::Global;
+
+/// Does what the words, without the program's name, ask for.
+pub fn plain<S: Source, K: Sink>(
+    alloc: Global,
+    words: &[String],
+    source: &mut S,
+    sink: &mut K,
+) -> Status
+    ensures usage { (place : ℕ) → (result ≡ Status.Usage place) ↔ (word_fault (map string_bytes words.now) ≡ Some place) }
+    ensures says { PlainSays result (S.rest source.old) (S.rest source.new) (K.written sink.old) (K.written sink.new) }
+    ensures rose { FaultRose result (S.faults source.old) (S.faults source.new) (K.faults sink.old) (K.faults sink.new) }
+    ensures source_later { S.faults source.old ≤ S.faults source.new }
+    ensures sink_later { K.faults sink.old ≤ K.faults sink.new }
+{
+    match read_words(alloc, words) {
+        Ok(Command::Replay(bases)) => replay_between(alloc, bases, source, sink),
+        Err(fault) => Status::from(fault),
+    }
+}
+
+impl From<WordsFault> for Status {
+    ghost use Rattle.std.specs.Prelude.{◌≡◌};
+    ghost use Rattle.rtspgate.specs.Stops.{status_at};
+
+    ghost from_gives = { λ fault e. e ≡ status_at fault };
+
+    fn from(fault: WordsFault) -> Status {
+        match fault {
+            WordsFault::Place(place) => Status::Usage { place },
+            WordsFault::Memory => Status::Memory,
+        }
+    }
+}
+
+/// Replays the transcript that the source holds, between these bases.
+fn replay_between<S: Source, K: Sink>(
+    alloc: Global,
+    bases: Bases,
+    source: &mut S,
+    sink: &mut K,
+) -> Status
+    ensures says { ReplaySays result (S.rest source.old) (S.rest source.new) (K.written sink.old) (K.written sink.new) }
+    ensures rose { FaultRose result (S.faults source.old) (S.faults source.new) (K.faults sink.old) (K.faults sink.new) }
+    ensures source_later { S.faults source.old ≤ S.faults source.new }
+    ensures sink_later { K.faults sink.old ≤ K.faults sink.new }
+{
+    match Mux::new(alloc, bases) {
+        Ok(mux) => replay(alloc, mux, source, sink),
+        Err(Memory) => Status::Memory,
+    }
+}
+
+#[cfg(test)]
+mod tests;

@@ -1,0 +1,81 @@
+//! Records: what the gateway did, one after the other, on the sink of a replay.
+ghost use Rattle.std.specs.Prelude.{◌≡◌, ◌<◌, ◌^◌, length};
+ghost use Rattle.gate_outside.specs.Causes.{HasCause};
+ghost use Rattle.gate_outside.specs.Contents.{WritesAll};
+ghost use Rattle.rtspgate.specs.Records.{record_byte, head_text, record_text};
+
+use gate_outside::{Failed, Sink, write_all};
+
+/// What a record tells.
+#[derive(Clone, Copy, Debug, PartialEq, Eq)]
+pub enum RecordKind {
+    /// `T`: bytes that were handed to the client.
+    Handed,
+    /// `C`: the connection was closed; the body is its cause.
+    Closed,
+}
+
+impl RecordKind {
+    /// The byte that a record of this kind begins with.
+    fn byte(self) -> u8
+        ensures { result ≡ record_byte self }
+    {
+        match self {
+            RecordKind::Handed => b'T',
+            RecordKind::Closed => b'C',
+        }
+    }
+}
+
+/// Writes one record: its kind, the connection, the length of the body and the body.
+/// Fails only where the sink's count of faults rose; a front of the record was written then.
+pub fn write_record<K: Sink>(
+    sink: &mut K,
+    kind: RecordKind,
+    conn: u32,
+    body: &[u8],
+) -> Result<(), Failed>
+    requires { length body.now < 2 ^ 32 }
+    ensures bytes { WritesAll (K.written sink.old) (K.written sink.new) (record_text (record_byte kind) conn body.now) result }
+    ensures cause { HasCause (K.faults sink.old) (K.faults sink.new) result }
+{
+    let head = head_of(kind, conn, body.len() as u32);
+    let Ok(()) = write_all(sink, &head) else {
+        return Err(Failed);
+    };
+    write_all(sink, body)
+}
+
+/// The nine bytes before a body of this length.
+fn head_of(kind: RecordKind, conn: u32, size: u32) -> [u8; 9]
+    ensures { result ≡ head_text (record_byte kind) conn size }
+{
+    let [c0, c1, c2, c3] = conn.to_be_bytes();
+    let [s0, s1, s2, s3] = size.to_be_bytes();
+    [kind.byte(), c0, c1, c2, c3, s0, s1, s2, s3]
+}
+
+#[cfg(test)]
+mod tests {
+    use super::*;
+    use gate_outside::{MemorySink, Numbers, Script};
+
+    #[test]
+    fn records_are_spelled(rt: HostRuntime) {
+        let script = Script {
+            fails: Numbers::new(rt.alloc()),
+            piece: 4,
+        };
+        let mut sink = MemorySink::new(rt.alloc(), script);
+        assert_eq!(rt;
+            write_record(&mut sink, RecordKind::Handed, 258, b"hello"),
+            Ok(())
+        );
+        assert_eq!(rt;
+            write_record(&mut sink, RecordKind::Closed, u32::MAX, b"E"),
+            Ok(())
+        );
+        let wanted = b"T\0\0\x01\x02\0\0\0\x05helloC\xff\xff\xff\xff\0\0\0\x01E";
+        assert_eq!(rt; sink.as_bytes(), wanted.as_slice());
+    }
+}

@@ -1,0 +1,202 @@
+//! Replaying a transcript: its entries are read from a source and treated, and the records of what was handed out are
+//! written to a sink, each event's before the next.
+ghost use Rattle.std.specs.Prelude.{◌≡◌, ◌<◌, ◌≤◌, ◌++◌, [], ℕ, List, Option, length, IfOk};
+ghost use Rattle.gate_outside.specs.Causes.{HasCause};
+ghost use Rattle.gate_outside.specs.Contents.{Reads};
+ghost use Rattle.gateway_mux.specs.Stands.{Stands};
+ghost use Rattle.rtspgate.specs.declared.status.Status.TheVariants.{BadTranscript};
+ghost use Rattle.rtspgate.specs.declared.transcript.Entry.{Entry};
+ghost use Rattle.rtspgate.specs.Transcript.{reading};
+ghost use Rattle.rtspgate.specs.Reads.{ReadsSo, GivenWhole};
+ghost use Rattle.rtspgate.specs.Replays.{SoFar, SomeSoFar, Treated, StopCause, ReplaySays, FaultRose, TellsMore, ends_by};
+
+use crate::run::{Run, TreatFault};
+use crate::status::Status;
+use crate::transcript::{BadEntry, EntryFault, EntryReader};
+use gate_bytes::before;
+use gate_outside::{Failed, Sink, Source};
+use gateway_mux::Mux;
+use std::alloc::{AllocError, Global};
+
+/// The longest transcript that is replayed, in bytes.
+const LIMIT: usize = 67_108_864;
+
+/// How many bytes one read asks for.
+const PIECE: usize = 65_536;
+
+/// What stops a replay before the end of its source.
+#[derive(Clone, Copy, Debug, PartialEq, Eq)]
+pub enum Stop {
+    /// The bytes are no transcript.
+    Bad(BadEntry),
+    /// The sink failed.
+    Sink,
+    /// Memory was wanting.
+    Memory,
+}
+
+impl From<TreatFault> for Stop {
+    ghost use Rattle.std.specs.Prelude.{◌≡◌};
+    ghost use Rattle.rtspgate.specs.Stops.{stop_of};
+
+    ghost from_gives = { λ fault e. e ≡ stop_of fault };
+
+    fn from(fault: TreatFault) -> Stop {
+        match fault {
+            TreatFault::Sink => Stop::Sink,
+            TreatFault::Memory => Stop::Memory,
+        }
+    }
+}
+
+impl From<EntryFault> for Stop {
+    ghost use Rattle.std.specs.Prelude.{◌≡◌};
+    ghost use Rattle.rtspgate.specs.Stops.{stop_at};
+
+    ghost from_gives = { λ fault e. e ≡ stop_at fault };
+
+    fn from(fault: EntryFault) -> Stop {
+        match fault {
+            EntryFault::Bad(bad) => Stop::Bad(bad),
+            EntryFault::Memory => Stop::Memory,
+        }
+    }
+}
+
+impl From<Stop> for Status {
+    ghost use Rattle.std.specs.Prelude.{◌≡◌};
+    ghost use Rattle.rtspgate.specs.Stops.{status_of};
+
+    ghost from_gives = { λ stop e. e ≡ status_of stop };
+
+    fn from(stop: Stop) -> Status {
+        match stop {
+            Stop::Bad(bad) => bad_transcript(bad),
+            Stop::Sink => Status::SinkFault,
+            Stop::Memory => Status::Memory,
+        }
+    }
+}
+
+/// The answer to a transcript with this fault.
+fn bad_transcript(bad: BadEntry) -> Status
+    ensures { result ≡ BadTranscript bad.place bad.kind }
+{
+    Status::BadTranscript {
+        place: bad.place,
+        kind: bad.kind,
+    }
+}
+
+/// Replays the transcript that the source holds. The multiplexer stands for the history in which nothing happened.
+pub fn replay<S: Source, K: Sink>(alloc: Global, mux: Mux, source: &mut S, sink: &mut K) -> Status
+    requires { Stands mux [] }
+    ensures says { ReplaySays result (S.rest source.old) (S.rest source.new) (K.written sink.old) (K.written sink.new) }
+    ensures rose { FaultRose result (S.faults source.old) (S.faults source.new) (K.faults sink.old) (K.faults sink.new) }
+    ensures source_later { S.faults source.old ≤ S.faults source.new }
+    ensures sink_later { K.faults sink.old ≤ K.faults sink.new }
+{
+    let mut reader = EntryReader::new(alloc);
+    let mut run = Run::new(alloc, mux);
+    let Ok(mut buffer) = empty_buffer(alloc) else {
+        return Status::Memory;
+    };
+    let mut room = LIMIT;
+    while room > 0 {
+        let Ok(count) = read_some(source, buffer.as_mut_slice(), room) else {
+            return Status::SourceFault;
+        };
+        if count == 0 {
+            return finish(&reader);
+        }
+        let piece = before(buffer.as_slice(), count);
+        match take_piece(alloc, &mut reader, &mut run, sink, piece) {
+            Ok(()) => room -= count,
+            Err(stop) => return Status::from(stop),
+        }
+    }
+    match has_more(source) {
+        Ok(true) => Status::TooLong,
+        Ok(false) => finish(&reader),
+        Err(Failed) => Status::SourceFault,
+    }
+}
+
+/// Room for one piece.
+fn empty_buffer(alloc: Global) -> Result<Vec<u8>, AllocError>
+    ensures { IfOk result (λ buffer. 0 < length buffer.items) }
+{
+    vec![in alloc; 0u8; PIECE]
+}
+
+/// Reads a piece of the source into the front of the buffer: so many bytes at most.
+fn read_some<S: Source>(source: &mut S, buffer: &mut [u8], most: usize) -> Result<usize, Failed>
+    requires some { 0 < length buffer.old }
+    requires asks { 0 < most }
+    ensures bytes { Reads (S.rest source.old) (S.rest source.new) result buffer.new }
+    ensures within { IfOk result (λ count. (count ≤ most) × (count ≤ length buffer.new)) }
+    ensures cause { HasCause (S.faults source.old) (S.faults source.new) result }
+{
+    let most = most.min(buffer.len());
+    source.read(&mut buffer[..most])
+}
+
+/// Feeds a piece to the reader, and treats all entries that it can give then.
+fn take_piece<K: Sink>(
+    alloc: Global,
+    reader: &mut EntryReader,
+    run: &mut Run,
+    sink: &mut K,
+    piece: &[u8],
+) -> Result<(), Stop>
+    requires { SomeSoFar reader.old run.old.streams run.old.mux (K.written sink.old) }
+    ensures treated { (bytes : List ℕ) (before : Option (List ℕ)) → SoFar reader.old run.old.streams run.old.mux bytes before (K.written sink.old)
+        → Treated result reader.new run.new.streams run.new.mux (bytes ++ piece.now) before (K.written sink.new) }
+    ensures cause { StopCause (K.faults sink.old) (K.faults sink.new) result }
+{
+    let Ok(()) = reader.feed(piece) else {
+        return Err(Stop::Memory);
+    };
+    treat(alloc, reader, run, sink)
+}
+
+/// The answer at the end of the source.
+fn finish(reader: &EntryReader) -> Status
+    ensures { (bytes : List ℕ) (entries : List Entry) → ReadsSo reader.now bytes entries → GivenWhole bytes entries → result ≡ ends_by (reading bytes).fault }
+{
+    match reader.finish() {
+        Ok(()) => Status::Done,
+        Err(bad) => bad_transcript(bad),
+    }
+}
+
+/// Whether the source holds one byte more.
+fn has_more<S: Source>(source: &mut S) -> Result<bool, Failed>
+    ensures more { TellsMore (S.rest source.old) (S.rest source.new) result }
+    ensures cause { HasCause (S.faults source.old) (S.faults source.new) result }
+{
+    let mut one = [0u8; 1];
+    let count = source.read(&mut one)?;
+    Ok(count > 0)
+}
+
+/// Treats all entries that the reader can give.
+fn treat<K: Sink>(
+    alloc: Global,
+    reader: &mut EntryReader,
+    run: &mut Run,
+    sink: &mut K,
+) -> Result<(), Stop>
+    requires { SomeSoFar reader.old run.old.streams run.old.mux (K.written sink.old) }
+    ensures treated { (bytes : List ℕ) (before : Option (List ℕ)) → SoFar reader.old run.old.streams run.old.mux bytes before (K.written sink.old)
+        → Treated result reader.new run.new.streams run.new.mux bytes before (K.written sink.new) }
+    ensures cause { StopCause (K.faults sink.old) (K.faults sink.new) result }
+{
+    loop {
+        match reader.next(alloc) {
+            Ok(Some(entry)) => run.take(alloc, sink, &entry)?,
+            Ok(None) => return Ok(()),
+            Err(fault) => return Err(Stop::from(fault)),
+        }
+    }
+}
