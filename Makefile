@@ -1,0 +1,46 @@
+# For people. The gate of the repository is `rt ci`.
+
+PREFIX ?= /usr/local
+PROGRAM := crates/rtspgate/out/rtspgate
+REPLAY := replay rtsp://gate.example rtsp://media.example
+SOURCES := crates.txt $(shell find crates -name out -prune -o \( -name '*.rt' -o -name '*.antt' \) -print)
+EXAMPLES := players options
+
+.PHONY: all demo test check bench install examples clean
+
+# The proved program. Nothing is built that is not proved, so a first `make` takes some minutes.
+all: $(PROGRAM)
+
+# Independent crates are proved side by side first. `rt run` then links the program and runs it once,
+# here on a transcript without entries, which has no records.
+$(PROGRAM): $(SOURCES)
+	rt all check
+	cd crates/rtspgate && printf 'RTSPGW1\n' | rt run -- $(REPLAY)
+	touch $@
+
+# Replays what three players send first, and shows the records as text.
+demo: $(PROGRAM)
+	@mkdir -p examples/out
+	$(PROGRAM) $(REPLAY) < examples/players.rtspgw > examples/out/players.records
+	tools/transcript records < examples/out/players.records
+
+test:
+	rt ci
+
+# Runs the program over real files and pipes: cuts, bad words, faults of the outside, the longest transcript.
+check: $(PROGRAM)
+	tools/check_program $(PROGRAM)
+
+bench: $(PROGRAM)
+	bench/run $(PROGRAM)
+
+install: $(PROGRAM)
+	install -d $(DESTDIR)$(PREFIX)/bin
+	install -m 755 $(PROGRAM) $(DESTDIR)$(PREFIX)/bin/rtspgate
+
+# Makes the transcripts of examples/ anew from their texts.
+examples:
+	for name in $(EXAMPLES); do tools/transcript bin < examples/$$name.txt > examples/$$name.rtspgw || exit 1; done
+
+clean:
+	rm -rf crates/*/out bench/out examples/out
