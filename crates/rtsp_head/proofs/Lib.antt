@@ -8,3 +8,4 @@ pub mod WriteLemmas
 pub mod FaultLemmas
 pub mod ListLemmas
 pub mod SoundLemmas
+pub mod MessageLemmas

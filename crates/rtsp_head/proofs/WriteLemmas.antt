@@ -104,7 +104,7 @@ status_fits version code reason h =
     let digits : list_all is_ascii_digit (decimal code) ≡ true = digits_decimal own code (omega arith) in
     line_text_append version (32 ∷ (decimal code ++ (32 ∷ reason))) text.0 (line_text_append (decimal code) (32 ∷ reason) (digits_line (decimal code) digits) text.1)
 
-start_fits : (start : Start) → is_start start ≡ true → is_line_text (start_text start) ≡ true
+pub start_fits : (start : Start) → is_start start ≡ true → is_line_text (start_text start) ≡ true
 start_fits (Request method uri version) h = request_fits method uri version h
 start_fits (Status version code reason) h = status_fits version code reason h
 
@@ -153,13 +153,13 @@ start_read (Request method uri version) h = request_read method uri version h
 start_read (Status version code reason) h = status_read version code reason h
 
 -- what is known of a header that can be written
-record Sound (header : Header) : Type 0 where
+pub record Sound (header : Header) : Type 0 where
   pub tokens : list_all is_token_byte header.name ≡ true
   pub token : is_token header.name ≡ true
   pub trimmed : trimmed header.value ≡ header.value
   pub text : is_line_text header.value ≡ true
 
-sound : (header : Header) → is_header header ≡ true → Sound header
+pub sound : (header : Header) → is_header header ≡ true → Sound header
 sound header h =
     let all = and_parts (is_token header.name) (is_value header.value) h in
     let value = and_parts (is_trimmed header.value) (is_line_text header.value) all.1 in
@@ -167,10 +167,10 @@ sound header h =
     let same : length (trimmed header.value) ≡ length header.value = eqb-true _ _ value.0 in
     record { tokens = name.1; token = all.0; trimmed = trimmed_same header.value same; text = value.1 }
 
-header_fits : (header : Header) → Sound header → is_line_text (header_text header) ≡ true
+pub header_fits : (header : Header) → Sound header → is_line_text (header_text header) ≡ true
 header_fits header s = line_text_append header.name (58 ∷ 32 ∷ header.value) (token_line header.name s.tokens) s.text
 
-header_long : (header : Header) → 0 < length (header_text header)
+pub header_long : (header : Header) → 0 < length (header_text header)
 header_long header = omega (arith, length-append header.name (58 ∷ 32 ∷ header.value))
 
 -- A header's line is written and read.
@@ -218,7 +218,7 @@ header_lines (header ∷ headers) h =
     ∙ line_kept (header_text header) (lines (rest ++ ended [])) (header_long header)
     ∙ ap (λ ls. header_text header ∷ ls) (header_lines headers parts.1)
 
-start_long : (start : Start) → 0 < length (start_text start)
+pub start_long : (start : Start) → 0 < length (start_text start)
 start_long (Request method uri version) = omega (arith, length-append method (32 ∷ (uri ++ (32 ∷ version))))
 start_long (Status version code reason) = omega (arith, length-append version (32 ∷ (decimal code ++ (32 ∷ reason))))
 

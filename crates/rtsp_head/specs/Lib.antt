@@ -1,10 +1,11 @@
-pub mod Lines
-pub mod Starts
 pub mod Headers
 pub mod Heads
-pub mod Written
-pub mod Views
-pub mod Tallies
 pub mod Items
+pub mod Lines
+pub mod Messages
 pub mod Shapes
 pub mod Spellings
+pub mod Starts
+pub mod Tallies
+pub mod Views
+pub mod Written

@@ -1,8 +1,8 @@
 //! Items: what stands on a stream, one after another.
-ghost use Rattle.std.specs.Prelude.{◌≡◌, length, take, Some};
+ghost use Rattle.std.specs.Prelude.{◌≡◌, length, take, drop, Some};
 ghost use Rattle.rtsp_head.specs.Items.{first_extent, is_bad};
 
-use gate_bytes::{Text, before};
+use gate_bytes::{Text, after, before};
 
 /// Why an item is bad.
 #[derive(Clone, Copy, Debug, PartialEq, Eq)]
@@ -87,5 +87,12 @@ impl Item {
         ensures { result.now ≡ take self.now.head self.now.bytes }
     {
         before(self.bytes.as_bytes(), self.head)
+    }
+
+    /// The bytes behind its head: the body of a message.
+    pub fn body_bytes(&self) -> &[u8]
+        ensures { result.now ≡ drop self.now.head self.now.bytes }
+    {
+        after(self.bytes.as_bytes(), self.head)
     }
 }

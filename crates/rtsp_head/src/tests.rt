@@ -179,3 +179,28 @@ fn writes(rt: HostRuntime) -> Result<(), Fail> {
     assert_eq!(rt; text.as_bytes(), b"RTSP/2.0 200 OK\r\n\r\n".as_slice());
     Ok(())
 }
+
+#[test]
+fn writes_messages(rt: HostRuntime) -> Result<(), Fail> {
+    let alloc = rt.alloc();
+    let mut headers = Headers::new(alloc);
+    let pushed = headers.push(Header {
+        name: Text::copy(alloc, b"Content-Type")?,
+        value: Text::copy(alloc, b"text/plain")?,
+    });
+    assert!(rt; pushed.is_ok());
+    let rows = [
+        (
+            Some(7),
+            b"ok".as_slice(),
+            b"CSeq: 7\r\nContent-Type: text/plain\r\nContent-Length: 2\r\n\r\nok".as_slice(),
+        ),
+        (None, b"", b"Content-Type: text/plain\r\n\r\n"),
+    ];
+    for (number, body, wanted) in rows {
+        let mut text = Text::new(alloc);
+        push_message(&mut text, number, &headers, body)?;
+        assert_eq!(rt; text.as_bytes(), wanted);
+    }
+    Ok(())
+}

@@ -54,7 +54,7 @@ fn push_start(text: &mut Text, start: &Start) -> Result<(), Memory>
 }
 
 /// Appends the headers' lines.
-fn push_headers(text: &mut Text, headers: &[Header]) -> Result<(), Memory>
+pub(crate) fn push_headers(text: &mut Text, headers: &[Header]) -> Result<(), Memory>
     ensures { OnOk result (text.new ≡ text.old ++ flat_map (λ header. ended (header_text header)) headers.now) }
 {
     for header in headers {

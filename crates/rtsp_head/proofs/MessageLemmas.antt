@@ -1,0 +1,108 @@
+-- A message that was written is read back.
+use Rattle.std.proofs.Common.{◌≡◌, ℕ, suc, ◌+◌, ◌<◌, true, false, ◌&&◌, ◌==◌, not, cond, List, [], ◌∷◌, ◌++◌, length, take, drop, Option, None, Some, refl, sym, ◌∙◌, ap, append_assoc, arith}
+use Rattle.std.specs.Prelude.{codes, decimal}
+use Rattle.std.specs.Option.{option_map, option_and_then}
+use Rattle.std.specs.List.{list_all, flat_map}
+use Rattle.std.proofs.lemmas.Bool.{and_parts}
+use Rattle.std.proofs.lemmas.List.{length-append, append-nil}
+use Rattle.std.proofs.Math.Seq.{take-append_seam, drop-append_seam}
+use Rattle.rtsp_head.specs.declared.header.Header.{Header}
+use Rattle.rtsp_head.specs.declared.start.Start.{Start}
+use Rattle.rtsp_head.specs.Heads.{head_of}
+use Rattle.rtsp_head.specs.Items.{head_from, head_len}
+use Rattle.rtsp_head.specs.Written.{ended, start_text, header_text, head_text, is_line_text, is_start, is_header, CanBeWritten}
+use Rattle.rtsp_head.specs.Messages.{length_headers, message_headers, message_text, message_with, message_of}
+use Rattle.rtsp_head.proofs.WriteLemmas.{head_read, sound, header_fits, header_long, start_fits, start_long}
+
+-- the place, so many bytes later
+abbrev later : ℕ → Option ℕ → Option ℕ
+later n o = option_map (λ k. n + k) o
+
+suc_later : (n : ℕ) (o : Option ℕ) → option_map suc (later n o) ≡ later (suc n) o
+suc_later n None = refl
+suc_later n (Some k) = ap Some (omega arith)
+
+later_twice : (m n : ℕ) (o : Option ℕ) → later m (later n o) ≡ later (m + n) o
+later_twice m n None = refl
+later_twice m n (Some k) = ap Some (omega arith)
+
+two_later : (o : Option ℕ) → option_map suc (option_map suc o) ≡ later 2 o
+two_later None = refl
+two_later (Some k) = ap Some (omega arith)
+
+-- What is left of a line, and its end, are passed.
+line_left : (line rest : List ℕ) → is_line_text line ≡ true → head_from false (line ++ (13 ∷ 10 ∷ rest)) ≡ later (length line + 2) (head_from true rest)
+line_left [] rest h = two_later (head_from true rest)
+line_left (b ∷ line) rest h =
+    let parts = and_parts (not (b == 10) && (not (b == 13) && not (b == 0))) (is_line_text line) h in
+    let first = and_parts (not (b == 10)) (not (b == 13) && not (b == 0)) parts.0 in
+    let more : head_from false (line ++ (13 ∷ 10 ∷ rest)) ≡ later (length line + 2) (head_from true rest) = line_left line rest parts.1 in
+    let one : head_from false ((b ∷ line) ++ (13 ∷ 10 ∷ rest)) ≡ option_map suc (head_from false (line ++ (13 ∷ 10 ∷ rest))) = grind arith in
+    let count : suc (length line + 2) ≡ length (b ∷ line) + 2 = omega arith in
+    one ∙ ap (option_map suc) more ∙ suc_later (length line + 2) (head_from true rest) ∙ ap (λ n. later n (head_from true rest)) count
+
+-- A line with a byte is passed.
+line_passed : (line rest : List ℕ) → is_line_text line ≡ true → 0 < length line → head_from true (ended line ++ rest) ≡ later (length (ended line)) (head_from true rest)
+line_passed [] rest h some = absurd (omega arith)
+line_passed (b ∷ line) rest h some =
+    let parts = and_parts (not (b == 10) && (not (b == 13) && not (b == 0))) (is_line_text line) h in
+    let first = and_parts (not (b == 10)) (not (b == 13) && not (b == 0)) parts.0 in
+    let joined : ended (b ∷ line) ++ rest ≡ b ∷ (line ++ (13 ∷ 10 ∷ rest)) = ap (λ t. b ∷ t) (append_assoc line (13 ∷ 10 ∷ []) rest) in
+    let one : head_from true (b ∷ (line ++ (13 ∷ 10 ∷ rest))) ≡ option_map suc (head_from false (line ++ (13 ∷ 10 ∷ rest))) = grind arith in
+    let count : suc (length line + 2) ≡ length (ended (b ∷ line)) = omega (arith, length-append (b ∷ line) (13 ∷ 10 ∷ [])) in
+    ap (head_from true) joined ∙ one ∙ ap (option_map suc) (line_left line rest parts.1) ∙ suc_later (length line + 2) (head_from true rest)
+    ∙ ap (λ n. later n (head_from true rest)) count
+
+none_later : (o : Option ℕ) → o ≡ later 0 o
+none_later None = refl
+none_later (Some k) = ap Some (omega arith)
+
+lines_passed : (headers : List Header) (rest : List ℕ) → list_all is_header headers ≡ true →
+    head_from true (flat_map (λ header. ended (header_text header)) headers ++ rest) ≡ later (length (flat_map (λ header. ended (header_text header)) headers)) (head_from true rest)
+lines_passed [] rest h = none_later (head_from true rest)
+lines_passed (header ∷ headers) rest h =
+    let parts = and_parts (is_header header) (list_all is_header headers) h in
+    let s = sound header parts.0 in
+    let line = ended (header_text header) in
+    let lines = flat_map (λ header. ended (header_text header)) headers in
+    let count : length line + length lines ≡ length (line ++ lines) = sym (length-append line lines) in
+    ap (head_from true) (append_assoc line lines rest)
+    ∙ line_passed (header_text header) (lines ++ rest) (header_fits header s) (header_long header)
+    ∙ ap (later (length line)) (lines_passed headers rest parts.1)
+    ∙ later_twice (length line) (length lines) (head_from true rest)
+    ∙ ap (λ n. later n (head_from true rest)) count
+
+-- A head that was written ends with its first empty line, whatever follows.
+pub head_ends : (start : Start) (headers : List Header) (body : List ℕ) → is_start start ≡ true → list_all is_header headers ≡ true →
+    head_len (head_text start headers ++ body) ≡ Some (length (head_text start headers))
+head_ends start headers body first fields =
+    let line = ended (start_text start) in
+    let lines = flat_map (λ header. ended (header_text header)) headers in
+    let joined : head_text start headers ++ body ≡ line ++ (lines ++ (13 ∷ 10 ∷ body)) =
+    append_assoc (line ++ lines) (13 ∷ 10 ∷ []) body ∙ append_assoc line lines (13 ∷ 10 ∷ body) in
+    let count : length line + (length lines + 2) ≡ length (head_text start headers) =
+    omega (arith, length-append (line ++ lines) (ended []), length-append line lines) in
+    ap (head_from true) joined
+    ∙ line_passed (start_text start) (lines ++ (13 ∷ 10 ∷ body)) (start_fits start first) (start_long start)
+    ∙ ap (later (length line)) (lines_passed headers (13 ∷ 10 ∷ body) fields)
+    ∙ ap Some count
+
+-- A message that was written is read back.
+pub message_read : (start : Start) (number : Option ℕ) (headers : List Header) (body : List ℕ) → CanBeWritten start (message_headers number headers body) →
+    message_of (message_text start number headers body) ≡ Some (record { head = record { start = start; headers = message_headers number headers body }; body = body })
+message_read start number headers body can =
+    let all = message_headers number headers body in
+    let head = head_text start all in
+    ap (option_and_then (λ n. message_with (head_of (take n (head ++ body))) (drop n (head ++ body)))) (head_ends start all body can.start can.headers)
+    ∙ ap (λ t. message_with (head_of t) (drop (length head) (head ++ body))) (take-append_seam head body)
+    ∙ ap (λ t. message_with (head_of head) t) (drop-append_seam head body)
+    ∙ ap (λ r. message_with r body) (head_read start all can.start can.few can.headers)
+
+-- A body with a byte has its length told.
+pub length_told : (body : List ℕ) → (body ≡ [] → ⊥) →
+    flat_map (λ header. ended (header_text header)) (length_headers body) ≡ ended (header_text (record { name = codes "Content-Length"; value = decimal (length body) }))
+length_told [] some = absurd (some refl)
+length_told (b ∷ body) some =
+    let header : Header = record { name = codes "Content-Length"; value = decimal (length (b ∷ body)) } in
+    let long : (length (b ∷ body) == 0) ≡ false = grind arith in
+    ap (λ t. flat_map (λ header. ended (header_text header)) (cond t [] (header ∷ []))) long ∙ append-nil (ended (header_text header))

@@ -1,0 +1,65 @@
+//! Whole messages: what follows the first line.
+ghost use Rattle.std.specs.Prelude.{◌≡◌, ◌++◌, ℕ, List, [], Option, Some, OnOk, decimal};
+ghost use Rattle.std.specs.List.{flat_map};
+ghost use Rattle.rtsp_head.specs.declared.header.Header.{Header};
+ghost use Rattle.rtsp_head.specs.declared.start.Start.{Start};
+ghost use Rattle.rtsp_head.specs.Written.{ended, header_text, CanBeWritten};
+ghost use Rattle.rtsp_head.specs.Messages.{number_headers, length_headers, message_headers, message_text, message_of};
+
+use crate::Headers;
+use crate::write::push_headers;
+use gate_bytes::{Memory, Text, push_decimal};
+
+/// Appends what follows a message's first line: its number where it has one, the headers in their
+/// order, the length of the body where that has a byte, an empty line, and the body.
+pub fn push_message(
+    text: &mut Text,
+    number: Option<u64>,
+    headers: &Headers,
+    body: &[u8],
+) -> Result<(), Memory>
+    ensures { OnOk result (text.new ≡ text.old ++ flat_map (λ header. ended (header_text header)) (message_headers number headers.now body.now) ++ ended [] ++ body.now) }
+{
+    push_number(text, number)?;
+    push_headers(text, headers.as_slice())?;
+    push_length(text, body)?;
+    text.push_slice(b"\r\n")?;
+    text.push_slice(body)
+}
+
+/// Appends the header with a message's number, where it has one (RFC 2326, 12.17; RFC 7826, 18.20).
+fn push_number(text: &mut Text, number: Option<u64>) -> Result<(), Memory>
+    ensures { OnOk result (text.new ≡ text.old ++ flat_map (λ header. ended (header_text header)) (number_headers number)) }
+{
+    match number {
+        Some(number) => push_numeric(text, b"CSeq", number),
+        None => Ok(()),
+    }
+}
+
+/// Appends the header with the length of a body, where that has a byte (RFC 2326, 12.14; RFC 7826,
+/// 18.17).
+fn push_length(text: &mut Text, body: &[u8]) -> Result<(), Memory>
+    ensures { OnOk result (text.new ≡ text.old ++ flat_map (λ header. ended (header_text header)) (length_headers body.now)) }
+{
+    if body.is_empty() {
+        return Ok(());
+    }
+    push_numeric(text, b"Content-Length", body.len() as u64)
+}
+
+/// Appends a header whose value is a number.
+fn push_numeric(text: &mut Text, name: &[u8], number: u64) -> Result<(), Memory>
+    ensures { OnOk result (text.new ≡ text.old ++ ended (header_text (record { name = name.now; value = decimal number }))) }
+{
+    text.push_slice(name)?;
+    text.push_slice(b": ")?;
+    push_decimal(text, number)?;
+    text.push_slice(b"\r\n")
+}
+
+/// A message that was written is read back: its head with all that was written, and its body.
+pub fn written_messages()
+    ensures { (start : Start) (number : Option ℕ) (headers : List Header) (body : List ℕ) → CanBeWritten start (message_headers number headers body)
+        → message_of (message_text start number headers body) ≡ Some (record { head = record { start = start; headers = message_headers number headers body }; body = body }) }
+{}
