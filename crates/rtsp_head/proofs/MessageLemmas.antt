@@ -1,18 +1,23 @@
 -- A message that was written is read back.
-use Rattle.std.proofs.Common.{◌≡◌, ℕ, suc, ◌+◌, ◌<◌, true, false, ◌&&◌, ◌==◌, not, cond, List, [], ◌∷◌, ◌++◌, length, take, drop, Option, None, Some, refl, sym, ◌∙◌, ap, append_assoc, arith}
+use Rattle.std.proofs.Common.{◌≡◌, ℕ, suc, ◌+◌, ◌<◌, ◌≤◌, ◌^◌, Bool, true, false, ◌&&◌, ◌==◌, not, cond, List, [], ◌∷◌, ◌++◌, length, take, drop, Option, None, Some, IfSome, refl, sym, ◌∙◌, ap, append_assoc, arith}
 use Rattle.std.specs.Prelude.{codes, decimal}
 use Rattle.std.specs.Option.{option_map, option_and_then}
 use Rattle.std.specs.List.{list_all, flat_map}
+use Rattle.std.specs.Char.{is_ascii_digit}
 use Rattle.std.proofs.lemmas.Bool.{and_parts}
 use Rattle.std.proofs.lemmas.List.{length-append, append-nil}
+use Rattle.std.proofs.lemmas.List.Folds.{list_all-append}
+use Rattle.std.proofs.lemmas.Fmt.{digits_decimal}
 use Rattle.std.proofs.Math.Seq.{take-append_seam, drop-append_seam}
+use Rattle.gate_bytes.specs.Tokens.{is_blank, without_front, without_end, trimmed}
 use Rattle.rtsp_head.specs.declared.header.Header.{Header}
 use Rattle.rtsp_head.specs.declared.start.Start.{Start}
 use Rattle.rtsp_head.specs.Heads.{head_of}
 use Rattle.rtsp_head.specs.Items.{head_from, head_len}
-use Rattle.rtsp_head.specs.Written.{ended, start_text, header_text, head_text, is_line_text, is_start, is_header, CanBeWritten}
-use Rattle.rtsp_head.specs.Messages.{length_headers, message_headers, message_text, message_with, message_of}
-use Rattle.rtsp_head.proofs.WriteLemmas.{head_read, sound, header_fits, header_long, start_fits, start_long}
+use Rattle.rtsp_head.specs.Written.{ended, start_text, header_text, head_text, is_line_text, is_start, is_trimmed, is_value, is_header, CanBeWritten}
+use Rattle.rtsp_head.specs.Messages.{number_headers, length_headers, message_headers, message_text, message_with, message_of}
+use Rattle.rtsp_head.proofs.DigitLemmas.{own}
+use Rattle.rtsp_head.proofs.WriteLemmas.{digits_line, head_read, sound, header_fits, header_long, start_fits, start_long}
 
 -- the place, so many bytes later
 abbrev later : ℕ → Option ℕ → Option ℕ
@@ -106,3 +111,57 @@ length_told (b ∷ body) some =
     let header : Header = record { name = codes "Content-Length"; value = decimal (length (b ∷ body)) } in
     let long : (length (b ∷ body) == 0) ≡ false = grind arith in
     ap (λ t. flat_map (λ header. ended (header_text header)) (cond t [] (header ∷ []))) long ∙ append-nil (ended (header_text header))
+
+unblank_end : (text : List ℕ) → list_all is_ascii_digit text ≡ true → without_end text ≡ text
+unblank_end [] h = refl
+unblank_end (b ∷ text) h =
+    let parts = and_parts (is_ascii_digit b) (list_all is_ascii_digit text) h in
+    let rest : without_end text ≡ text = unblank_end text parts.1 in
+    let first : is_blank b ≡ false = grind arith in
+    grind arith
+
+unblank : (text : List ℕ) → list_all is_ascii_digit text ≡ true → trimmed text ≡ text
+unblank [] h = refl
+unblank (b ∷ text) h =
+    let parts = and_parts (is_ascii_digit b) (list_all is_ascii_digit text) h in
+    let first : is_blank b ≡ false = grind arith in
+    ap (λ t. without_end (cond t (without_front text) (b ∷ text))) first ∙ unblank_end (b ∷ text) h
+
+-- A number is a value that can be written.
+decimal_value : (number : ℕ) → number < 2 ^ 64 → is_value (decimal number) ≡ true
+decimal_value number high =
+    let digits : list_all is_ascii_digit (decimal number) ≡ true = digits_decimal own number high in
+    let same : trimmed (decimal number) ≡ decimal number = unblank (decimal number) digits in
+    let text : is_line_text (decimal number) ≡ true = digits_line (decimal number) digits in
+    let kept : is_trimmed (decimal number) ≡ true = ap (λ t. length t == length (decimal number)) same ∙ grind arith in
+    ap (λ t. t && is_line_text (decimal number)) kept ∙ text
+
+number_sound : (number : Option ℕ) → IfSome number (λ n. n < 2 ^ 64) → list_all is_header (number_headers number) ≡ true
+number_sound None high = refl
+number_sound (Some number) high = ap (λ t. t && true) (decimal_value number high)
+
+length_sound : (empty : Bool) (body : List ℕ) → length body < 2 ^ 64 →
+    list_all is_header (cond empty [] (record { name = codes "Content-Length"; value = decimal (length body) } ∷ [])) ≡ true
+length_sound true body high = refl
+length_sound false body high = ap (λ t. t && true) (decimal_value (length body) high)
+
+number_few : (number : Option ℕ) → length (number_headers number) ≤ 1
+number_few None = omega arith
+number_few (Some number) = omega arith
+
+length_few : (empty : Bool) (body : List ℕ) →
+    length (cond {A = List Header} empty [] (record { name = codes "Content-Length"; value = decimal (length body) } ∷ [])) ≤ 1
+length_few true body = omega arith
+length_few false body = omega arith
+
+-- Sound headers make a message that can be written.
+pub message_sound : (start : Start) (number : Option ℕ) (headers : List Header) (body : List ℕ) → is_start start ≡ true → IfSome number (λ n. n < 2 ^ 64) →
+    length body < 2 ^ 64 → length headers ≤ 62 → list_all is_header headers ≡ true → CanBeWritten start (message_headers number headers body)
+message_sound start number headers body first number_high length_high few fields =
+    let all = number_headers number ++ headers in
+    let front : list_all is_header all ≡ true = list_all-append is_header (number_headers number) headers ∙ ap (λ t. t && list_all is_header headers) (number_sound number number_high) ∙ fields in
+    record {
+      start = first;
+      few = omega (arith, length-append all (length_headers body), length-append (number_headers number) headers, number_few number, length_few (length body == 0) body);
+      headers = list_all-append is_header all (length_headers body) ∙ ap (λ t. t && list_all is_header (length_headers body)) front ∙ length_sound (length body == 0) body length_high;
+    }

@@ -42,7 +42,7 @@ digits_unspaced (b ∷ text) h =
     let rest : is_unspaced text ≡ true = digits_unspaced text parts.1 in
     grind arith
 
-digits_line : (text : List ℕ) → list_all is_ascii_digit text ≡ true → is_line_text text ≡ true
+pub digits_line : (text : List ℕ) → list_all is_ascii_digit text ≡ true → is_line_text text ≡ true
 digits_line [] h = refl
 digits_line (b ∷ text) h =
     let parts = and_parts (is_ascii_digit b) (list_all is_ascii_digit text) h in
