@@ -1,0 +1,63 @@
+//! Replies of the server.
+ghost use Rattle.std.specs.Prelude.{◌≡◌};
+ghost use Rattle.rtsp_head.specs.Shapes.{shape_of};
+ghost use Rattle.head_two.specs.Messages.{numbered, IsUnlessMemory};
+ghost use Rattle.head_two.specs.Replies.{reply_in};
+
+use crate::TwoFault;
+use gate_bytes::Text;
+use rtsp_head::{Head, HeadFault, Item, Start, read_head};
+use rtsp_small::read_cseq_two;
+use std::alloc::Global;
+
+/// A reply of the server (RFC 7826, 8).
+#[derive(Drop)]
+pub struct Reply2 {
+    /// The code, 100 to 999.
+    pub code: u16,
+    /// The number of the request that is answered: at most 9 digits.
+    pub cseq: u32,
+    /// The whole head.
+    pub head: Head,
+    /// The body; it is empty where there is none.
+    pub body: Text,
+}
+
+/// The version of the server's messages.
+const VERSION: &[u8] = b"RTSP/2.0";
+
+/// The reply that an item is. Refused with [`TwoFault::Version`] where it has no status line of
+/// RTSP/2.0, and then with [`TwoFault::Cseq`] where its number can't be read.
+pub fn read_reply(alloc: Global, item: &Item) -> Result<Reply2, TwoFault>
+    ensures { IsUnlessMemory result (reply_in (shape_of item.now)) }
+{
+    let head = match read_head(alloc, item.head_bytes()) {
+        Ok(head) => head,
+        Err(HeadFault::Memory) => return Err(TwoFault::Memory),
+        Err(_) => return Err(TwoFault::Version),
+    };
+    let Start::Status { version, code, .. } = &head.start else {
+        return Err(TwoFault::Version);
+    };
+    let code = *code;
+    let cseq = numbered(version.as_bytes(), &head)?;
+    Ok(Reply2 {
+        code,
+        cseq,
+        head,
+        body: Text::copy(alloc, item.body_bytes())?,
+    })
+}
+
+/// The number of a message with this version.
+pub(crate) fn numbered(version: &[u8], head: &Head) -> Result<u32, TwoFault>
+    ensures { result ≡ numbered version.now head.now.headers }
+{
+    if version != VERSION {
+        return Err(TwoFault::Version);
+    }
+    match head.field(b"CSeq") {
+        Some(value) => read_cseq_two(value).ok_or(TwoFault::Cseq),
+        None => Err(TwoFault::Cseq),
+    }
+}
