@@ -6,12 +6,12 @@ use Rattle.std.specs.List.{list_all}
 use Rattle.std.proofs.lemmas.Bool.{and_parts, eqb-true}
 use Rattle.rtsp_status.specs.Reasons.{Reason, reasons, reason_in, reason_of, has_reason}
 use Rattle.rtsp_head.specs.declared.start.Start.TheVariants.{Status}
-use Rattle.rtsp_head.specs.Messages.{message_headers, Message}
+use Rattle.rtsp_head.specs.Messages.{message_headers, Message, is_added}
 use Rattle.rtsp_head.specs.Written.{is_line_text, is_value, is_start, is_header, CanBeWritten}
-use Rattle.rtsp_head.proofs.MessageLemmas.{message_read, message_sound}
-use Rattle.head_two.specs.Messages.{version_two, cseq_of, is_added}
+use Rattle.rtsp_head.proofs.MessageLemmas.{message_read, message_sound, fields_read}
+use Rattle.head_two.specs.Messages.{version_two, cseq_of}
 use Rattle.head_two.specs.Answers.{session_header, session_headers, answer_text, answer_at, answer_in}
-use Rattle.head_two.proofs.ReadLemmas.{number_read, fields_read}
+use Rattle.head_two.proofs.ReadLemmas.{number_read}
 
 -- a code and a reason of a status line
 abbrev is_told : ℕ → List ℕ → Bool
@@ -66,5 +66,5 @@ answer_read code cseq session known short value =
     let can : CanBeWritten first headers =
     message_sound first (Some cseq) fields [] (reason_told code known) (omega arith) (omega arith) (omega arith) (sessions_sound (code == 200) session value) in
     ap (option_and_then (λ (message : Message). answer_at message.head.start message.head.headers)) (message_read first (Some cseq) fields [] can)
-    ∙ ap (λ fs. option_map (λ n. record { code = code; cseq = n; fields = fs }) (cseq_of headers)) (fields_read cseq fields [] (sessions_own (code == 200) session))
+    ∙ ap (λ fs. option_map (λ n. record { code = code; cseq = n; fields = fs }) (cseq_of headers)) (fields_read (Some cseq) fields [] (sessions_own (code == 200) session))
     ∙ ap (option_map (λ n. record { code = code; cseq = n; fields = fields })) (number_read cseq fields [] short)

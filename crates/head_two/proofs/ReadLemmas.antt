@@ -1,20 +1,19 @@
 -- What was written is read back.
-use Rattle.std.proofs.Common.{◌≡◌, ℕ, ◌<◌, ◌≤◌, ◌^◌, Bool, true, false, not, ◌==◌, cond, List, [], ◌∷◌, ◌++◌, length, Some, refl, ◌∙◌, ap, arith}
-use Rattle.std.specs.Prelude.{codes, decimal}
+use Rattle.std.proofs.Common.{◌≡◌, ℕ, ◌<◌, ◌≤◌, ◌^◌, true, List, length, Some, ◌∙◌, ap, arith}
+use Rattle.std.specs.Prelude.{decimal}
 use Rattle.std.specs.Option.{option_and_then, option_map}
 use Rattle.std.specs.List.{list_all}
 use Rattle.std.specs.Char.{is_ascii_digit}
 use Rattle.std.specs.Str.Parse.{digits_value}
-use Rattle.std.proofs.lemmas.Bool.{and_parts}
 use Rattle.std.proofs.lemmas.Fmt.{digits_decimal, digits_value-decimal, length-decimal-le, decimal_nonempty}
 use Rattle.gate_bytes.specs.Numbers.{number_in}
 use Rattle.rtsp_head.specs.declared.header.Header.{Header}
 use Rattle.rtsp_head.specs.declared.start.Start.TheVariants.{Request}
-use Rattle.rtsp_head.specs.Messages.{length_headers, message_headers, Message}
+use Rattle.rtsp_head.specs.Messages.{message_headers, Message}
 use Rattle.rtsp_head.proofs.DigitLemmas.{own}
-use Rattle.rtsp_head.proofs.MessageLemmas.{message_read}
+use Rattle.rtsp_head.proofs.MessageLemmas.{message_read, fields_read}
 use Rattle.head_two.specs.declared.request.Request2.{Request2}
-use Rattle.head_two.specs.Messages.{version_two, cseq_of, is_added, own_fields}
+use Rattle.head_two.specs.Messages.{version_two, cseq_of}
 use Rattle.head_two.specs.Requests.{request_text, request_at, request_in, IsRequest}
 
 -- A number of nine digits is written and read.
@@ -30,29 +29,11 @@ nine_read number high =
 pub number_read : (number : ℕ) (headers : List Header) (body : List ℕ) → number < 10 ^ 9 → cseq_of (message_headers (Some number) headers body) ≡ Some number
 number_read number headers body high = nine_read number high
 
--- The length of a body is no field of the message's own.
-length_added : (empty : Bool) (body : List ℕ) →
-    own_fields (cond empty [] (record { name = codes "Content-Length"; value = decimal (length body) } ∷ [])) ≡ []
-length_added true body = refl
-length_added false body = refl
-
-own_kept : (headers added : List Header) → list_all (λ header. not (is_added header)) headers ≡ true → own_fields added ≡ [] → own_fields (headers ++ added) ≡ headers
-own_kept [] added h none = none
-own_kept (header ∷ headers) added h none =
-    let parts = and_parts (not (is_added header)) (list_all (λ header. not (is_added header)) headers) h in
-    ap (λ t. cond t (header ∷ own_fields (headers ++ added)) (own_fields (headers ++ added))) parts.0
-    ∙ ap (λ hs. header ∷ hs) (own_kept headers added parts.1 none)
-
--- A message's own fields are those that were given.
-pub fields_read : (number : ℕ) (headers : List Header) (body : List ℕ) → list_all (λ header. not (is_added header)) headers ≡ true →
-    own_fields (message_headers (Some number) headers body) ≡ headers
-fields_read number headers body h = own_kept headers (length_headers body) h (length_added (length body == 0) body)
-
 -- A request that was written is read back.
 pub request_read : (number : ℕ) (request : Request2) → IsRequest number request → request_in (request_text number request) ≡ Some (record { number = number; request = request })
 request_read number request is =
     let first = Request request.method request.uri version_two in
     let headers = message_headers (Some number) request.headers request.body in
     ap (option_and_then (λ (message : Message). request_at message.head.start message.head.headers message.body)) (message_read first (Some number) request.headers request.body is.writable)
-    ∙ ap (λ fields. option_map (λ n. record { number = n; request = record { method = request.method; uri = request.uri; headers = fields; body = request.body } }) (cseq_of headers)) (fields_read number request.headers request.body is.own)
+    ∙ ap (λ fields. option_map (λ n. record { number = n; request = record { method = request.method; uri = request.uri; headers = fields; body = request.body } }) (cseq_of headers)) (fields_read (Some number) request.headers request.body is.own)
     ∙ ap (option_map (λ n. record { number = n; request = request })) (number_read number request.headers request.body is.short)

@@ -5,9 +5,9 @@ use Rattle.std.specs.Str.{bytes_eq}
 use Rattle.rtsp_head.specs.declared.header.Header.{Header}
 use Rattle.rtsp_head.specs.declared.start.Start.{Start}
 use Rattle.rtsp_head.specs.declared.start.Start.TheVariants.{Request, Status}
-use Rattle.rtsp_head.specs.Messages.{message_text, message_of}
+use Rattle.rtsp_head.specs.Messages.{message_text, message_of, own_fields}
 use Rattle.rtsp_status.specs.Reasons.{reason_of}
-use Rattle.head_two.specs.Messages.{version_two, cseq_of, own_fields}
+use Rattle.head_two.specs.Messages.{version_two, cseq_of}
 
 -- the session that an answer names, where there is one (RFC 7826, 18.49)
 abbrev pub session_header : Option (List ℕ) → List Header

@@ -1,9 +1,7 @@
 -- What every message of RTSP 2.0 says.
-use Rattle.std.specs.Prelude.{◌≡◌, ℕ, Bool, ◌||◌, not, codes, List, Result, Ok, Err, Option, if◌then◌else◌}
+use Rattle.std.specs.Prelude.{◌≡◌, ℕ, codes, List, Result, Ok, Err, Option, if◌then◌else◌}
 use Rattle.std.specs.Option.{option_and_then, ok_or}
-use Rattle.std.specs.List.{filter}
 use Rattle.std.specs.Str.{bytes_eq}
-use Rattle.gate_bytes.specs.Tokens.{equal_fold}
 use Rattle.gate_bytes.specs.Numbers.{number_in}
 use Rattle.rtsp_head.specs.declared.header.Header.{Header}
 use Rattle.rtsp_head.specs.Headers.{field_of}
@@ -21,14 +19,6 @@ cseq_of headers = option_and_then (number_in 9) (field_of headers (codes "CSeq")
 -- The version is looked at before the number (this project's own order).
 abbrev pub numbered : List ℕ → List Header → Result ℕ TwoFault
 numbered version headers = if bytes_eq version version_two then ok_or (cseq_of headers) Cseq else Err Version
-
--- the two fields that are written for every message by its number and its body
-abbrev pub is_added : Header → Bool
-is_added header = equal_fold header.name (codes "CSeq") || equal_fold header.name (codes "Content-Length")
-
--- all other fields of a message
-abbrev pub own_fields : List Header → List Header
-own_fields headers = filter (λ header. not (is_added header)) headers
 
 -- A fault that was answered is the one that the definition says, or want of memory.
 abbrev pub FaultUnlessMemory : {A : Type 0} → TwoFault → Result A TwoFault → Type 0

@@ -6,10 +6,10 @@ use Rattle.std.specs.Str.{bytes_eq}
 use Rattle.rtsp_head.specs.declared.header.Header.{Header}
 use Rattle.rtsp_head.specs.declared.start.Start.{Start}
 use Rattle.rtsp_head.specs.declared.start.Start.TheVariants.{Request, Status}
-use Rattle.rtsp_head.specs.Messages.{message_headers, message_text, message_of}
+use Rattle.rtsp_head.specs.Messages.{message_headers, message_text, message_of, is_added, own_fields}
 use Rattle.rtsp_head.specs.Written.{CanBeWritten}
 use Rattle.head_two.specs.declared.request.Request2.{Request2}
-use Rattle.head_two.specs.Messages.{version_two, cseq_of, is_added, own_fields}
+use Rattle.head_two.specs.Messages.{version_two, cseq_of}
 
 -- The request line, the number, the headers in their order, the length of the body where that has a byte, an empty
 -- line, and the body (RFC 7826, 7).

@@ -15,7 +15,7 @@ use Rattle.rtsp_head.specs.declared.start.Start.{Start}
 use Rattle.rtsp_head.specs.Heads.{head_of}
 use Rattle.rtsp_head.specs.Items.{head_from, head_len}
 use Rattle.rtsp_head.specs.Written.{ended, start_text, header_text, head_text, is_line_text, is_start, is_trimmed, is_value, is_header, CanBeWritten}
-use Rattle.rtsp_head.specs.Messages.{number_headers, length_headers, message_headers, message_text, message_with, message_of}
+use Rattle.rtsp_head.specs.Messages.{number_headers, length_headers, message_headers, is_added, own_fields, message_text, message_with, message_of}
 use Rattle.rtsp_head.proofs.DigitLemmas.{own}
 use Rattle.rtsp_head.proofs.WriteLemmas.{digits_line, head_read, sound, header_fits, header_long, start_fits, start_long}
 
@@ -165,3 +165,26 @@ message_sound start number headers body first number_high length_high few fields
       few = omega (arith, length-append all (length_headers body), length-append (number_headers number) headers, number_few number, length_few (length body == 0) body);
       headers = list_all-append is_header all (length_headers body) ∙ ap (λ t. t && list_all is_header (length_headers body)) front ∙ length_sound (length body == 0) body length_high;
     }
+
+number_added : (number : Option ℕ) (more : List Header) → own_fields (number_headers number ++ more) ≡ own_fields more
+number_added None more = refl
+number_added (Some number) more = refl
+
+length_added : (empty : Bool) (body : List ℕ) →
+    own_fields (cond empty [] (record { name = codes "Content-Length"; value = decimal (length body) } ∷ [])) ≡ []
+length_added true body = refl
+length_added false body = refl
+
+own_kept : (headers added : List Header) → list_all (λ header. not (is_added header)) headers ≡ true → own_fields added ≡ [] → own_fields (headers ++ added) ≡ headers
+own_kept [] added h none = none
+own_kept (header ∷ headers) added h none =
+    let parts = and_parts (not (is_added header)) (list_all (λ header. not (is_added header)) headers) h in
+    ap (λ t. cond t (header ∷ own_fields (headers ++ added)) (own_fields (headers ++ added))) parts.0
+    ∙ ap (λ hs. header ∷ hs) (own_kept headers added parts.1 none)
+
+-- A message's own fields are those that were given.
+pub fields_read : (number : Option ℕ) (headers : List Header) (body : List ℕ) → list_all (λ header. not (is_added header)) headers ≡ true →
+    own_fields (message_headers number headers body) ≡ headers
+fields_read number headers body h =
+    ap own_fields (append_assoc (number_headers number) headers (length_headers body))
+    ∙ number_added number (headers ++ length_headers body) ∙ own_kept headers (length_headers body) h (length_added (length body == 0) body)

@@ -1,6 +1,8 @@
 -- How a whole message is written, and what whole message some bytes are.
-use Rattle.std.specs.Prelude.{ℕ, ◌==◌, if◌then◌else◌, List, [], ◌∷◌, ◌++◌, length, take, drop, codes, decimal, Option, Some, None, Result, Ok, Err}
+use Rattle.std.specs.Prelude.{ℕ, Bool, ◌==◌, ◌||◌, not, if◌then◌else◌, List, [], ◌∷◌, ◌++◌, length, take, drop, codes, decimal, Option, Some, None, Result, Ok, Err}
 use Rattle.std.specs.Option.{option_and_then}
+use Rattle.std.specs.List.{filter}
+use Rattle.gate_bytes.specs.Tokens.{equal_fold}
 use Rattle.rtsp_head.specs.declared.header.Header.{Header}
 use Rattle.rtsp_head.specs.declared.start.Start.{Start}
 use Rattle.rtsp_head.specs.declared.head.Head.{Head}
@@ -21,6 +23,14 @@ length_headers body = if length body == 0 then [] else record { name = codes "Co
 -- The number stands first, and the length last (this project's own).
 abbrev pub message_headers : Option ℕ → List Header → List ℕ → List Header
 message_headers number headers body = number_headers number ++ headers ++ length_headers body
+
+-- the two fields that are written for every message by its number and its body
+abbrev pub is_added : Header → Bool
+is_added header = equal_fold header.name (codes "CSeq") || equal_fold header.name (codes "Content-Length")
+
+-- all other fields of a message
+abbrev pub own_fields : List Header → List Header
+own_fields headers = filter (λ header. not (is_added header)) headers
 
 -- a message: its head, and then its body
 abbrev pub message_text : Start → Option ℕ → List Header → List ℕ → List ℕ
