@@ -1,1 +1,6 @@
 pub mod Methods
+pub mod Notices
+pub mod Parts
+pub mod Scales
+pub mod Sessions
+pub mod Views

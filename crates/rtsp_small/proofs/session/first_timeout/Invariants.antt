@@ -1,0 +1,11 @@
+use Rattle.std.proofs.Common.{◌≡◌, length}
+use Rattle.rtsp_small.specs.Parts.{parts_at}
+use Rattle.rtsp_small.specs.Sessions.{first_timeout}
+use Rattle.rtsp_small.proofs.session.first_timeout.Given as goal
+
+-- the timeout is among the parameters that are left
+abbrev pub invariant-loop-parameter : goal.invariant-loop-parameter
+invariant-loop-parameter l = first_timeout (parts_at 59 l.rest) ≡ first_timeout (parts_at 59 l.parameters)
+
+abbrev pub decreases-loop-parameter : goal.decreases-loop-parameter
+decreases-loop-parameter l = length l.rest

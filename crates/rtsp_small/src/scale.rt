@@ -1,0 +1,52 @@
+//! The field Scale.
+ghost use Rattle.std.specs.Prelude.{◌≡◌, is_some};
+ghost use Rattle.std.specs.List.{list_all};
+ghost use Rattle.std.specs.Char.{is_ascii_digit};
+ghost use Rattle.gate_bytes.specs.Numbers.{number_in};
+ghost use Rattle.rtsp_small.specs.Scales.{without_minus, is_whole, is_fraction, is_scale};
+
+use crate::part::cut;
+use gate_bytes::read_decimal;
+
+/// Whether a text is a scale: an optional `-`, 1 to 10 digits, and optionally `.` and 0 to 9 digits
+/// (RFC 2326, 12.34; RFC 7826, 18.46).
+pub fn is_scale(value: &[u8]) -> bool
+    ensures { result ≡ is_scale value.now }
+{
+    let number = without_minus(value);
+    match cut(b'.', number) {
+        Some((whole, fraction)) => is_whole(whole) && is_fraction(fraction),
+        None => is_whole(number),
+    }
+}
+
+/// The text without the `-` at its front, if it has one.
+fn without_minus(text: &[u8]) -> &[u8]
+    ensures { result.now ≡ without_minus text.now }
+{
+    match text {
+        [b'-', rest @ ..] => rest,
+        _ => text,
+    }
+}
+
+/// Whether a text is 1 to 10 digits.
+fn is_whole(text: &[u8]) -> bool
+    ensures { result ≡ is_whole text.now }
+{
+    read_decimal(text, 10).is_some()
+}
+
+/// Whether a text is 0 to 9 digits.
+fn is_fraction(text: &[u8]) -> bool
+    ensures { result ≡ is_fraction text.now }
+{
+    text.len() <= 9 && has_digits_alone(text)
+}
+
+/// Whether each byte of a text is a digit.
+fn has_digits_alone(text: &[u8]) -> bool
+    ensures { result ≡ list_all is_ascii_digit text.now }
+{
+    text.iter().all(|byte| byte.is_ascii_digit())
+}

@@ -1,0 +1,116 @@
+//! The field Session.
+ghost use Rattle.std.specs.Prelude.{◌≡◌, ◌<◌, ◌^◌, true, Some, ◌++◌, IfSome, IfOk, OnOk, option_map};
+ghost use Rattle.std.specs.List.{list_all, slice_split};
+ghost use Rattle.rtsp_small.specs.Parts.{parts_at};
+ghost use Rattle.rtsp_small.specs.Sessions.{is_session_byte, is_session_id, timeout_in, first_timeout, session_with, session_of, timeout_text, session_text};
+ghost use Rattle.rtsp_small.specs.Views.{session_seen};
+
+use crate::part::cut;
+use gate_bytes::{Memory, Text, push_decimal, read_decimal, trim};
+use std::alloc::Global;
+
+/// The most bytes of a session id.
+const LONGEST_ID: usize = 256;
+
+/// What a Session field says (RFC 2326, 12.37; RFC 7826, 18.49).
+#[derive(Clone, Copy, Debug)]
+pub struct SessionField<'a> {
+    /// The id: 1 to 256 letters, digits or bytes of `$-_.+`.
+    pub id: &'a [u8],
+    /// After so many seconds without a request the server may close the session; of at most ten digits.
+    pub timeout: Option<u64>,
+}
+
+/// What a Session field says: the id, which is not trimmed, and then parameters after semicolons,
+/// which are. The first `timeout=` with 1 to 10 digits counts, and other parameters are ignored.
+pub fn read_session(value: &[u8]) -> Option<SessionField<'_>>
+    ensures { option_map session_seen result ≡ session_of value.now }
+{
+    match cut(b';', value) {
+        Some((id, parameters)) => session(id, first_timeout(parameters)),
+        None => session(value, None),
+    }
+}
+
+/// A session with this id, where it is one.
+fn session(id: &[u8], timeout: Option<u64>) -> Option<SessionField<'_>>
+    ensures { option_map session_seen result ≡ session_with id.now timeout }
+{
+    if !is_session_id(id) {
+        return None;
+    }
+    Some(SessionField { id, timeout })
+}
+
+/// Whether a text is a session id.
+fn is_session_id(text: &[u8]) -> bool
+    ensures { result ≡ is_session_id text.now }
+{
+    !text.is_empty() && text.len() <= LONGEST_ID && has_session_bytes_alone(text)
+}
+
+/// Whether each byte of a text may stand in a session id.
+fn has_session_bytes_alone(text: &[u8]) -> bool
+    ensures { result ≡ list_all is_session_byte text.now }
+{
+    text.iter().all(|byte| is_session_byte(*byte))
+}
+
+/// Whether a byte may stand in a session id.
+fn is_session_byte(byte: u8) -> bool
+    ensures { result ≡ is_session_byte byte }
+{
+    byte.is_ascii_alphanumeric() || matches!(byte, b'$' | b'-' | b'_' | b'.' | b'+')
+}
+
+/// The first timeout among parameters that semicolons part.
+fn first_timeout(parameters: &[u8]) -> Option<u64>
+    ensures { result ≡ first_timeout (parts_at 59 parameters.now) }
+{
+    let mut rest = parameters;
+    while let Some((parameter, more)) = cut(b';', rest) {
+        let timeout = read_timeout(trim(parameter));
+        if timeout.is_some() {
+            return timeout;
+        }
+        rest = more;
+    }
+    read_timeout(trim(rest))
+}
+
+/// The seconds of a parameter `timeout=` with 1 to 10 digits.
+fn read_timeout(parameter: &[u8]) -> Option<u64>
+    ensures { result ≡ timeout_in parameter.now }
+{
+    let (name, seconds) = cut(b'=', parameter)?;
+    if name != b"timeout".as_slice() {
+        return None;
+    }
+    read_decimal(seconds, 10)
+}
+
+/// A Session field with this id, and this timeout in seconds where there is one. [`read_session`]
+/// gives both back.
+pub fn write_session(alloc: Global, id: &[u8], timeout: Option<u64>) -> Result<Text, Memory>
+    requires id { is_session_id id.now ≡ true }
+    requires timeout { IfSome timeout (λ seconds. seconds < 10 ^ 10) }
+    ensures text { IfOk result (λ text. text ≡ session_text (record { id = id.now; timeout = timeout })) }
+    ensures read { IfOk result (λ text. session_of text ≡ Some (record { id = id.now; timeout = timeout })) }
+{
+    let mut text = Text::copy(alloc, id)?;
+    push_timeout(&mut text, timeout)?;
+    Ok(text)
+}
+
+/// Appends the parameter with a timeout, where there is one.
+fn push_timeout(text: &mut Text, timeout: Option<u64>) -> Result<(), Memory>
+    ensures { OnOk result (text.new ≡ text.old ++ timeout_text timeout) }
+{
+    match timeout {
+        Some(seconds) => {
+            text.push_slice(b";timeout=")?;
+            push_decimal(text, seconds)
+        }
+        None => Ok(()),
+    }
+}
