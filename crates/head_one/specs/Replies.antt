@@ -1,0 +1,38 @@
+-- Replies to players (RFC 2326, 7): how they are written, and what reply some bytes are.
+use Rattle.std.specs.Prelude.{◌≡◌, ℕ, ◌<◌, ◌^◌, true, not, List, [], Option, Some, None, IfSome, unwrap_or, if◌then◌else◌}
+use Rattle.std.specs.Option.{option_and_then}
+use Rattle.std.specs.List.{list_all}
+use Rattle.std.specs.Str.{bytes_eq}
+use Rattle.rtsp_head.specs.declared.header.Header.{Header}
+use Rattle.rtsp_head.specs.declared.start.Start.{Start}
+use Rattle.rtsp_head.specs.declared.start.Start.TheVariants.{Request, Status}
+use Rattle.rtsp_head.specs.Messages.{message_headers, is_added, own_fields, message_text, message_of}
+use Rattle.rtsp_head.specs.Written.{CanBeWritten}
+use Rattle.rtsp_status.specs.Reasons.{reason_of}
+use Rattle.head_one.specs.declared.reply.Reply1.{Reply1}
+use Rattle.head_one.specs.Refusals.{version_one, cseq_of}
+
+-- the status line of a reply (RFC 2326, 7.1)
+abbrev pub reply_start : Reply1 → Start
+reply_start reply = Status version_one reply.code (unwrap_or (reason_of reply.code) [])
+
+-- The status line, the number where there is one, the headers in their order, the length of the body where that has a
+-- byte, an empty line, and the body.
+abbrev pub reply_text : Reply1 → List ℕ
+reply_text reply = message_text (reply_start reply) reply.cseq reply.headers reply.body
+
+abbrev pub reply_at : Start → List Header → List ℕ → Option Reply1
+reply_at (Status version code reason) headers body =
+    if bytes_eq version version_one then Some (record { code = code; cseq = cseq_of headers; headers = own_fields headers; body = body }) else None
+reply_at (Request method uri version) headers body = None
+
+-- The reply that these bytes are: its own headers are all but the number and the body's length.
+abbrev pub reply_in : List ℕ → Option Reply1
+reply_in bytes = option_and_then (λ message. reply_at message.head.start message.head.headers message.body) (message_of bytes)
+
+-- A reply that can be written and read back: its number has 19 digits at most, each of its parts fits into one line,
+-- and it brings neither a number nor a length of its own.
+pub record IsReply (reply : Reply1) : Type 0 where
+  pub short : IfSome reply.cseq (λ cseq. cseq < 10 ^ 19)
+  pub writable : CanBeWritten (reply_start reply) (message_headers reply.cseq reply.headers reply.body)
+  pub own : list_all (λ header. not (is_added header)) reply.headers ≡ true

@@ -1,0 +1,38 @@
+//! Replies to players.
+ghost use Rattle.std.specs.Prelude.{◌≡◌, true, IfOk};
+ghost use Rattle.rtsp_status.specs.Reasons.{has_reason};
+ghost use Rattle.head_one.specs.Replies.{reply_text};
+
+use gate_bytes::{Memory, Text, push_decimal};
+use rtsp_head::{Headers, push_message};
+use rtsp_status::reason;
+use std::alloc::Global;
+
+/// A reply to a player (RFC 2326, 7).
+#[derive(Drop)]
+pub struct Reply1 {
+    /// The code; it has a reason.
+    pub code: u16,
+    /// The number of the request, where it could be read.
+    pub cseq: Option<u64>,
+    /// The headers but for `CSeq` and `Content-Length`, in their order.
+    pub headers: Headers,
+    /// The body; it is empty where there is none.
+    pub body: Text,
+}
+
+/// The text of a reply: the status line, `CSeq` where there is a number, the headers in their order,
+/// `Content-Length` where there is a body, an empty line, and the body.
+pub fn write_reply(alloc: Global, reply: &Reply1) -> Result<Text, Memory>
+    requires { has_reason reply.now.code ≡ true }
+    ensures { IfOk result (λ text. text ≡ reply_text reply.now) }
+{
+    let mut text = Text::with_room(alloc, 256)?;
+    text.push_slice(b"RTSP/1.0 ")?;
+    push_decimal(&mut text, u64::from(reply.code))?;
+    text.push_slice(b" ")?;
+    text.push_slice(reason(reply.code).as_bytes())?;
+    text.push_slice(b"\r\n")?;
+    push_message(&mut text, reply.cseq, &reply.headers, reply.body.as_bytes())?;
+    Ok(text)
+}
