@@ -1,0 +1,72 @@
+//! The list of what an RTP-Info field says.
+ghost use Rattle.std.specs.Prelude.{◌≡◌, ◌<◌, [], ◌∷◌, ◌++◌, length, slice_get, Some, IfOk, IfErr, OnOk, OnErr};
+
+use crate::InfoEntry;
+use gate_bytes::Memory;
+use std::alloc::Global;
+use std::marker::Model;
+
+/// An owned list of at least one entry. Contracts see it as that list.
+#[derive(Drop)]
+pub struct Info {
+    entries: Vec<InfoEntry>,
+    ghost some: { 0 < length entries.items },
+}
+
+impl Model for Info {
+    ghost use Rattle.std.specs.Prelude.{List};
+    ghost use Rattle.rtp_info.specs.declared.entry.InfoEntry.{InfoEntry};
+
+    ghost Value = { List InfoEntry };
+
+    ghost view = { λ i. i.entries.items };
+}
+
+impl Info {
+    /// The list of this one entry. Where memory is wanting the entry comes back.
+    pub fn of(alloc: Global, first: InfoEntry) -> Result<Info, (InfoEntry, Memory)>
+        ensures ok { IfOk result (λ info. info ≡ first ∷ []) }
+        ensures err { IfErr result (λ refused. refused.0 ≡ first) }
+    {
+        let mut entries = Vec::new(alloc);
+        match entries.push(first) {
+            Ok(()) => Ok(Info { entries }),
+            Err(failed) => Err((failed.value, Memory)),
+        }
+    }
+
+    /// The number of entries, one at least.
+    pub fn len(&self) -> usize
+        ensures length { result ≡ length self.now }
+        ensures some { 0 < result }
+    {
+        self.entries.len()
+    }
+
+    /// The entry at a place.
+    pub fn at(&self, place: usize) -> &InfoEntry
+        requires { place < length self.now }
+        ensures { slice_get self.now place ≡ Some result.now }
+    {
+        &self.entries[place]
+    }
+
+    /// Appends an entry. Where memory is wanting the entry comes back.
+    pub fn push(&mut self, item: InfoEntry) -> Result<(), (InfoEntry, Memory)>
+        ensures ok { OnOk result (self.new ≡ self.old ++ item ∷ []) }
+        ensures err { IfErr result (λ refused. refused.0 ≡ item) }
+        ensures same { OnErr result (self.new ≡ self.old) }
+    {
+        match self.entries.push(item) {
+            Ok(()) => Ok(()),
+            Err(failed) => Err((failed.value, Memory)),
+        }
+    }
+
+    /// The entries, in their order.
+    pub(crate) fn as_slice(&self) -> &[InfoEntry]
+        ensures { result.now ≡ self.now }
+    {
+        self.entries.as_slice()
+    }
+}

@@ -1,0 +1,21 @@
+//! The field RTP-Info, of both versions: read as RTSP 2.0 spells it (RFC 7826, 18.45), and written as
+//! RTSP 1.0 does (RFC 2326, 12.33).
+#![tactic(auto)]
+
+mod entry;
+mod fault;
+mod group;
+mod info;
+mod parameter;
+mod part;
+mod reading;
+mod spec;
+#[cfg(test)]
+mod tests;
+mod write;
+
+pub use entry::InfoEntry;
+pub use fault::InfoFault;
+pub use info::Info;
+pub use reading::read_two;
+pub use write::write_one;

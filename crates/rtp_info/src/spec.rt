@@ -1,0 +1,57 @@
+//! What an RTP-Info field says of one stream, as it is spelled.
+ghost use Rattle.std.specs.Prelude.{◌≡◌, option_map};
+ghost use Rattle.std.specs.List.{list_all};
+ghost use Rattle.rtp_info.specs.Specs.{is_url_byte, is_url, spec_of};
+ghost use Rattle.rtp_info.specs.Views.{spec_seen};
+
+use crate::group::read_groups;
+use crate::part::cut;
+
+/// What a spec says, with its URI where it stands in it.
+#[derive(Clone, Copy)]
+pub(crate) struct Spec<'a> {
+    pub(crate) url: &'a [u8],
+    pub(crate) seq: Option<u16>,
+    pub(crate) rtptime: Option<u32>,
+}
+
+/// What a spec says: `url=`, a URI in double quotes, and groups.
+pub(crate) fn read_spec(text: &[u8]) -> Option<Spec<'_>>
+    ensures { option_map spec_seen result ≡ spec_of text.now }
+{
+    let (name, quoted) = cut(b'"', text)?;
+    if name != b"url=".as_slice() {
+        return None;
+    }
+    let (url, groups) = cut(b'"', quoted)?;
+    if !is_url(url) {
+        return None;
+    }
+    let noted = read_groups(groups)?;
+    Some(Spec {
+        url,
+        seq: noted.seq,
+        rtptime: noted.rtptime,
+    })
+}
+
+/// Whether a text can be a URI between the quotes.
+fn is_url(text: &[u8]) -> bool
+    ensures { result ≡ is_url text.now }
+{
+    !text.is_empty() && has_url_bytes_alone(text)
+}
+
+/// Whether each byte of a text may stand in a URI.
+fn has_url_bytes_alone(text: &[u8]) -> bool
+    ensures { result ≡ list_all is_url_byte text.now }
+{
+    text.iter().all(|byte| is_url_byte(*byte))
+}
+
+/// Whether a byte may stand in a URI: it is printed, and is no double quote, comma or semicolon.
+fn is_url_byte(byte: u8) -> bool
+    ensures { result ≡ is_url_byte byte }
+{
+    byte.is_ascii_graphic() && byte != b'"' && byte != b',' && byte != b';'
+}

@@ -1,0 +1,7 @@
+pub mod CleanLemmas
+pub mod HexLemmas
+pub mod Measures
+pub mod PlaceLemmas
+pub mod SourceLemmas
+pub mod SplitLemmas
+pub mod WrittenLemmas

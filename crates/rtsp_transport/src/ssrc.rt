@@ -1,0 +1,99 @@
+//! Sources of RTP packets, as eight hexadecimal digits.
+ghost use Rattle.std.specs.Prelude.{◌≡◌, ◌<◌, ◌++◌, true, OnOk};
+ghost use Rattle.std.specs.Char.{is_ascii_hexdigit, digit_value};
+ghost use Rattle.rtsp_transport.specs.Sources.{source_number, source_in, first_source, hex_digit, source_digits};
+ghost use Rattle.rtsp_transport.specs.Parameters.{parameters_left};
+ghost use Rattle.rtsp_transport.specs.Views.{seen};
+
+use crate::parameters::value_in;
+use crate::part::up_to;
+use crate::split::first_part;
+use gate_bytes::{Memory, Text, trim};
+
+/// The first source among the parameters.
+pub(crate) fn first_source(parameters: Option<&[u8]>) -> Option<u32>
+    ensures { result ≡ first_source (parameters_left (seen parameters.entry)) }
+{
+    let mut left = parameters;
+    while let Some(text) = left {
+        let (parameter, more) = first_part(b';', text);
+        let source = source_in(trim(parameter));
+        if source.is_some() {
+            return source;
+        }
+        left = more;
+    }
+    None
+}
+
+/// The source of a parameter `ssrc`: its first value, before a `/`, of eight hexadecimal digits.
+fn source_in(parameter: &[u8]) -> Option<u32>
+    ensures { result ≡ source_in parameter.now }
+{
+    let value = value_in(b"ssrc", parameter)?;
+    read_source(up_to(b'/', value))
+}
+
+/// The number that eight hexadecimal digits write.
+fn read_source(text: &[u8]) -> Option<u32>
+    ensures { result ≡ source_number text.now }
+{
+    if text.len() != 8 {
+        return None;
+    }
+    let mut number: u32 = 0;
+    for byte in text {
+        if !byte.is_ascii_hexdigit() {
+            return None;
+        }
+        number = number * 16 + hex_value(*byte);
+    }
+    Some(number)
+}
+
+/// The value of a hexadecimal digit.
+fn hex_value(byte: u8) -> u32
+    requires { is_ascii_hexdigit byte ≡ true }
+    ensures { result ≡ digit_value byte }
+{
+    match byte {
+        b'0'..=b'9' => u32::from(byte - b'0'),
+        b'A'..=b'F' => u32::from(byte - b'A') + 10,
+        _ => u32::from(byte - b'a') + 10,
+    }
+}
+
+/// What the digits of a number count, the greatest first.
+const PLACES: [u32; 8] = [
+    0x1000_0000,
+    0x100_0000,
+    0x10_0000,
+    0x1_0000,
+    0x1000,
+    0x100,
+    0x10,
+    1,
+];
+
+/// Appends a source as eight upper-case hexadecimal digits.
+#[tactic(auto, unfolding(crate::specs::Sources::source_digits))]
+pub(crate) fn push_source(text: &mut Text, source: u32) -> Result<(), Memory>
+    ensures { OnOk result (text.new ≡ text.old ++ source_digits source) }
+{
+    for place in &PLACES {
+        text.push_slice(&[hex_digit(source / *place % 16)])?;
+    }
+    Ok(())
+}
+
+/// The upper-case hexadecimal digit of a number below 16.
+fn hex_digit(number: u32) -> u8
+    requires { number < 16 }
+    ensures { result ≡ hex_digit number }
+{
+    if number < 10 {
+        b'0' + number as u8
+    } else {
+        b'A' + (number - 10) as u8
+    }
+}
