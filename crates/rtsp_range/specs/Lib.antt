@@ -1,0 +1,9 @@
+pub mod Parts
+pub mod Npt
+pub mod Judged
+pub mod Smpte
+pub mod Clock
+pub mod Meaning
+pub mod Spellings
+pub mod Writable
+pub mod Written

@@ -1,0 +1,30 @@
+//! Why a range could not be read.
+
+use std::fmt;
+
+/// The first fault of a range, in this order.
+#[derive(Clone, Copy, Debug, PartialEq, Eq)]
+pub enum RangeFault {
+    /// There is no `=`, or what stands before it is no unit.
+    Unit,
+    /// A `;` is followed by `time=`. Only RTSP 1.0 has that parameter (RFC 2326, 12.29).
+    TimeParameter,
+    /// The begin or the end is a normal play time above 9,999,999,999 seconds.
+    TooLarge,
+    /// Anything else that is not in the grammar.
+    Time,
+}
+
+impl fmt::Display for RangeFault {
+    fn fmt<W: fmt::Write>(&self, f: &mut fmt::Formatter<W>) -> fmt::Result {
+        let text = match self {
+            RangeFault::Unit => "the range has no known unit",
+            RangeFault::TimeParameter => "the range has a time parameter",
+            RangeFault::TooLarge => "a time is above 9999999999 seconds",
+            RangeFault::Time => "a time is outside the grammar",
+        };
+        write!(f, "{text}")
+    }
+}
+
+impl std::error::Error for RangeFault {}

@@ -1,0 +1,28 @@
+//! Time ranges of RTSP 1.0 (RFC 2326, 3.5 to 3.7 and 12.29) and RTSP 2.0 (RFC 7826, 4.4 and 18.40):
+//! reading them by the grammar of either version, and writing them in one form.
+//!
+//! Both readers answer exactly by the definitions in `specs/`, take no memory, and read back what
+//! [`write`] wrote.
+#![tactic(auto)]
+
+mod clock;
+mod fault;
+mod laws;
+mod npt;
+mod part;
+mod range;
+mod reading;
+mod smpte;
+#[cfg(test)]
+mod tests;
+mod unit;
+mod writing;
+
+pub use clock::Moment;
+pub use fault::RangeFault;
+pub use laws::{one_form, reads_back, spelled_so, stays_writable};
+pub use npt::NptTime;
+pub use range::Range;
+pub use reading::{read_one, read_two};
+pub use smpte::{Rate, Smpte};
+pub use writing::write;
