@@ -1,3 +1,4 @@
+pub mod ApartLemmas
 pub mod CleanLemmas
 pub mod HexLemmas
 pub mod Measures

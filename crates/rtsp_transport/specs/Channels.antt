@@ -1,8 +1,12 @@
 -- Pairs of channels (RFC 2326, 10.12; RFC 7826, 14).
-use Rattle.std.specs.Prelude.{ℕ, ◌+◌, ◌==◌, nat_le, if◌then◌else◌, List, Option, Some, None, option_and_then}
+use Rattle.std.specs.Prelude.{ℕ, ◌≢◌, ◌+◌, ◌==◌, nat_le, if◌then◌else◌, List, Option, Some, None, option_and_then}
 use Rattle.gate_bytes.specs.Places.{cut_at}
 use Rattle.gate_bytes.specs.Numbers.{number_in}
 use Rattle.rtsp_transport.specs.declared.channels.Pair.{Pair}
+
+-- two channels that differ
+abbrev pub AreApart : Pair → Type 0
+AreApart pair = pair.rtp ≢ pair.rtcp
 
 -- a channel: 1 to 3 digits, up to 255 (RFC 7826, 20.2)
 abbrev pub channel_of : List ℕ → Option ℕ

@@ -5,11 +5,16 @@ use Rattle.std.specs.List.{list_any}
 use Rattle.gate_bytes.specs.Tokens.{equal_fold}
 use Rattle.rtsp_transport.specs.Splits.{parts_at, is_readable}
 use Rattle.rtsp_transport.specs.Parameters.{parameters_of, value_of, is_multicast}
-use Rattle.rtsp_transport.specs.Channels.{pair_or_first}
+use Rattle.rtsp_transport.specs.Channels.{AreApart, pair_or_first}
 use Rattle.rtsp_transport.specs.declared.alternative.Wanted.{Wanted}
 use Rattle.rtsp_transport.specs.declared.alternative.Wanted.TheVariants.{Any, Exact}
 use Rattle.rtsp_transport.specs.declared.fault.TransportFault.{TransportFault}
 use Rattle.rtsp_transport.specs.declared.fault.TransportFault.TheVariants.{Grammar, NoneFits}
+
+-- the channels that are wanted differ, where they are named
+abbrev pub NamesApart : Wanted → Type 0
+NamesApart Any = Unit {0}
+NamesApart (Exact pair) = AreApart pair
 
 -- RTP over the connection itself (RFC 2326, 12.39)
 abbrev pub is_tcp : List ℕ → Bool

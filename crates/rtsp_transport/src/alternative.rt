@@ -1,8 +1,8 @@
 //! What a player wants.
-ghost use Rattle.std.specs.Prelude.{◌≡◌};
+ghost use Rattle.std.specs.Prelude.{◌≡◌, IfOk};
 ghost use Rattle.rtsp_transport.specs.Splits.{parts_at};
 ghost use Rattle.rtsp_transport.specs.Parameters.{parameters_of};
-ghost use Rattle.rtsp_transport.specs.Wants.{is_tcp, plays, wanted_channels, wanted_in, first_fit, wanted_of};
+ghost use Rattle.rtsp_transport.specs.Wants.{NamesApart, is_tcp, plays, wanted_channels, wanted_in, first_fit, wanted_of};
 ghost use Rattle.rtsp_transport.specs.Views.{seen};
 
 use crate::channels::{Pair, read_asked};
@@ -23,7 +23,8 @@ pub enum Wanted {
 /// What the first alternative of a Transport field wants that fits: RTP over the connection itself,
 /// to one player, for playing, with two different channels or with none named (RFC 2326, 12.39).
 pub fn pick(value: &[u8]) -> Result<Wanted, TransportFault>
-    ensures { result ≡ wanted_of value.now }
+    ensures wanted { result ≡ wanted_of value.now }
+    ensures apart { IfOk result NamesApart }
 {
     if !is_readable(value) {
         return Err(TransportFault::Grammar);

@@ -1,5 +1,6 @@
 //! What the server grants.
-ghost use Rattle.std.specs.Prelude.{◌≡◌};
+ghost use Rattle.std.specs.Prelude.{◌≡◌, IfOk};
+ghost use Rattle.rtsp_transport.specs.Channels.{AreApart};
 ghost use Rattle.rtsp_transport.specs.Parameters.{parameters_of};
 ghost use Rattle.rtsp_transport.specs.Splits.{parts_at};
 ghost use Rattle.rtsp_transport.specs.Grants.{grant_in, grant_among, grant_of};
@@ -24,7 +25,8 @@ pub struct Grant {
 /// What a Transport field of one alternative grants: RTP over the connection itself, on two
 /// different channels (RFC 7826, 18.54).
 pub fn read_grant(value: &[u8]) -> Result<Grant, TransportFault>
-    ensures { result ≡ grant_of value.now }
+    ensures grant { result ≡ grant_of value.now }
+    ensures apart { IfOk result (λ grant. AreApart grant.pair) }
 {
     if !is_readable(value) {
         return Err(TransportFault::Grammar);
