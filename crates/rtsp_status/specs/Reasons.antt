@@ -1,5 +1,6 @@
 -- The reasons of the codes that a player or the server is told.
-use Rattle.std.specs.Prelude.{ℕ, Bool, ◌==◌, List, [], ◌∷◌, Option, Some, None, is_some, codes, if◌then◌else◌}
+use Rattle.std.specs.Prelude.{ℕ, Bool, ◌==◌, ◌&&◌, nat_le, length, List, [], ◌∷◌, Option, Some, None, is_some, codes, if◌then◌else◌}
+use Rattle.std.specs.List.{list_all}
 
 -- a code with its reason
 pub record Reason : Type 0 where
@@ -59,3 +60,11 @@ reason_of code = reason_in reasons code
 
 abbrev pub has_reason : ℕ → Bool
 has_reason code = is_some (reason_of code)
+
+-- a space or a visible byte of ASCII
+abbrev pub is_reason_byte : ℕ → Bool
+is_reason_byte b = nat_le 32 b && nat_le b 126
+
+-- what stands in a status line: a code of three digits, and a reason of 40 such bytes at most
+abbrev pub fits_line : ℕ → List ℕ → Bool
+fits_line code text = (nat_le 100 code && nat_le code 999) && (nat_le (length text) 40 && list_all is_reason_byte text)

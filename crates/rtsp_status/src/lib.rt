@@ -5,7 +5,7 @@ mod code;
 mod text;
 
 pub use code::{to_one, told_codes_have_reasons};
-pub use text::reason;
+pub use text::{reason, reasons_fit_a_status_line};
 
 #[cfg(test)]
 mod tests;

@@ -1,10 +1,9 @@
 //! The reason of each code of RTSP 1.0.
-ghost use Rattle.std.specs.Prelude.{◌≡◌, Some, true};
+ghost use Rattle.std.specs.Prelude.{◌≡◌, ℕ, List, Some, true};
 ghost use Rattle.std.specs.Option.{option_map};
-ghost use Rattle.rtsp_status.specs.Reasons.{has_reason, reason_of};
+ghost use Rattle.rtsp_status.specs.Reasons.{fits_line, has_reason, reason_of};
 
-/// The reason of a code that has one, as it is written in a status line (RFC 2326, 7.1.1). It is
-/// ASCII, and has no line end.
+/// The reason of a code that has one, as it is written in a status line (RFC 2326, 7.1.1).
 pub fn reason(code: u16) -> &'static str
     requires { has_reason code ≡ true }
     ensures { Some (result.now) ≡ reason_of code }
@@ -54,3 +53,9 @@ fn known(code: u16) -> Option<&'static str>
     };
     Some(text)
 }
+
+/// A code with a reason has three digits, and its reason has 40 bytes at most, spaces and visible
+/// bytes of ASCII alone: both stand in one status line.
+pub fn reasons_fit_a_status_line()
+    ensures { (code : ℕ) (text : List ℕ) → reason_of code ≡ Some text → fits_line code text ≡ true }
+{}
