@@ -1,0 +1,9 @@
+pub mod BaseLemmas
+pub mod ControlLemmas
+pub mod CutLemmas
+pub mod FrontLemmas
+pub mod GrammarLemmas
+pub mod LineLemmas
+pub mod PlainLemmas
+pub mod SwapLemmas
+pub mod WordLemmas

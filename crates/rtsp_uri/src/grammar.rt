@@ -7,7 +7,7 @@ ghost use Rattle.rtsp_uri.specs.Uris.{has_scheme, is_name_byte, is_address_byte,
 use gate_bytes::{after, before, eq_fold, read_decimal};
 
 /// The bytes of `rtsp://`.
-const SCHEME: usize = 7;
+pub(crate) const SCHEME: usize = 7;
 
 /// Where the parts of a URI end. Places are counted in bytes from its front.
 #[derive(Clone, Copy, Debug, PartialEq, Eq)]

@@ -1,0 +1,70 @@
+//! The addresses in a session description.
+ghost use Rattle.std.specs.Prelude.{◌≡◌, [], ◌∷◌, ◌++◌, IfOk, OnOk};
+ghost use Rattle.rtsp_uri.specs.Descriptions.{swapped_control, swapped_ended, rewritten};
+
+use crate::base::Base;
+use crate::swap::swap_authority;
+use gate_bytes::{Memory, Text, after, before, find};
+use std::alloc::Global;
+
+/// What a line with the address of a stream begins with (RFC 2326, C.1.1).
+const CONTROL: [u8; 10] = *b"a=control:";
+
+/// The session description with the authority of `to` in the place of that of `from` in each line
+/// that begins with `a=control:` (RFC 2326, C.1.1; RFC 4566). All else is as it was, line ends
+/// among it.
+///
+/// A line ends at LF, and a CR just before that belongs to the end. What follows the last LF is a
+/// line too; it has no end, so a CR there is a byte of the line.
+pub fn rewrite_sdp(alloc: Global, from: &Base, to: &Base, body: &[u8]) -> Result<Text, Memory>
+    ensures { IfOk result (λ text. text ≡ rewritten from.now.text to.now.text body.now) }
+{
+    let mut text = Text::with_room(alloc, body.len())?;
+    let mut rest = body;
+    while let Some(at) = find(b'\n', rest) {
+        push_ended(alloc, from, to, before(rest, at), &mut text)?;
+        rest = after(rest, at + 1);
+    }
+    push_line(alloc, from, to, rest, &mut text)?;
+    Ok(text)
+}
+
+/// Appends a line whose LF is gone, and the LF.
+fn push_ended(
+    alloc: Global,
+    from: &Base,
+    to: &Base,
+    line: &[u8],
+    text: &mut Text,
+) -> Result<(), Memory>
+    ensures { OnOk result (text.new ≡ text.old ++ (swapped_ended from.now.text to.now.text line.now ++ (10 ∷ []))) }
+{
+    match line {
+        [line @ .., b'\r'] => {
+            push_line(alloc, from, to, line, text)?;
+            text.push_slice(b"\r\n")
+        }
+        _ => {
+            push_line(alloc, from, to, line, text)?;
+            text.push_slice(b"\n")
+        }
+    }
+}
+
+/// Appends a line without its end, swapped where it begins with `a=control:`.
+fn push_line(
+    alloc: Global,
+    from: &Base,
+    to: &Base,
+    line: &[u8],
+    text: &mut Text,
+) -> Result<(), Memory>
+    ensures { OnOk result (text.new ≡ text.old ++ swapped_control from.now.text to.now.text line.now) }
+{
+    if !line.starts_with(&CONTROL) {
+        return text.push_slice(line);
+    }
+    let address = swap_authority(alloc, from, to, after(line, CONTROL.len()))?;
+    text.push_slice(&CONTROL)?;
+    text.push_slice(address.as_bytes())
+}
