@@ -3,18 +3,17 @@
 //! The types of events and outcomes stand here with the definitions that the gateway's central
 //! claim is made of: the private machine of one connection, the history of all of them, and what
 //! each connection takes and is handed in it. The laws over these definitions are functions with
-//! empty bodies. The addresses that a gateway stands between are here too, with the words that name
-//! them. Everything that steps, replays or checks a gateway stands on this crate.
+//! empty bodies. The addresses that a gateway stands between are given on from below. Everything that
+//! steps, replays or checks a gateway stands on this crate.
 #![tactic(auto)]
 
-mod base;
 mod code;
 mod event;
 mod laws;
 
-pub use base::{Base, Bases, host_in};
 pub use code::Code;
 pub use event::{CloseWhy, Closed, Event, Outcome, ToClient};
+pub use rtsp_uri::{Base, Bases};
 pub use laws::{at_most_one_history, equal_own_events, one_next_entry, short_pieces};
 
 #[cfg(test)]

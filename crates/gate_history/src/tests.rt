@@ -1,4 +1,4 @@
-// The texts of the status lines, and the words that name a base.
+// The texts of the status lines.
 use super::*;
 use std::test::Fail;
 
@@ -15,40 +15,6 @@ fn status_lines_are_spelled(rt: HostRuntime) -> Result<(), Fail> {
     ];
     for (code, line) in rows {
         assert_eq!(rt; code.status_line(), line);
-    }
-    Ok(())
-}
-
-#[test]
-fn a_word_names_a_base(rt: HostRuntime) -> Result<(), Fail> {
-    let mut longest = [b'a'; 255];
-    longest[..7].copy_from_slice(b"rtsp://");
-    let mut longer = [b'a'; 256];
-    longer[..7].copy_from_slice(b"rtsp://");
-    let rows = [
-        (b"rtsp://Gate-1.example".as_slice(), Some(14)),
-        (b"rtsp://10.0.0.7", Some(8)),
-        (&longest, Some(248)),
-        (&longer, None),
-        (b"rtsp://", None),
-        (b"rtsp:/a", None),
-        (b"RTSP://a", None),
-        (b"rtspu://a", None),
-        (b"rtsp://gate.example:554", None),
-        (b"rtsp://gate.example/", None),
-        (b"rtsp://a_b", None),
-        (b" rtsp://a", None),
-        (b"", None),
-    ];
-    for (word, length) in rows {
-        match host_in(word) {
-            Some(host) => {
-                assert_eq!(rt; Some(host.len()), length, "{word:?}");
-                let base = Base::copy(rt.alloc(), host)?;
-                assert_eq!(rt; base.text.as_bytes(), host);
-            }
-            None => assert_eq!(rt; length, None, "{word:?}"),
-        }
     }
     Ok(())
 }

@@ -1,6 +1,6 @@
 -- When a multiplexer stands for a history (this project's own).
 use Rattle.std.specs.Prelude.{◌≡◌, ℕ, List, Some, None, if◌then◌else◌}
-use Rattle.gate_history.specs.declared.base.Bases.{Bases}
+use Rattle.rtsp_uri.specs.declared.base.Bases.{Bases}
 use Rattle.gate_history.specs.Machine.{alive_after}
 use Rattle.gate_history.specs.History.{Entry, IsHistory, entered, own, dropped_frames}
 use Rattle.gateway_mux.specs.declared.mux.Mux.{Mux}

@@ -9,7 +9,7 @@ mod answer;
 mod mux;
 mod seats;
 
-pub use gate_history::{Base, Bases, CloseWhy, Closed, Event, Outcome, ToClient, host_in};
+pub use gate_history::{Base, Bases, CloseWhy, Closed, Event, Outcome, ToClient};
 pub use mux::{Mux, Plan};
 
 #[cfg(test)]

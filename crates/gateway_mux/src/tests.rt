@@ -6,6 +6,7 @@ ghost use Rattle.gateway_mux.specs.Stands.{Stands};
 use super::*;
 use gate_bytes::{Memory, Text};
 use rtsp_head::{BadKind, Item, ItemKind};
+use rtsp_uri::read_base;
 use std::alloc::Global;
 use std::test::Fail;
 
@@ -14,8 +15,8 @@ fn gateway(alloc: Global) -> Result<Mux, Fail>
     ensures { IfOk result (λ mux. Stands mux []) }
 {
     let bases = Bases {
-        front: Base::copy(alloc, b"gate.example")?,
-        up: Base::copy(alloc, b"media.example")?,
+        front: read_base(alloc, "rtsp://gate.example")?,
+        up: read_base(alloc, "rtsp://media.example")?,
     };
     Ok(Mux::new(alloc, bases)?)
 }

@@ -2,7 +2,6 @@ pub mod HeadLemmas
 pub mod ReaderLemmas
 pub mod ReadingLemmas
 pub mod RecordLemmas
-pub mod WordLemmas
 pub mod FedLemmas
 pub mod LessLemmas
 pub mod RunLemmas
@@ -10,3 +9,4 @@ pub mod ProperLemmas
 pub mod ReplayLemmas
 pub mod SourceLemmas
 pub mod UsageLemmas
+mod WordLemmas

@@ -1,26 +1,23 @@
 -- A refusal of words, as the top call answers it.
-use Rattle.std.proofs.Common.{◌≡◌, ◌↔◌, ℕ, List, [], Option, Some, None, Result, Err, refl, ap}
+use Rattle.std.proofs.Common.{◌≡◌, ℕ, List, [], Option, Some, None, Err, inl, inr, refl, ◌∙◌, ap}
 use Rattle.rtspgate.specs.declared.status.Status.TheVariants.{Usage}
 use Rattle.rtspgate.specs.declared.words.WordsFault.{WordsFault}
 use Rattle.rtspgate.specs.declared.words.WordsFault.TheVariants as word
-use Rattle.rtspgate.specs.declared.words.Command.{Command}
+use Rattle.rtspgate.specs.Words.{word_fault, ReadsWords, TellsUsage}
 use Rattle.rtspgate.specs.Stops.{status_at}
 use Rattle.rtspgate.specs.Replays.{TakenFrom, MemoryWanting, PlainSays, FaultRose}
 use Rattle.rtspgate.proofs.RunLemmas.{grows_nothing}
 
-abbrev refused : WordsFault → Result Command WordsFault
-refused found = Err found
-
-pub usage_says : (found : WordsFault) (place : ℕ) (first : Option ℕ)
-    → ((refused found ≡ refused (word.Place place)) ↔ (first ≡ Some place)) → (status_at found ≡ Usage place) ↔ (first ≡ Some place)
-usage_says (word.Place at) place first says = (
-  λ e. let same : at ≡ place = cc in says.0 (ap (λ n. refused (word.Place n)) same),
-  λ w. let e : refused (word.Place at) ≡ refused (word.Place place) = says.1 w in let same : at ≡ place = cc in ap (λ n. Usage n) same,
-)
-usage_says word.Memory place first says = (
-  λ e. cc,
-  λ w. let e : refused word.Memory ≡ refused (word.Place place) = says.1 w in cc,
-)
+-- what a refusal tells of the words
+pub usage_says : (found : WordsFault) (words : List (List ℕ)) → ReadsWords (Err found) words → TellsUsage (status_at found) (word_fault words)
+usage_says (word.Place at) words says = record {
+  only = λ place e. let same : at ≡ place = cc in says ∙ ap (λ n. Some n) same;
+  always = λ place e. let same : at ≡ place = cc in inl (ap (λ n. Usage n) same);
+}
+usage_says word.Memory words says = record {
+  only = λ place e. cc;
+  always = λ place e. inr refl;
+}
 
 untaken : (all : Option (List ℕ)) → TakenFrom all all []
 untaken None = refl

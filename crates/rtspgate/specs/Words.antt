@@ -1,9 +1,15 @@
 -- The words of a command, without the program's name. This project's own.
-use Rattle.std.specs.Prelude.{◌≡◌, ℕ, ◌+◌, Bool, true, List, [], ◌∷◌, ◌++◌, Option, Some, None, is_some, if◌then◌else◌}
+use Rattle.std.specs.Prelude.{◌≡◌, ℕ, ◌+◌, Bool, List, [], ◌∷◌, Option, Some, None, is_some, Result, Ok, Err, ◌⊎◌, if◌then◌else◌}
 use Rattle.std.specs.Str.{bytes_eq}
 use Rattle.rtspgate.specs.declared.words.Command.{Command}
 use Rattle.rtspgate.specs.declared.words.Command.TheVariants.{Replay}
-use Rattle.gate_history.specs.Hosts.{scheme, is_host, base_in}
+use Rattle.rtsp_uri.specs.declared.base.Bases.{Bases}
+use Rattle.rtsp_uri.specs.Words.{base_in}
+use Rattle.rtspgate.specs.declared.words.WordsFault.{WordsFault}
+use Rattle.rtspgate.specs.declared.words.WordsFault.TheVariants.{Place, Memory}
+use Rattle.rtspgate.specs.declared.status.Status.{Status}
+use Rattle.rtspgate.specs.declared.status.Status.TheVariants.{Usage}
+use Rattle.rtspgate.specs.declared.status.Status.TheVariants as ends
 
 -- "replay"
 abbrev pub replay_word : List ℕ
@@ -32,13 +38,30 @@ abbrev pub word_fault : List (List ℕ) → Option ℕ
 word_fault [] = Some 0
 word_fault (command ∷ words) = fault_after (kinds_after command) words
 
--- the words that spell a command
-abbrev pub spelled : Command → List (List ℕ)
-spelled (Replay bases) = replay_word ∷ (scheme ++ bases.front.text) ∷ (scheme ++ bases.up.text) ∷ []
+-- The words name a replay between these bases.
+pub record NamesReplay (bases : Bases) (words : List (List ℕ)) : Type 0 where
+  pub front : List ℕ
+  pub up : List ℕ
+  pub words_are : words ≡ replay_word ∷ front ∷ up ∷ []
+  pub front_base : base_in front ≡ Some bases.front.text
+  pub up_base : base_in up ≡ Some bases.up.text
 
--- the words spell a replay between bases with these hosts, and none of them is refused
-pub record SpellsHosts (words : List (List ℕ)) (front up : List ℕ) : Type 0 where
-  pub words_are : words ≡ replay_word ∷ (scheme ++ front) ∷ (scheme ++ up) ∷ []
-  pub front_host : is_host front ≡ true
-  pub up_host : is_host up ≡ true
-  pub right : word_fault words ≡ None
+abbrev pub Names : Command → List (List ℕ) → Type 0
+Names (Replay bases) words = NamesReplay bases words
+
+-- A command is what the words name, and none of them is refused. A place is that of the first word that is refused.
+abbrev pub ReadsWords : Result Command WordsFault → List (List ℕ) → Type 0
+ReadsWords (Ok command) words = Names command words × (word_fault words ≡ None)
+ReadsWords (Err (Place place)) words = word_fault words ≡ Some place
+ReadsWords (Err Memory) words = Unit {0}
+
+-- the word at this place names no base
+abbrev pub IsRefusedAt : ℕ → Option (List ℕ) → WordsFault → Type 0
+IsRefusedAt place found (Place at) = (at ≡ place) × (found ≡ None)
+IsRefusedAt place found Memory = Unit {0}
+
+-- A refusal of words is told with the place of the first word that is refused; and where one is, it is told, but
+-- where memory ran out.
+pub record TellsUsage (status : Status) (fault : Option ℕ) : Type 0 where
+  pub only : (place : ℕ) → status ≡ Usage place → fault ≡ Some place
+  pub always : (place : ℕ) → fault ≡ Some place → (status ≡ Usage place) ⊎ (status ≡ ends.Memory)

@@ -1,6 +1,6 @@
 //! The commands that must return. No lock, channel or thread is used.
-ghost use Rattle.std.specs.Prelude.{◌≡◌, ◌≤◌, ◌↔◌, ℕ, Some, map, string_bytes};
-ghost use Rattle.rtspgate.specs.Words.{word_fault};
+ghost use Rattle.std.specs.Prelude.{◌≡◌, ◌≤◌, map, string_bytes};
+ghost use Rattle.rtspgate.specs.Words.{word_fault, TellsUsage};
 ghost use Rattle.rtspgate.specs.Replays.{PlainSays, ReplaySays, FaultRose};
 
 use crate::replay::replay;
@@ -18,7 +18,7 @@ pub fn plain<S: Source, K: Sink>(
     source: &mut S,
     sink: &mut K,
 ) -> Status
-    ensures usage { (place : ℕ) → (result ≡ Status.Usage place) ↔ (word_fault (map string_bytes words.now) ≡ Some place) }
+    ensures usage { TellsUsage result (word_fault (map string_bytes words.now)) }
     ensures says { PlainSays result (S.rest source.old) (S.rest source.new) (K.written sink.old) (K.written sink.new) }
     ensures rose { FaultRose result (S.faults source.old) (S.faults source.new) (K.faults sink.old) (K.faults sink.new) }
     ensures source_later { S.faults source.old ≤ S.faults source.new }

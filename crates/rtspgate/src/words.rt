@@ -1,9 +1,10 @@
 //! The words that a run is started with.
-ghost use Rattle.std.specs.Prelude.{◌≡◌, ◌↔◌, ℕ, Some, None, map, string_bytes, Err, [], ◌∷◌, IfOk, IfErr, OnOk, MatchOption};
-ghost use Rattle.rtspgate.specs.Words.{word_fault, spelled, SpellsHosts};
+ghost use Rattle.std.specs.Prelude.{◌≡◌, Some, map, string_bytes, [], ◌∷◌, IfOk, IfErr, MatchOption};
+ghost use Rattle.rtsp_uri.specs.Words.{base_in};
+ghost use Rattle.rtspgate.specs.Words.{ReadsWords, IsRefusedAt};
 
 use gate_bytes::Memory;
-use gate_history::{Base, Bases, host_in};
+use rtsp_uri::{Base, BaseFault, Bases, read_base};
 use std::alloc::Global;
 
 /// The first word of the command that replays a transcript.
@@ -12,7 +13,8 @@ const REPLAY: [u8; 6] = *b"replay";
 /// What the program is asked to do.
 #[derive(Drop)]
 pub enum Command {
-    /// `replay FRONT UP`: treat a transcript between these bases.
+    /// `replay FRONT UP`: treat a transcript between these bases. Each word is the address of one side, as
+    /// [`rtsp_uri::read_base`] reads it.
     Replay(Bases),
 }
 
@@ -22,7 +24,7 @@ pub enum WordsFault {
     /// The place of the first word that is refused, counted from 0 after the program's name. It is 0 where there is
     /// no word or the command is unknown.
     Place(usize),
-    /// Memory ran out, where every word is right.
+    /// Memory ran out before the first word that is refused was found.
     Memory,
 }
 
@@ -37,64 +39,54 @@ impl From<Memory> for WordsFault {
     }
 }
 
-/// The command that these words, without the program's name, spell.
+/// The command that these words, without the program's name, spell; or the place of the first word that is refused.
 pub fn read_words(alloc: Global, words: &[String]) -> Result<Command, WordsFault>
-    ensures spelled { IfOk result (λ command. spelled command ≡ map string_bytes words.now) }
-    ensures right { OnOk result (word_fault (map string_bytes words.now) ≡ None) }
-    ensures place { (place : ℕ) → (result ≡ Err (WordsFault.Place place)) ↔ (word_fault (map string_bytes words.now) ≡ Some place) }
-{
-    let hosts = match replay_hosts(words) {
-        Ok(hosts) => hosts,
-        Err(place) => return Err(WordsFault::Place(place)),
-    };
-    Ok(Command::Replay(Bases {
-        front: Base::copy(alloc, hosts.front)?,
-        up: Base::copy(alloc, hosts.up)?,
-    }))
-}
-
-/// The hosts of the bases that follow `replay`.
-#[derive(Clone, Copy)]
-struct Hosts<'a> {
-    front: &'a [u8],
-    up: &'a [u8],
-}
-
-/// The hosts of the bases that follow `replay`, or the place of the first word that is refused.
-fn replay_hosts(words: &[String]) -> Result<Hosts<'_>, usize>
-    ensures ok { IfOk result (λ hosts. SpellsHosts (map string_bytes words.now) hosts.front.now hosts.up.now) }
-    ensures err { IfErr result (λ place. word_fault (map string_bytes words.now) ≡ Some place) }
+    ensures { ReadsWords result (map string_bytes words.now) }
 {
     let Some((command, words)) = first_word(words) else {
-        return Err(0);
+        return Err(WordsFault::Place(0));
     };
-    if command != REPLAY.as_slice() {
-        return Err(0);
+    if command.as_bytes() != REPLAY.as_slice() {
+        return Err(WordsFault::Place(0));
     }
     let Some((front, words)) = first_word(words) else {
-        return Err(1);
+        return Err(WordsFault::Place(1));
     };
-    let Some(front) = host_in(front) else {
-        return Err(1);
+    let front = match base_at(alloc, front, 1) {
+        Ok(front) => front,
+        Err(fault) => return Err(fault),
     };
     let Some((up, words)) = first_word(words) else {
-        return Err(2);
+        return Err(WordsFault::Place(2));
     };
-    let Some(up) = host_in(up) else {
-        return Err(2);
+    let up = match base_at(alloc, up, 2) {
+        Ok(up) => up,
+        Err(fault) => return Err(fault),
     };
     if !words.is_empty() {
-        return Err(3);
+        return Err(WordsFault::Place(3));
     }
-    Ok(Hosts { front, up })
+    Ok(Command::Replay(Bases { front, up }))
 }
 
 /// The first word, and those after it.
-fn first_word(words: &[String]) -> Option<(&[u8], &[String])>
+fn first_word(words: &[String]) -> Option<(&str, &[String])>
     ensures { MatchOption result (words.now ≡ []) (λ parts. map string_bytes words.now ≡ parts.0.now ∷ map string_bytes parts.1.now) }
 {
     let (first, rest) = words.split_first()?;
-    Some((first.as_bytes(), rest))
+    Some((first.as_str(), rest))
+}
+
+/// The base that the word at this place names.
+fn base_at(alloc: Global, word: &str, place: usize) -> Result<Base, WordsFault>
+    ensures ok { IfOk result (λ base. base_in word.now ≡ Some base.text) }
+    ensures err { IfErr result (λ fault. IsRefusedAt place (base_in word.now) fault) }
+{
+    match read_base(alloc, word) {
+        Ok(base) => Ok(base),
+        Err(BaseFault::Refused) => Err(WordsFault::Place(place)),
+        Err(BaseFault::Memory) => Err(WordsFault::Memory),
+    }
 }
 
 #[cfg(test)]
@@ -113,6 +105,8 @@ mod tests {
             ("replay rtsp://a", Some(2)),
             ("replay rtsp://a rtsp://b/c", Some(2)),
             ("replay rtsp://a rtsp://b c", Some(3)),
+            ("replay rtsp://user@a rtsp://b", Some(1)),
+            ("replay rtsp://gate.example/ RTSP://media-2.example", None),
             ("replay rtsp://gate.example rtsp://media-2.example", None),
         ];
         for (line, place) in rows {
