@@ -13,8 +13,8 @@ mod laws;
 
 pub use code::Code;
 pub use event::{CloseWhy, Closed, Event, Outcome, ToClient};
-pub use rtsp_uri::{Base, Bases};
 pub use laws::{at_most_one_history, equal_own_events, one_next_entry, short_pieces};
+pub use rtsp_uri::{Base, Bases};
 
 #[cfg(test)]
 mod tests;
