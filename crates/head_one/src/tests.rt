@@ -96,45 +96,136 @@ fn requests_are_refused(rt: HostRuntime) -> Result<(), Fail> {
     Ok(())
 }
 
+// The headers of a row; a field without a name is none.
+fn headers(alloc: Global, fields: [(&[u8], &[u8]); 2]) -> Result<Headers, Memory> {
+    let mut headers = Headers::new(alloc);
+    for (name, value) in fields {
+        if name.is_empty() {
+            continue;
+        }
+        let header = Header {
+            name: Text::copy(alloc, name)?,
+            value: Text::copy(alloc, value)?,
+        };
+        match headers.push(header) {
+            Ok(()) => {}
+            Err((_, memory)) => return Err(memory),
+        }
+    }
+    Ok(headers)
+}
+
 #[test]
 fn replies_are_written(rt: HostRuntime) -> Result<(), Fail> {
     let alloc = rt.alloc();
-    let mut headers = Headers::new(alloc);
-    let pushed = headers.push(Header {
-        name: Text::copy(alloc, b"Content-Type")?,
-        value: Text::copy(alloc, b"text/plain")?,
-    });
-    assert!(rt; pushed.is_ok());
-    let described = Reply1 {
-        code: 200,
-        cseq: Some(7),
-        headers,
-        body: Text::copy(alloc, b"ok")?,
-    };
-    let text = write_reply(alloc, &described)?;
-    assert_eq!(rt;
-        text.as_bytes(),
-        b"RTSP/1.0 200 OK\r\nCSeq: 7\r\nContent-Type: text/plain\r\nContent-Length: 2\r\n\r\nok".as_slice()
-    );
+    let none = (b"".as_slice(), b"".as_slice());
     let rows = [
-        (400, None, b"RTSP/1.0 400 Bad Request\r\n\r\n".as_slice()),
         (
-            454,
+            200,
+            Some(1),
+            [
+                (
+                    b"Public".as_slice(),
+                    b"OPTIONS, DESCRIBE, SETUP, PLAY, PAUSE, TEARDOWN, GET_PARAMETER, SET_PARAMETER".as_slice(),
+                ),
+                none,
+            ],
+            b"".as_slice(),
+            b"RTSP/1.0 200 OK\r\nCSeq: 1\r\nPublic: OPTIONS, DESCRIBE, SETUP, PLAY, PAUSE, TEARDOWN, GET_PARAMETER, SET_PARAMETER\r\n\r\n".as_slice(),
+        ),
+        (
+            200,
             Some(2),
-            b"RTSP/1.0 454 Session Not Found\r\nCSeq: 2\r\n\r\n",
+            [
+                (b"Content-Base", b"rtsp://gate.example/m/"),
+                (b"Content-Type", b"application/sdp"),
+            ],
+            b"v=0\r\na=control:rtsp://gate.example/m/1\r\n",
+            b"RTSP/1.0 200 OK\r\nCSeq: 2\r\nContent-Base: rtsp://gate.example/m/\r\nContent-Type: application/sdp\r\nContent-Length: 40\r\n\r\nv=0\r\na=control:rtsp://gate.example/m/1\r\n",
+        ),
+        (
+            200,
+            Some(3),
+            [
+                (b"Session", b"abcd1234;timeout=30"),
+                (
+                    b"Transport",
+                    b"RTP/AVP/TCP;unicast;interleaved=0-1;ssrc=0A0B0C0D",
+                ),
+            ],
+            b"",
+            b"RTSP/1.0 200 OK\r\nCSeq: 3\r\nSession: abcd1234;timeout=30\r\nTransport: RTP/AVP/TCP;unicast;interleaved=0-1;ssrc=0A0B0C0D\r\n\r\n",
         ),
         (
             551,
+            Some(1),
+            [(b"Unsupported", b"x"), none],
+            b"",
+            b"RTSP/1.0 551 Option not supported\r\nCSeq: 1\r\nUnsupported: x\r\n\r\n",
+        ),
+        (
+            400,
+            None,
+            [none, none],
+            b"",
+            b"RTSP/1.0 400 Bad Request\r\n\r\n",
+        ),
+        (
+            403,
+            Some(2),
+            [none, none],
+            b"",
+            b"RTSP/1.0 403 Forbidden\r\nCSeq: 2\r\n\r\n",
+        ),
+        (
+            453,
+            Some(1),
+            [none, none],
+            b"",
+            b"RTSP/1.0 453 Not Enough Bandwidth\r\nCSeq: 1\r\n\r\n",
+        ),
+        (
+            454,
+            Some(2),
+            [none, none],
+            b"",
+            b"RTSP/1.0 454 Session Not Found\r\nCSeq: 2\r\n\r\n",
+        ),
+        (
+            457,
+            Some(2),
+            [none, none],
+            b"",
+            b"RTSP/1.0 457 Invalid Range\r\nCSeq: 2\r\n\r\n",
+        ),
+        (
+            461,
+            Some(1),
+            [none, none],
+            b"",
+            b"RTSP/1.0 461 Unsupported transport\r\nCSeq: 1\r\n\r\n",
+        ),
+        (
+            501,
+            Some(1),
+            [none, none],
+            b"",
+            b"RTSP/1.0 501 Not Implemented\r\nCSeq: 1\r\n\r\n",
+        ),
+        (
+            503,
             Some(u64::MAX),
-            b"RTSP/1.0 551 Option not supported\r\nCSeq: 18446744073709551615\r\n\r\n",
+            [none, none],
+            b"",
+            b"RTSP/1.0 503 Service Unavailable\r\nCSeq: 18446744073709551615\r\n\r\n",
         ),
     ];
-    for (code, cseq, wanted) in rows {
+    for (code, cseq, fields, body, wanted) in rows {
         let reply = Reply1 {
             code,
             cseq,
-            headers: Headers::new(alloc),
-            body: Text::new(alloc),
+            headers: headers(alloc, fields)?,
+            body: Text::copy(alloc, body)?,
         };
         assert_eq!(rt; write_reply(alloc, &reply)?.as_bytes(), wanted);
     }

@@ -8,9 +8,13 @@ use rtsp_head::{Header, Headers, Item, ItemKind};
 use std::alloc::Global;
 use std::test::Fail;
 
-fn headers(alloc: Global, fields: &[(&[u8], &[u8])]) -> Result<Headers, Memory> {
+// The headers of a row; a field without a name is none.
+fn headers(alloc: Global, fields: [(&[u8], &[u8]); 2]) -> Result<Headers, Memory> {
     let mut headers = Headers::new(alloc);
     for (name, value) in fields {
+        if name.is_empty() {
+            continue;
+        }
         let header = Header {
             name: Text::copy(alloc, name)?,
             value: Text::copy(alloc, value)?,
@@ -26,34 +30,65 @@ fn headers(alloc: Global, fields: &[(&[u8], &[u8])]) -> Result<Headers, Memory> 
 #[test]
 fn requests_are_written(rt: HostRuntime) -> Result<(), Fail> {
     let alloc = rt.alloc();
-    let request = Request2 {
-        method: Text::copy(alloc, b"DESCRIBE")?,
-        uri: Text::copy(alloc, b"rtsp://media.example/m")?,
-        headers: headers(alloc, &[(b"Accept", b"application/sdp")])?,
-        body: Text::new(alloc),
-    };
-    let text = write_request(alloc, &request, 1)?;
-    assert_eq!(rt;
-        text.as_bytes(),
-        b"DESCRIBE rtsp://media.example/m RTSP/2.0\r\nCSeq: 1\r\nAccept: application/sdp\r\n\r\n".as_slice()
-    );
-    let request = Request2 {
-        method: Text::copy(alloc, b"SET_PARAMETER")?,
-        uri: Text::copy(alloc, b"*")?,
-        headers: headers(
-            alloc,
-            &[
-                (b"Session", b"abcd1234"),
-                (b"Content-Type", b"text/parameters"),
+    let none = (b"".as_slice(), b"".as_slice());
+    let rows = [
+        (
+            b"DESCRIBE".as_slice(),
+            b"rtsp://media.example/m".as_slice(),
+            1,
+            [(b"Accept".as_slice(), b"application/sdp".as_slice()), none],
+            b"".as_slice(),
+            b"DESCRIBE rtsp://media.example/m RTSP/2.0\r\nCSeq: 1\r\nAccept: application/sdp\r\n\r\n".as_slice(),
+        ),
+        (
+            b"SETUP",
+            b"rtsp://media.example/m/1",
+            1,
+            [
+                (b"Transport", b"RTP/AVP/TCP;unicast;interleaved=0-1"),
+                (
+                    b"Accept-Ranges",
+                    b"npt, smpte, smpte-30-drop, smpte-25, clock",
+                ),
             ],
-        )?,
-        body: Text::copy(alloc, b"volume: 7\r\n")?,
-    };
-    let text = write_request(alloc, &request, 999_999_999)?;
-    assert_eq!(rt;
-        text.as_bytes(),
-        b"SET_PARAMETER * RTSP/2.0\r\nCSeq: 999999999\r\nSession: abcd1234\r\nContent-Type: text/parameters\r\nContent-Length: 11\r\n\r\nvolume: 7\r\n".as_slice()
-    );
+            b"",
+            b"SETUP rtsp://media.example/m/1 RTSP/2.0\r\nCSeq: 1\r\nTransport: RTP/AVP/TCP;unicast;interleaved=0-1\r\nAccept-Ranges: npt, smpte, smpte-30-drop, smpte-25, clock\r\n\r\n",
+        ),
+        (
+            b"PLAY",
+            b"rtsp://media.example/m/",
+            4,
+            [(b"Session", b"abcd1234"), (b"Range", b"npt=0-")],
+            b"",
+            b"PLAY rtsp://media.example/m/ RTSP/2.0\r\nCSeq: 4\r\nSession: abcd1234\r\nRange: npt=0-\r\n\r\n",
+        ),
+        (
+            b"TEARDOWN",
+            b"rtsp://media.example/m/1",
+            2,
+            [(b"Session", b"abcd1234"), none],
+            b"",
+            b"TEARDOWN rtsp://media.example/m/1 RTSP/2.0\r\nCSeq: 2\r\nSession: abcd1234\r\n\r\n",
+        ),
+        (
+            b"SET_PARAMETER",
+            b"*",
+            999_999_999,
+            [(b"Content-Type", b"text/parameters"), none],
+            b"volume: 7\r\n",
+            b"SET_PARAMETER * RTSP/2.0\r\nCSeq: 999999999\r\nContent-Type: text/parameters\r\nContent-Length: 11\r\n\r\nvolume: 7\r\n",
+        ),
+    ];
+    for (method, uri, number, fields, body, wanted) in rows {
+        let request = Request2 {
+            method: Text::copy(alloc, method)?,
+            uri: Text::copy(alloc, uri)?,
+            headers: headers(alloc, fields)?,
+            body: Text::copy(alloc, body)?,
+        };
+        let text = write_request(alloc, &request, number)?;
+        assert_eq!(rt; text.as_bytes(), wanted);
+    }
     Ok(())
 }
 
