@@ -4,7 +4,7 @@ PREFIX ?= /usr/local
 PROGRAM := crates/rtspgate/out/rtspgate
 REPLAY := replay rtsp://gate.example rtsp://media.example
 SOURCES := crates.txt $(shell find crates -name out -prune -o \( -name '*.rt' -o -name '*.antt' \) -print)
-EXAMPLES := players options
+EXAMPLES := players options describe
 
 .PHONY: all demo test check bench install examples clean
 

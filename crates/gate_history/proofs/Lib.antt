@@ -1,2 +1,5 @@
 pub mod HistoryLemmas
-pub mod ShortLemmas
+pub mod SoundLemmas
+pub mod OverLemmas
+pub mod NextLemmas
+pub mod AliveLemmas

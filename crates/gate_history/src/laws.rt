@@ -1,6 +1,8 @@
 //! Laws over the definitions of a history. Each holds by its contract alone: no call is made.
-ghost use Rattle.std.specs.Prelude.{◌≡◌, ◌≤◌, ℕ, List, ◌∷◌, length, map, IfSome};
-ghost use Rattle.gate_history.specs.History.{Happening, Entry, IsHistory, Follows, own, sent, shut};
+ghost use Rattle.std.specs.Prelude.{◌≡◌, ℕ, List, map};
+ghost use Rattle.gate_history.specs.History.{Happening, Entry, own, sent, shut, asked};
+ghost use Rattle.gate_history.specs.Follows.{IsHistory, Follows};
+ghost use Rattle.gate_history.specs.Next.{next};
 
 /// At most one entry with a given happening follows a history.
 pub fn one_next_entry()
@@ -14,16 +16,17 @@ pub fn at_most_one_history()
         → map (λ e. e.happening) one ≡ map (λ e. e.happening) other → one ≡ other }
 {}
 
-/// Connections that take the same events are handed the same bytes and closed alike, in any two
-/// histories and under any two numbers. No answer depends on an address yet, so the addresses of
-/// the two need not even agree.
+/// Connections that take the same events are handed the same bytes and closed alike, and the server
+/// is asked the same for them, in any two histories and under any two numbers. No answer depends on
+/// an address yet, so the addresses of the two need not even agree.
 pub fn equal_own_events()
     ensures { (one other : List Entry) (i j : ℕ) → IsHistory one → IsHistory other
-        → own i one ≡ own j other → (sent i one ≡ sent j other) × (shut i one ≡ shut j other) }
+        → own i one ≡ own j other → (sent i one ≡ sent j other) × (shut i one ≡ shut j other) × (asked i one ≡ asked j other) }
 {}
 
-/// What one entry hands out has 512 bytes at most: the gateway's own answers are short.
-pub fn short_pieces()
-    ensures { (earlier : List Entry) (entry : Entry) → Follows earlier entry
-        → IfSome entry.outcome.to_client (λ piece. length piece.bytes ≤ 512) }
+/// Every list of happenings has a history: after every history, what happens next has an entry that
+/// follows.
+pub fn some_next_entry()
+    ensures { (earlier : List Entry) (happening : Happening) → IsHistory earlier
+        → Follows earlier (record { happening = happening; outcome = next earlier happening }) }
 {}

@@ -1,3 +1,14 @@
-pub mod CommitLemmas
+pub mod FieldLemmas
+pub mod ReasonLemmas
+pub mod LoanLemmas
+pub mod SlotLemmas
 pub mod SeatLemmas
 pub mod StandLemmas
+pub mod AfterLemmas
+pub mod CloseLemmas
+pub mod QuietLemmas
+pub mod ActLemmas
+pub mod OpenLemmas
+pub mod TreatLemmas
+pub mod ClientLemmas
+pub mod ServerLemmas

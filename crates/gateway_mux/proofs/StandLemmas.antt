@@ -1,155 +1,165 @@
--- A multiplexer that stands for a history stands for the longer one after each change.
-use Rattle.std.proofs.Common.{◌≡◌, ℕ, ◌+◌, ◌-◌, ◌^◌, min, Bool, true, false, cond, ◌&&◌, ◌||◌, ◌==◌, List, [], ◌∷◌, ◌++◌, None, Some, refl, sym, ◌∙◌, ap, subst, arith, zero-add}
-use Rattle.std.specs.Option.{unwrap_or}
-use Rattle.std.proofs.lemmas.Bool.{eqb-true}
+-- A multiplexer that stands for a history stands for the longer one after an event.
+use Rattle.std.proofs.Common.{◌≡◌, ℕ, ◌+◌, ◌-◌, ◌^◌, ◌<◌, min, Bool, true, false, cond, ◌&&◌, ◌||◌, List, [], ◌∷◌, ◌++◌, Option, None, Some, IfSome, Result, Ok, Err, refl, sym, ◌∙◌, ap, subst, arith}
+use Rattle.std.specs.Prelude.{is_some, is_none}
+use Rattle.std.specs.Option.{option_and_then, option_to_list}
 use Rattle.rtsp_head.specs.Items.{Shape}
-use Rattle.rtsp_head.specs.Shapes.{shape_of}
+use Rattle.rtsp_head.specs.declared.item.ItemKind.{ItemKind}
+use Rattle.rtsp_head.specs.declared.item.ItemKind.TheVariants as item
+use Rattle.head_two.specs.declared.fault.TwoFault.{TwoFault}
+use Rattle.head_two.specs.declared.reply.Reply2.{Reply2}
+use Rattle.head_two.specs.declared.ask.Ask2.{Ask2}
+use Rattle.head_two.specs.Answers.{answer_text}
+use Rattle.head_two.specs.Replies.{reply_in, ask_in}
+use Rattle.head_two.proofs.AnswerLemmas.{answer_no_request}
+use Rattle.head_two.proofs.ReadLemmas.{ask_small}
+use Rattle.head_two.specs.declared.request.Request2.{Request2}
+use Rattle.head_two.specs.Requests.{request_in, request_text}
+use Rattle.gate_history.specs.declared.event.UpCause.{UpCause}
 use Rattle.gate_history.specs.declared.event.Outcome.{Outcome}
-use Rattle.gate_history.specs.declared.event.Event.{Event}
-use Rattle.gate_history.specs.declared.event.Event.TheVariants.{Client, End}
-use Rattle.gate_history.specs.Machine.{PrivateEvent, arrive, end, hand, close, alive_after}
-use Rattle.gate_history.specs.History.{Happening, takes, ends, Entry, entering, entry_of, happening_of, enters_here, own_here, drops_here, frames, entered, own, sent, shut, is_alive}
-use Rattle.gate_history.proofs.HistoryLemmas.{sent_alone, shut_alone, alive_alone}
+use Rattle.gate_history.specs.Heard.{Heard, replies, requests, frames, faults, heard, heard_at, heard_ask, heard_reply, answer_up}
+use Rattle.gate_history.specs.Machine.{PrivateEvent, conn_after}
+use Rattle.gate_history.specs.History.{Happening, enters, takes, ends, hears, Entry, fault_in, enters_here, entered, heard_turn, turn_by, asker, turn, is_turn, event_of, own, own_here, issued, carries, settles}
+use Rattle.gate_history.specs.Follows.{conn_in, conn_of_turn, effect_at, effect, breach_by, answer_due, said_breach, spent}
+use Rattle.gate_history.specs.Next.{up_piece, silent, outcome_of, outcome_at, next}
+use Rattle.gate_history.proofs.NextLemmas.{turn_answer, second_none, effect_asks, asked_reads}
 use Rattle.gateway_mux.specs.declared.mux.Mux.{Mux}
-use Rattle.gateway_mux.specs.Seats.{alive_at}
-use Rattle.gateway_mux.specs.Commits.{Commits, alive_then, hand_then, close_then}
-use Rattle.gateway_mux.specs.Stands.{Stands}
+use Rattle.gateway_mux.specs.Seats.{conn_at}
+use Rattle.gateway_mux.specs.Loans.{owner}
+use Rattle.gateway_mux.specs.Stands.{Books}
+use Rattle.gateway_mux.specs.Commits.{turn_at, turned, conn_then, goes_under}
 
-unwrapped : (entered alive : Bool) → unwrap_or (cond entered (Some alive) None) false ≡ (entered && alive)
-unwrapped true alive = refl
-unwrapped false alive = refl
+-- the turn by the books is that by the history
+heard_same : (one other : ℕ → Option ℕ) (said : Heard) → ((g : ℕ) → one g ≡ other g) → heard_turn one said ≡ heard_turn other said
+heard_same one other (replies reply) same = same reply.cseq
+heard_same one other (requests request) same = refl
+heard_same one other frames same = refl
+heard_same one other (faults fault) same = refl
 
--- whether a connection is alive is told by its seat
-pub alive_stands : (mux : Mux) (T : List Entry) → Stands mux T → (conn : ℕ) → unwrap_or (alive_at mux.seats conn) false ≡ is_alive conn T
-alive_stands mux T s conn =
-    ap (λ seat. unwrap_or seat false) (s.seats conn)
-    ∙ unwrapped (entered conn T) (alive_after (own conn T))
-    ∙ sym (alive_alone T s.is_history conn)
+turn_same : (one other : ℕ → Option ℕ) (h : Happening) → ((g : ℕ) → one g ≡ other g) → turn_by one h ≡ turn_by other h
+turn_same one other (enters conn) same = refl
+turn_same one other (takes conn shape) same = refl
+turn_same one other (ends conn) same = refl
+turn_same one other (hears shape) same = heard_same one other (heard shape) same
 
--- a connection that did not enter has no event of its own
-no_events : (T : List Entry) (i : ℕ) → entered i T ≡ false → own i T ≡ []
-no_events [] i h = refl
-no_events (e ∷ T) i h = later (enters_here i e.happening) (entered i T) refl h (no_events T i)
-  where
-    later : (here before : Bool) → entered i T ≡ before → (here || before) ≡ false → (entered i T ≡ false → own i T ≡ [])
-        → cond (entered i T) (own_here i e.happening) [] ++ own i T ≡ []
-    later true before same none rest = cc
-    later false true same none rest = cc
-    later false false same none rest = ap (λ b. cond b (own_here i e.happening) [] ++ own i T) same ∙ rest same
+turned_same : (mux : Mux) (T : List Entry) (turn : Option ℕ) → ((i : ℕ) → conn_at mux.seats i ≡ conn_in i T) → turned mux turn ≡ conn_of_turn T turn
+turned_same mux T None same = refl
+turned_same mux T (Some i) same = same i
 
-not_entered : (entered alive : Bool) → cond entered (Some alive) None ≡ None → entered ≡ false
-not_entered true alive h = cc
-not_entered false alive h = refl
+-- what the machine of the turn does, by the books
+pub effect_same : (mux : Mux) (T : List Entry) (h : Happening) → Books mux T → effect_at (turned mux (turn_at mux h)) (event_of h) ≡ effect T h
+effect_same mux T h books =
+    ap (λ t. effect_at (turned mux t) (event_of h)) (turn_same (owner mux.loans) (asker T) h books.loans)
+    ∙ ap (λ c. effect_at c (event_of h)) (turned_same mux T (turn T h) books.seats)
 
-pub fresh_not_entered : (mux : Mux) (T : List Entry) → Stands mux T → (conn : ℕ) → alive_at mux.seats conn ≡ None → entered conn T ≡ false
-fresh_not_entered mux T s conn absent = not_entered (entered conn T) (alive_after (own conn T)) (sym (s.seats conn) ∙ absent)
+-- what is handed out is the next of the history
+pub hands_next : (mux : Mux) (T : List Entry) (h : Happening) → Books mux T → fault_in T ≡ None → outcome_at (turn_at mux h) (turned mux (turn_at mux h)) mux.issued h ≡ next T h
+hands_next mux T h books open_still =
+    ap (λ t. outcome_at t (turned mux t) mux.issued h) (turn_same (owner mux.loans) (asker T) h books.loans)
+    ∙ ap (λ c. outcome_at (turn T h) c mux.issued h) (turned_same mux T (turn T h) books.seats)
+    ∙ ap (λ n. outcome_at (turn T h) (conn_of_turn T (turn T h)) n h) books.issued
+    ∙ sym (ap (λ (f : Option UpCause). cond (is_some f) silent (outcome_of (turn T h) (issued T) h (effect T h))) open_still)
 
-pub not_entered_fresh : (mux : Mux) (T : List Entry) → Stands mux T → (conn : ℕ) → entered conn T ≡ false → alive_at mux.seats conn ≡ None
-not_entered_fresh mux T s conn h = s.seats conn ∙ ap (λ b. cond b (Some (alive_after (own conn T))) None) h
+-- Of one connection: what the event does to it is what its own events then say.
+seat_step : (en here : Bool) (event : Option PrivateEvent) (events : List PrivateEvent) →
+    conn_then here event (cond en (Some (conn_after events)) None) ≡ cond en (Some (conn_after (cond en (cond here (option_to_list event) []) [] ++ events))) None
+seat_step true true None events = refl
+seat_step true true (Some event) events = refl
+seat_step true false event events = refl
+seat_step false true event events = refl
+seat_step false false event events = refl
 
-no_more : (b : Bool) (events : List PrivateEvent) → cond b [] [] ++ events ≡ events
-no_more true events = refl
-no_more false events = refl
-
--- after an entering
-pub stands_entering : (old new : Mux) (conn : ℕ) (T : List Entry) → Stands old T → alive_at old.seats conn ≡ None
-    → ((i : ℕ) → alive_at new.seats i ≡ cond (conn == i) (Some true) (alive_at old.seats i)) → new.dropped ≡ old.dropped
-    → Stands new (entering conn ∷ T)
-stands_entering old new conn T s absent seats dropped =
-    let same : (i : ℕ) → own i (entering conn ∷ T) ≡ own i T = λ i. no_more (entered i T) (own i T) in
-    let unknown : entered conn T ≡ false = fresh_not_entered old T s conn absent in
-    record {
-      is_history = (
-        s.is_history,
-        record {
-          sent = λ i. sent_alone T s.is_history i ∙ ap hand (sym (same i));
-          shut = λ i. shut_alone T s.is_history i ∙ ap close (sym (same i));
-        },
-      );
-      seats = λ i. seats i ∙ seat_at i (conn == i) refl unknown (s.seats i) ∙ ap (λ events. cond ((conn == i) || entered i T) (Some (alive_after events)) None) (sym (same i));
-      dropped = dropped ∙ s.dropped ∙ ap (λ n. min n (2 ^ 64 - 1)) (sym (zero-add (frames T)));
-    }
-  where
-    seat_at : (i : ℕ) (here : Bool) → (conn == i) ≡ here → entered conn T ≡ false → alive_at old.seats i ≡ cond (entered i T) (Some (alive_after (own i T))) None
-        → cond here (Some true) (alive_at old.seats i) ≡ cond (here || entered i T) (Some (alive_after (own i T))) None
-    seat_at i true e unknown before =
-        let at : conn ≡ i = eqb-true conn i e in
-        let none : own i T ≡ [] = subst (λ (n : ℕ). own n T ≡ []) at (no_events T conn unknown) in
-        ap (λ events. Some (alive_after events)) (sym none)
-    seat_at i false e unknown before = before
-
--- Of one connection: what one event does to its state is what its own events then say.
-seat_step : (en here : Bool) (p : PrivateEvent) (events : List PrivateEvent)
-    → alive_then (cond en (Some (alive_after events)) None) (cond here (p ∷ []) []) ≡ cond en (Some (alive_after (cond en (cond here (p ∷ []) []) [] ++ events))) None
-seat_step false here p events = refl
-seat_step true false p events = refl
-seat_step true true p events = refl
-
-hand_step : (en here : Bool) (p : PrivateEvent) (events : List PrivateEvent)
-    → hand_then (cond en (Some (alive_after events)) None) (cond here (p ∷ []) []) ++ hand events ≡ hand (cond en (cond here (p ∷ []) []) [] ++ events)
-hand_step false here p events = refl
-hand_step true false p events = refl
-hand_step true true p events = refl
-
-close_step : (en here : Bool) (p : PrivateEvent) (events : List PrivateEvent)
-    → close_then (cond en (Some (alive_after events)) None) (cond here (p ∷ []) []) ++ close events ≡ close (cond en (cond here (p ∷ []) []) [] ++ events)
-close_step false here p events = refl
-close_step true false p events = refl
-close_step true true p events = refl
-
-dropped_step : (here : Bool) (count all : ℕ) → count ≡ min all (2 ^ 64 - 1)
-    → cond here (min (count + 1) (2 ^ 64 - 1)) count ≡ min (cond here 1 0 + all) (2 ^ 64 - 1)
+pub dropped_step : (here : Bool) (count all : ℕ) → count ≡ min all (2 ^ 64 - 1) → cond here (min (count + 1) (2 ^ 64 - 1)) count ≡ min (cond here 1 0 + all) (2 ^ 64 - 1)
 dropped_step true count all h = omega arith
 dropped_step false count all h = omega arith
 
--- after an event that concerns the connections for which `here` is true, as the private event p
-stands_event : (old new : Mux) (h : Happening) (outcome : Outcome) (here : ℕ → Bool) (p : PrivateEvent) (T : List Entry)
-    → ((i : ℕ) → own_here i h ≡ cond (here i) (p ∷ []) []) → ((i : ℕ) → enters_here i h ≡ false)
-    → Commits old new h outcome → Stands old T → Stands new (record { happening = h; outcome = outcome } ∷ T)
-stands_event old new h outcome here p T owns stays c s =
-    let seat : (i : ℕ) → alive_at old.seats i ≡ cond (entered i T) (Some (alive_after (own i T))) None = s.seats in
-    record {
-      is_history = (
-        s.is_history,
-        record {
-          sent = λ i.
-              ap (λ pieces. pieces ++ sent i T) (c.pieces i)
-              ∙ ap (λ a. hand_then a (own_here i h) ++ sent i T) (seat i)
-              ∙ ap (λ before. hand_then (cond (entered i T) (Some (alive_after (own i T))) None) (own_here i h) ++ before) (sent_alone T s.is_history i)
-              ∙ ap (λ own_events. hand_then (cond (entered i T) (Some (alive_after (own i T))) None) own_events ++ hand (own i T)) (owns i)
-              ∙ hand_step (entered i T) (here i) p (own i T)
-              ∙ ap (λ own_events. hand (cond (entered i T) own_events [] ++ own i T)) (sym (owns i));
-          shut = λ i.
-              ap (λ closes. closes ++ shut i T) (c.closes i)
-              ∙ ap (λ a. close_then a (own_here i h) ++ shut i T) (seat i)
-              ∙ ap (λ before. close_then (cond (entered i T) (Some (alive_after (own i T))) None) (own_here i h) ++ before) (shut_alone T s.is_history i)
-              ∙ ap (λ own_events. close_then (cond (entered i T) (Some (alive_after (own i T))) None) own_events ++ close (own i T)) (owns i)
-              ∙ close_step (entered i T) (here i) p (own i T)
-              ∙ ap (λ own_events. close (cond (entered i T) own_events [] ++ own i T)) (sym (owns i));
-        },
-      );
-      seats = λ i.
-          c.seats i
-          ∙ ap (λ a. alive_then a (own_here i h)) (seat i)
-          ∙ ap (λ own_events. alive_then (cond (entered i T) (Some (alive_after (own i T))) None) own_events) (owns i)
-          ∙ seat_step (entered i T) (here i) p (own i T)
-          ∙ ap (λ own_events. cond (entered i T) (Some (alive_after (cond (entered i T) own_events [] ++ own i T))) None) (sym (owns i))
-          ∙ ap (λ b. cond (b || entered i T) (Some (alive_after (cond (entered i T) (own_here i h) [] ++ own i T))) None) (sym (stays i));
-      dropped = c.dropped ∙ dropped_step (drops_here h) old.dropped (frames T) s.dropped;
-    }
+pub here_open : (here : Bool) (fault : Option UpCause) → fault ≡ None → (here && is_none fault) ≡ here
+here_open true None e = refl
+here_open false None e = refl
+here_open here (Some cause) e = cc
 
--- after an event of a client
-pub stands_takes : (old new : Mux) (conn : ℕ) (shape : Shape) (outcome : Outcome) (T : List Entry)
-    → Commits old new (takes conn shape) outcome → Stands old T → Stands new (record { happening = takes conn shape; outcome = outcome } ∷ T)
-stands_takes old new conn shape outcome T =
-    stands_event old new (takes conn shape) outcome (λ i. conn == i) (arrive shape) T (λ i. refl) (λ i. refl)
+-- the seats after an event that is no entering
+pub seats_after : (old new : Mux) (h : Happening) (outcome : Outcome) (T : List Entry) → ((i : ℕ) → enters_here i h ≡ false) → Books old T → outcome.fault ≡ None →
+    ((i : ℕ) → conn_at new.seats i ≡ conn_then (is_turn i (turn_at old h)) (event_of h) (conn_at old.seats i)) →
+    (i : ℕ) → conn_at new.seats i ≡ conn_in i (record { happening = h; outcome = outcome } ∷ T)
+seats_after old new h outcome T stays books quiet seats i =
+    seats i
+    ∙ ap (λ t. conn_then (is_turn i t) (event_of h) (conn_at old.seats i)) (turn_same (owner old.loans) (asker T) h books.loans)
+    ∙ ap (conn_then (is_turn i (turn T h)) (event_of h)) (books.seats i)
+    ∙ seat_step (entered i T) (is_turn i (turn T h)) (event_of h) (own i T)
+    ∙ sym (ap (λ (f : Option UpCause). cond (entered i T) (Some (conn_after (cond (entered i T) (own_here i f (turn T h) h) [] ++ own i T))) None) quiet)
+    ∙ ap (λ b. cond ((b && is_none (fault_in T)) || entered i T) (Some (conn_after (cond (entered i T) (own_here i outcome.fault (turn T h) h) [] ++ own i T))) None) (sym (stays i))
 
-pub stands_ends : (old new : Mux) (conn : ℕ) (outcome : Outcome) (T : List Entry)
-    → Commits old new (ends conn) outcome → Stands old T → Stands new (record { happening = ends conn; outcome = outcome } ∷ T)
-stands_ends old new conn outcome T =
-    stands_event old new (ends conn) outcome (λ i. conn == i) end T (λ i. refl) (λ i. refl)
+-- what is known of what goes up: the request in it is the one that is due, under the next number
+pub record Goes (up : Option (List ℕ)) (number : ℕ) (ask : Option Request2) : Type 0 where
+  pub carried : (g : ℕ) → carries g (option_and_then request_in up) ≡ goes_under g number ask
+  pub some : is_some (option_and_then request_in up) ≡ is_some ask
 
-pub stands_commits : (old new : Mux) (event : Event) (outcome : Outcome) (T : List Entry)
-    → Commits old new (happening_of event) outcome → Stands old T → Stands new (entry_of event outcome ∷ T)
-stands_commits old new (Client conn item) outcome T = stands_takes old new conn (shape_of item) outcome T
-stands_commits old new (End conn) outcome T = stands_ends old new conn outcome T
+pub loans_after : (old new : Mux) (h : Happening) (outcome : Outcome) (T : List Entry) (ask : Option Request2) → Books old T → Goes outcome.to_up (old.issued + 1) ask →
+    ((g : ℕ) → owner new.loans g ≡ cond (goes_under g (old.issued + 1) ask) (turn_at old h) (cond (settles g h) None (owner old.loans g))) →
+    (g : ℕ) → owner new.loans g ≡ asker (record { happening = h; outcome = outcome } ∷ T) g
+loans_after old new h outcome T ask books goes loans g =
+    loans g
+    ∙ ap (λ t. cond (goes_under g (old.issued + 1) ask) t (cond (settles g h) None (owner old.loans g))) (turn_same (owner old.loans) (asker T) h books.loans)
+    ∙ ap (λ o. cond (goes_under g (old.issued + 1) ask) (turn T h) (cond (settles g h) None o)) (books.loans g)
+    ∙ ap (λ b. cond b (turn T h) (cond (settles g h) None (asker T g))) (sym (goes.carried g))
+
+pub issued_after : (old new : Mux) (h : Happening) (outcome : Outcome) (T : List Entry) (ask : Option Request2) → Books old T → Goes outcome.to_up (old.issued + 1) ask →
+    new.issued ≡ cond (is_some ask) 1 0 + old.issued → new.issued ≡ issued (record { happening = h; outcome = outcome } ∷ T)
+issued_after old new h outcome T ask books goes counted =
+    counted ∙ ap (λ n. cond (is_some ask) 1 0 + n) books.issued ∙ ap (λ b. cond b 1 0 + issued T) (sym goes.some)
+
+-- A request that goes up is the one that is due; an answer to the server is none.
+goes_asked : (number : ℕ) (ask : Option Request2) → IfSome ask (λ request. request_in (request_text number request) ≡ Some (record { number = number; request = request })) →
+    Goes (up_piece None number ask) number ask
+goes_asked number None read = record { carried = λ g. refl; some = refl }
+goes_asked number (Some request) read = record { carried = λ g. ap (carries g) read; some = ap is_some read }
+
+goes_answered : (text : List ℕ) (number : ℕ) (ask : Option Request2) → request_in text ≡ None → ask ≡ None → Goes (Some text) number ask
+goes_answered text number None none quiet = record { carried = λ g. ap (carries g) none; some = ap is_some none }
+goes_answered text number (Some request) none quiet = cc
+
+goes_by : (answer : Option (List ℕ)) (number : ℕ) (ask : Option Request2) → ((text : List ℕ) → answer ≡ Some text → (request_in text ≡ None) × (ask ≡ None)) →
+    IfSome ask (λ request. request_in (request_text number request) ≡ Some (record { number = number; request = request })) → Goes (up_piece answer number ask) number ask
+goes_by None number ask answered read = goes_asked number ask read
+goes_by (Some text) number ask answered read = let both = answered text refl in goes_answered text number ask both.0 both.1
+
+asked_answer : (found : Result Ask2 TwoFault) (text : List ℕ) → ((ask : Ask2) → found ≡ Ok ask → ask.cseq < 10 ^ 9) → answer_up (heard_ask found) ≡ Some text → request_in text ≡ None
+asked_answer (Ok ask) text small e =
+    let same : answer_text 501 ask.cseq None ≡ text = cc in
+    subst (λ (bytes : List ℕ). request_in bytes ≡ None) same (answer_no_request 501 ask.cseq None refl (small ask refl) tt)
+asked_answer (Err fault) text small e = cc
+
+replied_answer : (found : Result Reply2 TwoFault) (text : List ℕ) → answer_up (heard_reply found) ≡ Some text → request_in text ≡ None
+replied_answer (Ok reply) text e = cc
+replied_answer (Err fault) text e = cc
+
+-- what the server is answered is no request
+heard_answered : (shape : Shape) (kind : ItemKind) (text : List ℕ) → answer_up (heard_at kind shape) ≡ Some text → request_in text ≡ None
+heard_answered shape item.Request text e = asked_answer (ask_in shape) text (ask_small shape) e
+heard_answered shape item.Response text e = replied_answer (reply_in shape) text e
+heard_answered shape item.Frame text e = cc
+heard_answered shape (item.Bad kind) text e = cc
+
+answered_none : (h : Happening) (text : List ℕ) → answer_due h ≡ Some text → request_in text ≡ None
+answered_none (enters conn) text e = cc
+answered_none (takes conn shape) text e = cc
+answered_none (ends conn) text e = cc
+answered_none (hears shape) text e = heard_answered shape shape.kind text e
+
+-- and is nobody's turn, so nothing is asked
+turnless_ask : (T : List Entry) (turn : Option ℕ) (event : Option PrivateEvent) → turn ≡ None → (effect_at (conn_of_turn T turn) event).ask ≡ None
+turnless_ask T None event e = refl
+turnless_ask T (Some i) event e = cc
+
+answered_turn : (who : ℕ → Option ℕ) (h : Happening) (turn : Option ℕ) (text : List ℕ) → turn_by who h ≡ turn → answer_due h ≡ Some text → turn ≡ None
+answered_turn who h None text t e = refl
+answered_turn who h (Some i) text t e = let none : answer_due h ≡ None = turn_answer who h i t in cc
+
+-- what an entry without a fault hands to the server
+pub goes_next : (T : List Entry) (h : Happening) (number : ℕ) → number ≡ issued T + 1 → breach_by (turn T h) (issued T) h (effect T h).ask ≡ None →
+    Goes (up_piece (answer_due h) (issued T + 1) (effect T h).ask) number (effect T h).ask
+goes_next T h number same right =
+    subst (λ (n : ℕ). Goes (up_piece (answer_due h) (issued T + 1) (effect T h).ask) n (effect T h).ask) (sym same)
+    (goes_by (answer_due h) (issued T + 1) (effect T h).ask
+    (λ text e. (answered_none h text e, turnless_ask T (turn T h) (event_of h) (answered_turn (asker T) h (turn T h) text refl e)))
+    (asked_reads (issued T) (effect T h).ask (second_none (said_breach (turn T h) h) (spent (issued T) (effect T h).ask) right) (effect_asks (conn_of_turn T (turn T h)) (event_of h))))

@@ -1,49 +1,54 @@
--- What committing one event does to the multiplexer's parts (this project's own).
-use Rattle.std.specs.Prelude.{◌≡◌, ℕ, ◌+◌, ◌-◌, ◌^◌, min, Bool, false, ◌==◌, List, [], ◌∷◌, Option, Some, None, if◌then◌else◌, unwrap_or}
+-- What one event does to the multiplexer's parts (this project's own).
+use Rattle.std.specs.Prelude.{◌≡◌, ℕ, ◌+◌, ◌-◌, ◌^◌, min, Bool, true, ◌==◌, ◌&&◌, is_some, Option, None, Some, if◌then◌else◌}
 use Rattle.std.specs.Option.{option_map}
-use Rattle.gate_history.specs.declared.event.CloseWhy.{CloseWhy}
-use Rattle.gate_history.specs.declared.event.Closed.TheVariants.{Nobody, One}
+use Rattle.head_two.specs.declared.request.Request2.{Request2}
 use Rattle.gate_history.specs.declared.event.Outcome.{Outcome}
-use Rattle.gate_history.specs.Machine.{PrivateEvent, step}
-use Rattle.gate_history.specs.History.{Happening, own_here, pieces_to, closes_of, drops_here}
+use Rattle.gate_history.specs.Machine.{Conn, PrivateEvent}
+use Rattle.gate_history.specs.History.{Happening, turn_by, is_turn, event_of, settles, drops_here}
+use Rattle.gate_history.specs.Follows.{effect_at}
+use Rattle.gate_history.specs.Next.{outcome_at}
 use Rattle.gateway_mux.specs.declared.mux.Mux.{Mux}
-use Rattle.gateway_mux.specs.Seats.{alive_at}
+use Rattle.gateway_mux.specs.Seats.{conn_at}
+use Rattle.gateway_mux.specs.Loans.{owner}
+use Rattle.gateway_mux.specs.Short.{IsShort}
 
--- what one connection's event, where there is one, does to it, by whether it entered and is alive
-abbrev pub alive_then : Option Bool → List PrivateEvent → Option Bool
-alive_then None events = None
-alive_then (Some alive) [] = Some alive
-alive_then (Some alive) (event ∷ events) = Some (step alive event).alive
+-- whose turn it is, by the books
+abbrev pub turn_at : Mux → Happening → Option ℕ
+turn_at mux happening = turn_by (owner mux.loans) happening
 
-abbrev pub hand_then : Option Bool → List PrivateEvent → List (List ℕ)
-hand_then None events = []
-hand_then (Some alive) [] = []
-hand_then (Some alive) (event ∷ events) = (step alive event).hand
+-- the connection whose turn it is
+abbrev pub turned : Mux → Option ℕ → Option Conn
+turned mux None = None
+turned mux (Some i) = conn_at mux.seats i
 
-abbrev pub close_then : Option Bool → List PrivateEvent → List CloseWhy
-close_then None events = []
-close_then (Some alive) [] = []
-close_then (Some alive) (event ∷ events) = (step alive event).close
+-- a connection after the event that is its own
+abbrev pub conn_then : Bool → Option PrivateEvent → Option Conn → Option Conn
+conn_then here event conn = if here then option_map (λ one. (effect_at (Some one) event).conn) conn else conn
 
--- every connection is, is handed and is closed as it would be alone
+-- whether a request goes up under this number
+abbrev pub goes_under : ℕ → ℕ → Option Request2 → Bool
+goes_under g number request = is_some request && number == g
+
+-- The connection whose turn it is goes on as it would alone, and every other stays as it was. A request that goes up is
+-- owed to it, and a final reply settles what was owed.
+pub record Moves (old new : Mux) (happening : Happening) (turn : Option ℕ) (ask : Option Request2) : Type 0 where
+  pub seats : (i : ℕ) → conn_at new.seats i ≡ conn_then (is_turn i turn) (event_of happening) (conn_at old.seats i)
+  pub loans : (g : ℕ) → owner new.loans g ≡ (if goes_under g (old.issued + 1) ask then turn else (if settles g happening then None else owner old.loans g))
+  pub issued : new.issued ≡ (if is_some ask then 1 else 0) + old.issued
+
+-- no connection, no open request and no number changes
+pub record Stays (old new : Mux) : Type 0 where
+  pub seats : (i : ℕ) → conn_at new.seats i ≡ conn_at old.seats i
+  pub loans : (g : ℕ) → owner new.loans g ≡ owner old.loans g
+  pub issued : new.issued ≡ old.issued
+
+-- What is handed out is what the machine of that connection hands out, and the books move with it, unless the
+-- connection to the server ends: then they stay.
 pub record Commits (old new : Mux) (happening : Happening) (outcome : Outcome) : Type 0 where
-  pub seats : (i : ℕ) → alive_at new.seats i ≡ alive_then (alive_at old.seats i) (own_here i happening)
-  pub pieces : (i : ℕ) → pieces_to i outcome.to_client ≡ hand_then (alive_at old.seats i) (own_here i happening)
-  pub closes : (i : ℕ) → closes_of i outcome.closed ≡ close_then (alive_at old.seats i) (own_here i happening)
+  pub hands : outcome ≡ outcome_at (turn_at old happening) (turned old (turn_at old happening)) old.issued happening
+  pub ended : new.ended ≡ outcome.fault
   pub dropped : new.dropped ≡ (if drops_here happening then min (old.dropped + 1) (2 ^ 64 - 1) else old.dropped)
+  pub moves : outcome.fault ≡ None → Moves old new happening (turn_at old happening) (effect_at (turned old (turn_at old happening)) (event_of happening)).ask
+  pub stays : is_some outcome.fault ≡ true → Stays old new
   pub bases : new.bases ≡ old.bases
-
--- one connection is closed, where it was alive, and nothing else happens
-pub record Closes (old new : Mux) (conn : ℕ) (why : CloseWhy) (outcome : Outcome) : Type 0 where
-  pub seats : (i : ℕ) → alive_at new.seats i ≡ (if conn == i then option_map (λ alive. false) (alive_at old.seats i) else alive_at old.seats i)
-  pub piece : outcome.to_client ≡ None
-  pub closed : outcome.closed ≡ (if unwrap_or (alive_at old.seats conn) false then One conn why else Nobody)
-  pub dropped : new.dropped ≡ old.dropped
-  pub bases : new.bases ≡ old.bases
-
--- one frame more was dropped, and nothing else happens
-pub record Drops (old new : Mux) (outcome : Outcome) : Type 0 where
-  pub seats : (i : ℕ) → alive_at new.seats i ≡ alive_at old.seats i
-  pub handed : outcome ≡ record { to_client = None; closed = Nobody }
-  pub dropped : new.dropped ≡ min (old.dropped + 1) (2 ^ 64 - 1)
-  pub bases : new.bases ≡ old.bases
+  pub short : IsShort outcome

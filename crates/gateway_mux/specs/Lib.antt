@@ -1,4 +1,12 @@
-pub mod Commits
-pub mod Plans
+pub mod Decisions
+pub mod Hearing
+pub mod Loans
+pub mod Slots
 pub mod Seats
 pub mod Stands
+pub mod Commits
+pub mod Closes
+pub mod Quiet
+pub mod Acts
+pub mod Short
+pub mod Answered

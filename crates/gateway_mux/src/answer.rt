@@ -1,103 +1,148 @@
-//! What the gateway itself answers to a request.
-ghost use Rattle.std.specs.Prelude.{◌≡◌, ◌++◌, IfOk, OnOk, take};
-ghost use Rattle.rtsp_head.specs.Heads.{head_of};
-ghost use Rattle.gate_history.specs.Answers.{answer_to, answer_at, answer_text, code_of, cseq_line, cseq_of};
+//! Texts that players are handed: the gateway's own answers, and the server's replies.
+ghost use Rattle.std.specs.Prelude.{◌≡◌, ◌++◌, true, Some, [], IfOk, OnOk, option_map};
+ghost use Rattle.rtsp_head.specs.Messages.{own_fields};
+ghost use Rattle.rtsp_status.specs.Reasons.{has_reason};
+ghost use Rattle.gate_history.specs.Decisions.{answer_text, refusal_text, public_header, header_with, described, described_by, reply_down};
+ghost use Rattle.gateway_mux.specs.Decisions.{HasReason};
 
-use gate_bytes::{Memory, Text, is_token, push_decimal, read_decimal};
-use gate_history::Code;
-use rtsp_head::{Head, HeadFault, Item, Start, read_head};
+use gate_bytes::{Memory, Text};
+use head_one::{Refusal, Reply1, write_reply};
+use head_two::Reply2;
+use rtsp_head::{Head, Header, Headers};
 use std::alloc::Global;
-
-/// The version that players speak.
-const VERSION: &[u8] = b"RTSP/1.0";
-
-/// The one method that the gateway answers itself.
-const OPTIONS: &[u8] = b"OPTIONS";
 
 /// The methods of an answer to OPTIONS (RFC 2326, 12.28).
 const PUBLIC: &[u8] =
-    b"Public: OPTIONS, DESCRIBE, SETUP, PLAY, PAUSE, TEARDOWN, GET_PARAMETER, SET_PARAMETER\r\n";
+    b"OPTIONS, DESCRIBE, SETUP, PLAY, PAUSE, TEARDOWN, GET_PARAMETER, SET_PARAMETER";
 
-/// The answer to a request; nothing where the item has no request's head.
-pub(crate) fn answer(alloc: Global, item: &Item) -> Result<Option<Text>, Memory>
-    ensures { IfOk result (λ answer. answer ≡ answer_to (head_of (take item.now.head item.now.bytes))) }
+/// Appends a header with this value, where there is one.
+pub(crate) fn header(
+    alloc: Global,
+    headers: &mut Headers,
+    name: &[u8],
+    value: Option<&[u8]>,
+) -> Result<(), Memory>
+    ensures { OnOk result (headers.new ≡ headers.old ++ header_with name.now (option_map (λ value. value.now) value.entry)) }
 {
-    match read_head(alloc, item.head_bytes()) {
-        Ok(head) => answer_head(alloc, &head),
-        Err(HeadFault::Memory) => Err(Memory),
-        Err(_) => Ok(None),
+    let Some(value) = value else {
+        return Ok(());
+    };
+    let item = Header {
+        name: Text::copy(alloc, name)?,
+        value: Text::copy(alloc, value)?,
+    };
+    match headers.push(item) {
+        Ok(()) => Ok(()),
+        Err((_, memory)) => Err(memory),
     }
 }
 
-/// The answer to a request with this head.
-fn answer_head(alloc: Global, head: &Head) -> Result<Option<Text>, Memory>
-    ensures { IfOk result (λ answer. answer ≡ answer_at head.now.start (cseq_of head.now)) }
+/// The answer with this code, with the number and these headers alone.
+fn answer_with(
+    alloc: Global,
+    code: u16,
+    cseq: Option<u64>,
+    headers: Headers,
+) -> Result<Text, Memory>
+    requires { has_reason code ≡ true }
+    ensures { IfOk result (λ text. text ≡ answer_text code cseq headers) }
 {
-    match &head.start {
-        Start::Request {
-            method,
-            version,
-            ..
-        } => {
-            let cseq = cseq_of(head);
-            let code = code_of(method.as_bytes(), version.as_bytes(), cseq);
-            Ok(Some(answer_text(alloc, code, cseq)?))
-        }
-        Start::Status { .. } => Ok(None),
-    }
+    let reply = Reply1 {
+        code,
+        cseq,
+        headers,
+        body: Text::new(alloc),
+    };
+    write_reply(alloc, &reply)
 }
 
-/// The number of a request: its CSeq, of 1 to 19 digits (RFC 2326, 12.17).
-fn cseq_of(head: &Head) -> Option<u64>
-    ensures { result ≡ cseq_of head.now }
+/// The answer with this code that tells the number alone.
+pub(crate) fn answer(alloc: Global, code: u16, cseq: Option<u64>) -> Result<Text, Memory>
+    requires { has_reason code ≡ true }
+    ensures { IfOk result (λ text. text ≡ answer_text code cseq []) }
 {
-    match head.field(b"CSeq") {
-        Some(value) => read_decimal(value, 19),
+    answer_with(alloc, code, cseq, Headers::new(alloc))
+}
+
+/// The answer to a request that is refused.
+pub(crate) fn refusal_text(alloc: Global, refusal: &Refusal) -> Result<Text, Memory>
+    requires { HasReason refusal.now }
+    ensures { IfOk result (λ text. text ≡ refusal_text refusal.now) }
+{
+    let mut headers = Headers::new(alloc);
+    header(alloc, &mut headers, b"Unsupported", unsupported(refusal))?;
+    answer_with(alloc, refusal.code, refusal.cseq, headers)
+}
+
+/// What a refusal tells as not supported.
+fn unsupported(refusal: &Refusal) -> Option<&[u8]>
+    ensures { option_map (λ value. value.now) result ≡ refusal.now.unsupported }
+{
+    match &refusal.unsupported {
+        Some(value) => Some(value.as_bytes()),
         None => None,
     }
 }
 
-/// The code of the first rule that applies to a request.
-fn code_of(method: &[u8], version: &[u8], cseq: Option<u64>) -> Code
-    ensures { result ≡ code_of method.now version.now cseq }
+/// The answer to OPTIONS.
+pub(crate) fn public(alloc: Global, cseq: u64) -> Result<Text, Memory>
+    ensures { IfOk result (λ text. text ≡ answer_text 200 (Some cseq) public_header) }
 {
-    if !is_token(method) {
-        Code::BadRequest
-    } else if version != VERSION {
-        Code::VersionNotSupported
-    } else if cseq.is_none() {
-        Code::BadRequest
-    } else if method != OPTIONS {
-        Code::NotImplemented
+    let mut headers = Headers::new(alloc);
+    header(alloc, &mut headers, b"Public", Some(PUBLIC))?;
+    answer_with(alloc, 200, Some(cseq), headers)
+}
+
+/// The server's reply to a DESCRIBE as its player gets it.
+pub(crate) fn reply_down(alloc: Global, cseq: u64, reply: &Reply2) -> Result<Text, Memory>
+    ensures { IfOk result (λ text. text ≡ reply_down cseq reply.now.code (own_fields reply.now.head.headers) reply.now.body) }
+{
+    if reply.code < 200 || reply.code > 299 {
+        return answer(alloc, 502, Some(cseq));
+    }
+    let down = Reply1 {
+        code: 200,
+        cseq: Some(cseq),
+        headers: described(alloc, reply)?,
+        body: Text::copy(alloc, reply.body.as_bytes())?,
+    };
+    write_reply(alloc, &down)
+}
+
+/// What a reply to a DESCRIBE tells of its body, where it has one.
+fn described(alloc: Global, reply: &Reply2) -> Result<Headers, Memory>
+    ensures { IfOk result (λ headers. headers ≡ described (own_fields reply.now.head.headers) reply.now.body) }
+{
+    if reply.body.is_empty() {
+        Ok(Headers::new(alloc))
     } else {
-        Code::Success
+        described_by(alloc, &reply.head)
     }
 }
 
-/// The text of an answer with this code.
-fn answer_text(alloc: Global, code: Code, cseq: Option<u64>) -> Result<Text, Memory>
-    ensures { IfOk result (λ text. text ≡ answer_text code cseq) }
+/// What a head tells of a body.
+#[tactic(auto, using(crate::proofs::FieldLemmas::base_field, crate::proofs::FieldLemmas::type_field, crate::proofs::FieldLemmas::encoding_field))]
+fn described_by(alloc: Global, head: &Head) -> Result<Headers, Memory>
+    ensures { IfOk result (λ headers. headers ≡ described_by (own_fields head.now.headers)) }
 {
-    let mut text = Text::with_room(alloc, 192)?;
-    text.push_slice(code.status_line())?;
-    push_cseq(&mut text, cseq)?;
-    if code == Code::Success {
-        text.push_slice(PUBLIC)?;
-    }
-    text.push_slice(b"\r\n")?;
-    Ok(text)
-}
-
-/// Appends the line with the request's number, where there is one.
-fn push_cseq(text: &mut Text, cseq: Option<u64>) -> Result<(), Memory>
-    ensures { OnOk result (text.new ≡ text.old ++ cseq_line cseq) }
-{
-    match cseq {
-        Some(number) => {
-            text.push_slice(b"CSeq: ")?;
-            push_decimal(text, number)?;
-            text.push_slice(b"\r\n")
-        }
-        None => Ok(()),
-    }
+    let mut headers = Headers::new(alloc);
+    header(
+        alloc,
+        &mut headers,
+        b"Content-Base",
+        head.field(b"Content-Base"),
+    )?;
+    header(
+        alloc,
+        &mut headers,
+        b"Content-Type",
+        head.field(b"Content-Type"),
+    )?;
+    header(
+        alloc,
+        &mut headers,
+        b"Content-Encoding",
+        head.field(b"Content-Encoding"),
+    )?;
+    Ok(headers)
 }

@@ -1,35 +1,35 @@
 //! The multiplexer.
-ghost use Rattle.std.specs.Prelude.{◌≡◌, ◌≤◌, ℕ, false, None, unwrap_or, length, List, [], ◌∷◌, IsOk, IfOk, OnOk, IfErr, OnErr, IfSome, option_map};
-ghost use Rattle.rtsp_head.specs.Shapes.{shape_of};
-ghost use Rattle.gate_history.specs.declared.event.Closed.TheVariants.{Nobody};
-ghost use Rattle.gate_history.specs.History.{Entry, happening_of, takes, entry_of, entering, entered, is_alive, dropped_frames};
+ghost use Rattle.std.specs.Prelude.{◌≡◌, true, false, IfOk, OnOk, IfErr, OnErr, [], List, ◌∷◌};
+ghost use Rattle.gate_history.specs.History.{Happening, Entry, entry_of, entering, standing, drops_here, dropped_frames, is_alive, IsFirstAlive, fault_in};
+ghost use Rattle.gate_history.specs.Follows.{is_busy};
 
-use crate::answer::answer;
+use crate::loans::Loans;
+use crate::outcome::nothing;
 use crate::seats::Seats;
-use gate_bytes::{Memory, Text};
-use gate_history::{Bases, CloseWhy, Closed, Event, Outcome, ToClient};
-use rtsp_head::{Item, ItemKind};
+use gate_bytes::Memory;
+use gate_history::{Bases, CloseWhy, Event, Outcome, UpCause};
 use std::alloc::Global;
 
-/// What is made ready for one event in one state: all the memory that committing it needs.
-#[derive(Drop)]
-pub struct Plan {
-    answer: Option<Text>,
-}
+mod acting;
+mod client;
+mod server;
 
-/// All connections of a gateway. It stands for the history of what happened to it.
+/// All connections of a gateway, and its connection to the server. It stands for the history of what
+/// happened to it.
 #[derive(Drop)]
 pub struct Mux {
     seats: Seats,
+    loans: Loans,
+    issued: u32,
+    ended: Option<UpCause>,
     bases: Bases,
     dropped: u64,
 }
 
 impl Mux {
     ghost use Rattle.gateway_mux.specs.Stands.{Stands, IsFresh, bases_of};
-    ghost use Rattle.gateway_mux.specs.Plans.{Planned, is_request, is_request_kind, item_answer};
-    ghost use Rattle.gateway_mux.specs.Commits.{Commits, Closes, Drops};
-    ghost use Rattle.gateway_mux.specs.Seats.{alive_at};
+    ghost use Rattle.gateway_mux.specs.Short.{IsShort};
+    ghost use Rattle.gateway_mux.specs.Seats.{conn_at};
 
     /// A gateway with these addresses, to which nothing happened.
     pub fn new(alloc: Global, bases: Bases) -> Result<Mux, Memory>
@@ -38,82 +38,83 @@ impl Mux {
     {
         Ok(Mux {
             seats: Seats::new(alloc),
+            loans: Loans::new(alloc),
+            issued: 0,
+            ended: None,
             bases,
             dropped: 0,
         })
     }
 
-    /// A connection enters, under a number that never entered.
-    pub fn enter(&mut self, conn: u32) -> Result<(), Memory>
+    /// A connection enters, under a number that never entered. After the end of the connection to the
+    /// server it takes no part, and no memory is taken.
+    pub fn enter(&mut self, alloc: Global, conn: u32) -> Result<(), Memory>
         requires { IsFresh self.old conn }
         ensures ok { OnOk result ((T : List Entry) → Stands self.old T → Stands self.new (entering conn ∷ T)) }
         ensures err { OnErr result ((T : List Entry) → Stands self.old T → Stands self.new T) }
         ensures bases { bases_of self.new ≡ bases_of self.old }
     {
-        self.seats.enter(conn)
-    }
-
-    /// Makes an event ready. It changes nothing, and only a request may need memory.
-    pub fn plan(&self, alloc: Global, event: &Event) -> Result<Plan, Memory>
-        ensures planned { IfOk result (λ plan. Planned self.now event.now plan) }
-        ensures free { is_request event.now ≡ false → IsOk result }
-    {
-        match event {
-            Event::Client(conn, item) => Ok(Plan {
-                answer: self.answer_due(alloc, *conn, item)?,
-            }),
-            Event::End(_) => Ok(Plan { answer: None }),
+        if self.ended.is_some() {
+            return Ok(());
         }
+        self.seats.enter(alloc, conn)
     }
 
-    /// The answer that is due for an item: that to a request of a connection that is alive.
-    fn answer_due(&self, alloc: Global, conn: u32, item: &Item) -> Result<Option<Text>, Memory>
-        ensures due { IfOk result (λ answer. answer ≡ item_answer (unwrap_or (alive_at self.now.seats conn) false) item.now.kind (shape_of item.now)) }
-        ensures free { is_request_kind item.now.kind ≡ false → IsOk result }
-    {
-        if !self.alive(conn) {
-            return Ok(None);
-        }
-        match item.kind {
-            ItemKind::Request => answer(alloc, item),
-            ItemKind::Response | ItemKind::Frame | ItemKind::Bad(_) => Ok(None),
-        }
-    }
-
-    /// Commits a planned event. It takes no memory and can't be refused.
-    pub fn commit(&mut self, event: Event, plan: Plan) -> Outcome
-        requires { Planned self.old event plan }
-        ensures history { (T : List Entry) → Stands self.old T → Stands self.new (entry_of event result ∷ T) }
-        ensures short { IfSome result.to_client (λ piece. length piece.bytes ≤ 512) }
-        ensures bases { bases_of self.new ≡ bases_of self.old }
-    {
-        self.act(event, plan)
-    }
-
-    /// Plans and commits an event. After `Memory` nothing has changed, and the event is given back.
+    /// Takes an event: what it hands out is the next entry of the history. After `Memory` nothing was
+    /// handed out, and the event is given back.
     pub fn step(&mut self, alloc: Global, event: Event) -> Result<Outcome, (Event, Memory)>
         ensures ok { IfOk result (λ outcome. (T : List Entry) → Stands self.old T → Stands self.new (entry_of event outcome ∷ T)) }
-        ensures short { IfOk result (λ outcome. IfSome outcome.to_client (λ piece. length piece.bytes ≤ 512)) }
-        ensures given_back { IfErr result (λ e. e.0 ≡ event) }
-        ensures err { OnErr result (self.new ≡ self.old) }
-        ensures free { is_request event ≡ false → IsOk result }
+        ensures short { IfOk result (λ outcome. IsShort outcome) }
+        ensures given_back { IfErr result (λ refused. refused.0 ≡ event) }
+        ensures err { OnErr result ((T : List Entry) → Stands self.old T → Stands self.new T) }
         ensures bases { bases_of self.new ≡ bases_of self.old }
     {
-        match self.plan(alloc, &event) {
-            Ok(plan) => Ok(self.commit(event, plan)),
-            Err(memory) => Err((event, memory)),
+        if self.ended.is_some() {
+            return Ok(nothing());
+        }
+        match event {
+            Event::Client(conn, item) => match self.take(alloc, conn, item) {
+                Ok(outcome) => Ok(outcome),
+                Err((item, memory)) => Err((Event::Client(conn, item), memory)),
+            },
+            Event::Up(item) => match self.hear(alloc, &item) {
+                Ok(outcome) => Ok(outcome),
+                Err(memory) => Err((Event::Up(item), memory)),
+            },
+            Event::End(conn) => Ok(self.close(conn, CloseWhy::Ended)),
         }
     }
 
     /// Whether a connection is alive: it entered, and was not closed.
     pub fn alive(&self, conn: u32) -> bool
-        ensures slot { result ≡ unwrap_or (alive_at self.now.seats conn) false }
-        ensures history { (T : List Entry) → Stands self.now T → result ≡ is_alive conn T }
+        ensures { (T : List Entry) → Stands self.now T → result ≡ is_alive conn T }
     {
-        self.seats.alive(conn).unwrap_or(false)
+        self.ended.is_none() && self.seats.is_open(conn)
     }
 
-    /// How many frames of clients were dropped; it stops at the greatest number of 64 bits.
+    /// Whether a request of a connection would wait: it is alive, and another request of it is open.
+    pub fn busy(&self, conn: u32) -> bool
+        ensures { (T : List Entry) → Stands self.now T → result ≡ is_busy conn T }
+    {
+        self.ended.is_none() && self.readiness(conn).is_busy()
+    }
+
+    /// The first connection from this number on that is alive, or that was alive when the connection
+    /// to the server ended. So a caller can go over those that its end closed.
+    pub fn next_alive(&self, from: u32) -> Option<u32>
+        ensures { (T : List Entry) → Stands self.now T → IsFirstAlive from (standing T) result }
+    {
+        self.seats.first_open(from)
+    }
+
+    /// Why the connection to the server ended, where it did.
+    pub fn ended(&self) -> Option<UpCause>
+        ensures { (T : List Entry) → Stands self.now T → result ≡ fault_in T }
+    {
+        self.ended
+    }
+
+    /// How many frames were dropped; it stops at the greatest number of 64 bits.
     pub fn dropped(&self) -> u64
         ensures { (T : List Entry) → Stands self.now T → result ≡ dropped_frames T }
     {
@@ -125,71 +126,5 @@ impl Mux {
         ensures { result.now ≡ bases_of self.now }
     {
         &self.bases
-    }
-
-    /// What happens to every connection at an event.
-    fn act(&mut self, event: Event, plan: Plan) -> Outcome
-        requires { Planned self.old event plan }
-        ensures { Commits self.old self.new (happening_of event) result }
-    {
-        match event {
-            Event::Client(conn, item) => self.take(conn, item, plan.answer),
-            Event::End(conn) => self.close(conn, CloseWhy::Ended),
-        }
-    }
-
-    /// Takes an item of a client.
-    fn take(&mut self, conn: u32, item: Item, answer: Option<Text>) -> Outcome
-        requires { answer ≡ item_answer (unwrap_or (alive_at self.old.seats conn) false) item.kind (shape_of item) }
-        ensures { Commits self.old self.new (takes conn (shape_of item)) result }
-    {
-        match item.kind {
-            ItemKind::Request => Outcome {
-                to_client: piece(conn, answer),
-                closed: Closed::Nobody,
-            },
-            ItemKind::Response => nothing(),
-            ItemKind::Frame => self.drop_frame(),
-            ItemKind::Bad(_) => self.close(conn, CloseWhy::BadItem),
-        }
-    }
-
-    /// Counts a frame that is dropped.
-    fn drop_frame(&mut self) -> Outcome
-        ensures { Drops self.old self.new result }
-    {
-        self.dropped = self.dropped.saturating_add(1);
-        nothing()
-    }
-
-    /// Closes a connection, where it is alive.
-    fn close(&mut self, conn: u32, why: CloseWhy) -> Outcome
-        ensures { Closes self.old self.new conn why result }
-    {
-        if !self.alive(conn) {
-            return nothing();
-        }
-        self.seats.close(conn);
-        Outcome {
-            to_client: None,
-            closed: Closed::One(conn, why),
-        }
-    }
-}
-
-/// An answer as a piece of bytes for a client.
-fn piece(conn: u32, answer: Option<Text>) -> Option<ToClient>
-    ensures { result ≡ option_map (λ bytes. record { conn = conn; bytes = bytes }) answer }
-{
-    answer.map(|bytes| ToClient { conn, bytes })
-}
-
-/// The outcome that hands out nothing.
-fn nothing() -> Outcome
-    ensures { result ≡ record { to_client = None; closed = Nobody } }
-{
-    Outcome {
-        to_client: None,
-        closed: Closed::Nobody,
     }
 }

@@ -10,6 +10,7 @@ use Rattle.rtsp_head.specs.Messages.{message_headers, Message, is_added}
 use Rattle.rtsp_head.specs.Written.{is_line_text, is_value, is_start, is_header, CanBeWritten}
 use Rattle.rtsp_head.proofs.MessageLemmas.{message_read, message_sound, fields_read}
 use Rattle.head_two.specs.Messages.{version_two, cseq_of}
+use Rattle.head_two.specs.Requests.{request_at, request_in}
 use Rattle.head_two.specs.Answers.{session_header, session_headers, answer_text, answer_at, answer_in}
 use Rattle.head_two.proofs.ReadLemmas.{number_read}
 
@@ -68,3 +69,14 @@ answer_read code cseq session known short value =
     ap (option_and_then (λ (message : Message). answer_at message.head.start message.head.headers)) (message_read first (Some cseq) fields [] can)
     ∙ ap (λ fs. option_map (λ n. record { code = code; cseq = n; fields = fs }) (cseq_of headers)) (fields_read (Some cseq) fields [] (sessions_own (code == 200) session))
     ∙ ap (option_map (λ n. record { code = code; cseq = n; fields = fields })) (number_read cseq fields [] short)
+
+-- An answer is no request.
+pub answer_no_request : (code cseq : ℕ) (session : Option (List ℕ)) → has_reason code ≡ true → cseq < 10 ^ 9 → IfSome session (λ id. is_value id ≡ true) →
+    request_in (answer_text code cseq session) ≡ None
+answer_no_request code cseq session known short value =
+    let first = Status version_two code (unwrap_or (reason_of code) []) in
+    let fields = session_headers code session in
+    let few : length fields ≤ 1 = sessions_few (code == 200) session in
+    let can : CanBeWritten first (message_headers (Some cseq) fields []) =
+    message_sound first (Some cseq) fields [] (reason_told code known) (omega arith) (omega arith) (omega arith) (sessions_sound (code == 200) session value) in
+    ap (option_and_then (λ (message : Message). request_at message.head.start message.head.headers message.body)) (message_read first (Some cseq) fields [] can)

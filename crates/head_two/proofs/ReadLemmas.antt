@@ -1,19 +1,33 @@
 -- What was written is read back.
-use Rattle.std.proofs.Common.{◌≡◌, ℕ, ◌<◌, ◌≤◌, ◌^◌, true, List, length, Some, ◌∙◌, ap, arith}
-use Rattle.std.specs.Prelude.{decimal}
+use Rattle.std.proofs.Common.{◌≡◌, ℕ, ◌<◌, ◌≤◌, ◌^◌, Bool, true, false, cond, List, length, take, Option, None, Some, IfSome, Result, Ok, Err, refl, subst, ◌∙◌, ap, arith}
+use Rattle.std.specs.Prelude.{codes, decimal}
 use Rattle.std.specs.Option.{option_and_then, option_map}
 use Rattle.std.specs.List.{list_all}
 use Rattle.std.specs.Char.{is_ascii_digit}
 use Rattle.std.specs.Str.Parse.{digits_value}
 use Rattle.std.proofs.lemmas.Fmt.{digits_decimal, digits_value-decimal, length-decimal-le, decimal_nonempty}
+use Rattle.std.specs.Option.{ok_or}
+use Rattle.std.specs.Str.{bytes_eq}
 use Rattle.gate_bytes.specs.Numbers.{number_in}
+use Rattle.gate_bytes.proofs.DigitLemmas.{number_small}
+use Rattle.rtsp_head.specs.Headers.{field_of}
+use Rattle.rtsp_head.specs.Heads.{head_of}
+use Rattle.rtsp_head.specs.Items.{Shape}
+use Rattle.rtsp_head.specs.Lines.{result_map}
+use Rattle.rtsp_head.specs.declared.head.Head.{Head}
+use Rattle.rtsp_head.specs.declared.fault.HeadFault.{HeadFault}
+use Rattle.head_two.specs.declared.ask.Ask2.{Ask2}
+use Rattle.head_two.specs.declared.fault.TwoFault.{TwoFault}
+use Rattle.head_two.specs.declared.fault.TwoFault.TheVariants.{Version, Cseq}
+use Rattle.head_two.specs.Replies.{ask_at, ask_of, ask_in}
 use Rattle.rtsp_head.specs.declared.header.Header.{Header}
-use Rattle.rtsp_head.specs.declared.start.Start.TheVariants.{Request}
+use Rattle.rtsp_head.specs.declared.start.Start.{Start}
+use Rattle.rtsp_head.specs.declared.start.Start.TheVariants.{Request, Status}
 use Rattle.rtsp_head.specs.Messages.{message_headers, Message}
 use Rattle.rtsp_head.proofs.DigitLemmas.{own}
 use Rattle.rtsp_head.proofs.MessageLemmas.{message_read, fields_read}
 use Rattle.head_two.specs.declared.request.Request2.{Request2}
-use Rattle.head_two.specs.Messages.{version_two, cseq_of}
+use Rattle.head_two.specs.Messages.{version_two, cseq_of, numbered}
 use Rattle.head_two.specs.Requests.{request_text, request_at, request_in, IsRequest}
 
 -- A number of nine digits is written and read.
@@ -37,3 +51,34 @@ request_read number request is =
     ap (option_and_then (λ (message : Message). request_at message.head.start message.head.headers message.body)) (message_read first (Some number) request.headers request.body is.writable)
     ∙ ap (λ fields. option_map (λ n. record { number = n; request = record { method = request.method; uri = request.uri; headers = fields; body = request.body } }) (cseq_of headers)) (fields_read (Some number) request.headers request.body is.own)
     ∙ ap (option_map (λ n. record { number = n; request = request })) (number_read number request.headers request.body is.short)
+
+-- A number that was read has nine digits at most.
+cseq_small : (value : Option (List ℕ)) → IfSome (option_and_then (number_in 9) value) (λ n. n < 10 ^ 9)
+cseq_small None = tt
+cseq_small (Some text) = number_small 9 text
+
+numbered_small : (right : Bool) (found : Option ℕ) (number : ℕ) → IfSome found (λ n. n < 10 ^ 9) → cond right (ok_or found Cseq) (Err Version) ≡ Ok number → number < 10 ^ 9
+numbered_small true (Some n) number small e = let same : n ≡ number = cc in subst (λ (m : ℕ). m < 10 ^ 9) same small
+numbered_small true None number small e = cc
+numbered_small false found number small e = cc
+
+mapped_small : (found : Result ℕ TwoFault) (method : List ℕ) (head : Head) (ask : Ask2) → ((n : ℕ) → found ≡ Ok n → n < 10 ^ 9) →
+    result_map (λ cseq. record { method = method; cseq = cseq; head = head }) found ≡ Ok ask → ask.cseq < 10 ^ 9
+mapped_small (Ok n) method head ask small e =
+    let made : Ask2 = record { method = method; cseq = n; head = head } in
+    let same : made ≡ ask = cc in
+    subst (λ (a : Ask2). a.cseq < 10 ^ 9) same (small n refl)
+mapped_small (Err fault) method head ask small e = cc
+
+at_small : (start : Start) (head : Head) (ask : Ask2) → ask_at start head ≡ Ok ask → ask.cseq < 10 ^ 9
+at_small (Request method uri version) head ask e =
+    mapped_small (numbered version head.headers) method head ask (λ n h. numbered_small (bytes_eq version version_two) (cseq_of head.headers) n (cseq_small (field_of head.headers (codes "CSeq"))) h) e
+at_small (Status version code reason) head ask e = cc
+
+of_small : (found : Result Head HeadFault) (ask : Ask2) → ask_of found ≡ Ok ask → ask.cseq < 10 ^ 9
+of_small (Ok head) ask e = at_small head.start head ask e
+of_small (Err fault) ask e = cc
+
+-- A request of the server has a number of nine digits at most.
+pub ask_small : (shape : Shape) (ask : Ask2) → ask_in shape ≡ Ok ask → ask.cseq < 10 ^ 9
+ask_small shape ask e = of_small (head_of (take shape.head shape.bytes)) ask e

@@ -4,6 +4,10 @@ pub mod ReadingLemmas
 pub mod RecordLemmas
 pub mod FedLemmas
 pub mod LessLemmas
+pub mod EndLemmas
+pub mod StandingLemmas
+pub mod OutcomeLemmas
+pub mod TellLemmas
 pub mod RunLemmas
 pub mod ProperLemmas
 pub mod ReplayLemmas

@@ -1,19 +1,22 @@
 -- The entries of a reading come as they may: a connection enters once, and all else comes after that.
 use Rattle.std.proofs.Common.{◌≡◌, ℕ, zero, suc, ◌+◌, Bool, true, false, cond, ◌==◌, ◌&&◌, ◌||◌, List, [], ◌∷◌, ◌++◌, length, drop, Option, None, Some, Result, Ok, Err, refl, sym, ◌∙◌, ap, subst, nat_eq, nat_lt, map}
+use Rattle.std.specs.Prelude.{is_none}
 use Rattle.std.specs.List.{starts_with}
 use Rattle.rtsp_head.specs.Items.{Shape}
-use Rattle.gate_history.specs.History.{Happening, takes, History, enters_here, happened, entered as has_entered}
+use Rattle.gate_history.specs.History.{Happening, History, fault_in, enters_here, happened, entered as has_entered}
 use Rattle.rtspgate.specs.declared.transcript.Entry.{Entry}
 use Rattle.rtspgate.specs.declared.transcript.EntryKind.{EntryKind}
-use Rattle.rtspgate.specs.declared.transcript.EntryKind.TheVariants.{Enter, Client, End}
+use Rattle.rtspgate.specs.declared.transcript.EntryKind.TheVariants.{Enter, Client, Upstream, End}
 use Rattle.rtspgate.specs.declared.transcript.BadEntryKind.{BadEntryKind}
 use Rattle.rtspgate.specs.declared.transcript.head.Head.{Head}
 use Rattle.rtspgate.specs.declared.transcript.reader.Stage.{Stage}
 use Rattle.rtspgate.specs.declared.transcript.reader.Stage.TheVariants.{Front, Entries, Stopped}
 use Rattle.rtspgate.specs.declared.transcript.reader.EntryReader.{EntryReader}
+use Rattle.rtspgate.specs.declared.streams.Speaker.{Speaker}
+use Rattle.rtspgate.specs.declared.streams.Speaker.TheVariants as speaker
 use Rattle.rtspgate.specs.Transcript.{magic, is_enter, entered, may_come, most_body, judged, bad_entry, head_of, first_head, entry_of, Reading, reading_with, reading_by, reading_on, reading}
 use Rattle.rtspgate.specs.Reads.{ReadsBy, ReadsSo}
-use Rattle.rtspgate.specs.Events.{new_items, stream_of, told_by, events_of}
+use Rattle.rtspgate.specs.Events.{new_items, stream_of, said_by, told_by, events_of}
 use Rattle.rtspgate.proofs.HeadLemmas.{first_parts}
 
 abbrev pub AreProper : List Entry → Type 0
@@ -87,22 +90,33 @@ any-append : (i : ℕ) (one other : List Happening) → any_enters i (one ++ oth
 any-append i [] other = refl
 any-append i (h ∷ hs) other = ap (λ b. enters_here i h || b) (any-append i hs other) ∙ sym (or_assoc (enters_here i h) (any_enters i hs) (any_enters i other))
 
-either : (a b : Bool) → (a || (b || false)) ≡ (b || a)
-either true true = refl
-either true false = refl
-either false true = refl
-either false false = refl
+or_front : (a b : Bool) → (a || b) ≡ false → a ≡ false
+or_front true b e = cc
+or_front false b e = refl
 
-entered_happened : (i : ℕ) (T : History) → has_entered i T ≡ any_enters i (happened T)
-entered_happened i [] = refl
-entered_happened i (e ∷ T) =
-    ap (λ b. enters_here i e.happening || b) (entered_happened i T)
-    ∙ sym (either (any_enters i (happened T)) (enters_here i e.happening))
-    ∙ sym (any-append i (happened T) (e.happening ∷ []))
+or_end : (a b : Bool) → (a || b) ≡ false → b ≡ false
+or_end true b e = cc
+or_end false b e = e
 
-none_enters : (i conn : ℕ) (shapes : List Shape) → any_enters i (map (takes conn) shapes) ≡ false
-none_enters i conn [] = refl
-none_enters i conn (s ∷ shapes) = none_enters i conn shapes
+neither : (here open_still entered : Bool) → here ≡ false → entered ≡ false → ((here && open_still) || entered) ≡ false
+neither true open_still entered e f = cc
+neither false open_still entered e f = f
+
+never_entered : (i : ℕ) (T : History) → any_enters i (happened T) ≡ false → has_entered i T ≡ false
+never_entered i [] none = refl
+never_entered i (e ∷ T) none =
+    let parts = sym (any-append i (happened T) (e.happening ∷ [])) ∙ none in
+    neither (enters_here i e.happening) (is_none (fault_in T)) (has_entered i T)
+    (or_front (enters_here i e.happening) false (or_end (any_enters i (happened T)) (enters_here i e.happening || false) parts))
+    (never_entered i T (or_front (any_enters i (happened T)) (enters_here i e.happening || false) parts))
+
+item_enters : (i : ℕ) (who : Speaker) (shape : Shape) → enters_here i (said_by who shape) ≡ false
+item_enters i (speaker.Client conn) shape = refl
+item_enters i speaker.Server shape = refl
+
+none_enters : (i : ℕ) (who : Speaker) (shapes : List Shape) → any_enters i (map (said_by who) shapes) ≡ false
+none_enters i who [] = refl
+none_enters i who (s ∷ shapes) = ap (λ b. b || any_enters i (map (said_by who) shapes)) (item_enters i who s) ∙ none_enters i who shapes
 
 told_enters : (i : ℕ) (kind : EntryKind) (entry : Entry) (earlier : List Entry) → any_enters i (told_by kind entry earlier) ≡ (is_enter kind && entry.conn == i)
 told_enters i Enter entry earlier = at (entry.conn == i)
@@ -110,7 +124,8 @@ told_enters i Enter entry earlier = at (entry.conn == i)
     at : (b : Bool) → (b || false) ≡ b
     at true = refl
     at false = refl
-told_enters i Client entry earlier = none_enters i entry.conn (new_items (stream_of entry.conn earlier) entry.body)
+told_enters i Client entry earlier = none_enters i (speaker.Client entry.conn) (new_items (stream_of (speaker.Client entry.conn) earlier) entry.body)
+told_enters i Upstream entry earlier = none_enters i speaker.Server (new_items (stream_of speaker.Server earlier) entry.body)
 told_enters i End entry earlier = refl
 
 swap_or : (a b : Bool) → (a || b) ≡ (b || a)
@@ -127,6 +142,6 @@ entered_events i (e ∷ entries) =
     ∙ ap (λ b. entered i entries || b) (told_enters i e.kind e entries)
     ∙ swap_or (entered i entries) (is_enter e.kind && e.conn == i)
 
--- a history of a transcript's entries has the connections that entered by them
-pub entered_same : (i : ℕ) (T : History) (entries : List Entry) → happened T ≡ events_of entries → has_entered i T ≡ entered i entries
-entered_same i T entries same = entered_happened i T ∙ ap (any_enters i) same ∙ entered_events i entries
+-- a connection that never entered by an entry never entered in their history
+pub entered_never : (i : ℕ) (T : History) (entries : List Entry) → happened T ≡ events_of entries → entered i entries ≡ false → has_entered i T ≡ false
+entered_never i T entries same none = never_entered i T (ap (any_enters i) same ∙ entered_events i entries ∙ none)

@@ -4,10 +4,9 @@ use Rattle.std.proofs.lemmas.List.{append_assoc, append-nil}
 use Rattle.gate_history.specs.History.{Happening, History, happened}
 use Rattle.gateway_mux.specs.declared.mux.Mux.{Mux}
 use Rattle.gateway_mux.specs.Stands.{Stands}
-use Rattle.gateway_mux.proofs.StandLemmas.{not_entered_fresh}
 use Rattle.rtspgate.specs.declared.transcript.Entry.{Entry}
 use Rattle.rtspgate.specs.declared.transcript.EntryKind.{EntryKind}
-use Rattle.rtspgate.specs.declared.transcript.EntryKind.TheVariants.{Enter, Client, End}
+use Rattle.rtspgate.specs.declared.transcript.EntryKind.TheVariants.{Enter, Client, Upstream, End}
 use Rattle.rtspgate.specs.declared.transcript.EntryFault.{EntryFault}
 use Rattle.rtspgate.specs.declared.transcript.EntryFault.TheVariants as entry_fault
 use Rattle.rtspgate.specs.declared.transcript.BadEntry.{BadEntry}
@@ -22,19 +21,20 @@ use Rattle.rtspgate.specs.Runs.{TakesEntry, ToldInPart, EntersFresh}
 use Rattle.rtspgate.specs.Stops.{stop_at, stop_of}
 use Rattle.rtspgate.specs.Replays.{SoFar, TellsFront, Interrupted, TreatedWhole, TreatedToFault, Treated}
 use Rattle.rtspgate.proofs.ReaderLemmas.{given_front}
-use Rattle.rtspgate.proofs.ProperLemmas.{reads_proper, entered_same}
-use Rattle.rtspgate.proofs.RunLemmas.{happened-append, writes_twice}
+use Rattle.rtspgate.proofs.ProperLemmas.{reads_proper, entered_never}
+use Rattle.rtspgate.proofs.RunLemmas.{happened-append, grows_on, grows_on_in_part}
+use Rattle.rtspgate.proofs.StandingLemmas.{not_entered_fresh}
 
 fresh_by : (kind : EntryKind) (mux : Mux) (history : History) (entries : List Entry) (conn : ℕ) → Stands mux history → happened history ≡ events_of entries
     → may_come (λ c. entered c entries) kind conn ≡ true → EntersFresh kind mux conn
-fresh_by Enter mux history entries conn stands told may = record {
-  absent = not_entered_fresh mux history stands conn (entered_same conn history entries told ∙ not_true (entered conn entries) may);
-}
+fresh_by Enter mux history entries conn stands told may =
+    not_entered_fresh mux history stands conn (entered_never conn history entries told (not_true (entered conn entries) may))
   where
     not_true : (b : Bool) → not b ≡ true → b ≡ false
     not_true true e = cc
     not_true false e = refl
 fresh_by Client mux history entries conn stands told may = tt
+fresh_by Upstream mux history entries conn stands told may = tt
 fresh_by End mux history entries conn stands told may = tt
 
 -- a connection that enters by the next entry is new
@@ -58,7 +58,7 @@ so_far_more reader next streams streams_now mux mux_now bytes before mid now e s
       happened-append t.more s.history
       ∙ ap (λ (l : List Happening). l ++ happened t.more) s.told
       ∙ ap (λ (l : List Happening). events_of s.entries ++ l) (t.told s.entries s.fit).1;
-  grown = writes_twice before mid now s.history t.more (Ok tt) s.grown t.written;
+  grown = grows_on before mid now s.history t.more s.grown (t.written s.history s.stands);
 }
 
 -- no entry more
@@ -126,11 +126,11 @@ so_far_stopped reader next streams streams_now mux mux_now bytes before mid now 
   history = t.more ++ s.history;
   is_history = (t.advances s.history s.stands).is_history;
   tells = tells_part next bytes s.entries e s.history t.more (says bytes s.entries s.reads) s.told (t.told s.entries s.fit);
-  grown = writes_twice before mid now s.history t.more (Err Sink) s.grown t.written;
+  grown = grows_on_in_part before mid now s.history t.more s.grown (t.written s.history s.stands);
 }
 so_far_stopped reader next streams streams_now mux mux_now bytes before mid now e Memory s says t = record {
   history = t.more ++ s.history;
   is_history = (t.advances s.history s.stands).is_history;
   tells = tells_part next bytes s.entries e s.history t.more (says bytes s.entries s.reads) s.told (t.told s.entries s.fit);
-  grown = writes_twice before mid now s.history t.more (Err Memory) s.grown t.written;
+  grown = grows_on before mid now s.history t.more s.grown (t.written s.history s.stands);
 }

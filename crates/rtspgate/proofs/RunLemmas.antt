@@ -1,5 +1,5 @@
 -- Events, one after another: what the history gains and what is written.
-use Rattle.std.proofs.Common.{◌≡◌, ◌≢◌, ℕ, Bool, false, cond, ◌==◌, ◌&&◌, List, [], ◌∷◌, ◌++◌, map, Option, Some, None, Result, Ok, Err, refl, sym, ◌∙◌, ap, subst}
+use Rattle.std.proofs.Common.{◌≡◌, ◌≢◌, ℕ, false, List, [], ◌∷◌, ◌++◌, map, Option, Some, None, Result, Ok, Err, refl, sym, ◌∙◌, ap, subst}
 use Rattle.std.proofs.lemmas.List.{append_assoc, append-nil, map-append}
 use Rattle.gate_outside.specs.Contents.{Grows, GrowsByFront}
 use Rattle.gate_outside.proofs.Fronts.{grows_twice}
@@ -7,21 +7,24 @@ use Rattle.rtsp_head.specs.Items.{Shape, items_of}
 use Rattle.rtsp_frame.specs.Framing.{Held}
 use Rattle.gate_history.specs.declared.event.Event.{Event}
 use Rattle.gate_history.specs.declared.event.Outcome.{Outcome}
-use Rattle.gate_history.specs.History.{Happening, History, takes, ends, happened, happening_of, entry_of, entering}
+use Rattle.gate_history.specs.History.{Happening, History, ends, happened, happening_of, entry_of, entering}
 use Rattle.gateway_mux.specs.declared.mux.Mux.{Mux}
 use Rattle.gateway_mux.specs.Stands.{Stands}
 use Rattle.rtspgate.specs.declared.transcript.Entry.{Entry}
 use Rattle.rtspgate.specs.declared.transcript.EntryKind.{EntryKind}
-use Rattle.rtspgate.specs.declared.transcript.EntryKind.TheVariants.{Enter, End}
+use Rattle.rtspgate.specs.declared.transcript.EntryKind.TheVariants.{Enter, Client, Upstream, End}
 use Rattle.rtspgate.specs.declared.streams.Streams.{Streams}
+use Rattle.rtspgate.specs.declared.streams.Speaker.{Speaker}
+use Rattle.rtspgate.specs.declared.streams.Speaker.TheVariants as speaker
 use Rattle.rtspgate.specs.declared.run.TreatFault.{TreatFault}
 use Rattle.rtspgate.specs.declared.run.TreatFault.TheVariants.{Sink, Memory}
-use Rattle.rtspgate.specs.Events.{is_client, bytes_here, stream_of, told_by}
+use Rattle.rtspgate.specs.Events.{speaks, stream_of, said_by, told_by}
 use Rattle.rtspgate.specs.Fed.{Fed}
 use Rattle.rtspgate.specs.Streams.{framer_at}
-use Rattle.rtspgate.specs.Written.{records, records_of}
-use Rattle.rtspgate.specs.Runs.{Advances, WritesHistory, EventTaken, TakesEvent, TakesItems, TakesSome, IsFront, StreamsFit, ToldBy, TakesEntry}
+use Rattle.rtspgate.specs.Written.{records, records_after, records_of}
+use Rattle.rtspgate.specs.Runs.{Advances, WritesAfter, EventTaken, TakesEvent, TakesItems, TakesSome, TakesBytes, IsFront, StreamsFit, ToldBy, TakesEntry}
 use Rattle.rtspgate.proofs.RecordLemmas.{then_writes}
+use Rattle.rtspgate.proofs.TellLemmas.{silent, told_items, told_nothing, told_client, told_server}
 
 pub grows_nothing : (written : Option (List ℕ)) → Grows written written []
 grows_nothing None = refl
@@ -33,52 +36,75 @@ happened-append [] other = sym (append-nil (happened other))
 happened-append (e ∷ one) other =
     ap (λ (l : List Happening). l ++ (e.happening ∷ [])) (happened-append one other) ∙ append_assoc (happened other) (happened one) (e.happening ∷ [])
 
-pub records-append : (one other : History) → records (one ++ other) ≡ records other ++ records one
+pub records-append : (one other : History) → records (one ++ other) ≡ records other ++ records_after other one
 records-append [] other = sym (append-nil (records other))
 records-append (e ∷ one) other =
-    ap (λ (l : List ℕ). l ++ records_of e.outcome) (records-append one other) ∙ append_assoc (records other) (records one) (records_of e.outcome)
+    ap (λ (l : List ℕ). l ++ records_of e.outcome (one ++ other)) (records-append one other)
+    ∙ append_assoc (records other) (records_after other one) (records_of e.outcome (one ++ other))
+
+records_after-append : (T one other : History) → records_after T (other ++ one) ≡ records_after T one ++ records_after (one ++ T) other
+records_after-append T one [] = sym (append-nil (records_after T one))
+records_after-append T one (e ∷ other) =
+    ap (λ (l : List ℕ). l ++ records_of e.outcome ((other ++ one) ++ T)) (records_after-append T one other)
+    ∙ append_assoc (records_after T one) (records_after (one ++ T) other) (records_of e.outcome ((other ++ one) ++ T))
+    ∙ ap (λ (h : History). records_after T one ++ (records_after (one ++ T) other ++ records_of e.outcome h)) (append_assoc other one T)
 
 pub advances_twice : (before between now : Mux) (one other : History) → Advances before between one → Advances between now other → Advances before now (other ++ one)
 advances_twice before between now one other first next =
     λ T s. subst (λ (l : History). Stands now l) (sym (append_assoc other one T)) (next (one ++ T) (first T s))
 
-pub writes_twice : (before between now : Option (List ℕ)) (one other : History) (r : Result (Unit {0}) TreatFault)
-    → Grows before between (records one) → WritesHistory between now other r → WritesHistory before now (other ++ one) r
-writes_twice before between now one other (Ok u) first next =
-    subst (λ (l : List ℕ). Grows before now l) (sym (records-append other one)) (grows_twice before between now (records one) (records other) first next)
-writes_twice before between now one other (Err Sink) first next =
-    subst (λ (l : List ℕ). GrowsByFront before now l) (sym (records-append other one))
-    (then_writes {T = Unit {0}} {E = Unit {0}} before between now (records one) (records other) (Err tt) first next)
-writes_twice before between now one other (Err Memory) first next =
-    subst (λ (l : List ℕ). Grows before now l) (sym (records-append other one)) (grows_twice before between now (records one) (records other) first next)
+writes_twice : (T : History) (before between now : Option (List ℕ)) (one other : History) (r : Result (Unit {0}) TreatFault)
+    → Grows before between (records_after T one) → WritesAfter between now (one ++ T) other r → WritesAfter before now T (other ++ one) r
+writes_twice T before between now one other (Ok u) first next =
+    subst (λ (l : List ℕ). Grows before now l) (sym (records_after-append T one other))
+    (grows_twice before between now (records_after T one) (records_after (one ++ T) other) first next)
+writes_twice T before between now one other (Err Sink) first next =
+    subst (λ (l : List ℕ). GrowsByFront before now l) (sym (records_after-append T one other))
+    (then_writes {T = Unit {0}} {E = Unit {0}} before between now (records_after T one) (records_after (one ++ T) other) (Err tt) first next)
+writes_twice T before between now one other (Err Memory) first next =
+    subst (λ (l : List ℕ). Grows before now l) (sym (records_after-append T one other))
+    (grows_twice before between now (records_after T one) (records_after (one ++ T) other) first next)
+
+-- what a multiplexer that stands for a history wrote after it is what all of the longer history writes
+pub grows_on : (before between now : Option (List ℕ)) (T more : History) → Grows before between (records T) → Grows between now (records_after T more)
+    → Grows before now (records (more ++ T))
+grows_on before between now T more first next =
+    subst (λ (l : List ℕ). Grows before now l) (sym (records-append more T)) (grows_twice before between now (records T) (records_after T more) first next)
+
+pub grows_on_in_part : (before between now : Option (List ℕ)) (T more : History) → Grows before between (records T) → GrowsByFront between now (records_after T more)
+    → GrowsByFront before now (records (more ++ T))
+grows_on_in_part before between now T more first next =
+    subst (λ (l : List ℕ). GrowsByFront before now l) (sym (records-append more T))
+    (then_writes {T = Unit {0}} {E = Unit {0}} before between now (records T) (records_after T more) (Err tt) first next)
 
 -- one event
-pub untaken : (before now : Mux) (happening : Happening) (written : Option (List ℕ)) → now ≡ before → TakesEvent before now happening written written (Err Memory)
-untaken before now happening written same = record {
+pub untaken : (before now : Mux) (happening : Happening) (written : Option (List ℕ)) → ((T : History) → Stands before T → Stands now T)
+    → TakesEvent before now happening written written (Err Memory)
+untaken before now happening written kept = record {
   more = [];
   told = refl;
-  advances = λ T s. subst (λ (m : Mux). Stands m T) (sym same) s;
-  written = grows_nothing written;
+  advances = kept;
+  written = λ T s. grows_nothing written;
 }
 
 pub taken : (before now : Mux) (event : Event) (outcome : Outcome) (written_before written_now : Option (List ℕ))
-    → ((T : History) → Stands before T → Stands now (entry_of event outcome ∷ T)) → Grows written_before written_now (records_of outcome)
+    → ((T : History) → Stands before T → Stands now (entry_of event outcome ∷ T)) → ((happening : Happening) (T : History) → Stands now (record { happening = happening; outcome = outcome } ∷ T) → Grows written_before written_now (records_of outcome T))
     → TakesEvent before now (happening_of event) written_before written_now (Ok tt)
 taken before now event outcome written_before written_now steps grown = record {
   more = entry_of event outcome ∷ [];
   told = refl;
   advances = steps;
-  written = grown;
+  written = λ T s. grown (happening_of event) T (steps T s);
 }
 
 pub taken_in_part : (before now : Mux) (event : Event) (outcome : Outcome) (written_before written_now : Option (List ℕ))
-    → ((T : History) → Stands before T → Stands now (entry_of event outcome ∷ T)) → GrowsByFront written_before written_now (records_of outcome)
+    → ((T : History) → Stands before T → Stands now (entry_of event outcome ∷ T)) → ((happening : Happening) (T : History) → Stands now (record { happening = happening; outcome = outcome } ∷ T) → GrowsByFront written_before written_now (records_of outcome T))
     → TakesEvent before now (happening_of event) written_before written_now (Err Sink)
 taken_in_part before now event outcome written_before written_now steps grown = record {
   more = entry_of event outcome ∷ [];
   told = refl;
   advances = steps;
-  written = grown;
+  written = λ T s. grown (happening_of event) T (steps T s);
 }
 
 -- the items of one connection
@@ -89,50 +115,51 @@ fed_front None stream given fed = record {
 }
 fed_front (Some held) stream given fed = record { more = held.waiting; whole = fed.items }
 
-pub takes_none : (streams : Streams) (mux : Mux) (conn : ℕ) (written : Option (List ℕ)) → TakesSome streams streams mux mux conn written written
-takes_none streams mux conn written = record {
+pub takes_none : (streams : Streams) (mux : Mux) (who : Speaker) (written : Option (List ℕ)) → TakesSome streams streams mux mux who written written
+takes_none streams mux who written = record {
   more = [];
   shapes = [];
   told = refl;
   advances = λ T s. s;
-  grown = grows_nothing written;
-  fed = λ stream given fed. subst (λ (l : List Shape). Fed (framer_at streams conn) stream l) (sym (append-nil given)) fed;
-  others = λ i other. refl;
+  grown = λ T s. grows_nothing written;
+  fed = λ stream given fed. subst (λ (l : List Shape). Fed (framer_at streams who) stream l) (sym (append-nil given)) fed;
+  others = λ other apart. refl;
 }
 
 -- what `next` says of a framer that gave an item
-abbrev pub GivesItem : Streams → Streams → ℕ → Shape → Type 0
-GivesItem before now conn shape = (stream : List ℕ) (given : List Shape) → Fed (framer_at before conn) stream given → Fed (framer_at now conn) stream (given ++ shape ∷ [])
+abbrev pub GivesItem : Streams → Streams → Speaker → Shape → Type 0
+GivesItem before now who shape = (stream : List ℕ) (given : List Shape) → Fed (framer_at before who) stream given → Fed (framer_at now who) stream (given ++ shape ∷ [])
 
-pub takes_one_more : (streams between streams_now : Streams) (mux mid now : Mux) (conn : ℕ) (shape : Shape) (written written_mid written_now : Option (List ℕ))
-    → TakesSome streams between mux mid conn written written_mid → GivesItem between streams_now conn shape
-    → ((i : ℕ) → i ≢ conn → framer_at streams_now i ≡ framer_at between i)
-    → TakesEvent mid now (takes conn shape) written_mid written_now (Ok tt)
-    → TakesSome streams streams_now mux now conn written written_now
-takes_one_more streams between streams_now mux mid now conn shape written written_mid written_now so_far gives others event = record {
+pub takes_one_more : (streams between streams_now : Streams) (mux mid now : Mux) (who : Speaker) (shape : Shape) (written written_mid written_now : Option (List ℕ))
+    → TakesSome streams between mux mid who written written_mid → GivesItem between streams_now who shape
+    → ((other : Speaker) → other ≢ who → framer_at streams_now other ≡ framer_at between other)
+    → TakesEvent mid now (said_by who shape) written_mid written_now (Ok tt)
+    → TakesSome streams streams_now mux now who written written_now
+takes_one_more streams between streams_now mux mid now who shape written written_mid written_now so_far gives others event = record {
   more = event.more ++ so_far.more;
   shapes = so_far.shapes ++ shape ∷ [];
   told =
       happened-append event.more so_far.more
       ∙ ap (λ (l : List Happening). l ++ happened event.more) so_far.told
-      ∙ ap (λ (l : List Happening). map (takes conn) so_far.shapes ++ l) event.told
-      ∙ sym (map-append (takes conn) so_far.shapes (shape ∷ []));
+      ∙ ap (λ (l : List Happening). map (said_by who) so_far.shapes ++ l) event.told
+      ∙ sym (map-append (said_by who) so_far.shapes (shape ∷ []));
   advances = advances_twice mux mid now so_far.more event.more so_far.advances event.advances;
-  grown = writes_twice written written_mid written_now so_far.more event.more (Ok tt) so_far.grown event.written;
+  grown = λ T s.
+      writes_twice T written written_mid written_now so_far.more event.more (Ok tt) (so_far.grown T s) (event.written (so_far.more ++ T) (so_far.advances T s));
   fed = λ stream given fed.
-      subst (λ (l : List Shape). Fed (framer_at streams_now conn) stream l) (append_assoc given so_far.shapes (shape ∷ []))
+      subst (λ (l : List Shape). Fed (framer_at streams_now who) stream l) (append_assoc given so_far.shapes (shape ∷ []))
       (gives stream (given ++ so_far.shapes) (so_far.fed stream given fed));
-  others = λ i other. others i other ∙ so_far.others i other;
+  others = λ other apart. others other apart ∙ so_far.others other apart;
 }
 
 -- what `next` says of a framer that gave none
-pub takes_all : (streams between streams_now : Streams) (mux now : Mux) (conn : ℕ) (written written_now : Option (List ℕ))
-    → TakesSome streams between mux now conn written written_now
-    → ((stream : List ℕ) (given : List Shape) → Fed (framer_at between conn) stream given → Fed (framer_at streams_now conn) stream given)
-    → ((stream : List ℕ) (given : List Shape) → Fed (framer_at between conn) stream given → given ≡ items_of stream)
-    → ((i : ℕ) → i ≢ conn → framer_at streams_now i ≡ framer_at between i)
-    → TakesItems streams streams_now mux now conn written written_now (Ok tt)
-takes_all streams between streams_now mux now conn written written_now so_far kept all others = record {
+pub takes_all : (streams between streams_now : Streams) (mux now : Mux) (who : Speaker) (written written_now : Option (List ℕ))
+    → TakesSome streams between mux now who written written_now
+    → ((stream : List ℕ) (given : List Shape) → Fed (framer_at between who) stream given → Fed (framer_at streams_now who) stream given)
+    → ((stream : List ℕ) (given : List Shape) → Fed (framer_at between who) stream given → given ≡ items_of stream)
+    → ((other : Speaker) → other ≢ who → framer_at streams_now other ≡ framer_at between other)
+    → TakesItems streams streams_now mux now who written written_now (Ok tt)
+takes_all streams between streams_now mux now who written written_now so_far kept all others = record {
   more = so_far.more;
   shapes = so_far.shapes;
   told = so_far.told;
@@ -140,52 +167,101 @@ takes_all streams between streams_now mux now conn written written_now so_far ke
   written = so_far.grown;
   fed = λ stream given fed.
       (kept stream (given ++ so_far.shapes) (so_far.fed stream given fed), all stream (given ++ so_far.shapes) (so_far.fed stream given fed));
-  others = λ i other. others i other ∙ so_far.others i other;
+  others = λ other apart. others other apart ∙ so_far.others other apart;
 }
 
 -- an event that failed ends the taking
-pub takes_to_fault : (streams between streams_now : Streams) (mux mid now : Mux) (conn : ℕ) (shape : Shape) (written written_mid written_now : Option (List ℕ)) (fault : TreatFault)
-    → TakesSome streams between mux mid conn written written_mid → GivesItem between streams_now conn shape
-    → ((i : ℕ) → i ≢ conn → framer_at streams_now i ≡ framer_at between i)
-    → TakesEvent mid now (takes conn shape) written_mid written_now (Err fault)
-    → TakesItems streams streams_now mux now conn written written_now (Err fault)
-takes_to_fault streams between streams_now mux mid now conn shape written written_mid written_now Sink so_far gives others event = record {
+pub takes_to_fault : (streams between streams_now : Streams) (mux mid now : Mux) (who : Speaker) (shape : Shape) (written written_mid written_now : Option (List ℕ)) (fault : TreatFault)
+    → TakesSome streams between mux mid who written written_mid → GivesItem between streams_now who shape
+    → ((other : Speaker) → other ≢ who → framer_at streams_now other ≡ framer_at between other)
+    → TakesEvent mid now (said_by who shape) written_mid written_now (Err fault)
+    → TakesItems streams streams_now mux now who written written_now (Err fault)
+takes_to_fault streams between streams_now mux mid now who shape written written_mid written_now Sink so_far gives others event = record {
   more = event.more ++ so_far.more;
   shapes = so_far.shapes ++ shape ∷ [];
   told =
       happened-append event.more so_far.more
       ∙ ap (λ (l : List Happening). l ++ happened event.more) so_far.told
-      ∙ ap (λ (l : List Happening). map (takes conn) so_far.shapes ++ l) event.told
-      ∙ sym (map-append (takes conn) so_far.shapes (shape ∷ []));
+      ∙ ap (λ (l : List Happening). map (said_by who) so_far.shapes ++ l) event.told
+      ∙ sym (map-append (said_by who) so_far.shapes (shape ∷ []));
   advances = advances_twice mux mid now so_far.more event.more so_far.advances event.advances;
-  written = writes_twice written written_mid written_now so_far.more event.more (Err Sink) so_far.grown event.written;
+  written = λ T s.
+      writes_twice T written written_mid written_now so_far.more event.more (Err Sink) (so_far.grown T s) (event.written (so_far.more ++ T) (so_far.advances T s));
   fed = λ stream given fed.
-      fed_front (framer_at streams_now conn) stream (given ++ (so_far.shapes ++ shape ∷ []))
-      (subst (λ (l : List Shape). Fed (framer_at streams_now conn) stream l) (append_assoc given so_far.shapes (shape ∷ []))
+      fed_front (framer_at streams_now who) stream (given ++ (so_far.shapes ++ shape ∷ []))
+      (subst (λ (l : List Shape). Fed (framer_at streams_now who) stream l) (append_assoc given so_far.shapes (shape ∷ []))
       (gives stream (given ++ so_far.shapes) (so_far.fed stream given fed)));
-  others = λ i other. others i other ∙ so_far.others i other;
+  others = λ other apart. others other apart ∙ so_far.others other apart;
 }
-takes_to_fault streams between streams_now mux mid now conn shape written written_mid written_now Memory so_far gives others event = record {
+takes_to_fault streams between streams_now mux mid now who shape written written_mid written_now Memory so_far gives others event = record {
   more = event.more ++ so_far.more;
   shapes = so_far.shapes;
   told =
       happened-append event.more so_far.more
       ∙ ap (λ (l : List Happening). l ++ happened event.more) so_far.told
-      ∙ ap (λ (l : List Happening). map (takes conn) so_far.shapes ++ l) event.told
-      ∙ append-nil (map (takes conn) so_far.shapes);
+      ∙ ap (λ (l : List Happening). map (said_by who) so_far.shapes ++ l) event.told
+      ∙ append-nil (map (said_by who) so_far.shapes);
   advances = advances_twice mux mid now so_far.more event.more so_far.advances event.advances;
-  written = writes_twice written written_mid written_now so_far.more event.more (Err Memory) so_far.grown event.written;
-  fed = λ stream given fed. fed_front (framer_at between conn) stream (given ++ so_far.shapes) (so_far.fed stream given fed);
-  others = λ i other. others i other ∙ so_far.others i other;
+  written = λ T s.
+      writes_twice T written written_mid written_now so_far.more event.more (Err Memory) (so_far.grown T s) (event.written (so_far.more ++ T) (so_far.advances T s));
+  fed = λ stream given fed. fed_front (framer_at between who) stream (given ++ so_far.shapes) (so_far.fed stream given fed);
+  others = λ other apart. others other apart ∙ so_far.others other apart;
+}
+
+-- the bytes of one speaker
+pub takes_bytes : (streams fed now : Streams) (mux mux_now : Mux) (who : Speaker) (piece : List ℕ) (written written_now : Option (List ℕ)) (result : Result (Unit {0}) TreatFault)
+    → ((stream : List ℕ) (given : List Shape) → Fed (framer_at streams who) stream given → Fed (framer_at fed who) (stream ++ piece) given)
+    → ((other : Speaker) → other ≢ who → framer_at fed other ≡ framer_at streams other)
+    → TakesItems fed now mux mux_now who written written_now result
+    → TakesBytes streams now mux mux_now who piece written written_now result
+takes_bytes streams fed now mux mux_now who piece written written_now result feeds others t = record {
+  more = t.more;
+  advances = t.advances;
+  written = t.written;
+  told = λ earlier fit. told_items result streams fed now who piece t.shapes (happened t.more) earlier feeds others t.fed t.others t.told fit;
+}
+
+pub takes_no_bytes : (streams now : Streams) (mux : Mux) (who : Speaker) (piece : List ℕ) (written : Option (List ℕ))
+    → TakesBytes streams now mux mux who piece written written (Err Memory)
+takes_no_bytes streams now mux who piece written = record {
+  more = [];
+  advances = λ T s. s;
+  written = λ T s. grows_nothing written;
+  told = λ earlier fit. told_nothing now who piece earlier Memory;
 }
 
 -- entries
-no_bytes : (streams : Streams) (entry : Entry) (earlier : List Entry) → is_client entry.kind ≡ false → StreamsFit streams earlier → StreamsFit streams (entry ∷ earlier)
-no_bytes streams entry earlier kind fit =
-    λ i.
-    let none : bytes_here i entry ≡ [] = ap (λ (b : Bool). let nothing : List ℕ = [] in cond (b && (entry.conn == i)) entry.body nothing) kind in
-    let same : stream_of i (entry ∷ earlier) ≡ stream_of i earlier = ap (λ (l : List ℕ). stream_of i earlier ++ l) none ∙ append-nil (stream_of i earlier) in
-    subst (λ (l : List ℕ). Fed (framer_at streams i) l (items_of l)) (sym same) (fit i)
+pub takes_client : (streams now : Streams) (mux mux_now : Mux) (entry : Entry) (written written_now : Option (List ℕ)) (result : Result (Unit {0}) TreatFault) → entry.kind ≡ Client
+    → TakesBytes streams now mux mux_now (speaker.Client entry.conn) entry.body written written_now result → TakesEntry streams now mux mux_now entry written written_now result
+takes_client streams now mux mux_now entry written written_now result kind t = record {
+  more = t.more;
+  advances = t.advances;
+  written = t.written;
+  told = λ earlier fit. told_client result now entry earlier (happened t.more) kind (t.told earlier fit);
+}
+
+pub takes_server : (streams now : Streams) (mux mux_now : Mux) (entry : Entry) (written written_now : Option (List ℕ)) (result : Result (Unit {0}) TreatFault) → entry.kind ≡ Upstream
+    → TakesBytes streams now mux mux_now speaker.Server entry.body written written_now result → TakesEntry streams now mux mux_now entry written written_now result
+takes_server streams now mux mux_now entry written written_now result kind t = record {
+  more = t.more;
+  advances = t.advances;
+  written = t.written;
+  told = λ earlier fit. told_server result now entry earlier (happened t.more) kind (t.told earlier fit);
+}
+
+no_bytes : (streams : Streams) (entry : Entry) (earlier : List Entry) → ((who : Speaker) → speaks who entry.kind entry.conn ≡ false) → StreamsFit streams earlier → StreamsFit streams (entry ∷ earlier)
+no_bytes streams entry earlier none fit =
+    λ who.
+    let same : stream_of who (entry ∷ earlier) ≡ stream_of who earlier = ap (λ (l : List ℕ). stream_of who earlier ++ l) (silent who entry (none who)) ∙ append-nil (stream_of who earlier) in
+    subst (λ (l : List ℕ). Fed (framer_at streams who) l (items_of l)) (sym same) (fit who)
+
+enter_silent : (who : Speaker) (conn : ℕ) → speaks who Enter conn ≡ false
+enter_silent (speaker.Client i) conn = refl
+enter_silent speaker.Server conn = refl
+
+end_silent : (who : Speaker) (conn : ℕ) → speaks who End conn ≡ false
+end_silent (speaker.Client i) conn = refl
+end_silent speaker.Server conn = refl
 
 pub takes_enter : (streams : Streams) (before now : Mux) (entry : Entry) (written : Option (List ℕ)) → entry.kind ≡ Enter
     → ((T : History) → Stands before T → Stands now (entering entry.conn ∷ T))
@@ -193,17 +269,27 @@ pub takes_enter : (streams : Streams) (before now : Mux) (entry : Entry) (writte
 takes_enter streams before now entry written kind steps = record {
   more = entering entry.conn ∷ [];
   advances = steps;
-  written = grows_nothing written;
+  written = λ T s. grows_nothing written;
   told = λ earlier fit. (
-    no_bytes streams entry earlier (ap is_client kind) fit,
+    no_bytes streams entry earlier (λ who. ap (λ (k : EntryKind). speaks who k entry.conn) kind ∙ enter_silent who entry.conn) fit,
     ap (λ (k : EntryKind). told_by k entry earlier) (sym kind),
   );
+}
+
+-- an entering that was not taken
+pub takes_no_enter : (streams : Streams) (before now : Mux) (entry : Entry) (written : Option (List ℕ)) → ((T : History) → Stands before T → Stands now T)
+    → TakesEntry streams streams before now entry written written (Err Memory)
+takes_no_enter streams before now entry written kept = record {
+  more = [];
+  advances = kept;
+  written = λ T s. grows_nothing written;
+  told = λ earlier fit. record { more = told_by entry.kind entry earlier; whole = refl };
 }
 
 told_end : (streams : Streams) (entry : Entry) (earlier : List Entry) (told : List Happening) (result : Result (Unit {0}) TreatFault) → entry.kind ≡ End
     → StreamsFit streams earlier → EventTaken (ends entry.conn) told result → ToldBy result streams entry earlier told
 told_end streams entry earlier told (Ok u) kind fit event = (
-  no_bytes streams entry earlier (ap is_client kind) fit,
+  no_bytes streams entry earlier (λ who. ap (λ (k : EntryKind). speaks who k entry.conn) kind ∙ end_silent who entry.conn) fit,
   event ∙ ap (λ (k : EntryKind). told_by k entry earlier) (sym kind),
 )
 told_end streams entry earlier told (Err Sink) kind fit event = record {

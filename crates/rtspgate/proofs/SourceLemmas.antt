@@ -16,6 +16,7 @@ use Rattle.rtspgate.specs.declared.transcript.BadEntryKind.{BadEntryKind}
 use Rattle.rtspgate.specs.declared.transcript.BadEntryKind.TheVariants.{Magic, Kind, Conn, Length, Cut}
 use Rattle.rtspgate.specs.declared.transcript.reader.EntryReader.{EntryReader}
 use Rattle.rtspgate.specs.declared.streams.Streams.{Streams}
+use Rattle.rtspgate.specs.declared.streams.Speaker.{Speaker}
 use Rattle.rtspgate.specs.declared.replay.Stop.{Stop}
 use Rattle.rtspgate.specs.declared.replay.Stop.TheVariants as stop
 use Rattle.rtspgate.specs.Transcript.{reading, Reading}
@@ -228,7 +229,7 @@ too_long_says reader streams mux all left before now going more =
     }
 
 -- nothing was taken yet
-pub going_from : (reader : EntryReader) (streams : Streams) (mux : Mux) (all written : Option (List ℕ)) → ReadsSo reader [] [] → ((i : ℕ) → Fed (framer_at streams i) [] []) → Stands mux []
+pub going_from : (reader : EntryReader) (streams : Streams) (mux : Mux) (all written : Option (List ℕ)) → ReadsSo reader [] [] → ((who : Speaker) → Fed (framer_at streams who) [] []) → Stands mux []
     → Going reader streams mux limit all all written written
 going_from reader streams mux all written reads fed stands = record {
   bytes = [];
@@ -244,7 +245,7 @@ going_from reader streams mux all written reads fed stands = record {
     untaken None = refl
     untaken (Some bytes) = (bytes, refl, refl)
 
-pub going_start : (reader : EntryReader) (streams : Streams) (mux : Mux) (all written : Option (List ℕ)) → ReadsSo reader [] [] → ((i : ℕ) → Fed (framer_at streams i) [] []) → Stands mux []
+pub going_start : (reader : EntryReader) (streams : Streams) (mux : Mux) (all written : Option (List ℕ)) → ReadsSo reader [] [] → ((who : Speaker) → Fed (framer_at streams who) [] []) → Stands mux []
     → Going reader streams mux 67108864 all all written written
 unfolding limit
 going_start reader streams mux all written reads fed stands = going_from reader streams mux all written reads fed stands

@@ -1,32 +1,51 @@
 -- What the entries of a transcript tell, as what happened to the gateway (this project's own).
-use Rattle.std.specs.Prelude.{ℕ, Bool, true, false, ◌==◌, ◌&&◌, List, [], ◌∷◌, ◌++◌, length, drop, map, if◌then◌else◌}
+use Rattle.std.specs.Prelude.{ℕ, Bool, true, false, ◌==◌, List, [], ◌∷◌, ◌++◌, length, drop, map, if◌then◌else◌}
 use Rattle.rtsp_head.specs.Items.{Shape, items_of}
-use Rattle.gate_history.specs.History.{Happening, enters, takes, ends}
+use Rattle.gate_history.specs.History.{Happening, enters, takes, ends, hears}
 use Rattle.rtspgate.specs.declared.transcript.Entry.{Entry}
 use Rattle.rtspgate.specs.declared.transcript.EntryKind.{EntryKind}
-use Rattle.rtspgate.specs.declared.transcript.EntryKind.TheVariants.{Enter, Client, End}
+use Rattle.rtspgate.specs.declared.transcript.EntryKind.TheVariants.{Enter, Client, Upstream, End}
+use Rattle.rtspgate.specs.declared.streams.Speaker.{Speaker}
+use Rattle.rtspgate.specs.declared.streams.Speaker.TheVariants as speaker
 
-abbrev pub is_client : EntryKind → Bool
-is_client Enter = false
-is_client Client = true
-is_client End = false
+-- Whether an entry of this kind and connection has bytes of a speaker: the client of a connection, which may have the
+-- number 0, or the server.
+abbrev pub speaks : Speaker → EntryKind → ℕ → Bool
+speaks (speaker.Client i) Enter conn = false
+speaks (speaker.Client i) Client conn = conn == i
+speaks (speaker.Client i) Upstream conn = false
+speaks (speaker.Client i) End conn = false
+speaks speaker.Server Enter conn = false
+speaks speaker.Server Client conn = false
+speaks speaker.Server Upstream conn = true
+speaks speaker.Server End conn = false
 
--- the bytes of connection i's client in an entry, and in all of them; the newest entry is first
-abbrev pub bytes_here : ℕ → Entry → List ℕ
-bytes_here i entry = if is_client entry.kind && entry.conn == i then entry.body else []
+-- the bytes of a speaker in an entry, and in all of them; the newest entry is first
+abbrev pub bytes_here : Speaker → Entry → List ℕ
+bytes_here who entry = if speaks who entry.kind entry.conn then entry.body else []
 
-abbrev pub stream_of : ℕ → List Entry → List ℕ
-stream_of i [] = []
-stream_of i (entry ∷ earlier) = stream_of i earlier ++ bytes_here i entry
+abbrev pub stream_of : Speaker → List Entry → List ℕ
+stream_of who [] = []
+stream_of who (entry ∷ earlier) = stream_of who earlier ++ bytes_here who entry
 
 -- the items of a stream with this piece that were no items before it
 abbrev pub new_items : List ℕ → List ℕ → List Shape
 new_items stream piece = drop (length (items_of stream)) (items_of (stream ++ piece))
 
--- what an entry tells: an entering or an end is one event, and bytes are the items that are whole now
+-- what an item of a speaker is
+abbrev pub said_by : Speaker → Shape → Happening
+said_by (speaker.Client i) shape = takes i shape
+said_by speaker.Server shape = hears shape
+
+-- what a piece of a speaker's bytes tells: the items that are whole now
+abbrev pub told_with : Speaker → List ℕ → List Entry → List Happening
+told_with who piece earlier = map (said_by who) (new_items (stream_of who earlier) piece)
+
+-- what an entry tells: an entering or an end is one event, and bytes are their items
 abbrev pub told_by : EntryKind → Entry → List Entry → List Happening
 told_by Enter entry earlier = enters entry.conn ∷ []
-told_by Client entry earlier = map (takes entry.conn) (new_items (stream_of entry.conn earlier) entry.body)
+told_by Client entry earlier = told_with (speaker.Client entry.conn) entry.body earlier
+told_by Upstream entry earlier = told_with speaker.Server entry.body earlier
 told_by End entry earlier = ends entry.conn ∷ []
 
 -- all that the entries tell, the oldest first; how their bytes were cut is gone from it

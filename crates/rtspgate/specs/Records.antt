@@ -3,12 +3,15 @@
 use Rattle.std.specs.Prelude.{ℕ, List, ◌∷◌, ◌++◌, length}
 use Rattle.std.specs.Int.{w32, to_be_bytes}
 use Rattle.rtspgate.specs.declared.records.RecordKind.{RecordKind}
-use Rattle.rtspgate.specs.declared.records.RecordKind.TheVariants.{Handed, Closed}
+use Rattle.rtspgate.specs.declared.records.RecordKind.TheVariants.{Handed, HandedUp, Closed, Fault}
 
--- T for bytes handed to a client, C for the close of its connection
+-- T for bytes handed to a client, Y for bytes handed to the server, C for the close of a client's connection, F for the
+-- end of the server's
 abbrev pub record_byte : RecordKind → ℕ
 record_byte Handed = 84
+record_byte HandedUp = 89
 record_byte Closed = 67
+record_byte Fault = 70
 
 -- what stands before a body of this length
 abbrev pub head_text : ℕ → ℕ → ℕ → List ℕ

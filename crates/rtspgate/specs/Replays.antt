@@ -3,7 +3,8 @@ use Rattle.std.specs.Prelude.{◌≡◌, ℕ, ◌+◌, ◌<◌, ◌≤◌, nat_l
 use Rattle.gate_outside.specs.Causes.{Rose}
 use Rattle.gate_outside.specs.Contents.{Grows, GrowsByFront}
 use Rattle.gate_outside.specs.declared.Failed.{Failed}
-use Rattle.gate_history.specs.History.{History, IsHistory, happened}
+use Rattle.gate_history.specs.History.{History, happened}
+use Rattle.gate_history.specs.Follows.{IsHistory}
 use Rattle.gateway_mux.specs.declared.mux.Mux.{Mux}
 use Rattle.gateway_mux.specs.Stands.{Stands}
 use Rattle.rtspgate.specs.declared.status.Status.{Status}

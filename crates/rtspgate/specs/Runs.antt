@@ -5,29 +5,39 @@ use Rattle.gate_outside.specs.Causes.{Rose}
 use Rattle.gate_outside.specs.Contents.{Grows, GrowsByFront}
 use Rattle.rtsp_head.specs.Items.{Shape, items_of}
 use Rattle.rtsp_frame.specs.Framing.{Held}
-use Rattle.gate_history.specs.History.{Happening, History, happened, takes}
+use Rattle.gate_history.specs.History.{Happening, History, happened}
 use Rattle.gateway_mux.specs.declared.mux.Mux.{Mux}
 use Rattle.gateway_mux.specs.Stands.{Stands, IsFresh}
 use Rattle.rtspgate.specs.declared.transcript.Entry.{Entry}
 use Rattle.rtspgate.specs.declared.transcript.EntryKind.{EntryKind}
-use Rattle.rtspgate.specs.declared.transcript.EntryKind.TheVariants.{Enter, Client, End}
+use Rattle.rtspgate.specs.declared.transcript.EntryKind.TheVariants.{Enter, Client, Upstream, End}
 use Rattle.rtspgate.specs.declared.streams.Streams.{Streams}
+use Rattle.rtspgate.specs.declared.streams.Speaker.{Speaker}
 use Rattle.rtspgate.specs.declared.run.TreatFault.{TreatFault}
 use Rattle.rtspgate.specs.declared.run.TreatFault.TheVariants.{Sink, Memory}
-use Rattle.rtspgate.specs.Events.{stream_of, told_by}
+use Rattle.rtspgate.specs.Events.{stream_of, said_by, told_with, told_by}
 use Rattle.rtspgate.specs.Fed.{Fed}
 use Rattle.rtspgate.specs.Streams.{framer_at}
-use Rattle.rtspgate.specs.Written.{records}
+use Rattle.rtspgate.specs.Written.{records_after}
+
+-- the multiplexer stands for some history
+pub record StandsForSome (mux : Mux) : Type 0 where
+  pub history : History
+  pub stands : Stands mux history
 
 -- the multiplexer stands for the longer history, whichever history it stood for
 abbrev pub Advances : Mux → Mux → History → Type 0
 Advances before now more = (T : History) → Stands before T → Stands now (more ++ T)
 
--- What was written is the records of these entries, or, where the sink failed, a front of them.
-abbrev pub WritesHistory : Option (List ℕ) → Option (List ℕ) → History → Result (Unit {0}) TreatFault → Type 0
-WritesHistory before now more (Ok u) = Grows before now (records more)
-WritesHistory before now more (Err Sink) = GrowsByFront before now (records more)
-WritesHistory before now more (Err Memory) = Grows before now (records more)
+-- After these entries, what was written is the records of more of them, or, where the sink failed, a front of those.
+abbrev pub WritesAfter : Option (List ℕ) → Option (List ℕ) → History → History → Result (Unit {0}) TreatFault → Type 0
+WritesAfter before now earlier more (Ok u) = Grows before now (records_after earlier more)
+WritesAfter before now earlier more (Err Sink) = GrowsByFront before now (records_after earlier more)
+WritesAfter before now earlier more (Err Memory) = Grows before now (records_after earlier more)
+
+-- So it is whichever history the multiplexer stood for.
+abbrev pub WritesHistory : Mux → Option (List ℕ) → Option (List ℕ) → History → Result (Unit {0}) TreatFault → Type 0
+WritesHistory mux before now more result = (T : History) → Stands mux T → WritesAfter before now T more result
 
 -- The sink's count of faults has not fallen, and where the sink is said to have failed it rose.
 abbrev pub SinkRose : ℕ → ℕ → Result (Unit {0}) TreatFault → Type 0
@@ -49,7 +59,7 @@ pub record TakesEvent (before now : Mux) (happening : Happening) (written_before
   pub more : History
   pub told : EventTaken happening (happened more) result
   pub advances : Advances before now more
-  pub written : WritesHistory written_before written_now more result
+  pub written : WritesHistory before written_before written_now more result
 
 -- these items are the first of the stream's
 pub record IsFront (items all : List Shape) : Type 0 where
@@ -61,35 +71,52 @@ abbrev pub FedBy : Result (Unit {0}) TreatFault → Option Held → List ℕ →
 FedBy (Ok u) framer stream given = Fed framer stream given × (given ≡ items_of stream)
 FedBy (Err fault) framer stream given = IsFront given (items_of stream)
 
--- Some whole items of a connection's client were taken, one event each: in all they and those that the framer gave
--- before are the first of its stream's items.
-pub record TakesItems (streams_before streams_now : Streams) (before now : Mux) (conn : ℕ) (written_before written_now : Option (List ℕ)) (result : Result (Unit {0}) TreatFault) : Type 0 where
+-- Some whole items of a speaker were taken, one event each: in all they and those that the framer gave before are the
+-- first of its stream's items.
+pub record TakesItems (streams_before streams_now : Streams) (before now : Mux) (speaker : Speaker) (written_before written_now : Option (List ℕ)) (result : Result (Unit {0}) TreatFault) : Type 0 where
   pub more : History
   pub shapes : List Shape
-  pub told : happened more ≡ map (takes conn) shapes
+  pub told : happened more ≡ map (said_by speaker) shapes
   pub advances : Advances before now more
-  pub written : WritesHistory written_before written_now more result
-  pub fed : (stream : List ℕ) (given : List Shape) → Fed (framer_at streams_before conn) stream given → FedBy result (framer_at streams_now conn) stream (given ++ shapes)
-  pub others : (i : ℕ) → i ≢ conn → framer_at streams_now i ≡ framer_at streams_before i
+  pub written : WritesHistory before written_before written_now more result
+  pub fed : (stream : List ℕ) (given : List Shape) → Fed (framer_at streams_before speaker) stream given → FedBy result (framer_at streams_now speaker) stream (given ++ shapes)
+  pub others : (who : Speaker) → who ≢ speaker → framer_at streams_now who ≡ framer_at streams_before who
 
 -- The same, while the framer may still have items to give.
-pub record TakesSome (streams_before streams_now : Streams) (before now : Mux) (conn : ℕ) (written_before written_now : Option (List ℕ)) : Type 0 where
+pub record TakesSome (streams_before streams_now : Streams) (before now : Mux) (speaker : Speaker) (written_before written_now : Option (List ℕ)) : Type 0 where
   pub more : History
   pub shapes : List Shape
-  pub told : happened more ≡ map (takes conn) shapes
+  pub told : happened more ≡ map (said_by speaker) shapes
   pub advances : Advances before now more
-  pub grown : Grows written_before written_now (records more)
-  pub fed : (stream : List ℕ) (given : List Shape) → Fed (framer_at streams_before conn) stream given → Fed (framer_at streams_now conn) stream (given ++ shapes)
-  pub others : (i : ℕ) → i ≢ conn → framer_at streams_now i ≡ framer_at streams_before i
+  pub grown : (T : History) → Stands before T → Grows written_before written_now (records_after T more)
+  pub fed : (stream : List ℕ) (given : List Shape) → Fed (framer_at streams_before speaker) stream given → Fed (framer_at streams_now speaker) stream (given ++ shapes)
+  pub others : (who : Speaker) → who ≢ speaker → framer_at streams_now who ≡ framer_at streams_before who
 
--- each connection's framer was fed its stream so far, and gave all items of it
+-- each speaker's framer was fed its stream so far, and gave all items of it
 abbrev pub StreamsFit : Streams → List Entry → Type 0
-StreamsFit streams entries = (i : ℕ) → Fed (framer_at streams i) (stream_of i entries) (items_of (stream_of i entries))
+StreamsFit streams entries = (who : Speaker) → Fed (framer_at streams who) (stream_of who entries) (items_of (stream_of who entries))
 
 -- these happenings are the first of those
 pub record ToldInPart (told all : List Happening) : Type 0 where
   pub more : List Happening
   pub whole : told ++ more ≡ all
+
+-- A speaker's framer was fed this piece too, and gave all items of it; every other is as before.
+pub record FitsWith (streams : Streams) (speaker : Speaker) (piece : List ℕ) (earlier : List Entry) : Type 0 where
+  pub here : Fed (framer_at streams speaker) (stream_of speaker earlier ++ piece) (items_of (stream_of speaker earlier ++ piece))
+  pub others : (who : Speaker) → who ≢ speaker → Fed (framer_at streams who) (stream_of who earlier) (items_of (stream_of who earlier))
+
+-- What happened is what the piece tells, or, where something failed, the first part of it.
+abbrev pub ToldWith : Result (Unit {0}) TreatFault → Streams → Speaker → List ℕ → List Entry → List Happening → Type 0
+ToldWith (Ok u) streams speaker piece earlier told = FitsWith streams speaker piece earlier × (told ≡ told_with speaker piece earlier)
+ToldWith (Err fault) streams speaker piece earlier told = ToldInPart told (told_with speaker piece earlier)
+
+-- A piece of a speaker's bytes was taken, whichever entries came before it.
+pub record TakesBytes (streams_before streams_now : Streams) (before now : Mux) (speaker : Speaker) (piece : List ℕ) (written_before written_now : Option (List ℕ)) (result : Result (Unit {0}) TreatFault) : Type 0 where
+  pub more : History
+  pub advances : Advances before now more
+  pub written : WritesHistory before written_before written_now more result
+  pub told : (earlier : List Entry) → StreamsFit streams_before earlier → ToldWith result streams_now speaker piece earlier (happened more)
 
 -- What happened is what the entry tells, or, where something failed, the first part of it.
 abbrev pub ToldBy : Result (Unit {0}) TreatFault → Streams → Entry → List Entry → List Happening → Type 0
@@ -100,11 +127,12 @@ ToldBy (Err fault) streams entry earlier told = ToldInPart told (told_by entry.k
 pub record TakesEntry (streams_before streams_now : Streams) (before now : Mux) (entry : Entry) (written_before written_now : Option (List ℕ)) (result : Result (Unit {0}) TreatFault) : Type 0 where
   pub more : History
   pub advances : Advances before now more
-  pub written : WritesHistory written_before written_now more result
+  pub written : WritesHistory before written_before written_now more result
   pub told : (earlier : List Entry) → StreamsFit streams_before earlier → ToldBy result streams_now entry earlier (happened more)
 
 -- a connection that enters by an entry is new to the multiplexer
 abbrev pub EntersFresh : EntryKind → Mux → ℕ → Type 0
 EntersFresh Enter mux conn = IsFresh mux conn
 EntersFresh Client mux conn = Unit {0}
+EntersFresh Upstream mux conn = Unit {0}
 EntersFresh End mux conn = Unit {0}

@@ -1,9 +1,12 @@
--- The framers of a transcript's clients (this project's own).
-use Rattle.std.specs.Prelude.{ℕ, Option, nat_eq}
+-- The framers of a transcript's speakers (this project's own).
+use Rattle.std.specs.Prelude.{Option, Some, nat_eq}
 use Rattle.std.specs.HashMap.{get}
 use Rattle.rtsp_frame.specs.Framing.{Held}
 use Rattle.rtspgate.specs.declared.streams.Streams.{Streams}
+use Rattle.rtspgate.specs.declared.streams.Speaker.{Speaker}
+use Rattle.rtspgate.specs.declared.streams.Speaker.TheVariants.{Client, Server}
 
--- the framer of connection i
-abbrev pub framer_at : Streams → ℕ → Option Held
-framer_at streams i = get nat_eq streams.framers i
+-- the framer of a speaker; a client has one once bytes of it came
+abbrev pub framer_at : Streams → Speaker → Option Held
+framer_at streams (Client i) = get nat_eq streams.clients i
+framer_at streams Server = Some streams.server

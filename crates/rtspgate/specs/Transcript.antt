@@ -5,7 +5,7 @@ use Rattle.std.specs.List.{starts_with}
 use Rattle.std.specs.Option.{option_map}
 use Rattle.std.specs.Int.{w32, from_be_bytes}
 use Rattle.rtspgate.specs.declared.transcript.EntryKind.{EntryKind}
-use Rattle.rtspgate.specs.declared.transcript.EntryKind.TheVariants.{Enter, Client, End}
+use Rattle.rtspgate.specs.declared.transcript.EntryKind.TheVariants.{Enter, Client, Upstream, End}
 use Rattle.rtspgate.specs.declared.transcript.Entry.{Entry}
 use Rattle.rtspgate.specs.declared.transcript.BadEntryKind.{BadEntryKind}
 use Rattle.rtspgate.specs.declared.transcript.BadEntryKind.TheVariants.{Magic, Kind, Conn, Length, Cut}
@@ -16,13 +16,16 @@ use Rattle.rtspgate.specs.declared.transcript.head.Head.{Head}
 abbrev pub magic : List ℕ
 magic = 82 ∷ 84 ∷ 83 ∷ 80 ∷ 71 ∷ 87 ∷ 49 ∷ 10 ∷ []
 
--- the kind that a byte names: O where a connection enters, A for bytes of its client, E for its end
+-- the kind that a byte names: O where a connection enters, A for bytes of its client, U for bytes of the server, E for
+-- a connection's end
 abbrev pub kind_of : ℕ → Option EntryKind
-kind_of b = if b == 79 then Some Enter else (if b == 65 then Some Client else (if b == 69 then Some End else None))
+kind_of b =
+    if b == 79 then Some Enter else (if b == 65 then Some Client else (if b == 85 then Some Upstream else (if b == 69 then Some End else None)))
 
 abbrev pub is_enter : EntryKind → Bool
 is_enter Enter = true
 is_enter Client = false
+is_enter Upstream = false
 is_enter End = false
 
 -- whether a connection has entered by one of these entries
@@ -30,16 +33,19 @@ abbrev pub entered : ℕ → List Entry → Bool
 entered conn [] = false
 entered conn (e ∷ entries) = (is_enter e.kind && e.conn == conn) || entered conn entries
 
--- whether an entry of this kind may come for a connection: it enters once, and all else comes after that
+-- whether an entry of this kind may come for a connection: it enters once, and all else comes after that; the server has
+-- the number 0
 abbrev pub may_come : (ℕ → Bool) → EntryKind → ℕ → Bool
 may_come has Enter conn = not (has conn)
 may_come has Client conn = has conn
+may_come has Upstream conn = conn == 0
 may_come has End conn = has conn
 
 -- the longest body of each kind
 abbrev pub most_body : EntryKind → ℕ
 most_body Enter = 0
 most_body Client = 131072
+most_body Upstream = 131072
 most_body End = 0
 
 -- the head that a kind byte and the eight bytes after it spell, where the byte names a kind

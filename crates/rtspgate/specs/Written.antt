@@ -1,33 +1,101 @@
 -- The records of a history (this project's own).
-use Rattle.std.specs.Prelude.{ℕ, List, [], ◌∷◌, ◌++◌, Option, Some, None}
+use Rattle.std.specs.Prelude.{ℕ, zero, suc, List, [], ◌∷◌, ◌++◌, Option, Some, None, codes, decimal, if◌then◌else◌}
+use Rattle.rtsp_head.specs.declared.item.BadKind.{BadKind}
+use Rattle.rtsp_head.specs.declared.item.BadKind.TheVariants as bad
 use Rattle.gate_history.specs.declared.event.CloseWhy.{CloseWhy}
-use Rattle.gate_history.specs.declared.event.CloseWhy.TheVariants.{Ended, BadItem}
+use Rattle.gate_history.specs.declared.event.CloseWhy.TheVariants.{Ended, BadItem, Upstream}
 use Rattle.gate_history.specs.declared.event.Closed.{Closed}
-use Rattle.gate_history.specs.declared.event.Closed.TheVariants.{Nobody, One}
+use Rattle.gate_history.specs.declared.event.Closed.TheVariants.{Nobody, One, All}
+use Rattle.gate_history.specs.declared.event.FramingFault.{FramingFault}
+use Rattle.gate_history.specs.declared.event.FramingFault.TheVariants as framing
+use Rattle.gate_history.specs.declared.event.UpCause.{UpCause}
+use Rattle.gate_history.specs.declared.event.UpCause.TheVariants.{Framing, UnknownReply, CseqSpent}
 use Rattle.gate_history.specs.declared.event.ToClient.{ToClient}
 use Rattle.gate_history.specs.declared.event.Outcome.{Outcome}
-use Rattle.gate_history.specs.History.{History}
+use Rattle.gate_history.specs.History.{History, is_alive}
 use Rattle.rtspgate.specs.declared.records.RecordKind.TheVariants as kind
 use Rattle.rtspgate.specs.Records.{record_byte, record_text}
 
--- the byte that tells why a connection was closed: E its end, B an item that can't be read
+-- the byte that tells why a connection was closed: E its end, B an item that can't be read, U the end of the server's
+-- connection
 abbrev pub close_byte : CloseWhy → ℕ
 close_byte Ended = 69
 close_byte BadItem = 66
+close_byte Upstream = 85
 
--- the record of a piece that was handed out, and that of a close
+-- the record of a piece that a client was handed, and that of a text that the server was handed
 abbrev pub piece_record : Option ToClient → List ℕ
 piece_record None = []
 piece_record (Some piece) = record_text (record_byte kind.Handed) piece.conn piece.bytes
 
-abbrev pub close_record : Closed → List ℕ
-close_record Nobody = []
-close_record (One conn why) = record_text (record_byte kind.Closed) conn (close_byte why ∷ [])
+abbrev pub up_record : Option (List ℕ) → List ℕ
+up_record None = []
+up_record (Some text) = record_text (record_byte kind.HandedUp) 0 text
 
-abbrev pub records_of : Outcome → List ℕ
-records_of outcome = piece_record outcome.to_client ++ close_record outcome.closed
+-- the record of a close
+abbrev pub close_record : ℕ → CloseWhy → List ℕ
+close_record conn why = record_text (record_byte kind.Closed) conn (close_byte why ∷ [])
+
+-- The records at the end of the server's connection: a close of each connection that was alive, by rising number.
+abbrev pub end_of : ℕ → History → List ℕ
+end_of i earlier = if is_alive i earlier then close_record i Upstream else []
+
+abbrev pub ends_below : ℕ → History → List ℕ
+ends_below zero earlier = []
+ends_below (suc i) earlier = ends_below i earlier ++ end_of i earlier
+
+-- how many numbers there are of 32 bits
+unfoldable pub numbers : ℕ
+numbers = 4294967296
+
+abbrev pub ends : History → List ℕ
+ends earlier = ends_below numbers earlier
+
+-- the records of the connections that an event closed, after these entries
+abbrev pub closed_records : Closed → History → List ℕ
+closed_records Nobody earlier = []
+closed_records (One conn why) earlier = close_record conn why
+closed_records All earlier = ends earlier
+
+-- the text that tells why the connection to the server ended
+abbrev pub bad_name : BadKind → List ℕ
+bad_name bad.Head = codes "Head"
+bad_name bad.Control = codes "Control"
+bad_name bad.Start = codes "Start"
+bad_name bad.Colon = codes "Colon"
+bad_name bad.Name = codes "Name"
+bad_name bad.Many = codes "Many"
+bad_name bad.Length = codes "Length"
+bad_name bad.Body = codes "Body"
+
+abbrev pub framing_name : FramingFault → List ℕ
+framing_name (framing.Bad kind) = bad_name kind
+framing_name framing.Version = codes "Version"
+framing_name framing.Cseq = codes "Cseq"
+
+abbrev pub fault_text : UpCause → List ℕ
+fault_text (Framing fault) = codes "Framing " ++ framing_name fault
+fault_text (UnknownReply number) = codes "UnknownReply " ++ decimal number
+fault_text CseqSpent = codes "CseqSpent"
+
+abbrev pub cause_record : UpCause → List ℕ
+cause_record cause = record_text (record_byte kind.Fault) 0 (fault_text cause)
+
+abbrev pub fault_record : Option UpCause → List ℕ
+fault_record None = []
+fault_record (Some cause) = cause_record cause
+
+-- the records of what one event handed out, after these entries
+abbrev pub records_of : Outcome → History → List ℕ
+records_of outcome earlier =
+    piece_record outcome.to_client ++ up_record outcome.to_up ++ closed_records outcome.closed earlier ++ fault_record outcome.fault
 
 -- the records of a history, the oldest entry's first
 abbrev pub records : History → List ℕ
 records [] = []
-records (entry ∷ earlier) = records earlier ++ records_of entry.outcome
+records (entry ∷ earlier) = records earlier ++ records_of entry.outcome earlier
+
+-- those of its newer entries alone, after the older ones
+abbrev pub records_after : History → History → List ℕ
+records_after earlier [] = []
+records_after earlier (entry ∷ more) = records_after earlier more ++ records_of entry.outcome (more ++ earlier)

@@ -1,6 +1,7 @@
 //! rtspgate: a gateway between players of RTSP 1.0 and a server of RTSP 2.0.
 #![tactic(auto)]
 
+mod outcomes;
 mod plain;
 mod records;
 mod replay;
@@ -23,8 +24,8 @@ const USAGE: &str = "\
 usage: rtspgate replay FRONT UP < TRANSCRIPT > RECORDS
        rtspgate --help | --version
 
-replay  reads a transcript of players' connections from standard input, and writes records of what each player is
-        handed, and of how its connection is closed, to standard output
+replay  reads a transcript of what players and the media server say from standard input, and writes records of what
+        each of them is handed, and of how connections are closed, to standard output
 FRONT   the address by which players name the gateway, as rtsp://gate.example
 UP      the address of the media server, as rtsp://media.example
 ";

@@ -63,4 +63,6 @@ fn replay_between<S: Source, K: Sink>(
 }
 
 #[cfg(test)]
+mod server_tests;
+#[cfg(test)]
 mod tests;

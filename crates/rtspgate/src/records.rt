@@ -1,5 +1,5 @@
 //! Records: what the gateway did, one after the other, on the sink of a replay.
-ghost use Rattle.std.specs.Prelude.{◌≡◌, ◌<◌, ◌^◌, length};
+ghost use Rattle.std.specs.Prelude.{◌≡◌, ◌+◌, ◌++◌, ◌<◌, ◌^◌, length};
 ghost use Rattle.gate_outside.specs.Causes.{HasCause};
 ghost use Rattle.gate_outside.specs.Contents.{WritesAll};
 ghost use Rattle.rtspgate.specs.Records.{record_byte, head_text, record_text};
@@ -11,8 +11,12 @@ use gate_outside::{Failed, Sink, write_all};
 pub enum RecordKind {
     /// `T`: bytes that were handed to the client.
     Handed,
+    /// `Y`: bytes that were handed to the server.
+    HandedUp,
     /// `C`: the connection was closed; the body is its cause.
     Closed,
+    /// `F`: the connection to the server ended; the body is its cause.
+    Fault,
 }
 
 impl RecordKind {
@@ -22,7 +26,9 @@ impl RecordKind {
     {
         match self {
             RecordKind::Handed => b'T',
+            RecordKind::HandedUp => b'Y',
             RecordKind::Closed => b'C',
+            RecordKind::Fault => b'F',
         }
     }
 }
@@ -44,6 +50,29 @@ pub fn write_record<K: Sink>(
         return Err(Failed);
     };
     write_all(sink, body)
+}
+
+/// Writes one record whose body comes in two parts.
+pub fn write_parted_record<K: Sink>(
+    sink: &mut K,
+    kind: RecordKind,
+    conn: u32,
+    first: &[u8],
+    second: &[u8],
+) -> Result<(), Failed>
+    requires { length first.now + length second.now < 2 ^ 32 }
+    ensures bytes { WritesAll (K.written sink.old) (K.written sink.new) (record_text (record_byte kind) conn (first.now ++ second.now)) result }
+    ensures cause { HasCause (K.faults sink.old) (K.faults sink.new) result }
+{
+    let size = first.len() + second.len();
+    let head = head_of(kind, conn, size as u32);
+    let Ok(()) = write_all(sink, &head) else {
+        return Err(Failed);
+    };
+    let Ok(()) = write_all(sink, first) else {
+        return Err(Failed);
+    };
+    write_all(sink, second)
 }
 
 /// The nine bytes before a body of this length.
@@ -75,7 +104,16 @@ mod tests {
             write_record(&mut sink, RecordKind::Closed, u32::MAX, b"E"),
             Ok(())
         );
-        let wanted = b"T\0\0\x01\x02\0\0\0\x05helloC\xff\xff\xff\xff\0\0\0\x01E";
+        assert_eq!(rt;
+            write_record(&mut sink, RecordKind::HandedUp, 0, b"up"),
+            Ok(())
+        );
+        assert_eq!(rt;
+            write_parted_record(&mut sink, RecordKind::Fault, 0, b"two ", b"parts"),
+            Ok(())
+        );
+        let wanted =
+            b"T\0\0\x01\x02\0\0\0\x05helloC\xff\xff\xff\xff\0\0\0\x01EY\0\0\0\0\0\0\0\x02upF\0\0\0\0\0\0\0\x09two parts";
         assert_eq!(rt; sink.as_bytes(), wanted.as_slice());
     }
 }

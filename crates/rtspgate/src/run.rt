@@ -1,17 +1,17 @@
 //! Treating what happens: the multiplexer takes an event, and its records are written.
-ghost use Rattle.std.specs.Prelude.{◌≡◌, ◌≤◌, ℕ, List, [], IfSome, length};
-ghost use Rattle.gate_outside.specs.Causes.{HasCause};
-ghost use Rattle.gate_outside.specs.Contents.{WritesAll};
+ghost use Rattle.std.specs.Prelude.{◌≡◌, ◌≤◌, ℕ, List, []};
+ghost use Rattle.rtsp_head.specs.Shapes.{shape_of};
 ghost use Rattle.gate_history.specs.History.{happening_of};
-ghost use Rattle.rtspgate.specs.Written.{close_byte, piece_record, close_record, records_of};
-ghost use Rattle.rtspgate.specs.Runs.{TakesEvent, TakesItems, SinkCause};
+ghost use Rattle.rtspgate.specs.Events.{said_by};
+ghost use Rattle.rtspgate.specs.Runs.{StandsForSome, TakesEvent, TakesItems, TakesBytes, SinkCause};
 
-use crate::records::{RecordKind, write_record};
-use crate::streams::Streams;
+use crate::outcomes::write_outcome;
+use crate::streams::{Speaker, Streams};
 use crate::transcript::{Entry, EntryKind};
 use gate_bytes::Memory;
 use gate_outside::{Failed, Sink};
-use gateway_mux::{CloseWhy, Closed, Event, Mux, Outcome, ToClient};
+use gateway_mux::{Event, Mux};
+use rtsp_frame::Item;
 use std::alloc::Global;
 
 /// What stops the treatment of an event.
@@ -34,51 +34,6 @@ impl From<Memory> for TreatFault {
     }
 }
 
-/// The byte that tells why a connection was closed.
-fn close_byte(why: CloseWhy) -> u8
-    ensures { result ≡ close_byte why }
-{
-    match why {
-        CloseWhy::Ended => b'E',
-        CloseWhy::BadItem => b'B',
-    }
-}
-
-/// Writes the record of a piece that was handed out.
-fn write_piece<K: Sink>(sink: &mut K, piece: &Option<ToClient>) -> Result<(), Failed>
-    requires { IfSome piece.now (λ p. length p.bytes ≤ 512) }
-    ensures bytes { WritesAll (K.written sink.old) (K.written sink.new) (piece_record piece.now) result }
-    ensures cause { HasCause (K.faults sink.old) (K.faults sink.new) result }
-{
-    match piece {
-        Some(piece) => write_record(sink, RecordKind::Handed, piece.conn, piece.bytes.as_bytes()),
-        None => Ok(()),
-    }
-}
-
-/// Writes the record of a close.
-fn write_close<K: Sink>(sink: &mut K, closed: Closed) -> Result<(), Failed>
-    ensures bytes { WritesAll (K.written sink.old) (K.written sink.new) (close_record closed) result }
-    ensures cause { HasCause (K.faults sink.old) (K.faults sink.new) result }
-{
-    match closed {
-        Closed::One(conn, why) => write_record(sink, RecordKind::Closed, conn, &[close_byte(why)]),
-        Closed::Nobody => Ok(()),
-    }
-}
-
-/// Writes the records of one event's outcome.
-fn write_outcome<K: Sink>(sink: &mut K, outcome: &Outcome) -> Result<(), Failed>
-    requires { IfSome outcome.now.to_client (λ p. length p.bytes ≤ 512) }
-    ensures bytes { WritesAll (K.written sink.old) (K.written sink.new) (records_of outcome.now) result }
-    ensures cause { HasCause (K.faults sink.old) (K.faults sink.new) result }
-{
-    let Ok(()) = write_piece(sink, &outcome.to_client) else {
-        return Err(Failed);
-    };
-    write_close(sink, outcome.closed)
-}
-
 /// Takes one event, and writes its records.
 fn happen<K: Sink>(
     alloc: Global,
@@ -86,6 +41,7 @@ fn happen<K: Sink>(
     sink: &mut K,
     event: Event,
 ) -> Result<(), TreatFault>
+    requires { StandsForSome mux.old }
     ensures takes { TakesEvent mux.old mux.new (happening_of event) (K.written sink.old) (K.written sink.new) result }
     ensures cause { SinkCause (K.faults sink.old) (K.faults sink.new) result }
 {
@@ -93,25 +49,36 @@ fn happen<K: Sink>(
         Ok(outcome) => outcome,
         Err((_, Memory)) => return Err(TreatFault::Memory),
     };
-    match write_outcome(sink, &outcome) {
+    match write_outcome(sink, mux, &outcome) {
         Ok(()) => Ok(()),
         Err(Failed) => Err(TreatFault::Sink),
     }
 }
 
-/// Takes all whole items of a connection's client that were not taken yet.
+/// The event that an item of this speaker is.
+fn said_by(speaker: Speaker, item: Item) -> Event
+    ensures { happening_of result ≡ said_by speaker (shape_of item) }
+{
+    match speaker {
+        Speaker::Client(conn) => Event::Client(conn, item),
+        Speaker::Server => Event::Up(item),
+    }
+}
+
+/// Takes all whole items of a speaker that were not taken yet.
 fn take_items<K: Sink>(
     alloc: Global,
     streams: &mut Streams,
     mux: &mut Mux,
     sink: &mut K,
-    conn: u32,
+    speaker: Speaker,
 ) -> Result<(), TreatFault>
-    ensures takes { TakesItems streams.old streams.new mux.old mux.new conn (K.written sink.old) (K.written sink.new) result }
+    requires { StandsForSome mux.old }
+    ensures takes { TakesItems streams.old streams.new mux.old mux.new speaker (K.written sink.old) (K.written sink.new) result }
     ensures cause { SinkCause (K.faults sink.old) (K.faults sink.new) result }
 {
-    while let Some(item) = streams.next(conn) {
-        happen(alloc, mux, sink, Event::Client(conn, item))?;
+    while let Some(item) = streams.next(speaker) {
+        happen(alloc, mux, sink, said_by(speaker, item))?;
     }
     Ok(())
 }
@@ -124,6 +91,7 @@ pub struct Run {
 }
 
 impl Run {
+    ghost use Rattle.rtspgate.specs.declared.streams.Speaker.{Speaker};
     ghost use Rattle.rtspgate.specs.Fed.{Fed};
     ghost use Rattle.rtspgate.specs.Streams.{framer_at};
     ghost use Rattle.rtspgate.specs.Runs.{TakesEntry, EntersFresh};
@@ -131,7 +99,7 @@ impl Run {
     /// Nothing was treated yet.
     pub fn new(alloc: Global, mux: Mux) -> Run
         ensures mux { result.mux ≡ mux }
-        ensures streams { (i : ℕ) → Fed (framer_at result.streams i) [] [] }
+        ensures streams { (who : Speaker) → Fed (framer_at result.streams who) [] [] }
     {
         Run {
             streams: Streams::new(alloc),
@@ -139,27 +107,43 @@ impl Run {
         }
     }
 
-    /// Treats one entry: a connection enters, bytes of its client come, or it ends.
+    /// Treats one entry: a connection enters, bytes of its client or of the server come, or it ends.
     pub fn take<K: Sink>(
         &mut self,
         alloc: Global,
         sink: &mut K,
         entry: &Entry,
     ) -> Result<(), TreatFault>
-        requires { EntersFresh entry.now.kind self.old.mux entry.now.conn }
+        requires stands { StandsForSome self.old.mux }
+        requires fresh { EntersFresh entry.now.kind self.old.mux entry.now.conn }
         ensures takes { TakesEntry self.old.streams self.new.streams self.old.mux self.new.mux entry.now (K.written sink.old) (K.written sink.new) result }
         ensures cause { SinkCause (K.faults sink.old) (K.faults sink.new) result }
     {
+        let bytes = entry.body.as_bytes();
         match entry.kind {
             EntryKind::Enter => {
-                self.mux.enter(entry.conn)?;
+                self.mux.enter(alloc, entry.conn)?;
                 Ok(())
             }
-            EntryKind::Client => {
-                self.streams.feed(alloc, entry.conn, entry.body.as_bytes())?;
-                take_items(alloc, &mut self.streams, &mut self.mux, sink, entry.conn)
-            }
+            EntryKind::Client => self.take_bytes(alloc, sink, Speaker::Client(entry.conn), bytes),
+            EntryKind::Upstream => self.take_bytes(alloc, sink, Speaker::Server, bytes),
             EntryKind::End => happen(alloc, &mut self.mux, sink, Event::End(entry.conn)),
         }
+    }
+
+    /// Takes bytes of a speaker, and all items that are whole then.
+    fn take_bytes<K: Sink>(
+        &mut self,
+        alloc: Global,
+        sink: &mut K,
+        speaker: Speaker,
+        bytes: &[u8],
+    ) -> Result<(), TreatFault>
+        requires { StandsForSome self.old.mux }
+        ensures takes { TakesBytes self.old.streams self.new.streams self.old.mux self.new.mux speaker bytes.now (K.written sink.old) (K.written sink.new) result }
+        ensures cause { SinkCause (K.faults sink.old) (K.faults sink.new) result }
+    {
+        self.streams.feed(alloc, speaker, bytes)?;
+        take_items(alloc, &mut self.streams, &mut self.mux, sink, speaker)
     }
 }

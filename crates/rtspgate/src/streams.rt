@@ -1,4 +1,4 @@
-//! The byte streams of the clients of a transcript, each cut into its items.
+//! The byte streams of a transcript, each cut into its items: one of each client, and one of the server.
 ghost use Rattle.std.specs.Prelude.{◌≡◌, ◌≢◌, ◌<◌, ℕ, List, [], ◌∷◌, ◌++◌, IfSome, IfNone, OnOk, OnErr, nat_eq};
 ghost use Rattle.std.specs.HashMap.{get};
 ghost use Rattle.rtsp_head.specs.Items.{Shape, items_of};
@@ -10,46 +10,63 @@ use rtsp_frame::{Framer, Item};
 use std::alloc::Global;
 use std::collections::HashMap;
 
-/// A framer for each connection of which bytes came.
+/// Whose bytes a stream has.
+#[derive(Clone, Copy, Debug, PartialEq, Eq)]
+pub enum Speaker {
+    /// The client of the connection with this number, which may be 0.
+    Client(u32),
+    Server,
+}
+
+/// A framer for each client of which bytes came, and one for the server.
 #[derive(Drop)]
 pub struct Streams {
-    framers: HashMap<u32, Framer>,
+    clients: HashMap<u32, Framer>,
+    server: Framer,
 }
 
 impl Streams {
+    ghost use Rattle.rtspgate.specs.declared.streams.Speaker.{Speaker};
     ghost use Rattle.rtspgate.specs.Streams.{framer_at};
 
     /// No byte came. It takes no memory.
     pub fn new(alloc: Global) -> Streams
-        ensures { (i : ℕ) → Fed (framer_at result i) [] [] }
+        ensures { (who : Speaker) → Fed (framer_at result who) [] [] }
     {
         Streams {
-            framers: HashMap::new(alloc),
+            clients: HashMap::new(alloc),
+            server: Framer::new(alloc),
         }
     }
 
-    /// Takes bytes of a connection's client. Where memory is wanting they were not taken.
-    pub fn feed(&mut self, alloc: Global, conn: u32, piece: &[u8]) -> Result<(), Memory>
+    /// Takes bytes of a speaker. Where memory is wanting they were not taken.
+    pub fn feed(&mut self, alloc: Global, speaker: Speaker, piece: &[u8]) -> Result<(), Memory>
         ensures ok { OnOk result ((stream : List ℕ) (given : List Shape) →
-            Fed (framer_at self.old conn) stream given → Fed (framer_at self.new conn) (stream ++ piece.now) given) }
-        ensures others { (i : ℕ) → i ≢ conn → framer_at self.new i ≡ framer_at self.old i }
-        ensures err { OnErr result ((i : ℕ) → framer_at self.new i ≡ framer_at self.old i) }
+            Fed (framer_at self.old speaker) stream given → Fed (framer_at self.new speaker) (stream ++ piece.now) given) }
+        ensures others { (who : Speaker) → who ≢ speaker → framer_at self.new who ≡ framer_at self.old who }
+        ensures err { OnErr result ((who : Speaker) → framer_at self.new who ≡ framer_at self.old who) }
     {
-        feed_at(alloc, &mut self.framers, conn, piece)
+        match speaker {
+            Speaker::Client(conn) => feed_at(alloc, &mut self.clients, conn, piece),
+            Speaker::Server => self.server.feed(alloc, piece),
+        }
     }
 
-    /// The next whole item of a connection's client; none where all that came were given.
-    pub fn next(&mut self, conn: u32) -> Option<Item>
-        ensures fewer { IfSome result (λ item. waiting_in (framer_at self.new conn) < waiting_in (framer_at self.old conn)) }
+    /// The next whole item of a speaker; none where all that came were given.
+    pub fn next(&mut self, speaker: Speaker) -> Option<Item>
+        ensures fewer { IfSome result (λ item. waiting_in (framer_at self.new speaker) < waiting_in (framer_at self.old speaker)) }
         ensures some { IfSome result (λ item. (stream : List ℕ) (given : List Shape) →
-            Fed (framer_at self.old conn) stream given → Fed (framer_at self.new conn) stream (given ++ shape_of item ∷ [])) }
+            Fed (framer_at self.old speaker) stream given → Fed (framer_at self.new speaker) stream (given ++ shape_of item ∷ [])) }
         ensures none { IfNone result ((stream : List ℕ) (given : List Shape) →
-            Fed (framer_at self.old conn) stream given → Fed (framer_at self.new conn) stream given) }
+            Fed (framer_at self.old speaker) stream given → Fed (framer_at self.new speaker) stream given) }
         ensures all { IfNone result ((stream : List ℕ) (given : List Shape) →
-            Fed (framer_at self.old conn) stream given → given ≡ items_of stream) }
-        ensures others { (i : ℕ) → i ≢ conn → framer_at self.new i ≡ framer_at self.old i }
+            Fed (framer_at self.old speaker) stream given → given ≡ items_of stream) }
+        ensures others { (who : Speaker) → who ≢ speaker → framer_at self.new who ≡ framer_at self.old who }
     {
-        next_at(&mut self.framers, conn)
+        match speaker {
+            Speaker::Client(conn) => next_at(&mut self.clients, conn),
+            Speaker::Server => self.server.next(),
+        }
     }
 }
 

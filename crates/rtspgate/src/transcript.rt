@@ -18,6 +18,8 @@ pub enum EntryKind {
     Enter,
     /// `A`: bytes of a client, 131,072 at most.
     Client,
+    /// `U`: bytes of the server, 131,072 at most. Its connection is written as 0.
+    Upstream,
     /// `E`: a connection ends. It has no body.
     End,
 }
@@ -26,7 +28,7 @@ pub enum EntryKind {
 #[derive(Drop)]
 pub struct Entry {
     pub kind: EntryKind,
-    /// The connection's number.
+    /// The connection's number; 0 where the entry is the server's.
     pub conn: u32,
     pub body: Text,
 }
@@ -38,7 +40,7 @@ pub enum BadEntryKind {
     Magic,
     /// A kind byte that names no kind.
     Kind,
-    /// A connection that enters twice, or that has not entered.
+    /// A connection that enters twice, or that has not entered; or another than 0 for the server.
     Conn,
     /// A body that is too long for its kind.
     Length,

@@ -23,7 +23,7 @@ fn transcript(alloc: Global, rest: &[u8]) -> Result<Text, Fail> {
 }
 
 // A script in which the call with this number fails.
-fn script(alloc: Global, fails: Option<u64>, piece: usize) -> Result<Script, Fail>
+pub fn script(alloc: Global, fails: Option<u64>, piece: usize) -> Result<Script, Fail>
     requires { 0 < piece }
 {
     let mut numbers = Numbers::new(alloc);
@@ -37,7 +37,7 @@ fn script(alloc: Global, fails: Option<u64>, piece: usize) -> Result<Script, Fai
 }
 
 // What was answered, and what was written.
-fn played(
+pub fn played(
     alloc: Global,
     bytes: Text,
     reads: Script,

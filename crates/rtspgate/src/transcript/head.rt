@@ -11,7 +11,7 @@ use gate_bytes::after;
 /// The length of a head.
 pub const HEAD: usize = 9;
 
-/// The longest body of an entry with bytes of a client.
+/// The longest body of an entry with bytes of a client or of the server.
 const MOST: u32 = 131_072;
 
 /// What the head of an entry says.
@@ -63,6 +63,7 @@ fn may_come(entered: &Connections, kind: EntryKind, conn: u32) -> bool
     match kind {
         EntryKind::Enter => !entered.has(conn),
         EntryKind::Client => entered.has(conn),
+        EntryKind::Upstream => conn == 0,
         EntryKind::End => entered.has(conn),
     }
 }
@@ -74,6 +75,7 @@ fn most_body(kind: EntryKind) -> u32
     match kind {
         EntryKind::Enter => 0,
         EntryKind::Client => MOST,
+        EntryKind::Upstream => MOST,
         EntryKind::End => 0,
     }
 }
@@ -98,6 +100,7 @@ fn kind_of(byte: u8) -> Option<EntryKind>
     match byte {
         b'O' => Some(EntryKind::Enter),
         b'A' => Some(EntryKind::Client),
+        b'U' => Some(EntryKind::Upstream),
         b'E' => Some(EntryKind::End),
         _ => None,
     }

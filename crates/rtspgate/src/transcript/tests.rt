@@ -17,6 +17,7 @@ fn spell(entries: &mut Vec<u8>, entry: &Entry) -> Result<(), Fail> {
     entries.push(match entry.kind {
         EntryKind::Enter => b'O',
         EntryKind::Client => b'A',
+        EntryKind::Upstream => b'U',
         EntryKind::End => b'E',
     })?;
     entries.extend_from_slice(&entry.conn.to_be_bytes())?;
@@ -66,7 +67,7 @@ fn read(alloc: Global, bytes: &[u8], size: usize) -> Result<Told, Fail>
 #[test]
 fn entries_come_however_they_are_cut(rt: HostRuntime) -> Result<(), Fail> {
     let entries =
-        b"O\0\0\0\x01\0\0\0\0O\0\0\0\x07\0\0\0\0A\0\0\0\x01\0\0\0\x02hiA\0\0\0\x01\0\0\0\0E\0\0\0\x01\0\0\0\0A\0\0\0\x07\0\0\0\x05there";
+        b"O\0\0\0\x01\0\0\0\0O\0\0\0\x07\0\0\0\0A\0\0\0\x01\0\0\0\x02hiA\0\0\0\x01\0\0\0\0E\0\0\0\x01\0\0\0\0U\0\0\0\0\0\0\0\x03allA\0\0\0\x07\0\0\0\x05there";
     let mut bytes = b"RTSPGW1\n".to_vec(rt.alloc())?;
     bytes.extend_from_slice(entries)?;
     for size in [1, 2, 7, 9, 100] {
@@ -79,13 +80,22 @@ fn entries_come_however_they_are_cut(rt: HostRuntime) -> Result<(), Fail> {
 
 #[test]
 fn the_first_fault_has_its_place(rt: HostRuntime) -> Result<(), Fail> {
-    let rows: [(&[u8], u64, BadEntryKind); 13] = [
+    let rows: [(&[u8], u64, BadEntryKind); 18] = [
         (b"", 0, BadEntryKind::Magic),
         (b"RTSPGW1", 0, BadEntryKind::Magic),
         (b"RTSPGW2\n", 0, BadEntryKind::Magic),
         (b"RTSPGW1\nO\0\0\0\x01\0\0\0", 8, BadEntryKind::Cut),
         (b"RTSPGW1\nX\0\0\0\x01\0\0\0\0", 8, BadEntryKind::Kind),
-        (b"RTSPGW1\nU\0\0\0\0\0\0\0\0", 8, BadEntryKind::Kind),
+        (b"RTSPGW1\nS\0\0\0\0\0\0\0\0", 8, BadEntryKind::Kind),
+        (b"RTSPGW1\nZ\0\0\0\0\0\0\0\x01E", 8, BadEntryKind::Kind),
+        (b"RTSPGW1\nU\0\0\0\x01\0\0\0\0", 8, BadEntryKind::Conn),
+        (b"RTSPGW1\nU\0\0\0\0\0\x02\0\x01", 8, BadEntryKind::Length),
+        (b"RTSPGW1\nU\0\0\0\0\0\x02\0\0", 8, BadEntryKind::Cut),
+        (
+            b"RTSPGW1\nU\0\0\0\0\0\0\0\x02hiA\0\0\0\0\0\0\0\0",
+            19,
+            BadEntryKind::Conn,
+        ),
         (b"RTSPGW1\nA\0\0\0\x01\0\0\0\0", 8, BadEntryKind::Conn),
         (
             b"RTSPGW1\nO\0\0\0\x01\0\0\0\0E\0\0\0\x02\0\0\0\0",

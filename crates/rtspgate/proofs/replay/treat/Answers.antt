@@ -5,8 +5,12 @@ use Rattle.rtspgate.specs.Replays.{SoFar}
 use Rattle.rtspgate.proofs.ReplayLemmas.{enters_fresh, so_far_more, so_far_whole, so_far_faulted, so_far_stopped}
 use Rattle.rtspgate.proofs.replay.treat.Goals as goal
 
-pub take-requires : goal.take-requires
-take-requires g c =
+pub take-requires-clause-stands : goal.take-requires-clause-stands
+take-requires-clause-stands g c =
+    let some = c.loop-entry.invariant.some in record { history = some.so_far.history; stands = some.so_far.stands }
+
+pub take-requires-clause-fresh : goal.take-requires-clause-fresh
+take-requires-clause-fresh g c =
     let says : NextSays c.loop-entry.reader c.next.new.self (Ok (Some c.in-Ok-Some.entry)) = rw c.in-Ok-Some.field-0-is at c.in-Ok-Some.ensures.says in
     let some = c.loop-entry.invariant.some in
     enters_fresh c.loop-entry.reader c.next.new.self c.loop-entry.run.streams c.loop-entry.run.mux some.bytes some.before (g.K.Sink.written c.loop-entry.sink) c.in-Ok-Some.entry some.so_far says

@@ -1,6 +1,13 @@
+use Rattle.std.proofs.Common.{◌∷◌}
+use Rattle.gate_history.specs.History.{happening_of, entry_of}
 use Rattle.rtspgate.proofs.RunLemmas.{untaken, taken, taken_in_part}
-use Rattle.gate_history.specs.History.{happening_of}
 use Rattle.rtspgate.proofs.run.happen.Goals as goal
+
+pub write_outcome-requires-clause-stands : goal.write_outcome-requires-clause-stands
+write_outcome-requires-clause-stands g c = record {
+  history = entry_of c.args.event c.in-Ok.outcome ∷ c.requires.history;
+  stands = c.in-Ok.ensures.ok c.requires.history c.requires.stands;
+}
 
 pub returns-in-Err-clause-takes : goal.returns-in-Err-clause-takes
 returns-in-Err-clause-takes g c = untaken c.args.mux.now c.step.new.self (happening_of c.args.event) (g.K.Sink.written c.args.sink.now) c.in-Err.ensures.err

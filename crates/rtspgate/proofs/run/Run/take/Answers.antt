@@ -1,9 +1,37 @@
-use Rattle.rtspgate.proofs.RunLemmas.{takes_enter, takes_end}
+use Rattle.std.proofs.Common.{ℕ, List, subst}
+use Rattle.std.proofs.lemmas.Result.{err_from_is_err_and}
+use Rattle.rtspgate.specs.declared.streams.Speaker.TheVariants as speaker
+use Rattle.rtspgate.specs.Runs.{TakesBytes}
+use Rattle.rtspgate.proofs.RunLemmas.{takes_enter, takes_no_enter, takes_client, takes_server, takes_end}
 use Rattle.rtspgate.proofs.run.Run.take.Goals as goal
 
 pub returns-in_ok-enter-in-Enter-clause-takes : goal.returns-in_ok-enter-in-Enter-clause-takes
 returns-in_ok-enter-in-Enter-clause-takes g c =
     takes_enter c.args.self.now.streams c.args.self.now.mux c.enter.new.self c.args.entry.now (g.K.Sink.written c.args.sink.now) c.in-Enter.is c.in_ok-enter-in-Enter.ensures.ok
+
+pub returns-in_err-enter-in-Enter-clause-takes : goal.returns-in_err-enter-in-Enter-clause-takes
+returns-in_err-enter-in-Enter-clause-takes g c =
+    let p = err_from_is_err_and c.from_residual.result c.from_residual.ensures.1 in
+    rw (p.1, p.2)
+    (takes_no_enter c.args.self.now.streams c.args.self.now.mux c.enter.new.self c.args.entry.now (g.K.Sink.written c.args.sink.now) c.in_err-enter-in-Enter.ensures.err)
+
+pub returns-in-Client-clause-takes : goal.returns-in-Client-clause-takes
+returns-in-Client-clause-takes g c =
+    takes_client c.args.self.now.streams c.take_bytes.new.self.streams c.args.self.now.mux c.take_bytes.new.self.mux c.args.entry.now
+    (g.K.Sink.written c.args.sink.now) (g.K.Sink.written c.take_bytes.new.sink) c.take_bytes.result c.in-Client.is
+    (subst
+    (λ (l : List ℕ). TakesBytes c.args.self.now.streams c.take_bytes.new.self.streams c.args.self.now.mux c.take_bytes.new.self.mux (speaker.Client c.args.entry.now.conn) l
+    (g.K.Sink.written c.args.sink.now) (g.K.Sink.written c.take_bytes.new.sink) c.take_bytes.result)
+    c.as_bytes-bytes.ensures c.take_bytes.ensures.takes)
+
+pub returns-in-Upstream-clause-takes : goal.returns-in-Upstream-clause-takes
+returns-in-Upstream-clause-takes g c =
+    takes_server c.args.self.now.streams c.take_bytes-in-Upstream.new.self.streams c.args.self.now.mux c.take_bytes-in-Upstream.new.self.mux c.args.entry.now
+    (g.K.Sink.written c.args.sink.now) (g.K.Sink.written c.take_bytes-in-Upstream.new.sink) c.take_bytes-in-Upstream.result c.in-Upstream.is
+    (subst
+    (λ (l : List ℕ). TakesBytes c.args.self.now.streams c.take_bytes-in-Upstream.new.self.streams c.args.self.now.mux c.take_bytes-in-Upstream.new.self.mux speaker.Server l
+    (g.K.Sink.written c.args.sink.now) (g.K.Sink.written c.take_bytes-in-Upstream.new.sink) c.take_bytes-in-Upstream.result)
+    c.as_bytes-bytes.ensures c.take_bytes-in-Upstream.ensures.takes)
 
 pub returns-in-End-clause-takes : goal.returns-in-End-clause-takes
 returns-in-End-clause-takes g c =

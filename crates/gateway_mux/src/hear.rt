@@ -1,0 +1,57 @@
+//! What the server says.
+ghost use Rattle.std.specs.Prelude.{◌≡◌, IfOk};
+ghost use Rattle.rtsp_head.specs.Shapes.{shape_of};
+ghost use Rattle.gate_history.specs.Heard.{heard, heard_reply, heard_ask};
+ghost use Rattle.gateway_mux.specs.Hearing.{heard_seen};
+ghost use Rattle.head_two.specs.Replies.{reply_in, ask_in};
+
+use gate_bytes::Memory;
+use gate_history::FramingFault;
+use head_two::{Ask2, Reply2, TwoFault, read_ask, read_reply};
+use rtsp_head::{Item, ItemKind};
+use std::alloc::Global;
+
+/// An item of the server, as it is taken.
+#[derive(Drop)]
+pub(crate) enum Heard {
+    Reply(Reply2),
+    Ask(Ask2),
+    Frame,
+    Fault(FramingFault),
+}
+
+/// What an item of the server says.
+pub(crate) fn hear(alloc: Global, item: &Item) -> Result<Heard, Memory>
+    ensures { IfOk result (λ said. heard_seen said ≡ heard (shape_of item.now)) }
+{
+    match item.kind {
+        ItemKind::Request => hear_ask(alloc, item),
+        ItemKind::Response => hear_reply(alloc, item),
+        ItemKind::Frame => Ok(Heard::Frame),
+        ItemKind::Bad(kind) => Ok(Heard::Fault(FramingFault::Bad(kind))),
+    }
+}
+
+/// What a reply of the server says.
+fn hear_reply(alloc: Global, item: &Item) -> Result<Heard, Memory>
+    ensures { IfOk result (λ said. heard_seen said ≡ heard_reply (reply_in (shape_of item.now))) }
+{
+    match read_reply(alloc, item) {
+        Ok(reply) => Ok(Heard::Reply(reply)),
+        Err(TwoFault::Version) => Ok(Heard::Fault(FramingFault::Version)),
+        Err(TwoFault::Cseq) => Ok(Heard::Fault(FramingFault::Cseq)),
+        Err(TwoFault::Memory) => Err(Memory),
+    }
+}
+
+/// What a request of the server says.
+fn hear_ask(alloc: Global, item: &Item) -> Result<Heard, Memory>
+    ensures { IfOk result (λ said. heard_seen said ≡ heard_ask (ask_in (shape_of item.now))) }
+{
+    match read_ask(alloc, item) {
+        Ok(request) => Ok(Heard::Ask(request)),
+        Err(TwoFault::Version) => Ok(Heard::Fault(FramingFault::Version)),
+        Err(TwoFault::Cseq) => Ok(Heard::Fault(FramingFault::Cseq)),
+        Err(TwoFault::Memory) => Err(Memory),
+    }
+}

@@ -1,0 +1,58 @@
+//! Doing what a connection's event leads to.
+ghost use Rattle.std.specs.Prelude.{IfOk, OnErr};
+
+use super::Mux;
+use crate::act::Act;
+use crate::outcome::{fitting, handing, piece};
+use crate::slot::Change;
+use gate_bytes::Memory;
+use gate_history::{Outcome, UpCause};
+use head_two::write_request;
+use std::alloc::Global;
+
+/// The greatest number of a request: it has nine digits (this project's own).
+const MOST_NUMBER: u32 = 999_999_999;
+
+impl Mux {
+    ghost use Rattle.gateway_mux.specs.Acts.{Acted, GoesOn, deed_of};
+    ghost use Rattle.gateway_mux.specs.Quiet.{Keeps};
+
+    /// Does this for a connection. All memory is taken before the first change.
+    pub(super) fn act(&mut self, alloc: Global, conn: u32, act: Act) -> Result<Outcome, Memory>
+        ensures ok { IfOk result (λ outcome. Acted self.old self.new conn (deed_of act) outcome) }
+        ensures err { OnErr result (Keeps self.old self.new) }
+    {
+        let Act {
+            hand,
+            ask,
+            treated,
+            settles,
+        } = act;
+        let to_client = piece(conn, hand)?;
+        let Some(ask) = ask else {
+            self.go_on(conn, treated, None, settles);
+            return Ok(handing(to_client, None));
+        };
+        if self.issued >= MOST_NUMBER {
+            return Ok(self.end_all(UpCause::CseqSpent));
+        }
+        let number = self.issued + 1;
+        let text = fitting(write_request(alloc, &ask.request, number)?)?;
+        self.loans.room()?;
+        self.go_on(conn, treated, Some(ask.cseq), settles);
+        self.loans.lend(number, conn);
+        self.issued = number;
+        Ok(handing(to_client, Some(text)))
+    }
+
+    /// So many waiting requests of a connection were treated, this one is open then, and that number
+    /// is settled.
+    fn go_on(&mut self, conn: u32, treated: usize, open_request: Option<u64>, settles: Option<u32>)
+        ensures { GoesOn self.old self.new conn treated open_request settles }
+    {
+        self.seats.change(conn, Change::Goes(treated, open_request));
+        if let Some(number) = settles {
+            self.loans.settle(number);
+        }
+    }
+}

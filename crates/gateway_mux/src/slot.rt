@@ -1,0 +1,128 @@
+//! One connection's state.
+ghost use Rattle.std.specs.Prelude.{◌≡◌, ◌++◌, ◌∷◌, [], drop, Some, IfOk, OnOk, IfErr, OnErr};
+ghost use Rattle.rtsp_head.specs.Shapes.{shape_of};
+
+use crate::act::{self, Act};
+use gate_bytes::Memory;
+use head_two::Reply2;
+use rtsp_head::Item;
+use std::alloc::Global;
+use std::collections::VecDeque;
+
+/// What the multiplexer keeps of a connection.
+#[derive(Drop)]
+pub(crate) struct Slot {
+    /// Whether it was not closed.
+    pub alive: bool,
+    /// The client's number of the request that is open at the server.
+    pub open_request: Option<u64>,
+    /// The requests that wait for it, the oldest first.
+    pub waiting: VecDeque<Item>,
+}
+
+/// A change of a connection that takes no memory.
+#[derive(Clone, Copy, Debug, PartialEq, Eq)]
+pub(crate) enum Change {
+    /// So many waiting requests were treated, and then the request with this number of its client is
+    /// open, or none.
+    Goes(usize, Option<u64>),
+    /// It is closed, and its waiting requests are dropped.
+    Closes,
+}
+
+/// Whether a connection can have a request treated.
+#[derive(Clone, Copy, Debug, PartialEq, Eq)]
+pub(crate) enum Readiness {
+    /// It never entered, or was closed.
+    Gone,
+    /// Another request of it is open.
+    Busy,
+    Ready,
+}
+
+impl Readiness {
+    ghost use Rattle.gateway_mux.specs.Answered.{is_busy_readiness};
+
+    pub fn is_busy(self) -> bool
+        ensures { result ≡ is_busy_readiness self }
+    {
+        matches!(self, Readiness::Busy)
+    }
+}
+
+impl Slot {
+    ghost use Rattle.gateway_mux.specs.Slots.{conn_of, changed, with_waiting};
+    ghost use Rattle.gateway_mux.specs.Answered.{readiness_of, IsAnswered};
+    ghost use Rattle.gate_history.specs.Machine.{new_conn};
+
+    /// A connection that entered. It takes no memory.
+    pub fn new(alloc: Global) -> Slot
+        ensures { conn_of result ≡ new_conn }
+    {
+        Slot {
+            alive: true,
+            open_request: None,
+            waiting: VecDeque::new(alloc),
+        }
+    }
+
+    /// Whether a request can be treated.
+    pub fn readiness(&self) -> Readiness
+        ensures { result ≡ readiness_of (Some (conn_of self.now)) }
+    {
+        match (self.alive, self.open_request) {
+            (true, None) => Readiness::Ready,
+            (true, Some(_)) => Readiness::Busy,
+            (false, _) => Readiness::Gone,
+        }
+    }
+
+    /// What the final reply to its open request leads to.
+    pub fn answered(&self, alloc: Global, reply: &Reply2) -> Result<Act, Memory>
+        ensures { IfOk result (λ act. IsAnswered (Some (conn_of self.now)) reply.now act) }
+    {
+        match (self.alive, self.open_request) {
+            (true, Some(cseq)) => act::reply(alloc, cseq, reply, &self.waiting),
+            (true, None) | (false, _) => Ok(act::settle(alloc, reply.cseq)),
+        }
+    }
+
+    /// A request waits.
+    pub fn wait(&mut self, item: Item) -> Result<(), (Item, Memory)>
+        ensures ok { OnOk result (conn_of self.new ≡ with_waiting (conn_of self.old) (shape_of item)) }
+        ensures given_back { IfErr result (λ refused. refused.0 ≡ item) }
+        ensures err { OnErr result (conn_of self.new ≡ conn_of self.old) }
+    {
+        match self.waiting.push_back(item) {
+            Ok(()) => Ok(()),
+            Err(failed) => Err((failed.value, Memory)),
+        }
+    }
+
+    /// Changes.
+    #[tactic(auto, using(crate::proofs::SlotLemmas::dropped_shapes))]
+    pub fn change(&mut self, change: Change)
+        ensures { conn_of self.new ≡ changed change (conn_of self.old) }
+    {
+        match change {
+            Change::Goes(count, open_request) => {
+                drop_front(&mut self.waiting, count);
+                self.open_request = open_request;
+            }
+            Change::Closes => {
+                self.alive = false;
+                self.waiting.clear();
+            }
+        }
+    }
+}
+
+/// Drops so many items at the front.
+fn drop_front(items: &mut VecDeque<Item>, count: usize)
+    ensures { items.new.items ≡ drop count items.old.items }
+{
+    let mut left = count;
+    while left > 0 && items.pop_front().is_some() {
+        left -= 1;
+    }
+}

@@ -1,0 +1,166 @@
+//! The records of what one event hands out: the pieces of bytes, the closes, and the fault of the server.
+ghost use Rattle.std.specs.Prelude.{◌≡◌, ◌<◌, ◌^◌, ◌∷◌, IfSome, length};
+ghost use Rattle.gate_outside.specs.Causes.{HasCause};
+ghost use Rattle.gate_outside.specs.Contents.{WritesAll};
+ghost use Rattle.gate_history.specs.History.{Happening, History, standing};
+ghost use Rattle.gateway_mux.specs.Stands.{Stands};
+ghost use Rattle.rtspgate.specs.Runs.{StandsForSome};
+ghost use Rattle.gateway_mux.specs.Short.{IsShort};
+ghost use Rattle.rtspgate.specs.Written.{close_byte, bad_name, framing_name, piece_record, up_record, close_record, ends, closed_records, cause_record, fault_record, records_of};
+
+use crate::records::{RecordKind, write_parted_record, write_record};
+use gate_bytes::Text;
+use gate_outside::{Failed, Sink};
+use gateway_mux::{CloseWhy, Closed, FramingFault, Mux, Outcome, ToClient, UpCause};
+use rtsp_head::BadKind;
+
+/// Writes the records of an event's outcome. The multiplexer is the one that took the event.
+pub fn write_outcome<K: Sink>(sink: &mut K, mux: &Mux, outcome: &Outcome) -> Result<(), Failed>
+    requires stands { StandsForSome mux.now }
+    requires short { IsShort outcome.now }
+    ensures bytes { (happening : Happening) (earlier : History) → Stands mux.now (record { happening = happening; outcome = outcome.now } ∷ earlier)
+        → WritesAll (K.written sink.old) (K.written sink.new) (records_of outcome.now earlier) result }
+    ensures cause { HasCause (K.faults sink.old) (K.faults sink.new) result }
+{
+    let Ok(()) = write_piece(sink, &outcome.to_client) else {
+        return Err(Failed);
+    };
+    let Ok(()) = write_up(sink, &outcome.to_up) else {
+        return Err(Failed);
+    };
+    let Ok(()) = write_closed(sink, mux, outcome.closed) else {
+        return Err(Failed);
+    };
+    write_fault(sink, outcome.fault)
+}
+
+/// Writes the record of a piece that was handed to a client.
+fn write_piece<K: Sink>(sink: &mut K, piece: &Option<ToClient>) -> Result<(), Failed>
+    requires { IfSome piece.now (λ p. length p.bytes < 2 ^ 32) }
+    ensures bytes { WritesAll (K.written sink.old) (K.written sink.new) (piece_record piece.now) result }
+    ensures cause { HasCause (K.faults sink.old) (K.faults sink.new) result }
+{
+    match piece {
+        Some(piece) => write_record(sink, RecordKind::Handed, piece.conn, piece.bytes.as_bytes()),
+        None => Ok(()),
+    }
+}
+
+/// Writes the record of a text that was handed to the server.
+fn write_up<K: Sink>(sink: &mut K, text: &Option<Text>) -> Result<(), Failed>
+    requires { IfSome text.now (λ t. length t < 2 ^ 32) }
+    ensures bytes { WritesAll (K.written sink.old) (K.written sink.new) (up_record text.now) result }
+    ensures cause { HasCause (K.faults sink.old) (K.faults sink.new) result }
+{
+    match text {
+        Some(text) => write_record(sink, RecordKind::HandedUp, 0, text.as_bytes()),
+        None => Ok(()),
+    }
+}
+
+/// Writes the records of the connections that were closed.
+fn write_closed<K: Sink>(sink: &mut K, mux: &Mux, closed: Closed) -> Result<(), Failed>
+    requires { StandsForSome mux.now }
+    ensures bytes { (T : History) → Stands mux.now T → WritesAll (K.written sink.old) (K.written sink.new) (closed_records closed (standing T)) result }
+    ensures cause { HasCause (K.faults sink.old) (K.faults sink.new) result }
+{
+    match closed {
+        Closed::Nobody => Ok(()),
+        Closed::One(conn, why) => write_close(sink, conn, why),
+        Closed::All => write_ends(sink, mux),
+    }
+}
+
+/// Writes the record of a close.
+fn write_close<K: Sink>(sink: &mut K, conn: u32, why: CloseWhy) -> Result<(), Failed>
+    ensures bytes { WritesAll (K.written sink.old) (K.written sink.new) (close_record conn why) result }
+    ensures cause { HasCause (K.faults sink.old) (K.faults sink.new) result }
+{
+    write_record(sink, RecordKind::Closed, conn, &[close_byte(why)])
+}
+
+/// Writes the closes of all connections that were alive when the connection to the server ended, by rising number.
+fn write_ends<K: Sink>(sink: &mut K, mux: &Mux) -> Result<(), Failed>
+    requires { StandsForSome mux.now }
+    ensures bytes { (T : History) → Stands mux.now T → WritesAll (K.written sink.old) (K.written sink.new) (ends (standing T)) result }
+    ensures cause { HasCause (K.faults sink.old) (K.faults sink.new) result }
+{
+    let mut from = 0;
+    while let Some(conn) = mux.next_alive(from) {
+        let Ok(()) = write_close(sink, conn, CloseWhy::Upstream) else {
+            return Err(Failed);
+        };
+        let Some(next) = conn.checked_add(1) else {
+            return Ok(());
+        };
+        from = next;
+    }
+    Ok(())
+}
+
+/// The byte that tells why a connection was closed.
+fn close_byte(why: CloseWhy) -> u8
+    ensures { result ≡ close_byte why }
+{
+    match why {
+        CloseWhy::Ended => b'E',
+        CloseWhy::BadItem => b'B',
+        CloseWhy::Upstream => b'U',
+    }
+}
+
+/// Writes the record of why the connection to the server ended.
+fn write_fault<K: Sink>(sink: &mut K, fault: Option<UpCause>) -> Result<(), Failed>
+    ensures bytes { WritesAll (K.written sink.old) (K.written sink.new) (fault_record fault) result }
+    ensures cause { HasCause (K.faults sink.old) (K.faults sink.new) result }
+{
+    match fault {
+        Some(cause) => write_cause(sink, cause),
+        None => Ok(()),
+    }
+}
+
+/// Writes the record of this cause.
+fn write_cause<K: Sink>(sink: &mut K, cause: UpCause) -> Result<(), Failed>
+    ensures bytes { WritesAll (K.written sink.old) (K.written sink.new) (cause_record cause) result }
+    ensures cause { HasCause (K.faults sink.old) (K.faults sink.new) result }
+{
+    match cause {
+        UpCause::Framing(fault) => {
+            write_parted_record(sink, RecordKind::Fault, 0, b"Framing ", framing_name(fault))
+        }
+        UpCause::UnknownReply(number) => {
+            let mut buffer = itoa::Buffer::new();
+            let digits = buffer.format(number).as_bytes();
+            write_parted_record(sink, RecordKind::Fault, 0, b"UnknownReply ", digits)
+        }
+        UpCause::CseqSpent => write_record(sink, RecordKind::Fault, 0, b"CseqSpent"),
+    }
+}
+
+/// The name of what is wrong with an item of the server.
+fn framing_name(fault: FramingFault) -> &'static [u8]
+    ensures { result.now ≡ framing_name fault }
+{
+    match fault {
+        FramingFault::Bad(kind) => bad_name(kind),
+        FramingFault::Version => b"Version",
+        FramingFault::Cseq => b"Cseq",
+    }
+}
+
+/// The name of why an item can't be read.
+fn bad_name(kind: BadKind) -> &'static [u8]
+    ensures { result.now ≡ bad_name kind }
+{
+    match kind {
+        BadKind::Head => b"Head",
+        BadKind::Control => b"Control",
+        BadKind::Start => b"Start",
+        BadKind::Colon => b"Colon",
+        BadKind::Name => b"Name",
+        BadKind::Many => b"Many",
+        BadKind::Length => b"Length",
+        BadKind::Body => b"Body",
+    }
+}
