@@ -1,0 +1,22 @@
+//! What becomes of a player's request: the gateway answers it, keeps it until what plays has ended,
+//! or sends it up as a request of RTSP 2.0.
+#![tactic(auto)]
+
+mod answer;
+mod channels;
+mod decision;
+mod field;
+mod header;
+mod judge;
+mod rule;
+mod transport;
+mod upward;
+mod view;
+
+pub use decision::Decision;
+pub use judge::decide;
+pub use transport::with_transport;
+pub use view::View;
+
+#[cfg(test)]
+mod tests;
