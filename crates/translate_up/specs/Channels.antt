@@ -1,5 +1,5 @@
 -- The channels of a stream on the player's connection (RFC 2326, 10.12 and 12.39).
-use Rattle.std.specs.Prelude.{ℕ, suc, zero, ◌+◌, ◌==◌, ◌||◌, Bool, List, Option, Some, None, Result, Ok, Err, if◌then◌else◌}
+use Rattle.std.specs.Prelude.{◌≡◌, ℕ, suc, zero, ◌+◌, ◌*◌, ◌<◌, ◌==◌, ◌||◌, Bool, true, false, List, Option, Some, None, Result, Ok, Err, if◌then◌else◌}
 use Rattle.std.specs.List.{list_any}
 use Rattle.rtsp_transport.specs.declared.channels.Pair.{Pair}
 use Rattle.rtsp_transport.specs.declared.alternative.Wanted.{Wanted}
@@ -41,3 +41,9 @@ pair_for tracks (Err fault) = None
 abbrev pub client_pair : List Track → Option (List ℕ) → Option Pair
 client_pair tracks None = None
 client_pair tracks (Some value) = pair_for tracks (wanted_of value)
+
+-- a pair that begins with an even channel, is not taken, and has no such pair below it
+pub record IsLowestFree (tracks : List Track) (pair : Pair) : Type 0 where
+  pub even : (half : ℕ) × (pair ≡ pair_at (2 * half))
+  pub free : is_taken tracks pair ≡ false
+  pub lowest : (half : ℕ) → 2 * half < pair.rtp → is_taken tracks (pair_at (2 * half)) ≡ true

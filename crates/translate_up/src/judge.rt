@@ -43,7 +43,7 @@ pub fn decide(alloc: Global, view: &View<'_>, item: &Item) -> Result<Decision, M
 }
 
 /// What becomes of a request that its head does not refuse.
-fn accept(alloc: Global, view: &View<'_>, request: &Request1) -> Result<Decision, Memory>
+pub(crate) fn accept(alloc: Global, view: &View<'_>, request: &Request1) -> Result<Decision, Memory>
     ensures { IfOk result (λ decision. decision ≡ accepted (given_of view.now) request.now) }
 {
     let uri = uri_up(alloc, view, request.uri.as_bytes())?;

@@ -8,6 +8,7 @@ mod decision;
 mod field;
 mod header;
 mod judge;
+mod laws;
 mod rule;
 mod transport;
 mod upward;
@@ -15,8 +16,13 @@ mod view;
 
 pub use decision::Decision;
 pub use judge::decide;
+pub use laws::{the_lowest_free_channels_are_given, what_goes_up_can_be_written};
 pub use transport::with_transport;
 pub use view::View;
 
+#[cfg(test)]
+mod kept_tests;
+#[cfg(test)]
+mod stages;
 #[cfg(test)]
 mod tests;

@@ -5,6 +5,7 @@ use session_one::{State, Track};
 
 /// A player's connection as it stands when one of its requests is treated, and what else the request
 /// is judged by.
+#[derive(Clone, Copy)]
 pub struct View<'a> {
     /// The state of its session.
     pub state: State,
