@@ -1,5 +1,5 @@
 -- What a decision sends up can be written and read back.
-use Rattle.std.proofs.Common.{◌≡◌, ℕ, ◌+◌, ◌<◌, ◌^◌, Bool, true, false, ◌&&◌, not, cond, List, [], length, Option, None, Some, Result, Ok, Err, refl, ◌∙◌, ap, subst, arith}
+use Rattle.std.proofs.Common.{◌≡◌, ℕ, ◌<◌, ◌^◌, Bool, true, false, ◌&&◌, not, cond, List, length, Option, None, Some, Result, Ok, Err, refl, arith}
 use Rattle.std.specs.Prelude.{codes, IfOk}
 use Rattle.std.specs.Option.{ok_or}
 use Rattle.rtsp_head.specs.Items.{Shape}
@@ -24,14 +24,14 @@ use Rattle.session_one.specs.declared.table.State.TheVariants.{Playing}
 use Rattle.session_one.specs.Table.{same_state}
 use Rattle.session_one.specs.declared.parts.Track.{Track}
 use Rattle.translate_up.specs.declared.decision.Decision.{Decision}
-use Rattle.translate_up.specs.declared.decision.Decision.TheVariants.{Answer, Forward, Queue, Setup}
+use Rattle.translate_up.specs.declared.decision.Decision.TheVariants.{Answer, Forward}
 use Rattle.translate_up.specs.Views.{Given}
-use Rattle.translate_up.specs.Fields.{field, is_setup, is_play, scale_of}
-use Rattle.translate_up.specs.Channels.{is_taken, pair_at, free_from, free_pair, pair_for, client_pair}
+use Rattle.translate_up.specs.Fields.{field, is_setup, is_play}
+use Rattle.translate_up.specs.Channels.{is_taken, free_pair, pair_for, client_pair}
 use Rattle.translate_up.specs.Rules.{rules}
 use Rattle.translate_up.specs.Upward.{uri_up, request_up, asked_of}
 use Rattle.translate_up.specs.Answers.{options_text}
-use Rattle.translate_up.specs.Decisions.{set_up, queued, played_on, is_for_gateway, passed, judged, ruled, accepted, decided, decide}
+use Rattle.translate_up.specs.Decisions.{set_up, queued, played_on, is_for_gateway, passed, judged, decided, decide}
 use Rattle.translate_up.specs.Sound.{is_target, IsFit, SendsSound}
 use Rattle.translate_up.proofs.ReadLemmas.{Read, request_read}
 use Rattle.translate_up.proofs.SoundLemmas.{up_sound, setup_sound, scale_value}

@@ -1,5 +1,5 @@
 -- What is known of a request that was read: its URI, its headers and its body fit into a message.
-use Rattle.std.proofs.Common.{◌≡◌, ℕ, ◌<◌, ◌≤◌, ◌^◌, Bool, true, false, ◌&&◌, not, List, [], ◌∷◌, length, take, drop, Option, None, Some, Result, Ok, Err, refl, ◌∙◌, ap, subst, length-drop, arith}
+use Rattle.std.proofs.Common.{◌≡◌, ℕ, ◌<◌, ◌^◌, true, ◌&&◌, not, List, length, take, drop, Option, None, Some, Result, Ok, Err, refl, ◌∙◌, ap, subst, length-drop, arith}
 use Rattle.std.specs.List.{list_all}
 use Rattle.std.proofs.lemmas.Bool.{and_parts}
 use Rattle.rtsp_head.specs.Items.{Shape}

@@ -1,6 +1,6 @@
 -- What goes up can be written under every number, and read back.
-use Rattle.std.proofs.Common.{◌≡◌, ℕ, ◌+◌, ◌<◌, ◌≤◌, ◌^◌, ◌==◌, Bool, true, false, ◌&&◌, ◌||◌, not, cond, List, [], ◌∷◌, ◌++◌, length, Option, None, Some, IfSome, Result, Ok, Err, refl, ◌∙◌, ap, subst, length-append, arith}
-use Rattle.std.specs.Prelude.{codes, IsTrue}
+use Rattle.std.proofs.Common.{◌≡◌, ℕ, ◌+◌, ◌<◌, ◌≤◌, ◌^◌, Bool, true, false, ◌&&◌, ◌||◌, not, cond, List, [], ◌∷◌, ◌++◌, length, Option, None, Some, IfSome, Result, Ok, Err, refl, ◌∙◌, ap, length-append, arith}
+use Rattle.std.specs.Prelude.{codes}
 use Rattle.std.specs.List.{list_all}
 use Rattle.std.specs.Str.{bytes_eq}
 use Rattle.std.proofs.lemmas.Bool.{and_parts}
@@ -8,7 +8,6 @@ use Rattle.std.proofs.lemmas.List.Folds.{list_all-append}
 use Rattle.gate_bytes.specs.Tokens.{is_token, equal_fold}
 use Rattle.rtsp_head.specs.declared.header.Header.{Header}
 use Rattle.rtsp_head.specs.declared.start.Start.TheVariants.{Request}
-use Rattle.rtsp_head.specs.Headers.{field_of}
 use Rattle.rtsp_head.specs.Messages.{is_added}
 use Rattle.rtsp_head.specs.Written.{is_part, is_line_text, is_value, is_start, is_header}
 use Rattle.rtsp_head.proofs.SoundLemmas.{field_sound}
@@ -25,11 +24,10 @@ use Rattle.rtsp_range.specs.Written.{range_text}
 use Rattle.rtsp_range.proofs.MeaningSound.{meaning_sound}
 use Rattle.rtsp_transport.specs.declared.channels.Pair.{Pair}
 use Rattle.head_one.specs.declared.request.Request1.{Request1}
-use Rattle.head_two.specs.declared.request.Request2.{Request2}
 use Rattle.head_two.specs.Messages.{version_two}
 use Rattle.translate_up.specs.Views.{Given}
 use Rattle.translate_up.specs.Fields.{field, is_describe, is_setup, is_play, is_named, said_where, passing, scale_of}
-use Rattle.translate_up.specs.Upward.{method_up, header_with, session_said, units, text_of, range_up, range_said, has_body, headers_up, request_up, transport_header, transported, with_transport}
+use Rattle.translate_up.specs.Upward.{method_up, header_with, session_said, units, text_of, range_up, range_said, has_body, headers_up, request_up, transport_header, transported}
 use Rattle.translate_up.specs.Sound.{is_target, IsFit, IsSound, IsSoundSetup}
 use Rattle.translate_up.proofs.VisibleLemmas.{visible_value, id_visible, grant_visible}
 use Rattle.translate_up.proofs.RangeLemmas.{range_visible}

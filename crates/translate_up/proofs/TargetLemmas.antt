@@ -1,18 +1,16 @@
 -- The URIs of requests fit into a request line, on their way up too.
-use Rattle.std.proofs.Common.{◌≡◌, ℕ, zero, suc, ◌+◌, ◌<◌, ◌≤◌, ◌==◌, ◌⊎◌, inl, inr, Bool, true, false, ◌&&◌, ◌||◌, not, cond, List, [], ◌∷◌, ◌++◌, length, drop, Option, None, Some, IfSome, refl, sym, ◌∙◌, ap, subst, arith}
+use Rattle.std.proofs.Common.{◌≡◌, ℕ, ◌+◌, ◌==◌, inl, inr, Bool, true, false, ◌&&◌, ◌||◌, not, cond, List, [], ◌∷◌, ◌++◌, length, drop, Option, None, Some, IfSome, refl, sym, ◌∙◌, ap, arith}
 use Rattle.std.specs.Prelude.{codes, nat_le, unwrap_or, option_map}
-use Rattle.std.specs.List.{list_all}
-use Rattle.std.specs.Char.{is_ascii_digit}
 use Rattle.std.specs.Str.{bytes_eq}
 use Rattle.std.proofs.lemmas.Bool.{and_parts}
 use Rattle.std.proofs.Math.Seq.{drop-append_seam}
 use Rattle.rtsp_head.specs.Starts.{is_unspaced}
 use Rattle.rtsp_head.specs.Written.{is_part, is_line_text}
 use Rattle.rtsp_uri.specs.declared.grammar.UriPlaces.{UriPlaces}
-use Rattle.rtsp_uri.specs.Uris.{scheme, is_name_byte, is_address_byte, is_rest_byte, is_rest, port_of, places_of}
-use Rattle.rtsp_uri.specs.Grammar.{SomeOf, IsHost, IsPort, Spelled}
+use Rattle.rtsp_uri.specs.Uris.{scheme, is_name_byte, is_address_byte, is_rest_byte, is_rest, places_of}
+use Rattle.rtsp_uri.specs.Grammar.{IsHost, IsPort}
 use Rattle.rtsp_uri.specs.BaseTexts.{ends_at, is_base_text}
-use Rattle.rtsp_uri.specs.Swaps.{has_authority, rest_of, rest_behind, with_rest, swapped}
+use Rattle.rtsp_uri.specs.Swaps.{has_authority, with_rest, swapped}
 use Rattle.rtsp_uri.proofs.CutLemmas.{cut_is_spelled}
 use Rattle.rtsp_uri.proofs.GrammarLemmas.{same_length, port_digits}
 use Rattle.translate_up.specs.Views.{Given}

@@ -1,6 +1,6 @@
 -- Texts of visible bytes: they can be values and parts of a request line.
-use Rattle.std.proofs.Common.{◌≡◌, ℕ, zero, suc, ◌<◌, ◌≤◌, ◌^◌, ◌/◌, ◌%◌, ◌==◌, Bool, true, false, ◌&&◌, not, cond, List, [], ◌∷◌, ◌++◌, length, drop, Option, None, Some, refl, ◌∙◌, ap, arith, rules}
-use Rattle.std.specs.Prelude.{codes, decimal, IsTrue, nat_le}
+use Rattle.std.proofs.Common.{◌≡◌, ℕ, zero, suc, ◌<◌, ◌^◌, ◌==◌, Bool, true, ◌&&◌, not, List, [], ◌∷◌, ◌++◌, length, drop, None, refl, ◌∙◌, ap, arith}
+use Rattle.std.specs.Prelude.{codes, decimal, nat_le}
 use Rattle.std.specs.List.{list_all}
 use Rattle.std.specs.Char.{is_ascii_digit}
 use Rattle.std.proofs.lemmas.Bool.{and_parts}
@@ -8,7 +8,7 @@ use Rattle.std.proofs.lemmas.Fmt.{digits_decimal}
 use Rattle.std.proofs.lemmas.List.Folds.{list_all-append}
 use Rattle.gate_bytes.specs.Tokens.{is_blank, without_front, without_end, trimmed}
 use Rattle.rtsp_head.specs.Starts.{is_unspaced}
-use Rattle.rtsp_head.specs.Written.{is_line_text, is_trimmed, is_value}
+use Rattle.rtsp_head.specs.Written.{is_line_text, is_value}
 use Rattle.rtsp_head.proofs.DigitLemmas.{own}
 use Rattle.rtsp_small.specs.Sessions.{is_session_byte, is_session_id}
 use Rattle.rtsp_transport.specs.declared.channels.Pair.{Pair}

@@ -1,5 +1,5 @@
 -- What goes up can be written under every number, and read back (RFC 7826, 7 and 20.2).
-use Rattle.std.specs.Prelude.{◌≡◌, ◌≢◌, ℕ, ◌<◌, ◌^◌, Bool, true, ◌&&◌, List, Option, IfSome, IsTrue}
+use Rattle.std.specs.Prelude.{◌≡◌, ℕ, ◌<◌, ◌^◌, Bool, true, ◌&&◌, List, IfSome, IsTrue}
 use Rattle.rtsp_head.specs.Written.{is_part, is_line_text, is_value}
 use Rattle.rtsp_small.specs.Sessions.{is_session_id}
 use Rattle.rtsp_range.specs.Writable.{can_be_written}
@@ -8,7 +8,6 @@ use Rattle.rtsp_transport.specs.Channels.{AreApart}
 use Rattle.rtsp_uri.specs.BaseTexts.{is_base_text}
 use Rattle.head_two.specs.declared.request.Request2.{Request2}
 use Rattle.head_two.specs.Requests.{IsRequest}
-use Rattle.session_one.specs.declared.parts.Asked.{Asked}
 use Rattle.session_one.specs.declared.parts.Play.{Play}
 use Rattle.translate_up.specs.declared.decision.Decision.{Decision}
 use Rattle.translate_up.specs.declared.decision.Decision.TheVariants.{Answer, Forward, Queue, Setup}

@@ -21,8 +21,6 @@ pub use transport::with_transport;
 pub use view::View;
 
 #[cfg(test)]
-mod kept_tests;
-#[cfg(test)]
 mod stages;
 #[cfg(test)]
 mod tests;

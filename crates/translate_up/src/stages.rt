@@ -1,6 +1,7 @@
 // Connections, requests and decisions for tests.
 
 use super::*;
+use crate::judge::accept;
 use gate_bytes::{Memory, Text};
 use head_one::Request1;
 use head_two::write_request;
@@ -117,4 +118,22 @@ pub(crate) fn told(alloc: Global, decision: Decision) -> Result<(Fate, Text), Me
             Ok((Fate::Setup, write_request(alloc, &up, 9)?))
         }
     }
+}
+
+// What becomes of a request with this head and body at a stage, and its text.
+pub(crate) fn judged(
+    alloc: Global,
+    stage: Stage,
+    head: &[u8],
+    body: &[u8],
+) -> Result<(Fate, Text), Memory> {
+    let Ok(bases) = bases(alloc) else {
+        return Err(Memory);
+    };
+    let tracks = tracks(alloc)?;
+    let request = request(alloc, head, body)?;
+    told(
+        alloc,
+        accept(alloc, &view(stage, &tracks, &bases), &request)?,
+    )
 }
