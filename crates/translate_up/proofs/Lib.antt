@@ -1,6 +1,7 @@
 pub mod ChannelLemmas
 pub mod DecideLemmas
 pub mod FreeLemmas
+pub mod LeftOutLemmas
 pub mod RangeLemmas
 pub mod ReadLemmas
 pub mod ReasonLemmas

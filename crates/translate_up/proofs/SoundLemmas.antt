@@ -83,7 +83,7 @@ play_range_value false value = tt
 pub scale_value : (request : Request1) → Read request → AreValues (scale_of request)
 scale_value request read = passing_value is_scale (field request (codes "Scale")) (field_value request (codes "Scale") read)
 
-all_seven : (p : Header → Bool) (a b c d e f g : List Header) → list_all p a ≡ true → list_all p b ≡ true → list_all p c ≡ true → list_all p d ≡ true →
+pub all_seven : (p : Header → Bool) (a b c d e f g : List Header) → list_all p a ≡ true → list_all p b ≡ true → list_all p c ≡ true → list_all p d ≡ true →
     list_all p e ≡ true → list_all p f ≡ true → list_all p g ≡ true → list_all p (a ++ b ++ c ++ d ++ e ++ f ++ g) ≡ true
 all_seven p a b c d e f g pa pb pc pd pe pf pg =
     two (a ++ b ++ c ++ d ++ e ++ f) g (two (a ++ b ++ c ++ d ++ e) f (two (a ++ b ++ c ++ d) e (two (a ++ b ++ c) d (two (a ++ b) c (two a b pa pb) pc) pd) pe) pf) pg

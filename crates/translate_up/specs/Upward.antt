@@ -1,6 +1,8 @@
 -- Requests as they go up (RFC 7826, 13 and 18).
 use Rattle.std.specs.Prelude.{ℕ, Bool, ◌&&◌, not, ◌==◌, codes, List, [], ◌∷◌, ◌++◌, length, Option, Some, None, unwrap_or, Result, Ok, Err, if◌then◌else◌}
+use Rattle.std.specs.List.{filter}
 use Rattle.std.specs.Str.{bytes_eq}
+use Rattle.gate_bytes.specs.Tokens.{equal_fold}
 use Rattle.rtsp_head.specs.declared.header.Header.{Header}
 use Rattle.rtsp_small.specs.declared.method.Method.{Method}
 use Rattle.rtsp_small.specs.declared.method.Method.TheVariants.{Options, Describe, Setup, Play, Pause, Teardown, GetParameter, SetParameter}
@@ -101,3 +103,11 @@ transported pair (header ∷ headers) =
 -- a SETUP with its channels
 abbrev pub with_transport : Pair → Request2 → Request2
 with_transport pair request = record { method = request.method; uri = request.uri; headers = transported pair request.headers; body = request.body }
+
+-- a header without channels
+abbrev pub is_other : Header → Bool
+is_other header = not (equal_fold header.name (codes "Transport"))
+
+-- headers without those that have channels
+abbrev pub without_transport : List Header → List Header
+without_transport headers = filter is_other headers

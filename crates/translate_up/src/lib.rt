@@ -16,10 +16,15 @@ mod view;
 
 pub use decision::Decision;
 pub use judge::decide;
-pub use laws::{the_lowest_free_channels_are_given, what_goes_up_can_be_written};
+pub use laws::{
+    the_channels_are_all_that_is_put_in, the_lowest_free_channels_are_given,
+    what_goes_up_can_be_written,
+};
 pub use transport::with_transport;
 pub use view::View;
 
+#[cfg(test)]
+mod kept_tests;
 #[cfg(test)]
 mod stages;
 #[cfg(test)]

@@ -120,20 +120,27 @@ pub(crate) fn told(alloc: Global, decision: Decision) -> Result<(Fate, Text), Me
     }
 }
 
-// What becomes of a request with this head and body at a stage, and its text.
+// What becomes of a request with this head and body at a stage.
+pub(crate) fn decided(
+    alloc: Global,
+    stage: Stage,
+    head: &[u8],
+    body: &[u8],
+) -> Result<Decision, Memory> {
+    let Ok(bases) = bases(alloc) else {
+        return Err(Memory);
+    };
+    let tracks = tracks(alloc)?;
+    let request = request(alloc, head, body)?;
+    accept(alloc, &view(stage, &tracks, &bases), &request)
+}
+
+// The same, and its text.
 pub(crate) fn judged(
     alloc: Global,
     stage: Stage,
     head: &[u8],
     body: &[u8],
 ) -> Result<(Fate, Text), Memory> {
-    let Ok(bases) = bases(alloc) else {
-        return Err(Memory);
-    };
-    let tracks = tracks(alloc)?;
-    let request = request(alloc, head, body)?;
-    told(
-        alloc,
-        accept(alloc, &view(stage, &tracks, &bases), &request)?,
-    )
+    told(alloc, decided(alloc, stage, head, body)?)
 }
