@@ -1,0 +1,13 @@
+//! The session that a player has with the gateway: what it is made of, and the table of its states
+//! (RFC 2326, A.2).
+//!
+//! The table takes no memory.
+#![tactic(auto)]
+
+mod parts;
+mod table;
+#[cfg(test)]
+mod tests;
+
+pub use parts::{Asked, Play, Track};
+pub use table::{State, after, allowed};

@@ -1,0 +1,41 @@
+//! What a session is made of.
+
+use gate_bytes::Text;
+use rtsp_range::Range;
+use rtsp_small::Method;
+use rtsp_transport::Pair;
+
+/// A stream that a player has set up.
+#[derive(Drop)]
+pub struct Track {
+    /// Its URI, as it was sent up.
+    pub uri: Text,
+    /// The channels on the player's connection.
+    pub client: Pair,
+    /// The number of the pair of channels on the server's connection.
+    pub pair: u8,
+}
+
+/// A PLAY that waits until what plays has ended (RFC 2326, 10.5).
+#[derive(Drop)]
+pub struct Play {
+    /// Its URI, as it will be sent up.
+    pub uri: Text,
+    /// What is to be played.
+    pub range: Range,
+    /// How fast, where the player said so.
+    pub scale: Option<Text>,
+}
+
+/// What is kept of a player's request until the server's reply comes.
+#[derive(Drop)]
+pub struct Asked {
+    /// The method of the player's request.
+    pub method: Method,
+    /// Its number.
+    pub cseq: u64,
+    /// Whether it named its session.
+    pub named: bool,
+    /// The URI that was sent up.
+    pub uri: Text,
+}

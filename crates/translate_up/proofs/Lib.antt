@@ -1,0 +1,11 @@
+pub mod ChannelLemmas
+pub mod DecideLemmas
+pub mod FreeLemmas
+pub mod LeftOutLemmas
+pub mod RangeLemmas
+pub mod ReadLemmas
+pub mod ReasonLemmas
+pub mod SoundLemmas
+pub mod TargetLemmas
+pub mod TransportLemmas
+pub mod VisibleLemmas

@@ -1,0 +1,81 @@
+-- What a player's request says of its session, its stream and its range.
+use Rattle.std.specs.Prelude.{ℕ, Bool, true, false, codes, List, Option, Some, None, is_some, option_map, if◌then◌else◌}
+use Rattle.std.specs.List.{list_any}
+use Rattle.std.specs.Str.{bytes_eq}
+use Rattle.rtsp_head.specs.Headers.{field_of}
+use Rattle.rtsp_small.specs.declared.method.Method.{Method}
+use Rattle.rtsp_small.specs.declared.method.Method.TheVariants.{Options, Describe, Setup, Play, Pause, Teardown, GetParameter, SetParameter}
+use Rattle.rtsp_small.specs.Sessions.{session_of}
+use Rattle.rtsp_small.specs.Scales.{is_scale}
+use Rattle.head_one.specs.declared.request.Request1.{Request1}
+use Rattle.session_one.specs.declared.parts.Track.{Track}
+use Rattle.session_one.specs.Table.{same_method}
+
+-- the value of a request's field
+abbrev pub field : Request1 → List ℕ → Option (List ℕ)
+field request name = field_of request.head.headers name
+
+abbrev pub is_describe : Request1 → Bool
+is_describe request = same_method request.method Describe
+
+abbrev pub is_setup : Request1 → Bool
+is_setup request = same_method request.method Setup
+
+abbrev pub is_play : Request1 → Bool
+is_play request = same_method request.method Play
+
+abbrev pub is_pause : Request1 → Bool
+is_pause request = same_method request.method Pause
+
+-- whether a request names a session (RFC 2326, 12.37)
+abbrev pub is_named : Request1 → Bool
+is_named request = is_some (field request (codes "Session"))
+
+-- the id in a Session field
+abbrev pub id_of : List ℕ → Option (List ℕ)
+id_of value = option_map (λ session. session.id) (session_of value)
+
+-- both are there, and they are one
+abbrev pub are_same : Option (List ℕ) → Option (List ℕ) → Bool
+are_same None other = false
+are_same (Some one) None = false
+are_same (Some one) (Some other) = bytes_eq one other
+
+-- whether a method is for a session that is there (RFC 2326, 10.5 to 10.7)
+abbrev pub needs_session : Method → Bool
+needs_session Options = false
+needs_session Describe = false
+needs_session Setup = false
+needs_session Play = true
+needs_session Pause = true
+needs_session Teardown = true
+needs_session GetParameter = false
+needs_session SetParameter = false
+
+-- whether a method may bring a body (RFC 2326, 10.8 and 10.9)
+abbrev pub brings_body : Method → Bool
+brings_body Options = false
+brings_body Describe = false
+brings_body Setup = false
+brings_body Play = false
+brings_body Pause = false
+brings_body Teardown = false
+brings_body GetParameter = true
+brings_body SetParameter = true
+
+-- whether a URI is that of a stream that was set up
+abbrev pub is_track : List Track → List ℕ → Bool
+is_track tracks uri = list_any (λ track. bytes_eq track.uri uri) tracks
+
+-- a value that is said only where a condition holds
+abbrev pub said_where : Bool → Option (List ℕ) → Option (List ℕ)
+said_where holds value = if holds then value else None
+
+-- a value that passes a test
+abbrev pub passing : (List ℕ → Bool) → Option (List ℕ) → Option (List ℕ)
+passing test None = None
+passing test (Some value) = said_where (test value) (Some value)
+
+-- the scale of a request, where it has one in the grammar (RFC 2326, 12.34)
+abbrev pub scale_of : Request1 → Option (List ℕ)
+scale_of request = passing is_scale (field request (codes "Scale"))

@@ -1,0 +1,31 @@
+//! What holds of every decision. Each function does nothing: its contract is the law.
+ghost use Rattle.std.specs.Prelude.{◌≡◌, ℕ, ◌<◌, ◌≤◌, ◌^◌, List, length};
+ghost use Rattle.rtsp_head.specs.Items.{Shape};
+ghost use Rattle.rtsp_transport.specs.declared.channels.Pair.{Pair};
+ghost use Rattle.head_one.specs.declared.request.Request1.{Request1};
+ghost use Rattle.session_one.specs.declared.parts.Track.{Track};
+ghost use Rattle.translate_up.specs.Channels.{free_pair, IsLowestFree};
+ghost use Rattle.translate_up.specs.Views.{Given};
+ghost use Rattle.translate_up.specs.Upward.{request_up, with_transport, without_transport};
+ghost use Rattle.translate_up.specs.Decisions.{decide};
+ghost use Rattle.translate_up.specs.Sound.{IsFit, SendsSound};
+
+/// What goes up, at once or later, can be written under every number and read back, and the channels
+/// that a player gets differ: where the server's address is one, the session's id is in the grammar,
+/// and the URI that stands for all fits into a request line.
+pub fn what_goes_up_can_be_written()
+    ensures { (given : Given) (shape : Shape) → IsFit given → length shape.bytes < 2 ^ 64
+        → SendsSound (decide given shape) }
+{}
+
+/// A player that asks for no channels gets the lowest even one that is free with the next one. The
+/// 8 streams that a session may have leave one free.
+pub fn the_lowest_free_channels_are_given()
+    ensures { (tracks : List Track) → length tracks ≤ 63 → IsLowestFree tracks (free_pair tracks) }
+{}
+
+/// Without its channels to the server, a SETUP is what was decided.
+pub fn the_channels_are_all_that_is_put_in()
+    ensures { (given : Given) (request : Request1) (uri : List ℕ) (pair : Pair)
+        → without_transport (with_transport pair (request_up given request uri)).headers ≡ (request_up given request uri).headers }
+{}

@@ -1,0 +1,31 @@
+//! What becomes of a player's request: the gateway answers it, keeps it until what plays has ended,
+//! or sends it up as a request of RTSP 2.0.
+#![tactic(auto)]
+
+mod answer;
+mod channels;
+mod decision;
+mod field;
+mod header;
+mod judge;
+mod laws;
+mod rule;
+mod transport;
+mod upward;
+mod view;
+
+pub use decision::Decision;
+pub use judge::decide;
+pub use laws::{
+    the_channels_are_all_that_is_put_in, the_lowest_free_channels_are_given,
+    what_goes_up_can_be_written,
+};
+pub use transport::with_transport;
+pub use view::View;
+
+#[cfg(test)]
+mod kept_tests;
+#[cfg(test)]
+mod stages;
+#[cfg(test)]
+mod tests;

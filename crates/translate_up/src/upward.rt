@@ -1,0 +1,138 @@
+//! Requests as they go up.
+ghost use Rattle.std.specs.Prelude.{◌≡◌, [], if◌then◌else◌, IfOk};
+ghost use Rattle.rtsp_range.specs.Meaning.{One, meaning};
+ghost use Rattle.translate_up.specs.Views.{given_of};
+ghost use Rattle.translate_up.specs.Upward.{uri_up, method_up, text_of, range_said, has_body, headers_up, request_up, asked_of};
+
+use crate::field::{
+    brings_body, is_describe, is_named, is_play, is_setup, said_where, scale_of, session_said,
+};
+use crate::header::{borrowed, push_header};
+use crate::view::View;
+use gate_bytes::{Memory, Text};
+use head_one::Request1;
+use head_two::Request2;
+use rtsp_head::Headers;
+use rtsp_range::{read_one, write};
+use rtsp_small::Method;
+use rtsp_uri::swap_authority;
+use session_one::Asked;
+use std::alloc::Global;
+
+/// The formats of times that players read (RFC 7826, 18.5).
+const UNITS: &[u8] = b"npt, smpte, smpte-30-drop, smpte-25, clock";
+
+/// The URI with the server's authority in the place of the gateway's. What is asked of the server
+/// itself is asked of what the connection is about, where that is known.
+pub(crate) fn uri_up(alloc: Global, view: &View<'_>, uri: &[u8]) -> Result<Text, Memory>
+    ensures { IfOk result (λ text. text ≡ uri_up (given_of view.now) uri.now) }
+{
+    if uri == b"*".as_slice() {
+        Text::copy(alloc, view.control.unwrap_or(b"*"))
+    } else {
+        swap_authority(alloc, &view.bases.front, &view.bases.up, uri)
+    }
+}
+
+/// A request as it goes up with this URI, without its number; a SETUP lacks its channels too.
+pub(crate) fn request_up(
+    alloc: Global,
+    view: &View<'_>,
+    request: &Request1,
+    uri: Text,
+) -> Result<Request2, Memory>
+    ensures { IfOk result (λ up. up ≡ request_up (given_of view.now) request.now uri) }
+{
+    Ok(Request2 {
+        method: Text::copy(alloc, method_up(request.method).name())?,
+        uri,
+        headers: headers_up(alloc, view, request)?,
+        body: body_up(alloc, request)?,
+    })
+}
+
+/// What is kept of a request that goes up with this URI.
+pub(crate) fn asked_of(alloc: Global, request: &Request1, uri: &[u8]) -> Result<Asked, Memory>
+    ensures { IfOk result (λ asked. asked ≡ asked_of request.now uri.now) }
+{
+    Ok(Asked {
+        method: request.method,
+        cseq: request.cseq,
+        named: is_named(request),
+        uri: Text::copy(alloc, uri)?,
+    })
+}
+
+/// The method with which a request goes up. OPTIONS is then a SET_PARAMETER that sets nothing, which
+/// keeps its session alive.
+fn method_up(method: Method) -> Method
+    ensures { result ≡ method_up method }
+{
+    match method {
+        Method::Options => Method::SetParameter,
+        other => other,
+    }
+}
+
+/// Whether a request brings a body, and may.
+fn has_body(request: &Request1) -> bool
+    ensures { result ≡ has_body request.now }
+{
+    brings_body(request.method) && request.body.len() != 0
+}
+
+/// The body that goes up.
+fn body_up(alloc: Global, request: &Request1) -> Result<Text, Memory>
+    ensures { IfOk result (λ body. body ≡ (if has_body request.now then request.now.body else [])) }
+{
+    if has_body(request) {
+        Text::copy(alloc, request.body.as_bytes())
+    } else {
+        Ok(Text::new(alloc))
+    }
+}
+
+/// The headers that go up, in their order, each where it is said.
+fn headers_up(alloc: Global, view: &View<'_>, request: &Request1) -> Result<Headers, Memory>
+    ensures { IfOk result (λ headers. headers ≡ headers_up (given_of view.now) request.now) }
+{
+    let head = &request.head;
+    let accept = said_where(is_describe(request), head.field(b"Accept"));
+    let units = said_where(is_setup(request), Some(UNITS));
+    let range = range_up(alloc, request)?;
+    let scale = said_where(is_play(request), scale_of(request));
+    let kind = said_where(has_body(request), head.field(b"Content-Type"));
+    let encoding = said_where(has_body(request), head.field(b"Content-Encoding"));
+    let mut headers = Headers::new(alloc);
+    push_header(alloc, &mut headers, b"Session", session_said(view, request))?;
+    push_header(alloc, &mut headers, b"Accept", accept)?;
+    push_header(alloc, &mut headers, b"Accept-Ranges", units)?;
+    push_header(alloc, &mut headers, b"Range", borrowed(&range))?;
+    push_header(alloc, &mut headers, b"Scale", scale)?;
+    push_header(alloc, &mut headers, b"Content-Type", kind)?;
+    push_header(alloc, &mut headers, b"Content-Encoding", encoding)?;
+    Ok(headers)
+}
+
+/// The range of a PLAY, where it has one, in the one form that both versions read.
+fn range_up(alloc: Global, request: &Request1) -> Result<Option<Text>, Memory>
+    ensures { IfOk result (λ range. range ≡ range_said request.now) }
+{
+    if !is_play(request) {
+        return Ok(None);
+    }
+    match request.head.field(b"Range") {
+        Some(value) => written_again(alloc, value),
+        None => Ok(None),
+    }
+}
+
+/// The range that a value means, in the one form that both versions read.
+fn written_again(alloc: Global, value: &[u8]) -> Result<Option<Text>, Memory>
+    ensures { IfOk result (λ range. range ≡ text_of (meaning One value.now)) }
+{
+    match read_one(value) {
+        Ok(range) => Ok(Some(write(alloc, &range)?)),
+        Err(_) => Ok(None),
+    }
+}
