@@ -1,0 +1,7 @@
+pub mod Contents
+pub mod Headers
+pub mod Infos
+pub mod Plays
+pub mod Replies
+pub mod Sessions
+pub mod Settings
