@@ -6,11 +6,13 @@ mod content;
 mod context;
 mod headers;
 mod info;
+mod law;
 mod play;
 mod reply;
 mod session;
 
 pub use context::Context;
+pub use law::{only_told_fields_count, told_replies_are_read};
 pub use reply::reply_one;
 
 #[cfg(test)]

@@ -1,0 +1,27 @@
+//! Laws over what players are told. Each holds by its contract alone: no call is made.
+ghost use Rattle.std.specs.Prelude.{◌≡◌, ℕ, List, Some, filter};
+ghost use Rattle.rtsp_head.specs.declared.header.Header.{Header};
+ghost use Rattle.rtsp_head.specs.Messages.{own_fields};
+ghost use Rattle.head_one.specs.Replies.{reply_in};
+ghost use Rattle.session_one.specs.declared.parts.Asked.{Asked};
+ghost use Rattle.translate_down.specs.Settings.{Setting};
+ghost use Rattle.translate_down.specs.Readings.{CanBeRead};
+ghost use Rattle.translate_down.specs.Replies.{Told, is_no_transport, reply_down, reply_text_of};
+
+/// The number, the body's length and Transport in the server's reply make no difference to what a
+/// player is told.
+pub fn only_told_fields_count()
+    ensures own { (setting : Setting) (asked : Asked) (code : ℕ) (body : List ℕ) (headers : List Header)
+        → reply_text_of setting asked (record { code = code; fields = own_fields headers; body = body })
+        ≡ reply_text_of setting asked (record { code = code; fields = headers; body = body }) }
+    ensures untransported { (setting : Setting) (asked : Asked) (code : ℕ) (body : List ℕ) (headers : List Header)
+        → reply_text_of setting asked (record { code = code; fields = filter is_no_transport headers; body = body })
+        ≡ reply_text_of setting asked (record { code = code; fields = headers; body = body }) }
+{}
+
+/// What a player gets is one reply, with the code, the number, the headers and the body that are
+/// told: nothing that the server wrote ends a line before its time, or begins another reply.
+pub fn told_replies_are_read()
+    ensures { (setting : Setting) (asked : Asked) (told : Told) → CanBeRead setting asked told
+        → reply_in (reply_text_of setting asked told) ≡ Some (reply_down setting asked told) }
+{}
