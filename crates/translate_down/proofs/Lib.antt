@@ -4,3 +4,4 @@ pub mod VisibleLemmas
 pub mod ValueLemmas
 pub mod InfoLemmas
 pub mod ReadLemmas
+pub mod TableLemmas

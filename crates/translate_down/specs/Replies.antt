@@ -99,7 +99,7 @@ told_whole reply = record { code = reply.code; fields = reply.head.headers; body
 abbrev pub is_no_transport : Header → Bool
 is_no_transport header = not (equal_fold header.name (codes "Transport"))
 
--- What a reply tells whose number, body's length and Transport are left out: these stand for what is one connection's
--- share of the server's numbers and channels.
+-- What a reply tells but for its number, its body's length and its Transport. Those are of the one connection to the
+-- server, on which each player has a share of the numbers and the channels.
 abbrev pub told_by : Reply2 → Told
 told_by reply = record { code = reply.code; fields = filter is_no_transport (own_fields reply.head.headers); body = reply.body }

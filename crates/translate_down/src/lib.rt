@@ -12,7 +12,7 @@ mod reply;
 mod session;
 
 pub use context::Context;
-pub use law::{only_told_fields_count, told_replies_are_read};
+pub use law::{each_header_is_told, only_told_fields_count, told_replies_are_read};
 pub use reply::reply_one;
 
 #[cfg(test)]
