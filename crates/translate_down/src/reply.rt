@@ -27,7 +27,8 @@ const PUBLIC: &[u8] =
 ///
 /// A success is 200, with the headers that this method's reply has and with the body where one was
 /// asked for. Any other code becomes that which RTSP 1.0 has for it, and tells nothing but the
-/// number, and with 551 what is not supported. What can't be read in the server's reply is left out.
+/// number, and with 551 what is not supported. What can't be read in the server's reply is left out,
+/// and so is what the context doesn't have.
 pub fn reply_one(
     alloc: Global,
     context: &Context<'_>,
