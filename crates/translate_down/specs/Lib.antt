@@ -1,0 +1,8 @@
+pub mod Contents
+pub mod Headers
+pub mod Infos
+pub mod Plays
+pub mod Readings
+pub mod Replies
+pub mod Sessions
+pub mod Settings

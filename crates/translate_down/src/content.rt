@@ -1,0 +1,129 @@
+//! The body of a reply, and what the reply tells of it.
+ghost use Rattle.std.specs.Prelude.{◌≡◌, IfOk, option_map};
+ghost use Rattle.translate_down.specs.Settings.{setting_of};
+ghost use Rattle.translate_down.specs.Contents.{describes, asks_body, brings_description, brings_body, base_value, type_value, encoding_value, media_type, names_description, is_description, is_read, body_told};
+
+use crate::Context;
+use crate::headers::copy;
+use gate_bytes::{Memory, Text, before, eq_fold, find, trim};
+use head_two::Reply2;
+use rtsp_head::Head;
+use rtsp_small::Method;
+use rtsp_uri::{rewrite_sdp, swap_authority};
+use std::alloc::Global;
+
+/// The type of session descriptions.
+const DESCRIPTION: &[u8] = b"application/sdp";
+
+/// Whether a description comes with a reply.
+fn brings_description(method: Method, body: &Text) -> bool
+    ensures { result ≡ brings_description method body.now }
+{
+    method == Method::Describe && !body.is_empty()
+}
+
+/// Whether a body comes with a reply that asked for one.
+fn brings_body(method: Method, body: &Text) -> bool
+    ensures { result ≡ brings_body method body.now }
+{
+    matches!(method, Method::Describe | Method::GetParameter) && !body.is_empty()
+}
+
+/// The value of Content-Base, with a description, under the player's address.
+pub(crate) fn base(
+    alloc: Global,
+    context: &Context<'_>,
+    method: Method,
+    reply: &Reply2,
+) -> Result<Option<Text>, Memory>
+    ensures { IfOk result (λ value. value ≡ base_value (setting_of context.now) method reply.now.head.headers reply.now.body) }
+{
+    match reply.head.field(b"Content-Base") {
+        Some(value) if brings_description(method, &reply.body) => {
+            let bases = context.bases;
+            Ok(Some(swap_authority(alloc, &bases.up, &bases.front, value)?))
+        }
+        _ => Ok(None),
+    }
+}
+
+/// The value of Content-Type, with a body.
+pub(crate) fn kind(alloc: Global, method: Method, reply: &Reply2) -> Result<Option<Text>, Memory>
+    ensures { IfOk result (λ value. value ≡ type_value method reply.now.head.headers reply.now.body) }
+{
+    if brings_body(method, &reply.body) {
+        copy(alloc, reply.head.field(b"Content-Type"))
+    } else {
+        Ok(None)
+    }
+}
+
+/// The value of Content-Encoding, with a body.
+pub(crate) fn encoding(
+    alloc: Global,
+    method: Method,
+    reply: &Reply2,
+) -> Result<Option<Text>, Memory>
+    ensures { IfOk result (λ value. value ≡ encoding_value method reply.now.head.headers reply.now.body) }
+{
+    if brings_body(method, &reply.body) {
+        copy(alloc, reply.head.field(b"Content-Encoding"))
+    } else {
+        Ok(None)
+    }
+}
+
+/// The body that a player gets: a session description under the player's address, any other as it
+/// came, and none where none was asked for.
+pub(crate) fn body(
+    alloc: Global,
+    context: &Context<'_>,
+    method: Method,
+    reply: &Reply2,
+) -> Result<Text, Memory>
+    ensures { IfOk result (λ body. body ≡ body_told (setting_of context.now) method reply.now.head.headers reply.now.body) }
+{
+    let body = reply.body.as_bytes();
+    if !brings_body(method, &reply.body) {
+        Ok(Text::new(alloc))
+    } else if is_read(method, &reply.head) {
+        rewrite_sdp(alloc, &context.bases.up, &context.bases.front, body)
+    } else {
+        Text::copy(alloc, body)
+    }
+}
+
+/// Whether the body that comes with a reply is a session description.
+fn is_read(method: Method, head: &Head) -> bool
+    ensures { result ≡ is_read method head.now.headers }
+{
+    method == Method::Describe && is_description(head)
+}
+
+/// Whether a head is that of a session description without an encoding.
+fn is_description(head: &Head) -> bool
+    ensures { result ≡ is_description head.now.headers }
+{
+    names_description(head.field(b"Content-Type")) && head.field(b"Content-Encoding").is_none()
+}
+
+/// Whether a Content-Type is that of session descriptions.
+fn names_description(value: Option<&[u8]>) -> bool
+    ensures { result ≡ names_description (option_map (λ value. value.now) value.entry) }
+{
+    match value {
+        Some(value) => eq_fold(media_type(value), DESCRIPTION),
+        None => false,
+    }
+}
+
+/// A type without its parameters: what stands before the first `;`.
+#[tactic(auto, using(rtsp_range::proofs::PlaceLemmas::place_within))]
+fn media_type(value: &[u8]) -> &[u8]
+    ensures { result.now ≡ media_type value.now }
+{
+    match find(b';', value) {
+        Some(at) => trim(before(value, at)),
+        None => trim(value),
+    }
+}

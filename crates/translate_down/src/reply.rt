@@ -1,0 +1,196 @@
+//! The server's replies as players get them.
+ghost use Rattle.std.specs.Prelude.{◌≡◌, ◌++◌, IfOk, OnOk};
+ghost use Rattle.rtsp_head.specs.Messages.{own_fields};
+ghost use Rattle.head_one.specs.Replies.{reply_text};
+ghost use Rattle.translate_down.specs.Settings.{setting_of, CanBeTold};
+ghost use Rattle.translate_down.specs.Replies.{is_success, unsupported_value, refusal_of, public_value, session_headers, play_headers, content_headers, success_headers, success_of, reply_text_of, told_whole, told_by};
+
+use crate::Context;
+use crate::content::{base, body, encoding, kind};
+use crate::headers::{copy, push};
+use crate::play::{info, range, scale};
+use crate::session::{session, transport};
+use gate_bytes::{Memory, Text};
+use head_one::{Reply1, write_reply};
+use head_two::Reply2;
+use rtsp_head::Headers;
+use rtsp_small::Method;
+use rtsp_status::to_one;
+use session_one::Asked;
+use std::alloc::Global;
+
+/// The methods of the gateway (RFC 2326, 10.1).
+const PUBLIC: &[u8] =
+    b"OPTIONS, DESCRIBE, SETUP, PLAY, PAUSE, TEARDOWN, GET_PARAMETER, SET_PARAMETER";
+
+/// The server's reply to a request of a player, as the player gets it.
+///
+/// A success is 200, with the headers that this method's reply has and with the body where one was
+/// asked for. Any other code becomes that which RTSP 1.0 has for it, and tells nothing but the
+/// number, and with 551 what is not supported. What can't be read in the server's reply is left out,
+/// and so is what the context doesn't have.
+pub fn reply_one(
+    alloc: Global,
+    context: &Context<'_>,
+    asked: &Asked,
+    reply: &Reply2,
+) -> Result<Text, Memory>
+    requires { CanBeTold (setting_of context.now) }
+    ensures { IfOk result (λ text. text ≡ reply_text_of (setting_of context.now) asked.now (told_by reply.now)) }
+{
+    if is_success(reply.code) {
+        success(alloc, context, asked, reply)
+    } else {
+        refusal(alloc, asked, reply)
+    }
+}
+
+/// Whether a code is one of success.
+fn is_success(code: u16) -> bool
+    ensures { result ≡ is_success code }
+{
+    (200..=299).contains(&code)
+}
+
+/// The text of a refusal.
+fn refusal(alloc: Global, asked: &Asked, reply: &Reply2) -> Result<Text, Memory>
+    ensures { IfOk result (λ text. text ≡ reply_text (refusal_of asked.now (told_whole reply.now))) }
+{
+    let mut headers = Headers::new(alloc);
+    push(
+        alloc,
+        &mut headers,
+        b"Unsupported",
+        unsupported(alloc, reply)?,
+    )?;
+    let refusal = Reply1 {
+        code: to_one(reply.code),
+        cseq: Some(asked.cseq),
+        headers,
+        body: Text::new(alloc),
+    };
+    write_reply(alloc, &refusal)
+}
+
+/// The value of Unsupported, with 551.
+fn unsupported(alloc: Global, reply: &Reply2) -> Result<Option<Text>, Memory>
+    ensures { IfOk result (λ value. value ≡ unsupported_value (told_whole reply.now)) }
+{
+    if reply.code == 551 {
+        copy(alloc, reply.head.field(b"Unsupported"))
+    } else {
+        Ok(None)
+    }
+}
+
+/// The text of a success.
+fn success(
+    alloc: Global,
+    context: &Context<'_>,
+    asked: &Asked,
+    reply: &Reply2,
+) -> Result<Text, Memory>
+    requires { CanBeTold (setting_of context.now) }
+    ensures { IfOk result (λ text. text ≡ reply_text (success_of (setting_of context.now) asked.now (told_whole reply.now))) }
+{
+    let success = Reply1 {
+        code: 200,
+        cseq: Some(asked.cseq),
+        headers: success_headers(alloc, context, asked, reply)?,
+        body: body(alloc, context, asked.method, reply)?,
+    };
+    write_reply(alloc, &success)
+}
+
+/// The headers of a success.
+fn success_headers(
+    alloc: Global,
+    context: &Context<'_>,
+    asked: &Asked,
+    reply: &Reply2,
+) -> Result<Headers, Memory>
+    requires { CanBeTold (setting_of context.now) }
+    ensures { IfOk result (λ headers. headers ≡ success_headers (setting_of context.now) asked.now (told_whole reply.now)) }
+{
+    let mut headers = Headers::new(alloc);
+    push_session(alloc, &mut headers, context, asked)?;
+    push_play(alloc, &mut headers, context, asked.method, reply)?;
+    push(alloc, &mut headers, b"Public", public(alloc, asked.method)?)?;
+    push_content(alloc, &mut headers, context, asked.method, reply)?;
+    Ok(headers)
+}
+
+/// Appends what is told of the session.
+fn push_session(
+    alloc: Global,
+    headers: &mut Headers,
+    context: &Context<'_>,
+    asked: &Asked,
+) -> Result<(), Memory>
+    requires { CanBeTold (setting_of context.now) }
+    ensures { OnOk result (headers.new ≡ headers.old ++ session_headers (setting_of context.now) asked.now) }
+{
+    push(alloc, headers, b"Session", session(alloc, context, asked)?)?;
+    push(
+        alloc,
+        headers,
+        b"Transport",
+        transport(alloc, context, asked.method)?,
+    )
+}
+
+/// Appends what is told of playing.
+fn push_play(
+    alloc: Global,
+    headers: &mut Headers,
+    context: &Context<'_>,
+    method: Method,
+    reply: &Reply2,
+) -> Result<(), Memory>
+    ensures { OnOk result (headers.new ≡ headers.old ++ play_headers (setting_of context.now) method reply.now.head.headers) }
+{
+    push(alloc, headers, b"Range", range(alloc, method, &reply.head)?)?;
+    push(alloc, headers, b"Scale", scale(alloc, method, &reply.head)?)?;
+    push(
+        alloc,
+        headers,
+        b"RTP-Info",
+        info(alloc, context, method, &reply.head)?,
+    )
+}
+
+/// The value of Public, with OPTIONS.
+fn public(alloc: Global, method: Method) -> Result<Option<Text>, Memory>
+    ensures { IfOk result (λ value. value ≡ public_value method) }
+{
+    if method == Method::Options {
+        copy(alloc, Some(PUBLIC))
+    } else {
+        Ok(None)
+    }
+}
+
+/// Appends what is told of the body.
+fn push_content(
+    alloc: Global,
+    headers: &mut Headers,
+    context: &Context<'_>,
+    method: Method,
+    reply: &Reply2,
+) -> Result<(), Memory>
+    ensures { OnOk result (headers.new ≡ headers.old ++ content_headers (setting_of context.now) method reply.now.head.headers reply.now.body) }
+{
+    push(
+        alloc,
+        headers,
+        b"Content-Base",
+        base(alloc, context, method, reply)?,
+    )?;
+    push(alloc, headers, b"Content-Type", kind(alloc, method, reply)?)?;
+    push(
+        alloc,
+        headers,
+        b"Content-Encoding",
+        encoding(alloc, method, reply)?,
+    )
+}
