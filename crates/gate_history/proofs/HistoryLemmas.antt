@@ -7,6 +7,7 @@ use Rattle.std.proofs.lemmas.Bool.{eq-eqb, eqb-true}
 use Rattle.head_two.specs.declared.request.Request2.{Request2}
 use Rattle.head_two.specs.Requests.{Numbered, request_in, request_text}
 use Rattle.head_two.proofs.ReadLemmas.{request_read}
+use Rattle.rtsp_uri.specs.declared.base.Bases.{Bases}
 use Rattle.gate_history.specs.declared.event.CloseWhy.{CloseWhy}
 use Rattle.gate_history.specs.declared.event.Closed.{Closed}
 use Rattle.gate_history.specs.declared.event.Closed.TheVariants.{Nobody, One, All}
@@ -17,17 +18,17 @@ use Rattle.gate_history.specs.History.{Happening, Entry, fault_in, entered, turn
 use Rattle.gate_history.specs.Follows.{Follows, IsHistory, IsNext, SpellsUp, answer_due, breach}
 
 -- a history as a whole is one of the private machine for each connection
-pub sent_alone : (T : List Entry) → IsHistory T → (i : ℕ) → sent i T ≡ hand (own i T)
-sent_alone [] h i = refl
-sent_alone (e ∷ T) h i = h.1.sent i
+pub sent_alone : (bases : Bases) (T : List Entry) → IsHistory bases T → (i : ℕ) → sent i T ≡ hand bases (own i T)
+sent_alone bases [] h i = refl
+sent_alone bases (e ∷ T) h i = h.1.sent i
 
-pub shut_alone : (T : List Entry) → IsHistory T → (i : ℕ) → shut i T ≡ close (own i T)
-shut_alone [] h i = refl
-shut_alone (e ∷ T) h i = h.1.shut i
+pub shut_alone : (bases : Bases) (T : List Entry) → IsHistory bases T → (i : ℕ) → shut i T ≡ close bases (own i T)
+shut_alone bases [] h i = refl
+shut_alone bases (e ∷ T) h i = h.1.shut i
 
-pub asked_alone : (T : List Entry) → IsHistory T → (i : ℕ) → asked i T ≡ ask (own i T)
-asked_alone [] h i = refl
-asked_alone (e ∷ T) h i = h.1.asked i
+pub asked_alone : (bases : Bases) (T : List Entry) → IsHistory bases T → (i : ℕ) → asked i T ≡ ask bases (own i T)
+asked_alone bases [] h i = refl
+asked_alone bases (e ∷ T) h i = h.1.asked i
 
 -- a number equals itself
 pub same_number : (n : ℕ) → (n == n) ≡ true
@@ -119,20 +120,20 @@ same_spelled false None (Some i) number a b x y h =
     same_up number a b x y (sym (turns_asked i (requests_in a)) ∙ h i ∙ turns_asked i (requests_in b))
 
 -- at most one entry with a given happening follows
-pub one_next : (T : List Entry) (d e : Entry) → Follows T d → Follows T e → d.happening ≡ e.happening → d ≡ e
-one_next T d e fd fe same =
-    let faults : d.outcome.fault ≡ e.outcome.fault = fd.fault ∙ ap (breach T) same ∙ sym fe.fault in
+pub one_next : (bases : Bases) (T : List Entry) (d e : Entry) → Follows bases T d → Follows bases T e → d.happening ≡ e.happening → d ≡ e
+one_next bases T d e fd fe same =
+    let faults : d.outcome.fault ≡ e.outcome.fault = fd.fault ∙ ap (breach bases T) same ∙ sym fe.fault in
     let owns : (i : ℕ) → own i (d ∷ T) ≡ own i (e ∷ T) =
     λ i. ap (λ h. cond (entered i T) (own_here i d.outcome.fault (turn T h) h) [] ++ own i T) same
     ∙ ap (λ f. cond (entered i T) (own_here i f (turn T e.happening) e.happening) [] ++ own i T) faults in
     let pieces : d.outcome.to_client ≡ e.outcome.to_client = one_piece d.outcome.to_client e.outcome.to_client
-    (λ i. append_cancel_right _ _ (sent i T) (fd.sent i ∙ ap hand (owns i) ∙ sym (fe.sent i))) in
+    (λ i. append_cancel_right _ _ (sent i T) (fd.sent i ∙ ap (hand bases) (owns i) ∙ sym (fe.sent i))) in
     let closes : d.outcome.closed ≡ e.outcome.closed = one_close d.outcome.closed e.outcome.closed (λ i. entered i T && is_empty (shut i T))
     (fd.all ∙ ap is_some faults ∙ sym fe.all)
-    (λ i. append_cancel_right _ _ (shut i T) (fd.shut i ∙ ap close (owns i) ∙ sym (fe.shut i))) in
+    (λ i. append_cancel_right _ _ (shut i T) (fd.shut i ∙ ap (close bases) (owns i) ∙ sym (fe.shut i))) in
     let asks : (i : ℕ) → cond (is_turn i (turn T e.happening)) (requests_in d.outcome.to_up) [] ≡ cond (is_turn i (turn T e.happening)) (requests_in e.outcome.to_up) [] =
     λ i. append_cancel_right _ _ (asked i T)
-    (ap (λ h. cond (is_turn i (turn T h)) (requests_in d.outcome.to_up) [] ++ asked i T) (sym same) ∙ fd.asked i ∙ ap ask (owns i) ∙ sym (fe.asked i)) in
+    (ap (λ h. cond (is_turn i (turn T h)) (requests_in d.outcome.to_up) [] ++ asked i T) (sym same) ∙ fd.asked i ∙ ap (ask bases) (owns i) ∙ sym (fe.asked i)) in
     let spelled : SpellsUp (is_some (fault_in (e ∷ T))) (answer_due e.happening) (turn T e.happening) (issued T + 1) d.outcome.to_up =
     subst (λ (h : Happening). SpellsUp (is_some (fault_in (e ∷ T))) (answer_due h) (turn T h) (issued T + 1) d.outcome.to_up) same
     (subst (λ (f : Option UpCause). SpellsUp (is_some (option_or (fault_in T) f)) (answer_due d.happening) (turn T d.happening) (issued T + 1) d.outcome.to_up) faults fd.spelled) in
@@ -141,14 +142,14 @@ one_next T d e fd fe same =
     equal_entries d e same pieces ups closes faults
 
 -- at most one history of a list of happenings
-pub one_history : (S T : List Entry) → IsHistory S → IsHistory T → map (λ (e : Entry). e.happening) S ≡ map (λ (e : Entry). e.happening) T → S ≡ T
-one_history [] [] hs ht same = refl
-one_history [] (e ∷ T) hs ht same = cc
-one_history (d ∷ S) [] hs ht same = cc
-one_history (d ∷ S) (e ∷ T) hs ht same =
+pub one_history : (bases : Bases) (S T : List Entry) → IsHistory bases S → IsHistory bases T → map (λ (e : Entry). e.happening) S ≡ map (λ (e : Entry). e.happening) T → S ≡ T
+one_history bases [] [] hs ht same = refl
+one_history bases [] (e ∷ T) hs ht same = cc
+one_history bases (d ∷ S) [] hs ht same = cc
+one_history bases (d ∷ S) (e ∷ T) hs ht same =
     let rests : map (λ (e : Entry). e.happening) S ≡ map (λ (e : Entry). e.happening) T = cc in
     let firsts : d.happening ≡ e.happening = cc in
-    let before : S ≡ T = one_history S T hs.0 ht.0 rests in
-    let follows : Follows T d = subst (λ (X : List Entry). Follows X d) before hs.1 in
-    let entry : d ≡ e = one_next T d e follows ht.1 firsts in
+    let before : S ≡ T = one_history bases S T hs.0 ht.0 rests in
+    let follows : Follows bases T d = subst (λ (X : List Entry). Follows bases X d) before hs.1 in
+    let entry : d ≡ e = one_next bases T d e follows ht.1 firsts in
     cc

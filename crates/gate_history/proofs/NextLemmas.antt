@@ -6,18 +6,20 @@ use Rattle.std.proofs.lemmas.Bool.{eqb-true}
 use Rattle.head_two.specs.declared.request.Request2.{Request2}
 use Rattle.head_two.specs.Requests.{Numbered, request_in, request_text}
 use Rattle.head_two.proofs.ReadLemmas.{request_read}
+use Rattle.rtsp_uri.specs.declared.base.Bases.{Bases}
+use Rattle.translate_up.specs.Sound.{IsSound}
 use Rattle.gate_history.specs.declared.event.CloseWhy.{CloseWhy}
 use Rattle.gate_history.specs.declared.event.CloseWhy.TheVariants as why
 use Rattle.gate_history.specs.declared.event.UpCause.{UpCause}
 use Rattle.gate_history.specs.declared.event.UpCause.TheVariants.{CseqSpent}
 use Rattle.gate_history.specs.declared.event.Outcome.{Outcome}
 use Rattle.gate_history.specs.Heard.{Heard, replies, requests, frames, faults, heard, answer_up}
-use Rattle.gate_history.specs.Machine.{Conn, PrivateEvent, up_end, step, conn_after, piece, hand, ask, close}
+use Rattle.gate_history.specs.Machine.{PrivateEvent, up_end, step, conn_after, piece, hand, ask, close}
 use Rattle.gate_history.specs.History.{Happening, enters, takes, ends, hears, Entry, fault_in, entered, turn_by, heard_turn, asker, turn, is_turn, event_of, own, pieces_to, closes_of, sent, shut, asked, issued, is_all, is_empty}
 use Rattle.gate_history.specs.Follows.{most_number, conn_in, conn_of_turn, effect_at, effect, said_breach, spent, breach_by, answer_due, IsNext, Spells, SpellsUp, Follows, IsHistory}
 use Rattle.gate_history.specs.Next.{client_piece, one_closed, up_piece, silent, outcome_with, outcome_of, next}
 use Rattle.gate_history.proofs.HistoryLemmas.{sent_alone, shut_alone, asked_alone, same_number}
-use Rattle.gate_history.proofs.SoundLemmas.{IsSound, step_asks}
+use Rattle.gate_history.proofs.SoundLemmas.{conn_fit, turn_fit, effect_asks}
 use Rattle.gate_history.proofs.OverLemmas.{IsOver, end_hand, end_ask, end_close, live_unclosed, over_hand, over_ask, over_close, own_quiet, faults_over}
 
 -- the requests in what the server was handed
@@ -25,61 +27,61 @@ abbrev requests_in : Option (List ℕ) → List Request2
 requests_in to_up = option_to_list (option_map (λ (numbered : Numbered). numbered.request) (option_and_then request_in to_up))
 
 -- what happens to a connection that is over, or took no part, changes nothing
-quiet_hand : (en : Bool) (event : Option PrivateEvent) (events : List PrivateEvent) → (en ≡ true → IsOver events) → hand (option_to_list (cond en event None) ++ events) ≡ hand events
-quiet_hand true event events over = over_hand events event (over refl)
-quiet_hand false event events over = refl
+quiet_hand : (bases : Bases) (en : Bool) (event : Option PrivateEvent) (events : List PrivateEvent) → (en ≡ true → IsOver bases events) → hand bases (option_to_list (cond en event None) ++ events) ≡ hand bases events
+quiet_hand bases true event events over = over_hand bases events event (over refl)
+quiet_hand bases false event events over = refl
 
-quiet_ask : (en : Bool) (event : Option PrivateEvent) (events : List PrivateEvent) → (en ≡ true → IsOver events) → ask (option_to_list (cond en event None) ++ events) ≡ ask events
-quiet_ask true event events over = over_ask events event (over refl)
-quiet_ask false event events over = refl
+quiet_ask : (bases : Bases) (en : Bool) (event : Option PrivateEvent) (events : List PrivateEvent) → (en ≡ true → IsOver bases events) → ask bases (option_to_list (cond en event None) ++ events) ≡ ask bases events
+quiet_ask bases true event events over = over_ask bases events event (over refl)
+quiet_ask bases false event events over = refl
 
-quiet_close : (en : Bool) (event : Option PrivateEvent) (events : List PrivateEvent) → (en ≡ true → IsOver events) → close (option_to_list (cond en event None) ++ events) ≡ close events
-quiet_close true event events over = over_close events event (over refl)
-quiet_close false event events over = refl
+quiet_close : (bases : Bases) (en : Bool) (event : Option PrivateEvent) (events : List PrivateEvent) → (en ≡ true → IsOver bases events) → close bases (option_to_list (cond en event None) ++ events) ≡ close bases events
+quiet_close bases true event events over = over_close bases events event (over refl)
+quiet_close bases false event events over = refl
 
 no_requests : (here : Bool) (more : List Request2) → cond here [] [] ++ more ≡ more
 no_requests true more = refl
 no_requests false more = refl
 
 -- After the end of the connection to the server an entry that hands out nothing follows.
-silent_follows : (T : List Entry) (h : Happening) (cause : UpCause) → IsHistory T → fault_in T ≡ Some cause → Follows T (record { happening = h; outcome = silent })
-silent_follows T h cause history ended =
+silent_follows : (bases : Bases) (T : List Entry) (h : Happening) (cause : UpCause) → IsHistory bases T → fault_in T ≡ Some cause → Follows bases T (record { happening = h; outcome = silent })
+silent_follows bases T h cause history ended =
     let e : Entry = record { happening = h; outcome = silent } in
     let event : ℕ → Option PrivateEvent = λ i. cond (is_turn i (turn T h)) (event_of h) None in
     record {
-      sent = λ i. sent_alone T history i ∙ sym (ap hand (own_quiet T e i refl) ∙ quiet_hand (entered i T) (event i) (own i T) (faults_over T history cause ended i));
-      shut = λ i. shut_alone T history i ∙ sym (ap close (own_quiet T e i refl) ∙ quiet_close (entered i T) (event i) (own i T) (faults_over T history cause ended i));
-      asked = λ i. no_requests (is_turn i (turn T h)) (asked i T) ∙ asked_alone T history i ∙ sym (ap ask (own_quiet T e i refl) ∙ quiet_ask (entered i T) (event i) (own i T) (faults_over T history cause ended i));
+      sent = λ i. sent_alone bases T history i ∙ sym (ap (hand bases) (own_quiet T e i refl) ∙ quiet_hand bases (entered i T) (event i) (own i T) (faults_over bases T history cause ended i));
+      shut = λ i. shut_alone bases T history i ∙ sym (ap (close bases) (own_quiet T e i refl) ∙ quiet_close bases (entered i T) (event i) (own i T) (faults_over bases T history cause ended i));
+      asked = λ i. no_requests (is_turn i (turn T h)) (asked i T) ∙ asked_alone bases T history i ∙ sym (ap (ask bases) (own_quiet T e i refl) ∙ quiet_ask bases (entered i T) (event i) (own i T) (faults_over bases T history cause ended i));
       spelled = subst (λ (f : Option UpCause). SpellsUp (is_some (option_or f None)) (answer_due h) (turn T h) (issued T + 1) None) (sym ended) refl;
-      fault = sym (ap (λ (f : Option UpCause). cond (is_some f) None (breach_by (turn T h) (issued T) h (effect T h).ask)) ended);
+      fault = sym (ap (λ (f : Option UpCause). cond (is_some f) None (breach_by (turn T h) (issued T) h (effect bases T h).ask)) ended);
       all = refl;
     }
 
 -- Where the connection to the server ends, it ends for every connection.
-fault_hand : (en : Bool) (events : List PrivateEvent) → hand (cond en (up_end ∷ []) [] ++ events) ≡ hand events
-fault_hand true events = ap (λ bytes. piece bytes ++ hand events) (end_hand (conn_after events).phase (conn_after events))
-fault_hand false events = refl
+fault_hand : (bases : Bases) (en : Bool) (events : List PrivateEvent) → hand bases (cond en (up_end ∷ []) [] ++ events) ≡ hand bases events
+fault_hand bases true events = ap (λ bytes. piece bytes ++ hand bases events) (end_hand bases (conn_after bases events).phase (conn_after bases events))
+fault_hand bases false events = refl
 
-fault_ask : (en : Bool) (events : List PrivateEvent) → ask (cond en (up_end ∷ []) [] ++ events) ≡ ask events
-fault_ask true events = ap (λ request. option_to_list request ++ ask events) (end_ask (conn_after events).phase (conn_after events))
-fault_ask false events = refl
+fault_ask : (bases : Bases) (en : Bool) (events : List PrivateEvent) → ask bases (cond en (up_end ∷ []) [] ++ events) ≡ ask bases events
+fault_ask bases true events = ap (λ request. option_to_list request ++ ask bases events) (end_ask bases (conn_after bases events).phase (conn_after bases events))
+fault_ask bases false events = refl
 
-fault_close : (en : Bool) (closes : List CloseWhy) (events : List PrivateEvent) → closes ≡ close events →
-    cond (en && is_empty closes) (why.Upstream ∷ []) [] ++ closes ≡ close (cond en (up_end ∷ []) [] ++ events)
-fault_close true closes events same =
+fault_close : (bases : Bases) (en : Bool) (closes : List CloseWhy) (events : List PrivateEvent) → closes ≡ close bases events →
+    cond (en && is_empty closes) (why.Upstream ∷ []) [] ++ closes ≡ close bases (cond en (up_end ∷ []) [] ++ events)
+fault_close bases true closes events same =
     ap (λ all. cond (is_empty all) (why.Upstream ∷ []) [] ++ all) same
-    ∙ sym (ap (λ one. one ++ close events) (end_close (conn_after events).phase (conn_after events)) ∙ ap (λ b. cond b (why.Upstream ∷ []) [] ++ close events) (live_unclosed events))
-fault_close false closes events same = same
+    ∙ sym (ap (λ one. one ++ close bases events) (end_close bases (conn_after bases events).phase (conn_after bases events)) ∙ ap (λ b. cond b (why.Upstream ∷ []) [] ++ close bases events) (live_unclosed bases events))
+fault_close bases false closes events same = same
 
-fault_follows : (T : List Entry) (h : Happening) (cause : UpCause) → IsHistory T → fault_in T ≡ None → breach_by (turn T h) (issued T) h (effect T h).ask ≡ Some cause →
-    Follows T (record { happening = h; outcome = outcome_with (Some cause) (turn T h) (issued T) (answer_due h) (effect T h) })
-fault_follows T h cause history open_still wrong =
+fault_follows : (bases : Bases) (T : List Entry) (h : Happening) (cause : UpCause) → IsHistory bases T → fault_in T ≡ None → breach_by (turn T h) (issued T) h (effect bases T h).ask ≡ Some cause →
+    Follows bases T (record { happening = h; outcome = outcome_with (Some cause) (turn T h) (issued T) (answer_due h) (effect bases T h) })
+fault_follows bases T h cause history open_still wrong =
     record {
-      sent = λ i. sent_alone T history i ∙ sym (fault_hand (entered i T) (own i T));
-      shut = λ i. fault_close (entered i T) (shut i T) (own i T) (shut_alone T history i);
-      asked = λ i. no_requests (is_turn i (turn T h)) (asked i T) ∙ asked_alone T history i ∙ sym (fault_ask (entered i T) (own i T));
+      sent = λ i. sent_alone bases T history i ∙ sym (fault_hand bases (entered i T) (own i T));
+      shut = λ i. fault_close bases (entered i T) (shut i T) (own i T) (shut_alone bases T history i);
+      asked = λ i. no_requests (is_turn i (turn T h)) (asked i T) ∙ asked_alone bases T history i ∙ sym (fault_ask bases (entered i T) (own i T));
       spelled = subst (λ (f : Option UpCause). SpellsUp (is_some (option_or f (Some cause))) (answer_due h) (turn T h) (issued T + 1) None) (sym open_still) refl;
-      fault = sym (ap (λ (f : Option UpCause). cond (is_some f) None (breach_by (turn T h) (issued T) h (effect T h).ask)) open_still ∙ wrong);
+      fault = sym (ap (λ (f : Option UpCause). cond (is_some f) None (breach_by (turn T h) (issued T) h (effect bases T h).ask)) open_still ∙ wrong);
       all = refl;
     }
 
@@ -107,17 +109,17 @@ other_close i j alive None other = refl
 other_close i j alive (Some one) other = ap (λ b. cond b (one ∷ []) []) other
 
 -- of the connection whose turn it is
-turn_hand : (i : ℕ) (en : Bool) (event : Option PrivateEvent) (events : List PrivateEvent) →
-    pieces_to i (client_piece (Some i) (effect_at (cond en (Some (conn_after events)) None) event).hand) ++ hand events ≡ hand (cond en (option_to_list event) [] ++ events)
-turn_hand i true None events = refl
-turn_hand i true (Some event) events = ap (λ pieces. pieces ++ hand events) (kept_piece i (step (conn_after events) event).hand)
-turn_hand i false event events = refl
+turn_hand : (bases : Bases) (i : ℕ) (en : Bool) (event : Option PrivateEvent) (events : List PrivateEvent) →
+    pieces_to i (client_piece (Some i) (effect_at bases (cond en (Some (conn_after bases events)) None) event).hand) ++ hand bases events ≡ hand bases (cond en (option_to_list event) [] ++ events)
+turn_hand bases i true None events = refl
+turn_hand bases i true (Some event) events = ap (λ pieces. pieces ++ hand bases events) (kept_piece i (step bases (conn_after bases events) event).hand)
+turn_hand bases i false event events = refl
 
-turn_close : (i : ℕ) (alive en : Bool) (event : Option PrivateEvent) (events : List PrivateEvent) →
-    closes_of i alive (one_closed (Some i) (effect_at (cond en (Some (conn_after events)) None) event).close) ++ close events ≡ close (cond en (option_to_list event) [] ++ events)
-turn_close i alive true None events = refl
-turn_close i alive true (Some event) events = ap (λ closes. closes ++ close events) (kept_close i alive (step (conn_after events) event).close)
-turn_close i alive false event events = refl
+turn_close : (bases : Bases) (i : ℕ) (alive en : Bool) (event : Option PrivateEvent) (events : List PrivateEvent) →
+    closes_of i alive (one_closed (Some i) (effect_at bases (cond en (Some (conn_after bases events)) None) event).close) ++ close bases events ≡ close bases (cond en (option_to_list event) [] ++ events)
+turn_close bases i alive true None events = refl
+turn_close bases i alive true (Some event) events = ap (λ closes. closes ++ close bases events) (kept_close i alive (step bases (conn_after bases events) event).close)
+turn_close bases i alive false event events = refl
 
 asked_read : (number : ℕ) (request : Option Request2) → number < 10 ^ 9 → IfSome request IsSound → requests_in (up_piece None number request) ≡ option_to_list request
 asked_read number None short sound = refl
@@ -125,16 +127,11 @@ asked_read number (Some request) short sound =
     let read : request_in (request_text number request) ≡ Some (record { number = number; request = request }) = request_read number request (sound number short) in
     ap (λ found. option_to_list (option_map (λ (numbered : Numbered). numbered.request) found)) read
 
-pub effect_asks : (conn : Option Conn) (event : Option PrivateEvent) → IfSome (effect_at conn event).ask IsSound
-effect_asks None event = tt
-effect_asks (Some conn) None = tt
-effect_asks (Some conn) (Some event) = step_asks conn event
-
-turn_asks : (en : Bool) (event : Option PrivateEvent) (events : List PrivateEvent) →
-    option_to_list (effect_at (cond en (Some (conn_after events)) None) event).ask ++ ask events ≡ ask (cond en (option_to_list event) [] ++ events)
-turn_asks true None events = refl
-turn_asks true (Some event) events = refl
-turn_asks false event events = refl
+turn_asks : (bases : Bases) (en : Bool) (event : Option PrivateEvent) (events : List PrivateEvent) →
+    option_to_list (effect_at bases (cond en (Some (conn_after bases events)) None) event).ask ++ ask bases events ≡ ask bases (cond en (option_to_list event) [] ++ events)
+turn_asks bases true None events = refl
+turn_asks bases true (Some event) events = refl
+turn_asks bases false event events = refl
 
 -- nine digits are enough for the next number, where a number is left
 next_short : (numbers : ℕ) (left : Bool) → nat_lt numbers most_number ≡ left → left ≡ true → numbers + 1 < 10 ^ 9
@@ -187,137 +184,137 @@ one_not_all None one = refl
 one_not_all (Some i) None = refl
 one_not_all (Some i) (Some one) = refl
 
-no_turn_effect : (T : List Entry) (turn : Option ℕ) (event : Option PrivateEvent) → turn ≡ None → (effect_at (conn_of_turn T turn) event).ask ≡ None
-no_turn_effect T None event e = refl
-no_turn_effect T (Some i) event e = cc
+no_turn_effect : (bases : Bases) (T : List Entry) (turn : Option ℕ) (event : Option PrivateEvent) → turn ≡ None → (effect_at bases (conn_of_turn bases T turn) event).ask ≡ None
+no_turn_effect bases T None event e = refl
+no_turn_effect bases T (Some i) event e = cc
 
 nobody : (en : Bool) (events : List PrivateEvent) → cond en [] [] ++ events ≡ events
 nobody true events = refl
 nobody false events = refl
 
 -- What each connection is handed, how it is closed, and what is asked for it, at an entry without a fault.
-Sends : List Entry → Option PrivateEvent → ℕ → Option ℕ → Type 0
-Sends T event i turn = pieces_to i (client_piece turn (effect_at (conn_of_turn T turn) event).hand) ++ sent i T
-    ≡ hand (cond (entered i T) (cond (is_turn i turn) (option_to_list event) []) [] ++ own i T)
+Sends : (bases : Bases) → List Entry → Option PrivateEvent → ℕ → Option ℕ → Type 0
+Sends bases T event i turn = pieces_to i (client_piece turn (effect_at bases (conn_of_turn bases T turn) event).hand) ++ sent i T
+    ≡ hand bases (cond (entered i T) (cond (is_turn i turn) (option_to_list event) []) [] ++ own i T)
 
-Shuts : List Entry → Option PrivateEvent → ℕ → Option ℕ → Type 0
-Shuts T event i turn = closes_of i (entered i T && is_empty (shut i T)) (one_closed turn (effect_at (conn_of_turn T turn) event).close) ++ shut i T
-    ≡ close (cond (entered i T) (cond (is_turn i turn) (option_to_list event) []) [] ++ own i T)
+Shuts : (bases : Bases) → List Entry → Option PrivateEvent → ℕ → Option ℕ → Type 0
+Shuts bases T event i turn = closes_of i (entered i T && is_empty (shut i T)) (one_closed turn (effect_at bases (conn_of_turn bases T turn) event).close) ++ shut i T
+    ≡ close bases (cond (entered i T) (cond (is_turn i turn) (option_to_list event) []) [] ++ own i T)
 
-Asks : List Entry → Option PrivateEvent → Option (List ℕ) → ℕ → ℕ → Option ℕ → Type 0
-Asks T event answer numbers i turn = cond (is_turn i turn) (requests_in (up_piece answer (numbers + 1) (effect_at (conn_of_turn T turn) event).ask)) [] ++ asked i T
-    ≡ ask (cond (entered i T) (cond (is_turn i turn) (option_to_list event) []) [] ++ own i T)
+Asks : (bases : Bases) → List Entry → Option PrivateEvent → Option (List ℕ) → ℕ → ℕ → Option ℕ → Type 0
+Asks bases T event answer numbers i turn = cond (is_turn i turn) (requests_in (up_piece answer (numbers + 1) (effect_at bases (conn_of_turn bases T turn) event).ask)) [] ++ asked i T
+    ≡ ask bases (cond (entered i T) (cond (is_turn i turn) (option_to_list event) []) [] ++ own i T)
 
-sends_other : (T : List Entry) (event : Option PrivateEvent) (i j : ℕ) → IsHistory T → (j == i) ≡ false → Sends T event i (Some j)
+sends_other : (bases : Bases) (T : List Entry) (event : Option PrivateEvent) (i j : ℕ) → IsHistory bases T → (j == i) ≡ false → Sends bases T event i (Some j)
 unfolding Sends
-sends_other T event i j history e =
-    ap (λ p. p ++ sent i T) (other_piece i j (effect_at (conn_in j T) event).hand e)
-    ∙ sent_alone T history i
-    ∙ sym (ap (λ b. hand (cond (entered i T) (cond b (option_to_list event) []) [] ++ own i T)) e ∙ ap hand (nobody (entered i T) (own i T)))
+sends_other bases T event i j history e =
+    ap (λ p. p ++ sent i T) (other_piece i j (effect_at bases (conn_in bases j T) event).hand e)
+    ∙ sent_alone bases T history i
+    ∙ sym (ap (λ b. hand bases (cond (entered i T) (cond b (option_to_list event) []) [] ++ own i T)) e ∙ ap (hand bases) (nobody (entered i T) (own i T)))
 
-sends_turn : (T : List Entry) (event : Option PrivateEvent) (i : ℕ) → IsHistory T → Sends T event i (Some i)
+sends_turn : (bases : Bases) (T : List Entry) (event : Option PrivateEvent) (i : ℕ) → IsHistory bases T → Sends bases T event i (Some i)
 unfolding Sends
-sends_turn T event i history =
-    ap (λ before. pieces_to i (client_piece (Some i) (effect_at (conn_in i T) event).hand) ++ before) (sent_alone T history i)
-    ∙ turn_hand i (entered i T) event (own i T)
-    ∙ ap (λ b. hand (cond (entered i T) (cond b (option_to_list event) []) [] ++ own i T)) (sym (same_number i))
+sends_turn bases T event i history =
+    ap (λ before. pieces_to i (client_piece (Some i) (effect_at bases (conn_in bases i T) event).hand) ++ before) (sent_alone bases T history i)
+    ∙ turn_hand bases i (entered i T) event (own i T)
+    ∙ ap (λ b. hand bases (cond (entered i T) (cond b (option_to_list event) []) [] ++ own i T)) (sym (same_number i))
 
-sends_here : (T : List Entry) (event : Option PrivateEvent) (i j : ℕ) (here : Bool) → IsHistory T → (j == i) ≡ here → Sends T event i (Some j)
-sends_here T event i j true history e = subst (λ (k : ℕ). Sends T event i (Some k)) (sym (eqb-true j i e)) (sends_turn T event i history)
-sends_here T event i j false history e = sends_other T event i j history e
+sends_here : (bases : Bases) (T : List Entry) (event : Option PrivateEvent) (i j : ℕ) (here : Bool) → IsHistory bases T → (j == i) ≡ here → Sends bases T event i (Some j)
+sends_here bases T event i j true history e = subst (λ (k : ℕ). Sends bases T event i (Some k)) (sym (eqb-true j i e)) (sends_turn bases T event i history)
+sends_here bases T event i j false history e = sends_other bases T event i j history e
 
-sends : (T : List Entry) (event : Option PrivateEvent) (i : ℕ) (turn : Option ℕ) → IsHistory T → Sends T event i turn
+sends : (bases : Bases) (T : List Entry) (event : Option PrivateEvent) (i : ℕ) (turn : Option ℕ) → IsHistory bases T → Sends bases T event i turn
 unfolding Sends
-sends T event i None history = sent_alone T history i ∙ sym (ap hand (nobody (entered i T) (own i T)))
-sends T event i (Some j) history = sends_here T event i j (j == i) history refl
+sends bases T event i None history = sent_alone bases T history i ∙ sym (ap (hand bases) (nobody (entered i T) (own i T)))
+sends bases T event i (Some j) history = sends_here bases T event i j (j == i) history refl
 
-shuts_other : (T : List Entry) (event : Option PrivateEvent) (i j : ℕ) → IsHistory T → (j == i) ≡ false → Shuts T event i (Some j)
+shuts_other : (bases : Bases) (T : List Entry) (event : Option PrivateEvent) (i j : ℕ) → IsHistory bases T → (j == i) ≡ false → Shuts bases T event i (Some j)
 unfolding Shuts
-shuts_other T event i j history e =
-    ap (λ p. p ++ shut i T) (other_close i j (entered i T && is_empty (shut i T)) (effect_at (conn_in j T) event).close e)
-    ∙ shut_alone T history i
-    ∙ sym (ap (λ b. close (cond (entered i T) (cond b (option_to_list event) []) [] ++ own i T)) e ∙ ap close (nobody (entered i T) (own i T)))
+shuts_other bases T event i j history e =
+    ap (λ p. p ++ shut i T) (other_close i j (entered i T && is_empty (shut i T)) (effect_at bases (conn_in bases j T) event).close e)
+    ∙ shut_alone bases T history i
+    ∙ sym (ap (λ b. close bases (cond (entered i T) (cond b (option_to_list event) []) [] ++ own i T)) e ∙ ap (close bases) (nobody (entered i T) (own i T)))
 
-shuts_turn : (T : List Entry) (event : Option PrivateEvent) (i : ℕ) → IsHistory T → Shuts T event i (Some i)
+shuts_turn : (bases : Bases) (T : List Entry) (event : Option PrivateEvent) (i : ℕ) → IsHistory bases T → Shuts bases T event i (Some i)
 unfolding Shuts
-shuts_turn T event i history =
-    ap (λ before. closes_of i (entered i T && is_empty (shut i T)) (one_closed (Some i) (effect_at (conn_in i T) event).close) ++ before) (shut_alone T history i)
-    ∙ turn_close i (entered i T && is_empty (shut i T)) (entered i T) event (own i T)
-    ∙ ap (λ b. close (cond (entered i T) (cond b (option_to_list event) []) [] ++ own i T)) (sym (same_number i))
+shuts_turn bases T event i history =
+    ap (λ before. closes_of i (entered i T && is_empty (shut i T)) (one_closed (Some i) (effect_at bases (conn_in bases i T) event).close) ++ before) (shut_alone bases T history i)
+    ∙ turn_close bases i (entered i T && is_empty (shut i T)) (entered i T) event (own i T)
+    ∙ ap (λ b. close bases (cond (entered i T) (cond b (option_to_list event) []) [] ++ own i T)) (sym (same_number i))
 
-shuts_here : (T : List Entry) (event : Option PrivateEvent) (i j : ℕ) (here : Bool) → IsHistory T → (j == i) ≡ here → Shuts T event i (Some j)
-shuts_here T event i j true history e = subst (λ (k : ℕ). Shuts T event i (Some k)) (sym (eqb-true j i e)) (shuts_turn T event i history)
-shuts_here T event i j false history e = shuts_other T event i j history e
+shuts_here : (bases : Bases) (T : List Entry) (event : Option PrivateEvent) (i j : ℕ) (here : Bool) → IsHistory bases T → (j == i) ≡ here → Shuts bases T event i (Some j)
+shuts_here bases T event i j true history e = subst (λ (k : ℕ). Shuts bases T event i (Some k)) (sym (eqb-true j i e)) (shuts_turn bases T event i history)
+shuts_here bases T event i j false history e = shuts_other bases T event i j history e
 
-shuts : (T : List Entry) (event : Option PrivateEvent) (i : ℕ) (turn : Option ℕ) → IsHistory T → Shuts T event i turn
+shuts : (bases : Bases) (T : List Entry) (event : Option PrivateEvent) (i : ℕ) (turn : Option ℕ) → IsHistory bases T → Shuts bases T event i turn
 unfolding Shuts
-shuts T event i None history = shut_alone T history i ∙ sym (ap close (nobody (entered i T) (own i T)))
-shuts T event i (Some j) history = shuts_here T event i j (j == i) history refl
+shuts bases T event i None history = shut_alone bases T history i ∙ sym (ap (close bases) (nobody (entered i T) (own i T)))
+shuts bases T event i (Some j) history = shuts_here bases T event i j (j == i) history refl
 
-asks_other : (T : List Entry) (event : Option PrivateEvent) (answer : Option (List ℕ)) (numbers i j : ℕ) → IsHistory T → (j == i) ≡ false → Asks T event answer numbers i (Some j)
+asks_other : (bases : Bases) (T : List Entry) (event : Option PrivateEvent) (answer : Option (List ℕ)) (numbers i j : ℕ) → IsHistory bases T → (j == i) ≡ false → Asks bases T event answer numbers i (Some j)
 unfolding Asks
-asks_other T event answer numbers i j history e =
-    ap (λ b. cond b (requests_in (up_piece answer (numbers + 1) (effect_at (conn_in j T) event).ask)) [] ++ asked i T) e
-    ∙ asked_alone T history i
-    ∙ sym (ap (λ b. ask (cond (entered i T) (cond b (option_to_list event) []) [] ++ own i T)) e ∙ ap ask (nobody (entered i T) (own i T)))
+asks_other bases T event answer numbers i j history e =
+    ap (λ b. cond b (requests_in (up_piece answer (numbers + 1) (effect_at bases (conn_in bases j T) event).ask)) [] ++ asked i T) e
+    ∙ asked_alone bases T history i
+    ∙ sym (ap (λ b. ask bases (cond (entered i T) (cond b (option_to_list event) []) [] ++ own i T)) e ∙ ap (ask bases) (nobody (entered i T) (own i T)))
 
-asks_turn : (T : List Entry) (event : Option PrivateEvent) (answer : Option (List ℕ)) (numbers i : ℕ) → IsHistory T → answer ≡ None →
-    spent numbers (effect_at (conn_in i T) event).ask ≡ None → Asks T event answer numbers i (Some i)
+asks_turn : (bases : Bases) (T : List Entry) (event : Option PrivateEvent) (answer : Option (List ℕ)) (numbers i : ℕ) → IsHistory bases T → answer ≡ None →
+    spent numbers (effect_at bases (conn_in bases i T) event).ask ≡ None → Asks bases T event answer numbers i (Some i)
 unfolding Asks
-asks_turn T event answer numbers i history none left =
-    ap (λ b. cond b (requests_in (up_piece answer (numbers + 1) (effect_at (conn_in i T) event).ask)) [] ++ asked i T) (same_number i)
-    ∙ ap (λ a. requests_in (up_piece a (numbers + 1) (effect_at (conn_in i T) event).ask) ++ asked i T) none
-    ∙ ap (λ r. r ++ asked i T) (numbered_read numbers (effect_at (conn_in i T) event).ask left (effect_asks (conn_in i T) event))
-    ∙ ap (λ before. option_to_list (effect_at (conn_in i T) event).ask ++ before) (asked_alone T history i)
-    ∙ turn_asks (entered i T) event (own i T)
-    ∙ ap (λ b. ask (cond (entered i T) (cond b (option_to_list event) []) [] ++ own i T)) (sym (same_number i))
+asks_turn bases T event answer numbers i history none left =
+    ap (λ b. cond b (requests_in (up_piece answer (numbers + 1) (effect_at bases (conn_in bases i T) event).ask)) [] ++ asked i T) (same_number i)
+    ∙ ap (λ a. requests_in (up_piece a (numbers + 1) (effect_at bases (conn_in bases i T) event).ask) ++ asked i T) none
+    ∙ ap (λ r. r ++ asked i T) (numbered_read numbers (effect_at bases (conn_in bases i T) event).ask left (effect_asks bases (conn_in bases i T) event (conn_fit bases i T)))
+    ∙ ap (λ before. option_to_list (effect_at bases (conn_in bases i T) event).ask ++ before) (asked_alone bases T history i)
+    ∙ turn_asks bases (entered i T) event (own i T)
+    ∙ ap (λ b. ask bases (cond (entered i T) (cond b (option_to_list event) []) [] ++ own i T)) (sym (same_number i))
 
-asks_here : (T : List Entry) (event : Option PrivateEvent) (answer : Option (List ℕ)) (numbers i j : ℕ) (here : Bool) → IsHistory T → answer ≡ None →
-    spent numbers (effect_at (conn_in j T) event).ask ≡ None → (j == i) ≡ here → Asks T event answer numbers i (Some j)
-asks_here T event answer numbers i j true history none left e =
+asks_here : (bases : Bases) (T : List Entry) (event : Option PrivateEvent) (answer : Option (List ℕ)) (numbers i j : ℕ) (here : Bool) → IsHistory bases T → answer ≡ None →
+    spent numbers (effect_at bases (conn_in bases j T) event).ask ≡ None → (j == i) ≡ here → Asks bases T event answer numbers i (Some j)
+asks_here bases T event answer numbers i j true history none left e =
     let same : j ≡ i = eqb-true j i e in
-    subst (λ (k : ℕ). Asks T event answer numbers i (Some k)) (sym same)
-    (asks_turn T event answer numbers i history none (subst (λ (k : ℕ). spent numbers (effect_at (conn_in k T) event).ask ≡ None) same left))
-asks_here T event answer numbers i j false history none left e = asks_other T event answer numbers i j history e
+    subst (λ (k : ℕ). Asks bases T event answer numbers i (Some k)) (sym same)
+    (asks_turn bases T event answer numbers i history none (subst (λ (k : ℕ). spent numbers (effect_at bases (conn_in bases k T) event).ask ≡ None) same left))
+asks_here bases T event answer numbers i j false history none left e = asks_other bases T event answer numbers i j history e
 
-asks : (T : List Entry) (event : Option PrivateEvent) (answer : Option (List ℕ)) (numbers i : ℕ) (turn : Option ℕ) → IsHistory T → ((k : ℕ) → turn ≡ Some k → answer ≡ None) →
-    spent numbers (effect_at (conn_of_turn T turn) event).ask ≡ None → Asks T event answer numbers i turn
+asks : (bases : Bases) (T : List Entry) (event : Option PrivateEvent) (answer : Option (List ℕ)) (numbers i : ℕ) (turn : Option ℕ) → IsHistory bases T → ((k : ℕ) → turn ≡ Some k → answer ≡ None) →
+    spent numbers (effect_at bases (conn_of_turn bases T turn) event).ask ≡ None → Asks bases T event answer numbers i turn
 unfolding Asks
-asks T event answer numbers i None history none left = asked_alone T history i ∙ sym (ap ask (nobody (entered i T) (own i T)))
-asks T event answer numbers i (Some j) history none left = asks_here T event answer numbers i j (j == i) history (none j refl) left refl
+asks bases T event answer numbers i None history none left = asked_alone bases T history i ∙ sym (ap (ask bases) (nobody (entered i T) (own i T)))
+asks bases T event answer numbers i (Some j) history none left = asks_here bases T event answer numbers i j (j == i) history (none j refl) left refl
 
 -- Where nothing is wrong, the entry of the machine whose turn it is follows.
-sound_follows : (T : List Entry) (h : Happening) → IsHistory T → fault_in T ≡ None → breach_by (turn T h) (issued T) h (effect T h).ask ≡ None →
-    Follows T (record { happening = h; outcome = outcome_with None (turn T h) (issued T) (answer_due h) (effect T h) })
+sound_follows : (bases : Bases) (T : List Entry) (h : Happening) → IsHistory bases T → fault_in T ≡ None → breach_by (turn T h) (issued T) h (effect bases T h).ask ≡ None →
+    Follows bases T (record { happening = h; outcome = outcome_with None (turn T h) (issued T) (answer_due h) (effect bases T h) })
 unfolding Sends Shuts Asks
-sound_follows T h history open_still right =
-    let left : spent (issued T) (effect T h).ask ≡ None = second_none (said_breach (turn T h) h) (spent (issued T) (effect T h).ask) right in
+sound_follows bases T h history open_still right =
+    let left : spent (issued T) (effect bases T h).ask ≡ None = second_none (said_breach (turn T h) h) (spent (issued T) (effect bases T h).ask) right in
     record {
-      sent = λ i. sends T (event_of h) i (turn T h) history;
-      shut = λ i. shuts T (event_of h) i (turn T h) history;
-      asked = λ i. asks T (event_of h) (answer_due h) (issued T) i (turn T h) history (turn_answer (asker T) h) left;
-      spelled = subst (λ (f : Option UpCause). SpellsUp (is_some (option_or f None)) (answer_due h) (turn T h) (issued T + 1) (up_piece (answer_due h) (issued T + 1) (effect T h).ask)) (sym open_still)
-          (answered_spells (answer_due h) (turn T h) (issued T) (effect T h).ask (no_turn_effect T (turn T h) (event_of h)) left (effect_asks (conn_of_turn T (turn T h)) (event_of h)));
-      fault = sym (ap (λ (f : Option UpCause). cond (is_some f) None (breach_by (turn T h) (issued T) h (effect T h).ask)) open_still ∙ right);
-      all = one_not_all (turn T h) (effect T h).close;
+      sent = λ i. sends bases T (event_of h) i (turn T h) history;
+      shut = λ i. shuts bases T (event_of h) i (turn T h) history;
+      asked = λ i. asks bases T (event_of h) (answer_due h) (issued T) i (turn T h) history (turn_answer (asker T) h) left;
+      spelled = subst (λ (f : Option UpCause). SpellsUp (is_some (option_or f None)) (answer_due h) (turn T h) (issued T + 1) (up_piece (answer_due h) (issued T + 1) (effect bases T h).ask)) (sym open_still)
+          (answered_spells (answer_due h) (turn T h) (issued T) (effect bases T h).ask (no_turn_effect bases T (turn T h) (event_of h)) left (effect_asks bases (conn_of_turn bases T (turn T h)) (event_of h) (turn_fit bases T (turn T h))));
+      fault = sym (ap (λ (f : Option UpCause). cond (is_some f) None (breach_by (turn T h) (issued T) h (effect bases T h).ask)) open_still ∙ right);
+      all = one_not_all (turn T h) (effect bases T h).close;
     }
 
-judged_follows : (T : List Entry) (h : Happening) (wrong : Option UpCause) → IsHistory T → fault_in T ≡ None → breach_by (turn T h) (issued T) h (effect T h).ask ≡ wrong →
-    Follows T (record { happening = h; outcome = outcome_with wrong (turn T h) (issued T) (answer_due h) (effect T h) })
-judged_follows T h None history open_still e = sound_follows T h history open_still e
-judged_follows T h (Some cause) history open_still e = fault_follows T h cause history open_still e
+judged_follows : (bases : Bases) (T : List Entry) (h : Happening) (wrong : Option UpCause) → IsHistory bases T → fault_in T ≡ None → breach_by (turn T h) (issued T) h (effect bases T h).ask ≡ wrong →
+    Follows bases T (record { happening = h; outcome = outcome_with wrong (turn T h) (issued T) (answer_due h) (effect bases T h) })
+judged_follows bases T h None history open_still e = sound_follows bases T h history open_still e
+judged_follows bases T h (Some cause) history open_still e = fault_follows bases T h cause history open_still e
 
-next_by : (T : List Entry) (h : Happening) (ended : Option UpCause) → IsHistory T → fault_in T ≡ ended → Follows T (record { happening = h; outcome = next T h })
-next_by T h (Some cause) history e =
-    let is : next T h ≡ silent = ap (λ (f : Option UpCause). cond (is_some f) silent (outcome_of (turn T h) (issued T) h (effect T h))) e in
-    subst (λ (out : Outcome). Follows T (record { happening = h; outcome = out })) (sym is) (silent_follows T h cause history e)
-next_by T h None history e =
-    let is : next T h ≡ outcome_of (turn T h) (issued T) h (effect T h) = ap (λ (f : Option UpCause). cond (is_some f) silent (outcome_of (turn T h) (issued T) h (effect T h))) e in
-    subst (λ (out : Outcome). Follows T (record { happening = h; outcome = out })) (sym is) (judged_follows T h (breach_by (turn T h) (issued T) h (effect T h).ask) history e refl)
+next_by : (bases : Bases) (T : List Entry) (h : Happening) (ended : Option UpCause) → IsHistory bases T → fault_in T ≡ ended → Follows bases T (record { happening = h; outcome = next bases T h })
+next_by bases T h (Some cause) history e =
+    let is : next bases T h ≡ silent = ap (λ (f : Option UpCause). cond (is_some f) silent (outcome_of (turn T h) (issued T) h (effect bases T h))) e in
+    subst (λ (out : Outcome). Follows bases T (record { happening = h; outcome = out })) (sym is) (silent_follows bases T h cause history e)
+next_by bases T h None history e =
+    let is : next bases T h ≡ outcome_of (turn T h) (issued T) h (effect bases T h) = ap (λ (f : Option UpCause). cond (is_some f) silent (outcome_of (turn T h) (issued T) h (effect bases T h))) e in
+    subst (λ (out : Outcome). Follows bases T (record { happening = h; outcome = out })) (sym is) (judged_follows bases T h (breach_by (turn T h) (issued T) h (effect bases T h).ask) history e refl)
 
 -- What is computed as the next entry follows.
-pub next_follows : (T : List Entry) (h : Happening) → IsHistory T → Follows T (record { happening = h; outcome = next T h })
-next_follows T h history = next_by T h (fault_in T) history refl
+pub next_follows : (bases : Bases) (T : List Entry) (h : Happening) → IsHistory bases T → Follows bases T (record { happening = h; outcome = next bases T h })
+next_follows bases T h history = next_by bases T h (fault_in T) history refl
 
 -- what goes up is read back with its number
 pub asked_reads : (numbers : ℕ) (request : Option Request2) → spent numbers request ≡ None → IfSome request IsSound →

@@ -1,187 +1,166 @@
 -- What goes up can be written and read back.
-use Rattle.std.proofs.Common.{◌≡◌, ℕ, ◌<◌, ◌≤◌, ◌^◌, Bool, true, false, cond, ◌&&◌, not, nat_lt, List, [], ◌∷◌, length, take, drop, Option, None, Some, IfSome, Result, Ok, Err, refl, ◌∙◌, ap, subst, arith}
-use Rattle.std.specs.Prelude.{codes, IsTrue}
-use Rattle.std.specs.List.{list_all}
-use Rattle.std.proofs.lemmas.Bool.{and_parts}
+use Rattle.std.proofs.Common.{◌≡◌, ℕ, ◌+◌, ◌<◌, ◌≤◌, ◌^◌, Bool, true, false, cond, ◌&&◌, nat_lt, nat_le, length, List, [], ◌∷◌, Option, None, Some, IfSome, refl, ◌∙◌, ap, subst, arith}
 use Rattle.rtsp_head.specs.Items.{Shape}
-use Rattle.rtsp_head.specs.Heads.{head_of}
-use Rattle.rtsp_head.specs.Headers.{field_of}
-use Rattle.rtsp_head.specs.Starts.{names_protocol}
-use Rattle.rtsp_head.specs.Messages.{is_added}
-use Rattle.rtsp_head.specs.Written.{is_part, is_line_text, is_value, is_start, is_header, CanBeWritten}
-use Rattle.rtsp_head.specs.declared.header.Header.{Header}
-use Rattle.rtsp_head.specs.declared.head.Head.{Head}
-use Rattle.rtsp_head.specs.declared.start.Start.{Start}
-use Rattle.rtsp_head.specs.declared.start.Start.TheVariants.{Request, Status}
 use Rattle.rtsp_head.specs.declared.item.ItemKind.{ItemKind}
 use Rattle.rtsp_head.specs.declared.item.ItemKind.TheVariants as item
-use Rattle.rtsp_head.specs.declared.fault.HeadFault.{HeadFault}
-use Rattle.rtsp_head.proofs.SoundLemmas.{read_sound, field_sound}
-use Rattle.rtsp_head.proofs.MessageLemmas.{message_sound}
-use Rattle.rtsp_small.specs.declared.method.Method.{Method}
-use Rattle.rtsp_small.specs.declared.method.Method.TheVariants.{Options, Describe, Setup, Play, Pause, Teardown, GetParameter, SetParameter}
-use Rattle.rtsp_small.specs.Methods.{method_of}
-use Rattle.head_one.specs.declared.request.Request1.{Request1}
-use Rattle.head_one.specs.declared.refusal.Refusal.{Refusal}
-use Rattle.head_one.specs.Refusals.{cseq_of, rules, first_code}
-use Rattle.head_one.specs.Requests.{accepted, judged, request_at, request_of, request_in}
-use Rattle.head_two.specs.declared.request.Request2.{Request2}
-use Rattle.head_two.specs.Messages.{version_two}
-use Rattle.head_two.specs.Requests.{IsRequest}
-use Rattle.gate_history.specs.Decisions.{Decision, answers, forwards, header_with, describe_up, by_method, decided, decide, refused, is_unbuilt}
-use Rattle.gate_history.specs.Machine.{Treated, treated_first, treated, Conn, Phase, Alive, Closed, Over, PrivateEvent, arrive, answer, end, up_end, at_once, take_request, take_item, take_reply, nothing, step_at, step}
+use Rattle.std.proofs.lemmas.Bool.{eq-eqb}
+use Rattle.rtsp_uri.specs.BaseTexts.{IsBase, is_base_text, ends_at}
+use Rattle.rtsp_uri.specs.declared.base.Bases.{Bases}
+use Rattle.session_one.specs.declared.parts.Asked.{Asked}
+use Rattle.translate_up.specs.declared.decision.Decision as up
+use Rattle.translate_up.specs.declared.decision.Decision.TheVariants.{Answer, Forward, Queue, Setup}
+use Rattle.translate_up.specs.Decisions as upward
+use Rattle.translate_up.specs.Sound.{IsSound, is_target, IsFit, SendsSound}
+use Rattle.translate_up.proofs.DecideLemmas.{decide_sound}
+use Rattle.translate_down.specs.Replies.{Told}
+use Rattle.gate_history.specs.Decisions.{Decision, answers, forwards, given, built, fits_memory, decide, describes, control_after}
+use Rattle.gate_history.specs.Machine.{Treated, treated_first, treated, Conn, Phase, Alive, Closed, Over, PrivateEvent, arrive, answer, end, up_end, Effect, at_once, take_request, take_item, take_final, take_reply, nothing, step_at, step, conn_after}
+use Rattle.gate_history.specs.History.{Entry, entered, own}
+use Rattle.gate_history.specs.Follows.{conn_in, conn_of_turn, effect_at}
 
--- a request that can be written under every number, and read back
-abbrev pub IsSound : Request2 → Type 0
-IsSound request = (number : ℕ) → number < 10 ^ 9 → IsRequest number request
+-- The URI that stands for what a connection is about, and that of its open request, can go up.
+pub record IsFitConn (conn : Conn) : Type 0 where
+  pub control : IfSome conn.control (λ uri. is_target uri ≡ true)
+  pub asked : IfSome conn.open_request (λ asked. is_target asked.uri ≡ true)
 
--- what is known of a request that was read: its URI fits into the first line, and its headers are sound
-record Read (request : Request1) : Type 0 where
-  pub uri : is_part request.uri && is_line_text request.uri ≡ true
-  pub headers : list_all is_header request.head.headers ≡ true
+short_base : (n : ℕ) → n ≤ 248 → nat_le n 248 ≡ true
+short_base n h = by_test (nat_le n 248) refl
+  where
+    by_test : (short : Bool) → nat_le n 248 ≡ short → short ≡ true
+    by_test true e = refl
+    by_test false e = absurd (grind (arith, e, h))
 
-start_uri : (method uri version : List ℕ) → is_start (Request method uri version) ≡ true → is_part uri && is_line_text uri ≡ true
-start_uri method uri version h =
-    let all = and_parts (((is_part method && not (names_protocol method)) && is_part uri) && (is_part version && names_protocol version)) ((is_line_text method && is_line_text uri) && is_line_text version) h in
-    let texts = and_parts (is_line_text method && is_line_text uri) (is_line_text version) all.1 in
-    let text = and_parts (is_line_text method) (is_line_text uri) texts.0 in
-    let parts = and_parts ((is_part method && not (names_protocol method)) && is_part uri) (is_part version && names_protocol version) all.0 in
-    let front = and_parts (is_part method && not (names_protocol method)) (is_part uri) parts.0 in
-    ap (λ t. t && is_line_text uri) front.1 ∙ text.1
+-- the text of a base is one
+base_is : (text host : List ℕ) (port : Option ℕ) → IsBase text host port → is_base_text text ≡ true
+base_is text host port base =
+    ap (λ places. nat_le (length text) 248 && ends_at (7 + length text) places) base.places
+    ∙ ap (λ ends. nat_le (length text) 248 && ends) (eq-eqb (7 + length text) (7 + length text) refl)
+    ∙ ap (λ short. short && true) (short_base (length text) base.short)
 
-accepted_read : (uri : List ℕ) (head : Head) (body : List ℕ) (method : Option Method) (cseq : Option ℕ) (request : Request1) →
-    is_part uri && is_line_text uri ≡ true → list_all is_header head.headers ≡ true → accepted uri head body method cseq ≡ Ok request → Read request
-accepted_read uri head body (Some method) (Some cseq) request u h e =
-    let made : Request1 = record { method = method; uri = uri; cseq = cseq; head = head; body = body } in
-    let same : made ≡ request = cc in
-    subst (λ (r : Request1). Read r) same (record { uri = u; headers = h })
-accepted_read uri head body (Some method) None request u h e = cc
-accepted_read uri head body None cseq request u h e = cc
+-- a request is judged by what can go up
+given_fit : (bases : Bases) (control : Option (List ℕ)) → IfSome control (λ uri. is_target uri ≡ true) → IsFit (given bases control)
+given_fit bases control fit = record { session = tt; control = fit; up = base_is bases.up.text bases.up.host bases.up.port bases.up.whole }
 
-judged_read : (code : Option ℕ) (method uri : List ℕ) (head : Head) (body : List ℕ) (request : Request1) →
-    is_part uri && is_line_text uri ≡ true → list_all is_header head.headers ≡ true → judged code method uri head body ≡ Ok request → Read request
-judged_read None method uri head body request u h e = accepted_read uri head body (method_of method) (cseq_of head.headers) request u h e
-judged_read (Some code) method uri head body request u h e = cc
+-- what goes up, and what is kept of it
+IsSoundHere : Decision → Type 0
+IsSoundHere (answers text) = Unit {0}
+IsSoundHere (forwards request asked) = IsSound request × (is_target asked.uri ≡ true)
 
-at_read : (start : Start) (head : Head) (body : List ℕ) (request : Request1) → is_start start ≡ true → list_all is_header head.headers ≡ true →
-    request_at start head body ≡ Ok request → Read request
-at_read (Request method uri version) head body request first h e =
-    judged_read (first_code (rules (record { method = method; uri = uri; version = version; headers = head.headers }))) method uri head body request (start_uri method uri version first) h e
-at_read (Status version code reason) head body request first h e = cc
+built_sound : (decision : up.Decision) → SendsSound decision → IsSoundHere (built decision)
+unfolding IsSoundHere
+built_sound (Answer text) h = tt
+built_sound (Forward request asked) h = h
+built_sound (Queue play text) h = tt
+built_sound (Setup request asked pair) h = tt
 
-of_read : (found : Result Head HeadFault) (body : List ℕ) (request : Request1) → ((head : Head) → found ≡ Ok head → CanBeWritten head.start head.headers) →
-    request_of found body ≡ Ok request → Read request
-of_read (Ok head) body request can e = let sound = can head refl in at_read head.start head body request sound.start sound.headers e
-of_read (Err fault) body request can e = cc
+fits_sound : (fits : Bool) (decision : Decision) → (fits ≡ true → IsSoundHere decision) → IsSoundHere (cond fits decision (answers []))
+unfolding IsSoundHere
+fits_sound true decision h = h refl
+fits_sound false decision h = tt
 
--- A request that was read has sound parts.
-request_sound : (shape : Shape) (request : Request1) → request_in shape ≡ Ok request → Read request
-request_sound shape request e = of_read (head_of (take shape.head shape.bytes)) (drop shape.head shape.bytes) request (read_sound (take shape.head shape.bytes)) e
+shorter : (bytes : List ℕ) → nat_lt (length bytes) (2 ^ 64) ≡ true → length bytes < 2 ^ 64
+shorter bytes e = grind (arith, e)
 
-accept_sound : (value : Option (List ℕ)) → IfSome value (λ v. IsTrue (is_value v)) → list_all is_header (header_with (codes "Accept") value) ≡ true
-accept_sound None h = refl
-accept_sound (Some value) h = ap (λ t. t && true) h
+here_sound : (bases : Bases) (control : Option (List ℕ)) (shape : Shape) → IfSome control (λ uri. is_target uri ≡ true) → IsSoundHere (decide bases control shape)
+here_sound bases control shape fit =
+    fits_sound (fits_memory shape) (built (upward.decide (given bases control) shape))
+    (λ e. built_sound (upward.decide (given bases control) shape) (decide_sound (given bases control) shape (given_fit bases control fit) (shorter shape.bytes e)))
 
-accept_own : (value : Option (List ℕ)) → list_all (λ header. not (is_added header)) (header_with (codes "Accept") value) ≡ true
-accept_own None = refl
-accept_own (Some value) = refl
+-- Of one effect: what goes up is sound, and the connection stays fit.
+pub record IsSoundEffect (effect : Effect) : Type 0 where
+  pub ask : IfSome effect.ask IsSound
+  pub conn : IsFitConn effect.conn
 
-accept_few : (value : Option (List ℕ)) → length (header_with (codes "Accept") value) ≤ 1
-accept_few None = omega arith
-accept_few (Some value) = omega arith
+nothing_sound : (conn : Conn) → IsFitConn conn → IsSoundEffect (nothing conn)
+nothing_sound conn fit = record { ask = tt; conn = fit }
 
-describe_start : (uri : List ℕ) → is_part uri && is_line_text uri ≡ true → is_start (Request (codes "DESCRIBE") uri version_two) ≡ true
-describe_start uri h =
-    let parts = and_parts (is_part uri) (is_line_text uri) h in
-    ap (λ t. (t && true) && (is_line_text uri && true)) parts.0 ∙ ap (λ t. t && true) parts.1
+-- of requests that wait
+record IsSoundTreated (t : Treated) : Type 0 where
+  pub ask : IfSome t.ask IsSound
+  pub asked : IfSome t.open_request (λ asked. is_target asked.uri ≡ true)
 
--- A DESCRIBE that goes up can be written and read back.
-describe_sound : (request : Request1) → Read request → IsSound (describe_up request)
-describe_sound request read number short =
-    let value = field_of request.head.headers (codes "Accept") in
-    let accept = header_with (codes "Accept") value in
-    let few : length accept ≤ 1 = accept_few value in
-    record {
-      short = short;
-      writable = message_sound (Request (codes "DESCRIBE") request.uri version_two) (Some number) accept [] (describe_start request.uri read.uri) (omega arith) (omega arith) (omega arith)
-          (accept_sound value (field_sound request.head.headers (codes "Accept") read.headers));
-      own = accept_own value;
-    }
+first_sound : (decision : Decision) (more : List Shape) (later : Treated) → IsSoundHere decision → IsSoundTreated later → IsSoundTreated (treated_first decision more later)
+unfolding IsSoundHere
+first_sound (answers text) more later h rest = record { ask = rest.ask; asked = rest.asked }
+first_sound (forwards request asked) more later h rest = record { ask = h.0; asked = h.1 }
 
-method_sound : (method : Method) (request : Request1) (up : Request2) (cseq : ℕ) → Read request → by_method method request ≡ forwards up cseq → IsSound up
-method_sound Options request up cseq read e = cc
-method_sound Describe request up cseq read e =
-    let same : describe_up request ≡ up = cc in
-    subst (λ (r : Request2). IsSound r) same (describe_sound request read)
-method_sound Setup request up cseq read e = cc
-method_sound Play request up cseq read e = cc
-method_sound Pause request up cseq read e = cc
-method_sound Teardown request up cseq read e = cc
-method_sound GetParameter request up cseq read e = cc
-method_sound SetParameter request up cseq read e = cc
+treated_sound : (bases : Bases) (control : Option (List ℕ)) (shapes : List Shape) → IfSome control (λ uri. is_target uri ≡ true) → IsSoundTreated (treated bases control shapes)
+treated_sound bases control [] fit = record { ask = tt; asked = tt }
+treated_sound bases control (shape ∷ more) fit = first_sound (decide bases control shape) more (treated bases control more) (here_sound bases control shape fit) (treated_sound bases control more fit)
 
-taken_sound : (named : Bool) (text : List ℕ) (request : Request1) (up : Request2) (cseq : ℕ) → Read request →
-    cond named (answers text) (by_method request.method request) ≡ forwards up cseq → IsSound up
-taken_sound true text request up cseq read e = cc
-taken_sound false text request up cseq read e = method_sound request.method request up cseq read e
+once_sound : (control : Option (List ℕ)) (waiting : List Shape) (decision : Decision) → IfSome control (λ uri. is_target uri ≡ true) → IsSoundHere decision → IsSoundEffect (at_once control waiting decision)
+unfolding IsSoundHere
+once_sound control waiting (answers text) fit h = record { ask = tt; conn = record { control = fit; asked = tt } }
+once_sound control waiting (forwards request asked) fit h = record { ask = h.0; conn = record { control = fit; asked = h.1 } }
 
-refused_sound : (unbuilt : Bool) (refusal : Refusal) (up : Request2) (cseq : ℕ) → refused unbuilt refusal ≡ forwards up cseq → IsSound up
-refused_sound true refusal up cseq e = cc
-refused_sound false refusal up cseq e = cc
+request_sound : (bases : Bases) (open_request : Option Asked) (conn : Conn) (shape : Shape) → conn.open_request ≡ open_request → IsFitConn conn → IsSoundEffect (take_request bases open_request conn shape)
+request_sound bases (Some asked) conn shape opens fit =
+    nothing_sound _ (record { control = fit.control; asked = subst (λ (one : Option Asked). IfSome one (λ asked. is_target asked.uri ≡ true)) opens fit.asked })
+request_sound bases None conn shape opens fit = once_sound conn.control conn.waiting (decide bases conn.control shape) fit.control (here_sound bases conn.control shape fit.control)
 
-decided_sound : (unbuilt : Bool) (found : Result Request1 Refusal) (up : Request2) (cseq : ℕ) → ((request : Request1) → found ≡ Ok request → Read request) →
-    decided unbuilt found ≡ forwards up cseq → IsSound up
-decided_sound unbuilt (Ok request) up cseq read e = taken_sound _ _ request up cseq (read request refl) e
-decided_sound unbuilt (Err refusal) up cseq read e = refused_sound unbuilt refusal up cseq e
+item_sound : (bases : Bases) (kind : ItemKind) (conn : Conn) (shape : Shape) → IsFitConn conn → IsSoundEffect (take_item bases kind conn shape)
+item_sound bases item.Request conn shape fit = request_sound bases conn.open_request conn shape refl fit
+item_sound bases item.Response conn shape fit = nothing_sound conn fit
+item_sound bases item.Frame conn shape fit = nothing_sound conn fit
+item_sound bases (item.Bad kind) conn shape fit = record { ask = tt; conn = record { control = fit.control; asked = fit.asked } }
 
-decide_sound : (shape : Shape) (up : Request2) (cseq : ℕ) → decide shape ≡ forwards up cseq → IsSound up
-decide_sound shape up cseq e = decided_sound (is_unbuilt (head_of (take shape.head shape.bytes))) (request_in shape) up cseq (request_sound shape) e
+control_by : (sets : Bool) (uri : List ℕ) (control : Option (List ℕ)) → is_target uri ≡ true → IfSome control (λ uri. is_target uri ≡ true) → IfSome (cond sets (Some uri) control) (λ uri. is_target uri ≡ true)
+control_by true uri control one fit = one
+control_by false uri control one fit = fit
 
-first_sound : (decision : Decision) (more : List Shape) (later : Treated) → ((up : Request2) (cseq : ℕ) → decision ≡ forwards up cseq → IsSound up) →
-    IfSome later.ask IsSound → IfSome (treated_first decision more later).ask IsSound
-first_sound (answers text) more later h rest = rest
-first_sound (forwards up cseq) more later h rest = h up cseq refl
+control_fit : (asked : Asked) (code : ℕ) (control : Option (List ℕ)) → is_target asked.uri ≡ true → IfSome control (λ uri. is_target uri ≡ true) → IfSome (control_after asked code control) (λ uri. is_target uri ≡ true)
+control_fit asked code control one fit = control_by (describes asked code) asked.uri control one fit
 
-treated_sound : (shapes : List Shape) → IfSome (treated shapes).ask IsSound
-treated_sound [] = tt
-treated_sound (shape ∷ more) = first_sound (decide shape) more (treated more) (decide_sound shape) (treated_sound more)
+final_sound : (bases : Bases) (phase : Phase) (asked : Asked) (conn : Conn) (told : Told) → is_target asked.uri ≡ true → IsFitConn conn → IsSoundEffect (take_final bases phase asked conn told)
+final_sound bases Alive asked conn told one fit =
+    let control = control_after asked told.code conn.control in
+    let fits = control_fit asked told.code conn.control one fit.control in
+    let t = treated_sound bases control conn.waiting fits in
+    record { ask = t.ask; conn = record { control = fits; asked = t.asked } }
+final_sound bases Closed asked conn told one fit = nothing_sound _ (record { control = control_fit asked told.code conn.control one fit.control; asked = tt })
+final_sound bases Over asked conn told one fit = nothing_sound conn fit
 
-once_sound : (waiting : List Shape) (decision : Decision) → ((up : Request2) (cseq : ℕ) → decision ≡ forwards up cseq → IsSound up) → IfSome (at_once waiting decision).ask IsSound
-once_sound waiting (answers text) h = tt
-once_sound waiting (forwards up cseq) h = h up cseq refl
+reply_sound : (bases : Bases) (phase : Phase) (open_request : Option Asked) (conn : Conn) (told : Told) → conn.open_request ≡ open_request → IsFitConn conn → IsSoundEffect (take_reply bases phase open_request conn told)
+reply_sound bases phase None conn told opens fit = nothing_sound conn fit
+reply_sound bases phase (Some asked) conn told opens fit =
+    final_sound bases phase asked conn told (subst (λ (one : Option Asked). IfSome one (λ asked. is_target asked.uri ≡ true)) opens fit.asked) fit
 
-request_asks : (open_request : Option ℕ) (waiting : List Shape) (shape : Shape) → IfSome (take_request open_request waiting shape).ask IsSound
-request_asks (Some cseq) waiting shape = tt
-request_asks None waiting shape = once_sound waiting (decide shape) (decide_sound shape)
+answer_sound : (bases : Bases) (early : Bool) (conn : Conn) (told : Told) → IsFitConn conn → IsSoundEffect (cond early (nothing conn) (take_reply bases conn.phase conn.open_request conn told))
+answer_sound bases true conn told fit = nothing_sound conn fit
+answer_sound bases false conn told fit = reply_sound bases conn.phase conn.open_request conn told refl fit
 
-item_asks : (kind : ItemKind) (conn : Conn) (shape : Shape) → IfSome (take_item kind conn shape).ask IsSound
-item_asks item.Request conn shape = request_asks conn.open_request conn.waiting shape
-item_asks item.Response conn shape = tt
-item_asks item.Frame conn shape = tt
-item_asks (item.Bad kind) conn shape = tt
+at_sound : (bases : Bases) (phase : Phase) (conn : Conn) (event : PrivateEvent) → IsFitConn conn → IsSoundEffect (step_at bases phase conn event)
+at_sound bases Alive conn (arrive shape) fit = item_sound bases shape.kind conn shape fit
+at_sound bases Alive conn (answer told) fit = answer_sound bases (nat_lt told.code 200) conn told fit
+at_sound bases Alive conn end fit = record { ask = tt; conn = record { control = fit.control; asked = fit.asked } }
+at_sound bases Alive conn up_end fit = record { ask = tt; conn = record { control = fit.control; asked = fit.asked } }
+at_sound bases Closed conn (arrive shape) fit = nothing_sound conn fit
+at_sound bases Closed conn (answer told) fit = answer_sound bases (nat_lt told.code 200) conn told fit
+at_sound bases Closed conn end fit = nothing_sound conn fit
+at_sound bases Closed conn up_end fit = record { ask = tt; conn = record { control = fit.control; asked = fit.asked } }
+at_sound bases Over conn event fit = nothing_sound conn fit
 
-reply_asks : (phase : Phase) (open_request : Option ℕ) (conn : Conn) (code : ℕ) (fields : List Header) (body : List ℕ) → IfSome (take_reply phase open_request conn code fields body).ask IsSound
-reply_asks Alive (Some cseq) conn code fields body = treated_sound conn.waiting
-reply_asks Alive None conn code fields body = tt
-reply_asks Closed open_request conn code fields body = tt
-reply_asks Over open_request conn code fields body = tt
+-- Whatever the machine asks can be written and read back, and the connection stays fit for that.
+pub step_sound : (bases : Bases) (conn : Conn) (event : PrivateEvent) → IsFitConn conn → IsSoundEffect (step bases conn event)
+step_sound bases conn event fit = at_sound bases conn.phase conn event fit
 
-answer_asks : (early : Bool) (conn : Conn) (code : ℕ) (fields : List Header) (body : List ℕ) →
-    IfSome (cond early (nothing conn) (take_reply conn.phase conn.open_request conn code fields body)).ask IsSound
-answer_asks true conn code fields body = tt
-answer_asks false conn code fields body = reply_asks conn.phase conn.open_request conn code fields body
+pub after_fit : (bases : Bases) (events : List PrivateEvent) → IsFitConn (conn_after bases events)
+after_fit bases [] = record { control = tt; asked = tt }
+after_fit bases (event ∷ events) = (step_sound bases (conn_after bases events) event (after_fit bases events)).conn
 
-at_asks : (phase : Phase) (conn : Conn) (event : PrivateEvent) → IfSome (step_at phase conn event).ask IsSound
-at_asks Alive conn (arrive shape) = item_asks shape.kind conn shape
-at_asks Alive conn (answer code fields body) = answer_asks (nat_lt code 200) conn code fields body
-at_asks Alive conn end = tt
-at_asks Alive conn up_end = tt
-at_asks Closed conn (arrive shape) = tt
-at_asks Closed conn (answer code fields body) = answer_asks (nat_lt code 200) conn code fields body
-at_asks Closed conn end = tt
-at_asks Closed conn up_end = tt
-at_asks Over conn event = tt
+in_by : (bases : Bases) (en : Bool) (events : List PrivateEvent) → IfSome (cond en (Some (conn_after bases events)) None) IsFitConn
+in_by bases true events = after_fit bases events
+in_by bases false events = tt
 
--- Whatever the machine asks can be written and read back.
-pub step_asks : (conn : Conn) (event : PrivateEvent) → IfSome (step conn event).ask IsSound
-step_asks conn event = at_asks conn.phase conn event
+-- so is each connection of a history
+pub conn_fit : (bases : Bases) (i : ℕ) (T : List Entry) → IfSome (conn_in bases i T) IsFitConn
+conn_fit bases i T = in_by bases (entered i T) (own i T)
+
+pub turn_fit : (bases : Bases) (T : List Entry) (turn : Option ℕ) → IfSome (conn_of_turn bases T turn) IsFitConn
+turn_fit bases T None = tt
+turn_fit bases T (Some i) = conn_fit bases i T
+
+pub effect_asks : (bases : Bases) (conn : Option Conn) (event : Option PrivateEvent) → IfSome conn IsFitConn → IfSome (effect_at bases conn event).ask IsSound
+effect_asks bases None event fit = tt
+effect_asks bases (Some conn) None fit = tt
+effect_asks bases (Some conn) (Some event) fit = (step_sound bases conn event fit).ask

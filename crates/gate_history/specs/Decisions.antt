@@ -1,122 +1,65 @@
--- What the gateway does with a request of a player that is not busy. So far two methods are built, OPTIONS and
--- DESCRIBE, and a session can't be set up. This project's own.
-use Rattle.std.specs.Prelude.{ℕ, Bool, true, false, ◌==◌, ◌&&◌, not, nat_le, is_some, codes, List, [], ◌∷◌, ◌++◌, length, take, Option, Some, None, Result, Ok, Err, if◌then◌else◌}
-use Rattle.std.specs.Str.{bytes_eq}
-use Rattle.rtsp_head.specs.Heads.{head_of}
-use Rattle.rtsp_head.specs.Headers.{field_of}
+-- What becomes of a player's request, and what a reply of the server changes. A session can't be set up yet, so each
+-- player is one without a session. This project's own.
+use Rattle.std.specs.Prelude.{ℕ, ◌^◌, nat_lt, Bool, false, ◌&&◌, List, [], length, Option, Some, None, if◌then◌else◌}
 use Rattle.rtsp_head.specs.Items.{Shape}
-use Rattle.rtsp_head.specs.declared.header.Header.{Header}
-use Rattle.rtsp_head.specs.declared.head.Head.{Head}
-use Rattle.rtsp_head.specs.declared.start.Start.{Start}
-use Rattle.rtsp_head.specs.declared.start.Start.TheVariants.{Request, Status}
-use Rattle.rtsp_head.specs.declared.fault.HeadFault.{HeadFault}
-use Rattle.rtsp_small.specs.declared.method.Method.{Method}
-use Rattle.rtsp_small.specs.declared.method.Method.TheVariants.{Options, Describe, Setup, Play, Pause, Teardown, GetParameter, SetParameter}
-use Rattle.rtsp_small.specs.Methods.{method_of}
-use Rattle.head_one.specs.declared.request.Request1.{Request1}
-use Rattle.head_one.specs.declared.refusal.Refusal.{Refusal}
-use Rattle.head_one.specs.Refusals.{version_one, cseq_of}
-use Rattle.head_one.specs.Requests.{request_in}
-use Rattle.head_one.specs.Replies.{reply_text}
+use Rattle.rtsp_uri.specs.declared.base.Bases.{Bases}
+use Rattle.rtsp_small.specs.declared.method.Method.TheVariants.{Describe}
 use Rattle.head_two.specs.declared.request.Request2.{Request2}
+use Rattle.session_one.specs.declared.table.State.TheVariants.{Init}
+use Rattle.session_one.specs.declared.parts.Asked.{Asked}
+use Rattle.session_one.specs.Table.{same_method}
+use Rattle.translate_up.specs.Views.{Given}
+use Rattle.translate_up.specs.Answers.{answer_text}
+use Rattle.translate_up.specs.declared.decision.Decision as up
+use Rattle.translate_up.specs.declared.decision.Decision.TheVariants.{Answer, Forward, Queue, Setup}
+use Rattle.translate_up.specs.Decisions as upward
+use Rattle.translate_down.specs.Settings.{Setting}
+use Rattle.translate_down.specs.Replies.{Told, is_success, reply_text_of}
 
--- a header with this value, where there is one
-abbrev pub header_with : List ℕ → Option (List ℕ) → List Header
-header_with name None = []
-header_with name (Some value) = record { name = name; value = value } ∷ []
-
--- the answer with this code, and the fields beside the number
-abbrev pub answer_text : ℕ → Option ℕ → List Header → List ℕ
-answer_text code cseq headers = reply_text (record { code = code; cseq = cseq; headers = headers; body = [] })
-
--- a refusal tells the number where it could be read, and with 551 what is not supported (RFC 2326, 12.41)
-abbrev pub refusal_text : Refusal → List ℕ
-refusal_text refusal = answer_text refusal.code refusal.cseq (header_with (codes "Unsupported") refusal.unsupported)
-
--- the methods that the gateway has (RFC 2326, 12.28)
-abbrev pub public_header : List Header
-public_header = header_with (codes "Public") (Some (codes "OPTIONS, DESCRIBE, SETUP, PLAY, PAUSE, TEARDOWN, GET_PARAMETER, SET_PARAMETER"))
-
--- a request is answered by the gateway, or goes up; its client's number is kept for the reply
+-- A request is answered by the gateway, or goes up; what is kept of it until the reply comes goes with it.
 pub data Decision : Type 0 where
   answers : (text : List ℕ) → Decision
-  forwards : (request : Request2) → (cseq : ℕ) → Decision
+  forwards : (request : Request2) → (asked : Asked) → Decision
 
-abbrev pub is_built : Method → Bool
-is_built Options = true
-is_built Describe = true
-is_built Setup = false
-is_built Play = false
-is_built Pause = false
-is_built Teardown = false
-is_built GetParameter = false
-is_built SetParameter = false
-
--- a DESCRIBE as it goes up (RFC 7826, 13.2): what the player accepts is handed on
-abbrev pub describe_up : Request1 → Request2
-describe_up request = record {
-  method = codes "DESCRIBE";
-  uri = request.uri;
-  headers = header_with (codes "Accept") (field_of request.head.headers (codes "Accept"));
-  body = [];
+-- what a request of a player is judged by, with the URI that stands for what its connection is about
+abbrev pub given : Bases → Option (List ℕ) → Given
+given bases control = record {
+  state = Init;
+  session = None;
+  tracks = [];
+  queued = 0;
+  control = control;
+  full = false;
+  front = bases.front.text;
+  up = bases.up.text;
 }
 
-abbrev pub by_method : Method → Request1 → Decision
-by_method Options request = answers (answer_text 200 (Some request.cseq) public_header)
-by_method Describe request = forwards (describe_up request) request.cseq
-by_method Setup request = answers (answer_text 501 (Some request.cseq) [])
-by_method Play request = answers (answer_text 501 (Some request.cseq) [])
-by_method Pause request = answers (answer_text 501 (Some request.cseq) [])
-by_method Teardown request = answers (answer_text 501 (Some request.cseq) [])
-by_method GetParameter request = answers (answer_text 501 (Some request.cseq) [])
-by_method SetParameter request = answers (answer_text 501 (Some request.cseq) [])
+-- A SETUP that would go up is answered 501. No PLAY waits, since nothing plays.
+abbrev pub built : up.Decision → Decision
+built (Answer text) = answers text
+built (Forward request asked) = forwards request asked
+built (Queue play text) = answers text
+built (Setup request asked pair) = answers (answer_text 501 (Some asked.cseq) [])
 
--- A request of a method that is built may name no session, since there is none.
-abbrev pub accepted : Request1 → Decision
-accepted request =
-    if is_built request.method && is_some (field_of request.head.headers (codes "Session")) then answers (answer_text 454 (Some request.cseq) [])
-    else by_method request.method request
+-- no item has more bytes than memory has places
+abbrev pub fits_memory : Shape → Bool
+fits_memory shape = nat_lt (length shape.bytes) (2 ^ 64)
 
--- A method that is not built is refused before what is required and what is named are looked at.
-abbrev pub names_unbuilt : Option Method → Bool
-names_unbuilt None = false
-names_unbuilt (Some method) = not (is_built method)
+-- What is done with a request. Nothing is said of one that no memory holds, since it never comes.
+abbrev pub decide : Bases → Option (List ℕ) → Shape → Decision
+decide bases control shape = if fits_memory shape then built (upward.decide (given bases control) shape) else answers []
 
-abbrev pub is_unbuilt_at : Start → List Header → Bool
-is_unbuilt_at (Request method uri version) headers = bytes_eq version version_one && is_some (cseq_of headers) && names_unbuilt (method_of method)
-is_unbuilt_at (Status version code reason) headers = false
+-- what a reply is written for
+abbrev pub setting : Bases → Setting
+setting bases = record { front = bases.front.text; up = bases.up.text; session = None; client = None; ssrc = None; timeout = None }
 
-abbrev pub is_unbuilt : Result Head HeadFault → Bool
-is_unbuilt (Ok head) = is_unbuilt_at head.start head.headers
-is_unbuilt (Err fault) = false
+-- the server's reply as its player gets it
+abbrev pub reply_down : Bases → Asked → Told → List ℕ
+reply_down bases asked told = reply_text_of (setting bases) asked told
 
-abbrev pub refused : Bool → Refusal → Decision
-refused unbuilt refusal = if unbuilt then answers (answer_text 501 refusal.cseq []) else answers (refusal_text refusal)
+-- A description that was found tells what the connection is about: a request of the server itself then speaks of it.
+abbrev pub describes : Asked → ℕ → Bool
+describes asked code = is_success code && same_method asked.method Describe
 
-abbrev pub decided : Bool → Result Request1 Refusal → Decision
-decided unbuilt (Ok request) = accepted request
-decided unbuilt (Err refusal) = refused unbuilt refusal
-
--- what is done with a request
-abbrev pub decide : Shape → Decision
-decide shape = decided (is_unbuilt (head_of (take shape.head shape.bytes))) (request_in shape)
-
--- whether a code is one of success (RFC 7826, 17)
-abbrev pub is_success : ℕ → Bool
-is_success code = nat_le 200 code && nat_le code 299
-
--- what a reply to a DESCRIBE tells of its body, where it has one
-abbrev pub described_by : List Header → List Header
-described_by fields =
-    header_with (codes "Content-Base") (field_of fields (codes "Content-Base"))
-    ++ header_with (codes "Content-Type") (field_of fields (codes "Content-Type"))
-    ++ header_with (codes "Content-Encoding") (field_of fields (codes "Content-Encoding"))
-
-abbrev pub described : List Header → List ℕ → List Header
-described fields body = if length body == 0 then [] else described_by fields
-
--- The server's reply to a DESCRIBE as its player gets it: a success as 200 with the body, any other code as 502.
-abbrev pub reply_down : ℕ → ℕ → List Header → List ℕ → List ℕ
-reply_down cseq code fields body =
-    if is_success code then reply_text (record { code = 200; cseq = Some cseq; headers = described fields body; body = body })
-    else answer_text 502 (Some cseq) []
+abbrev pub control_after : Asked → ℕ → Option (List ℕ) → Option (List ℕ)
+control_after asked code control = if describes asked code then Some asked.uri else control

@@ -1,8 +1,10 @@
 -- When an entry follows a history (this project's own).
 use Rattle.std.specs.Prelude.{◌≡◌, ℕ, ◌+◌, nat_lt, Bool, true, false, is_some, List, [], ◌∷◌, Option, Some, None, IfSome, if◌then◌else◌}
 use Rattle.std.specs.Option.{option_or}
+use Rattle.rtsp_uri.specs.declared.base.Bases.{Bases}
 use Rattle.head_two.specs.declared.request.Request2.{Request2}
 use Rattle.head_two.specs.Requests.{request_text, IsRequest}
+use Rattle.session_one.specs.declared.parts.Asked.{Asked}
 use Rattle.gate_history.specs.declared.event.UpCause.{UpCause}
 use Rattle.gate_history.specs.declared.event.UpCause.TheVariants.{Framing, UnknownReply, CseqSpent}
 use Rattle.gate_history.specs.Heard.{Heard, replies, requests, frames, faults, heard, answer_up}
@@ -14,11 +16,11 @@ unfoldable pub most_number : ℕ
 most_number = 999999999
 
 -- connection i as the private machine has it, where it entered
-abbrev pub conn_in : ℕ → List Entry → Option Conn
-conn_in i earlier = if entered i earlier then Some (conn_after (own i earlier)) else None
+abbrev pub conn_in : Bases → ℕ → List Entry → Option Conn
+conn_in bases i earlier = if entered i earlier then Some (conn_after bases (own i earlier)) else None
 
 -- whether a request of connection i would wait: it is alive, and another request of it is open
-abbrev pub busy_at : Phase → Option ℕ → Bool
+abbrev pub busy_at : Phase → Option Asked → Bool
 busy_at Alive open_request = is_some open_request
 busy_at Closed open_request = false
 busy_at Over open_request = false
@@ -27,22 +29,22 @@ abbrev pub is_busy_conn : Option Conn → Bool
 is_busy_conn None = false
 is_busy_conn (Some conn) = busy_at conn.phase conn.open_request
 
-abbrev pub is_busy : ℕ → List Entry → Bool
-is_busy i earlier = is_busy_conn (conn_in i earlier)
+abbrev pub is_busy : Bases → ℕ → List Entry → Bool
+is_busy bases i earlier = is_busy_conn (conn_in bases i earlier)
 
-abbrev pub conn_of_turn : List Entry → Option ℕ → Option Conn
-conn_of_turn earlier None = None
-conn_of_turn earlier (Some i) = conn_in i earlier
+abbrev pub conn_of_turn : Bases → List Entry → Option ℕ → Option Conn
+conn_of_turn bases earlier None = None
+conn_of_turn bases earlier (Some i) = conn_in bases i earlier
 
 -- what the private machine does at an event of a connection
-abbrev pub effect_at : Option Conn → Option PrivateEvent → Effect
-effect_at None event = nothing new_conn
-effect_at (Some conn) None = nothing conn
-effect_at (Some conn) (Some event) = step conn event
+abbrev pub effect_at : Bases → Option Conn → Option PrivateEvent → Effect
+effect_at bases None event = nothing new_conn
+effect_at bases (Some conn) None = nothing conn
+effect_at bases (Some conn) (Some event) = step bases conn event
 
 -- what the machine of the connection whose turn it is does
-abbrev pub effect : List Entry → Happening → Effect
-effect earlier happening = effect_at (conn_of_turn earlier (turn earlier happening)) (event_of happening)
+abbrev pub effect : Bases → List Entry → Happening → Effect
+effect bases earlier happening = effect_at bases (conn_of_turn bases earlier (turn earlier happening)) (event_of happening)
 
 -- What is wrong with what the server says: a reply is nobody's, or an item can't be taken.
 abbrev pub unknown : ℕ → Option ℕ → Option UpCause
@@ -71,9 +73,9 @@ abbrev pub breach_by : Option ℕ → ℕ → Happening → Option Request2 → 
 breach_by turn numbers happening due = option_or (said_breach turn happening) (spent numbers due)
 
 -- While it stands.
-abbrev pub breach : List Entry → Happening → Option UpCause
-breach earlier happening =
-    if is_some (fault_in earlier) then None else breach_by (turn earlier happening) (issued earlier) happening (effect earlier happening).ask
+abbrev pub breach : Bases → List Entry → Happening → Option UpCause
+breach bases earlier happening =
+    if is_some (fault_in earlier) then None else breach_by (turn earlier happening) (issued earlier) happening (effect bases earlier happening).ask
 
 -- the answer that is due to the server
 abbrev pub answer_due : Happening → Option (List ℕ)
@@ -99,19 +101,19 @@ abbrev pub SpellsUp : Bool → Option (List ℕ) → Option ℕ → ℕ → Opti
 SpellsUp true answer turn number to_up = to_up ≡ None
 SpellsUp false answer turn number to_up = Spells answer turn number to_up
 
--- An entry follows a history where every connection has then been handed, in all, exactly what the
+-- An entry follows a history, for given bases, where every connection has then been handed, in all, exactly what the
 -- private machine hands out on that connection's own events, is closed exactly as there, and the server is asked for it
 -- exactly what the private machine asks; where the requests that go up are numbered in a row, and the connection
 -- to the server ends exactly where it must.
-pub record Follows (earlier : List Entry) (entry : Entry) : Type 0 where
-  pub sent : (i : ℕ) → sent i (entry ∷ earlier) ≡ hand (own i (entry ∷ earlier))
-  pub shut : (i : ℕ) → shut i (entry ∷ earlier) ≡ close (own i (entry ∷ earlier))
-  pub asked : (i : ℕ) → asked i (entry ∷ earlier) ≡ ask (own i (entry ∷ earlier))
+pub record Follows (bases : Bases) (earlier : List Entry) (entry : Entry) : Type 0 where
+  pub sent : (i : ℕ) → sent i (entry ∷ earlier) ≡ hand bases (own i (entry ∷ earlier))
+  pub shut : (i : ℕ) → shut i (entry ∷ earlier) ≡ close bases (own i (entry ∷ earlier))
+  pub asked : (i : ℕ) → asked i (entry ∷ earlier) ≡ ask bases (own i (entry ∷ earlier))
   pub spelled : SpellsUp (is_some (fault_in (entry ∷ earlier))) (answer_due entry.happening) (turn earlier entry.happening) (issued earlier + 1) entry.outcome.to_up
-  pub fault : entry.outcome.fault ≡ breach earlier entry.happening
+  pub fault : entry.outcome.fault ≡ breach bases earlier entry.happening
   pub all : is_all entry.outcome.closed ≡ is_some entry.outcome.fault
 
 -- each entry follows those before it
-abbrev pub IsHistory : List Entry → Type 0
-IsHistory [] = Unit {0}
-IsHistory (entry ∷ earlier) = IsHistory earlier × Follows earlier entry
+abbrev pub IsHistory : Bases → List Entry → Type 0
+IsHistory bases [] = Unit {0}
+IsHistory bases (entry ∷ earlier) = IsHistory bases earlier × Follows bases earlier entry

@@ -3,12 +3,12 @@
 use Rattle.std.specs.Prelude.{◌≡◌, ℕ, ◌+◌, ◌-◌, ◌^◌, ◌≤◌, ◌<◌, min, nat_lt, Bool, true, false, ◌||◌, ◌&&◌, ◌==◌, not, is_some, is_none, List, [], ◌∷◌, ◌++◌, Option, Some, None, if◌then◌else◌}
 use Rattle.std.specs.Option.{option_and_then, option_map, option_or, option_to_list}
 use Rattle.rtsp_head.specs.Items.{Shape}
-use Rattle.rtsp_head.specs.Messages.{own_fields}
 use Rattle.rtsp_head.specs.Shapes.{shape_of}
 use Rattle.rtsp_head.specs.declared.item.ItemKind.{ItemKind}
 use Rattle.rtsp_head.specs.declared.item.ItemKind.TheVariants.{Request, Response, Frame, Bad}
 use Rattle.head_two.specs.declared.request.Request2.{Request2}
 use Rattle.head_two.specs.Requests.{Numbered, request_in}
+use Rattle.translate_down.specs.Replies.{told_by}
 use Rattle.gate_history.specs.declared.event.CloseWhy.{CloseWhy}
 use Rattle.gate_history.specs.declared.event.CloseWhy.TheVariants.{Upstream}
 use Rattle.gate_history.specs.declared.event.Closed.{Closed}
@@ -118,9 +118,9 @@ abbrev pub is_turn : ℕ → Option ℕ → Bool
 is_turn i None = false
 is_turn i (Some conn) = conn == i
 
--- the event of the connection whose turn it is; a number of the server's connection is no part of it
+-- the event of the connection whose turn it is; no number and no channel of the server's connection is a part of it
 abbrev pub heard_event : Heard → Option PrivateEvent
-heard_event (replies reply) = Some (answer reply.code (own_fields reply.head.headers) reply.body)
+heard_event (replies reply) = Some (answer (told_by reply))
 heard_event (requests request) = None
 heard_event frames = None
 heard_event (faults fault) = None

@@ -1,5 +1,6 @@
 -- The next entry of a history, as it is computed (this project's own): what each event hands out.
 use Rattle.std.specs.Prelude.{ℕ, ◌+◌, ◌==◌, is_some, List, length, Option, Some, None, if◌then◌else◌}
+use Rattle.rtsp_uri.specs.declared.base.Bases.{Bases}
 use Rattle.head_two.specs.declared.request.Request2.{Request2}
 use Rattle.head_two.specs.Requests.{request_text}
 use Rattle.gate_history.specs.declared.event.CloseWhy.{CloseWhy}
@@ -44,11 +45,11 @@ abbrev pub outcome_of : Option ℕ → ℕ → Happening → Effect → Outcome
 outcome_of turn numbers happening effect = outcome_with (breach_by turn numbers happening effect.ask) turn numbers (answer_due happening) effect
 
 -- by whose turn it is, that connection, and the count of numbers
-abbrev pub outcome_at : Option ℕ → Option Conn → ℕ → Happening → Outcome
-outcome_at turn conn numbers happening = outcome_of turn numbers happening (effect_at conn (event_of happening))
+abbrev pub outcome_at : Bases → Option ℕ → Option Conn → ℕ → Happening → Outcome
+outcome_at bases turn conn numbers happening = outcome_of turn numbers happening (effect_at bases conn (event_of happening))
 
 -- What an event hands out after a history: nothing after the end of the connection to the server.
-abbrev pub next : List Entry → Happening → Outcome
-next earlier happening =
+abbrev pub next : Bases → List Entry → Happening → Outcome
+next bases earlier happening =
     if is_some (fault_in earlier) then silent
-    else outcome_at (turn earlier happening) (conn_of_turn earlier (turn earlier happening)) (issued earlier) happening
+    else outcome_at bases (turn earlier happening) (conn_of_turn bases earlier (turn earlier happening)) (issued earlier) happening

@@ -15,17 +15,18 @@ use Rattle.gateway_mux.specs.declared.act.Ask.{Ask}
 use Rattle.gateway_mux.specs.declared.act.Act.{Act}
 use Rattle.gateway_mux.specs.declared.mux.Mux.{Mux}
 use Rattle.gateway_mux.specs.Seats.{conn_at}
+use Rattle.gateway_mux.specs.Slots.{gone_on}
 use Rattle.gateway_mux.specs.Loans.{owner}
 use Rattle.gateway_mux.specs.Commits.{turn_at, turned, conn_then, goes_under, Commits}
-use Rattle.gateway_mux.specs.Acts.{Deed, settled_at, asked_up, opened, gone_on, deed_of, Acts, ActedBy, Acted, Ends, Fits}
+use Rattle.gateway_mux.specs.Acts.{Deed, settled_at, asked_up, opened, deed_of, Acts, ActedBy, Acted, Ends, Fits}
 
 -- an event that ends the connection to the server
 pub ends_all_commits : (old new : Mux) (h : Happening) (cause : UpCause) (outcome : Outcome) →
-    breach_by (turn_at old h) old.issued h (effect_at (turned old (turn_at old h)) (event_of h)).ask ≡ Some cause → drops_here h ≡ false → Ends old new cause outcome → Commits old new h outcome
+    breach_by (turn_at old h) old.issued h (effect_at old.bases (turned old (turn_at old h)) (event_of h)).ask ≡ Some cause → drops_here h ≡ false → Ends old new cause outcome → Commits old new h outcome
 ends_all_commits old new h cause outcome wrong uncounted e =
     let ends : outcome.fault ≡ Some cause = ap (λ (o : Outcome). o.fault) e.hands in
     record {
-      hands = e.hands ∙ sym (ap (λ gone. outcome_with gone (turn_at old h) old.issued (answer_due h) (effect_at (turned old (turn_at old h)) (event_of h))) wrong);
+      hands = e.hands ∙ sym (ap (λ gone. outcome_with gone (turn_at old h) old.issued (answer_due h) (effect_at old.bases (turned old (turn_at old h)) (event_of h))) wrong);
       ended = e.ended ∙ sym ends;
       dropped = e.dropped ∙ sym (ap (λ b. cond b (min (old.dropped + 1) (2 ^ 64 - 1)) old.dropped) uncounted);
       moves = λ s. let none : Some cause ≡ None = sym ends ∙ s in cc;
@@ -41,17 +42,17 @@ pub record IsDue (mux : Mux) (h : Happening) (i : ℕ) (deed : Deed) : Type 0 wh
   pub unanswered : answer_due h ≡ None
   pub uncounted : drops_here h ≡ false
   pub settles : (g : ℕ) → settles g h ≡ settled_at deed.settles g
-  pub fits : Fits (conn_at mux.seats i) (event_of h) deed
+  pub fits : Fits mux.bases (conn_at mux.seats i) (event_of h) deed
 
 -- what the machine of the turn does
-due_effect : (mux : Mux) (h : Happening) (i : ℕ) (deed : Deed) → IsDue mux h i deed → effect_at (turned mux (turn_at mux h)) (event_of h) ≡ effect_at (conn_at mux.seats i) (event_of h)
-due_effect mux h i deed d = ap (λ turn. effect_at (turned mux turn) (event_of h)) d.turn
+due_effect : (mux : Mux) (h : Happening) (i : ℕ) (deed : Deed) → IsDue mux h i deed → effect_at mux.bases (turned mux (turn_at mux h)) (event_of h) ≡ effect_at mux.bases (conn_at mux.seats i) (event_of h)
+due_effect mux h i deed d = ap (λ turn. effect_at mux.bases (turned mux turn) (event_of h)) d.turn
 
-due_ask : (mux : Mux) (h : Happening) (i : ℕ) (deed : Deed) → IsDue mux h i deed → (effect_at (turned mux (turn_at mux h)) (event_of h)).ask ≡ deed.ask
+due_ask : (mux : Mux) (h : Happening) (i : ℕ) (deed : Deed) → IsDue mux h i deed → (effect_at mux.bases (turned mux (turn_at mux h)) (event_of h)).ask ≡ deed.ask
 due_ask mux h i deed d = ap (λ (e : Effect). e.ask) (due_effect mux h i deed d) ∙ d.fits.ask
 
 due_breach : (mux : Mux) (h : Happening) (i : ℕ) (deed : Deed) → IsDue mux h i deed →
-    breach_by (turn_at mux h) mux.issued h (effect_at (turned mux (turn_at mux h)) (event_of h)).ask ≡ spent mux.issued deed.ask
+    breach_by (turn_at mux h) mux.issued h (effect_at mux.bases (turned mux (turn_at mux h)) (event_of h)).ask ≡ spent mux.issued deed.ask
 due_breach mux h i deed d =
     ap (breach_by (turn_at mux h) mux.issued h) (due_ask mux h i deed d)
     ∙ ap (λ turn. option_or (said_breach turn h) (spent mux.issued deed.ask)) d.turn
@@ -66,30 +67,30 @@ hands_fit i numbers does deed hand ask close =
     ∙ ap (λ why. record { to_client = client_piece (Some i) deed.hand; to_up = up_piece None (numbers + 1) deed.ask; closed = one_closed (Some i) why; fault = None }) close
 
 due_hands : (mux : Mux) (h : Happening) (i : ℕ) (deed : Deed) → IsDue mux h i deed → spent mux.issued deed.ask ≡ None →
-    outcome_at (turn_at mux h) (turned mux (turn_at mux h)) mux.issued h ≡ outcome_with None (Some i) mux.issued None (effect_at (conn_at mux.seats i) (event_of h))
+    outcome_at mux.bases (turn_at mux h) (turned mux (turn_at mux h)) mux.issued h ≡ outcome_with None (Some i) mux.issued None (effect_at mux.bases (conn_at mux.seats i) (event_of h))
 due_hands mux h i deed d left =
-    let does : Effect = effect_at (conn_at mux.seats i) (event_of h) in
-    ap (λ gone. outcome_with gone (turn_at mux h) mux.issued (answer_due h) (effect_at (turned mux (turn_at mux h)) (event_of h))) (due_breach mux h i deed d ∙ left)
+    let does : Effect = effect_at mux.bases (conn_at mux.seats i) (event_of h) in
+    ap (λ gone. outcome_with gone (turn_at mux h) mux.issued (answer_due h) (effect_at mux.bases (turned mux (turn_at mux h)) (event_of h))) (due_breach mux h i deed d ∙ left)
     ∙ ap (outcome_with None (turn_at mux h) mux.issued (answer_due h)) (due_effect mux h i deed d)
     ∙ ap (λ turn. outcome_with None turn mux.issued (answer_due h) does) d.turn
     ∙ ap (λ answer. outcome_with None (Some i) mux.issued answer does) d.unanswered
 
 -- the seats
-seat_fits : (mux : Mux) (i j : ℕ) (event : Option PrivateEvent) (deed : Deed) (here : Bool) → (i == j) ≡ here → Fits (conn_at mux.seats i) event deed →
-    cond here (option_map deed.change (conn_at mux.seats j)) (conn_at mux.seats j) ≡ conn_then here event (conn_at mux.seats j)
+seat_fits : (mux : Mux) (i j : ℕ) (event : Option PrivateEvent) (deed : Deed) (here : Bool) → (i == j) ≡ here → Fits mux.bases (conn_at mux.seats i) event deed →
+    cond here (option_map deed.change (conn_at mux.seats j)) (conn_at mux.seats j) ≡ conn_then mux.bases here event (conn_at mux.seats j)
 seat_fits mux i j event deed true e fits =
-    sym (subst (λ (n : ℕ). option_map (λ (one : Conn). (effect_at (Some one) event).conn) (conn_at mux.seats n) ≡ option_map deed.change (conn_at mux.seats n)) (eqb-true i j e) fits.conn)
+    sym (subst (λ (n : ℕ). option_map (λ (one : Conn). (effect_at mux.bases (Some one) event).conn) (conn_at mux.seats n) ≡ option_map deed.change (conn_at mux.seats n)) (eqb-true i j e) fits.conn)
 seat_fits mux i j event deed false e fits = refl
 
 pub acts_commit : (old new : Mux) (h : Happening) (i : ℕ) (deed : Deed) (outcome : Outcome) → old.ended ≡ None → IsDue old h i deed → spent old.issued deed.ask ≡ None → Acts old new i deed outcome → Commits old new h outcome
 acts_commit old new h i deed outcome open_still d left a =
     let quiet : outcome.fault ≡ None = ap (λ (o : Outcome). o.fault) a.hands in
     record {
-      hands = a.hands ∙ sym (due_hands old h i deed d left ∙ hands_fit i old.issued (effect_at (conn_at old.seats i) (event_of h)) deed d.fits.hand d.fits.ask d.fits.close);
+      hands = a.hands ∙ sym (due_hands old h i deed d left ∙ hands_fit i old.issued (effect_at old.bases (conn_at old.seats i) (event_of h)) deed d.fits.hand d.fits.ask d.fits.close);
       ended = a.ended ∙ open_still ∙ sym quiet;
       dropped = a.dropped ∙ sym (ap (λ b. cond b (min (old.dropped + 1) (2 ^ 64 - 1)) old.dropped) d.uncounted);
       moves = λ s. record {
-        seats = λ j. a.seats j ∙ seat_fits old i j (event_of h) deed (i == j) refl d.fits ∙ ap (λ turn. conn_then (is_turn j turn) (event_of h) (conn_at old.seats j)) (sym d.turn);
+        seats = λ j. a.seats j ∙ seat_fits old i j (event_of h) deed (i == j) refl d.fits ∙ ap (λ turn. conn_then old.bases (is_turn j turn) (event_of h) (conn_at old.seats j)) (sym d.turn);
         loans = λ g. a.loans g ∙ sym (
             ap (λ ask. cond (goes_under g (old.issued + 1) ask) (turn_at old h) (cond (settles g h) None (owner old.loans g))) (due_ask old h i deed d)
             ∙ ap (λ turn. cond (goes_under g (old.issued + 1) deed.ask) turn (cond (settles g h) None (owner old.loans g))) d.turn
@@ -132,7 +133,7 @@ acted_ends old new conn act ask outcome is used e =
     subst (λ (gone : Option UpCause). ActedBy gone old new conn (deed_of act) outcome) (sym (ap (λ (a : Option Ask). spent old.issued (asked_up a)) is ∙ spent_now old.issued ask.request used)) e
 
 pub acted_sends : (old new : Mux) (conn : ℕ) (act : Act) (ask : Ask) (outcome : Outcome) → act.ask ≡ Some ask → old.issued < 999999999 →
-    Acts old new conn (record { hand = act.hand; ask = Some ask.request; settles = act.settles; change = gone_on act.treated (Some ask.cseq) }) outcome → Acted old new conn (deed_of act) outcome
+    Acts old new conn (record { hand = act.hand; ask = Some ask.request; settles = act.settles; change = gone_on act.treated act.described (Some ask.asked) }) outcome → Acted old new conn (deed_of act) outcome
 acted_sends old new conn act ask outcome is left a =
-    subst (λ (one : Option Ask). ActedBy (spent old.issued (asked_up one)) old new conn (record { hand = act.hand; ask = asked_up one; settles = act.settles; change = gone_on act.treated (opened one) }) outcome) (sym is)
-    (subst (λ (gone : Option UpCause). ActedBy gone old new conn (record { hand = act.hand; ask = Some ask.request; settles = act.settles; change = gone_on act.treated (Some ask.cseq) }) outcome) (sym (spent_not old.issued ask.request left)) a)
+    subst (λ (one : Option Ask). ActedBy (spent old.issued (asked_up one)) old new conn (record { hand = act.hand; ask = asked_up one; settles = act.settles; change = gone_on act.treated act.described (opened one) }) outcome) (sym is)
+    (subst (λ (gone : Option UpCause). ActedBy gone old new conn (record { hand = act.hand; ask = Some ask.request; settles = act.settles; change = gone_on act.treated act.described (Some ask.asked) }) outcome) (sym (spent_not old.issued ask.request left)) a)

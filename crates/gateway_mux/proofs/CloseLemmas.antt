@@ -6,6 +6,7 @@ use Rattle.std.proofs.lemmas.Bool.{eqb-true}
 use Rattle.rtsp_head.specs.Items.{Shape}
 use Rattle.rtsp_head.specs.declared.item.BadKind.{BadKind}
 use Rattle.rtsp_head.specs.declared.item.ItemKind.TheVariants as item
+use Rattle.rtsp_uri.specs.declared.base.Bases.{Bases}
 use Rattle.gate_history.specs.declared.event.CloseWhy.{CloseWhy}
 use Rattle.gate_history.specs.declared.event.CloseWhy.TheVariants.{Ended, BadItem}
 use Rattle.gate_history.specs.declared.event.Closed.TheVariants.{Nobody, One}
@@ -21,34 +22,34 @@ use Rattle.gateway_mux.specs.Closes.{closed_at, closed_conn, closes_at, closes_i
 use Rattle.gateway_mux.specs.Commits.{conn_then, goes_under, Commits}
 
 -- what the end of its client does to a connection
-end_conn : (phase : Phase) (conn : Conn) → closed_at phase conn ≡ (step_at phase conn end).conn
-end_conn Alive conn = refl
-end_conn Closed conn = refl
-end_conn Over conn = refl
+end_conn : (bases : Bases) (phase : Phase) (conn : Conn) → closed_at phase conn ≡ (step_at bases phase conn end).conn
+end_conn bases Alive conn = refl
+end_conn bases Closed conn = refl
+end_conn bases Over conn = refl
 
-end_then : (here : Bool) (conn : Option Conn) → cond here (option_map closed_conn conn) conn ≡ conn_then here (Some end) conn
-end_then true None = refl
-end_then true (Some conn) = ap (λ c. Some c) (end_conn conn.phase conn)
-end_then false conn = refl
+end_then : (bases : Bases) (here : Bool) (conn : Option Conn) → cond here (option_map closed_conn conn) conn ≡ conn_then bases here (Some end) conn
+end_then bases true None = refl
+end_then bases true (Some conn) = ap (λ c. Some c) (end_conn bases conn.phase conn)
+end_then bases false conn = refl
 
-end_ask : (phase : Phase) (conn : Conn) → (step_at phase conn end).ask ≡ None
-end_ask Alive conn = refl
-end_ask Closed conn = refl
-end_ask Over conn = refl
+end_ask : (bases : Bases) (phase : Phase) (conn : Conn) → (step_at bases phase conn end).ask ≡ None
+end_ask bases Alive conn = refl
+end_ask bases Closed conn = refl
+end_ask bases Over conn = refl
 
-end_asks : (conn : Option Conn) → (effect_at conn (Some end)).ask ≡ None
-end_asks None = refl
-end_asks (Some conn) = end_ask conn.phase conn
+end_asks : (bases : Bases) (conn : Option Conn) → (effect_at bases conn (Some end)).ask ≡ None
+end_asks bases None = refl
+end_asks bases (Some conn) = end_ask bases conn.phase conn
 
-end_hands : (i numbers : ℕ) (phase : Phase) (conn : Conn) → conn.phase ≡ phase →
-    record { to_client = None; to_up = None; closed = closes_at i Ended phase; fault = None } ≡ outcome_at (Some i) (Some conn) numbers (ends i)
-end_hands i numbers Alive conn e = sym (ap (λ p. outcome_of (Some i) numbers (ends i) (step_at p conn end)) e)
-end_hands i numbers Closed conn e = sym (ap (λ p. outcome_of (Some i) numbers (ends i) (step_at p conn end)) e)
-end_hands i numbers Over conn e = sym (ap (λ p. outcome_of (Some i) numbers (ends i) (step_at p conn end)) e)
+end_hands : (bases : Bases) (i numbers : ℕ) (phase : Phase) (conn : Conn) → conn.phase ≡ phase →
+    record { to_client = None; to_up = None; closed = closes_at i Ended phase; fault = None } ≡ outcome_at bases (Some i) (Some conn) numbers (ends i)
+end_hands bases i numbers Alive conn e = sym (ap (λ p. outcome_of (Some i) numbers (ends i) (step_at bases p conn end)) e)
+end_hands bases i numbers Closed conn e = sym (ap (λ p. outcome_of (Some i) numbers (ends i) (step_at bases p conn end)) e)
+end_hands bases i numbers Over conn e = sym (ap (λ p. outcome_of (Some i) numbers (ends i) (step_at bases p conn end)) e)
 
-ends_hand : (i numbers : ℕ) (conn : Option Conn) → record { to_client = None; to_up = None; closed = closes_it i Ended conn; fault = None } ≡ outcome_at (Some i) conn numbers (ends i)
-ends_hand i numbers None = refl
-ends_hand i numbers (Some conn) = end_hands i numbers conn.phase conn refl
+ends_hand : (bases : Bases) (i numbers : ℕ) (conn : Option Conn) → record { to_client = None; to_up = None; closed = closes_it i Ended conn; fault = None } ≡ outcome_at bases (Some i) conn numbers (ends i)
+ends_hand bases i numbers None = refl
+ends_hand bases i numbers (Some conn) = end_hands bases i numbers conn.phase conn refl
 
 no_fault : (outcome other : Outcome) → outcome ≡ other → other.fault ≡ None → outcome.fault ≡ None
 no_fault outcome other e f = ap (λ (o : Outcome). o.fault) e ∙ f
@@ -58,13 +59,13 @@ pub ends_commits : (old new : Mux) (conn : ℕ) (outcome : Outcome) → old.ende
 ends_commits old new conn outcome open_still c =
     let quiet : outcome.fault ≡ None = ap (λ (o : Outcome). o.fault) c.hands in
     record {
-      hands = c.hands ∙ ends_hand conn old.issued (conn_at old.seats conn);
+      hands = c.hands ∙ ends_hand old.bases conn old.issued (conn_at old.seats conn);
       ended = c.ended ∙ open_still ∙ sym quiet;
       dropped = c.dropped;
       moves = λ still. record {
-        seats = λ i. c.seats i ∙ end_then (conn == i) (conn_at old.seats i);
-        loans = λ g. c.loans g ∙ sym (ap (λ ask. cond (goes_under g (old.issued + 1) ask) (Some conn) (owner old.loans g)) (end_asks (conn_at old.seats conn)));
-        issued = c.issued ∙ sym (ap (λ ask. cond (is_some ask) 1 0 + old.issued) (end_asks (conn_at old.seats conn)) ∙ zero-add old.issued);
+        seats = λ i. c.seats i ∙ end_then old.bases (conn == i) (conn_at old.seats i);
+        loans = λ g. c.loans g ∙ sym (ap (λ ask. cond (goes_under g (old.issued + 1) ask) (Some conn) (owner old.loans g)) (end_asks old.bases (conn_at old.seats conn)));
+        issued = c.issued ∙ sym (ap (λ ask. cond (is_some ask) 1 0 + old.issued) (end_asks old.bases (conn_at old.seats conn)) ∙ zero-add old.issued);
       };
       stays = λ ends. let none : is_some outcome.fault ≡ false = ap is_some quiet in cc;
       bases = c.bases;
@@ -107,49 +108,49 @@ one_closed_at conn why None e = cc
 one_closed_at conn why (Some state) e = one_at conn why state.phase e
 
 -- an item that can't be read
-bad_conn : (phase : Phase) (conn : Conn) (shape : Shape) (kind : BadKind) → shape.kind ≡ item.Bad kind → closed_at phase conn ≡ (step_at phase conn (arrive shape)).conn
-bad_conn Alive conn shape kind e = sym (ap (λ k. (take_item k conn shape).conn) e)
-bad_conn Closed conn shape kind e = refl
-bad_conn Over conn shape kind e = refl
+bad_conn : (bases : Bases) (phase : Phase) (conn : Conn) (shape : Shape) (kind : BadKind) → shape.kind ≡ item.Bad kind → closed_at phase conn ≡ (step_at bases phase conn (arrive shape)).conn
+bad_conn bases Alive conn shape kind e = sym (ap (λ k. (take_item bases k conn shape).conn) e)
+bad_conn bases Closed conn shape kind e = refl
+bad_conn bases Over conn shape kind e = refl
 
-bad_then : (here : Bool) (conn : Option Conn) (shape : Shape) (kind : BadKind) → shape.kind ≡ item.Bad kind → cond here (option_map closed_conn conn) conn ≡ conn_then here (Some (arrive shape)) conn
-bad_then true None shape kind e = refl
-bad_then true (Some conn) shape kind e = ap (λ c. Some c) (bad_conn conn.phase conn shape kind e)
-bad_then false conn shape kind e = refl
+bad_then : (bases : Bases) (here : Bool) (conn : Option Conn) (shape : Shape) (kind : BadKind) → shape.kind ≡ item.Bad kind → cond here (option_map closed_conn conn) conn ≡ conn_then bases here (Some (arrive shape)) conn
+bad_then bases true None shape kind e = refl
+bad_then bases true (Some conn) shape kind e = ap (λ c. Some c) (bad_conn bases conn.phase conn shape kind e)
+bad_then bases false conn shape kind e = refl
 
-bad_ask : (phase : Phase) (conn : Conn) (shape : Shape) (kind : BadKind) → shape.kind ≡ item.Bad kind → (step_at phase conn (arrive shape)).ask ≡ None
-bad_ask Alive conn shape kind e = ap (λ k. (take_item k conn shape).ask) e
-bad_ask Closed conn shape kind e = refl
-bad_ask Over conn shape kind e = refl
+bad_ask : (bases : Bases) (phase : Phase) (conn : Conn) (shape : Shape) (kind : BadKind) → shape.kind ≡ item.Bad kind → (step_at bases phase conn (arrive shape)).ask ≡ None
+bad_ask bases Alive conn shape kind e = ap (λ k. (take_item bases k conn shape).ask) e
+bad_ask bases Closed conn shape kind e = refl
+bad_ask bases Over conn shape kind e = refl
 
-bad_asks : (conn : Option Conn) (shape : Shape) (kind : BadKind) → shape.kind ≡ item.Bad kind → (effect_at conn (Some (arrive shape))).ask ≡ None
-bad_asks None shape kind e = refl
-bad_asks (Some conn) shape kind e = bad_ask conn.phase conn shape kind e
+bad_asks : (bases : Bases) (conn : Option Conn) (shape : Shape) (kind : BadKind) → shape.kind ≡ item.Bad kind → (effect_at bases conn (Some (arrive shape))).ask ≡ None
+bad_asks bases None shape kind e = refl
+bad_asks bases (Some conn) shape kind e = bad_ask bases conn.phase conn shape kind e
 
-bad_hands : (i numbers : ℕ) (phase : Phase) (conn : Conn) (shape : Shape) (kind : BadKind) → shape.kind ≡ item.Bad kind → conn.phase ≡ phase →
-    record { to_client = None; to_up = None; closed = closes_at i BadItem phase; fault = None } ≡ outcome_at (Some i) (Some conn) numbers (takes i shape)
-bad_hands i numbers Alive conn shape kind e p =
-    sym (ap (λ q. outcome_of (Some i) numbers (takes i shape) (step_at q conn (arrive shape))) p ∙ ap (λ k. outcome_of (Some i) numbers (takes i shape) (take_item k conn shape)) e)
-bad_hands i numbers Closed conn shape kind e p = sym (ap (λ q. outcome_of (Some i) numbers (takes i shape) (step_at q conn (arrive shape))) p)
-bad_hands i numbers Over conn shape kind e p = sym (ap (λ q. outcome_of (Some i) numbers (takes i shape) (step_at q conn (arrive shape))) p)
+bad_hands : (bases : Bases) (i numbers : ℕ) (phase : Phase) (conn : Conn) (shape : Shape) (kind : BadKind) → shape.kind ≡ item.Bad kind → conn.phase ≡ phase →
+    record { to_client = None; to_up = None; closed = closes_at i BadItem phase; fault = None } ≡ outcome_at bases (Some i) (Some conn) numbers (takes i shape)
+bad_hands bases i numbers Alive conn shape kind e p =
+    sym (ap (λ q. outcome_of (Some i) numbers (takes i shape) (step_at bases q conn (arrive shape))) p ∙ ap (λ k. outcome_of (Some i) numbers (takes i shape) (take_item bases k conn shape)) e)
+bad_hands bases i numbers Closed conn shape kind e p = sym (ap (λ q. outcome_of (Some i) numbers (takes i shape) (step_at bases q conn (arrive shape))) p)
+bad_hands bases i numbers Over conn shape kind e p = sym (ap (λ q. outcome_of (Some i) numbers (takes i shape) (step_at bases q conn (arrive shape))) p)
 
-bads_hand : (i numbers : ℕ) (conn : Option Conn) (shape : Shape) (kind : BadKind) → shape.kind ≡ item.Bad kind →
-    record { to_client = None; to_up = None; closed = closes_it i BadItem conn; fault = None } ≡ outcome_at (Some i) conn numbers (takes i shape)
-bads_hand i numbers None shape kind e = refl
-bads_hand i numbers (Some conn) shape kind e = bad_hands i numbers conn.phase conn shape kind e refl
+bads_hand : (bases : Bases) (i numbers : ℕ) (conn : Option Conn) (shape : Shape) (kind : BadKind) → shape.kind ≡ item.Bad kind →
+    record { to_client = None; to_up = None; closed = closes_it i BadItem conn; fault = None } ≡ outcome_at bases (Some i) conn numbers (takes i shape)
+bads_hand bases i numbers None shape kind e = refl
+bads_hand bases i numbers (Some conn) shape kind e = bad_hands bases i numbers conn.phase conn shape kind e refl
 
 -- an item of a client that can't be read
 pub bad_commits : (old new : Mux) (conn : ℕ) (shape : Shape) (kind : BadKind) (outcome : Outcome) → shape.kind ≡ item.Bad kind → old.ended ≡ None → Closes old new conn BadItem outcome →
     Commits old new (takes conn shape) outcome
 bad_commits old new conn shape kind outcome bad open_still c =
     let quiet : outcome.fault ≡ None = ap (λ (o : Outcome). o.fault) c.hands in
-    let asks : (effect_at (conn_at old.seats conn) (Some (arrive shape))).ask ≡ None = bad_asks (conn_at old.seats conn) shape kind bad in
+    let asks : (effect_at old.bases (conn_at old.seats conn) (Some (arrive shape))).ask ≡ None = bad_asks old.bases (conn_at old.seats conn) shape kind bad in
     record {
-      hands = c.hands ∙ bads_hand conn old.issued (conn_at old.seats conn) shape kind bad;
+      hands = c.hands ∙ bads_hand old.bases conn old.issued (conn_at old.seats conn) shape kind bad;
       ended = c.ended ∙ open_still ∙ sym quiet;
       dropped = c.dropped ∙ sym (ap (λ k. cond (is_frame k) (min (old.dropped + 1) (2 ^ 64 - 1)) old.dropped) bad);
       moves = λ still. record {
-        seats = λ i. c.seats i ∙ bad_then (conn == i) (conn_at old.seats i) shape kind bad;
+        seats = λ i. c.seats i ∙ bad_then old.bases (conn == i) (conn_at old.seats i) shape kind bad;
         loans = λ g. c.loans g ∙ sym (ap (λ ask. cond (goes_under g (old.issued + 1) ask) (Some conn) (owner old.loans g)) asks);
         issued = c.issued ∙ sym (ap (λ ask. cond (is_some ask) 1 0 + old.issued) asks ∙ zero-add old.issued);
       };

@@ -1,5 +1,3 @@
-pub mod FieldLemmas
-pub mod ReasonLemmas
 pub mod LoanLemmas
 pub mod SlotLemmas
 pub mod SeatLemmas
@@ -12,3 +10,4 @@ pub mod OpenLemmas
 pub mod TreatLemmas
 pub mod ClientLemmas
 pub mod ServerLemmas
+pub mod DecideLemmas

@@ -1,6 +1,7 @@
 -- Which connections stand open, and which are alive in the history.
 use Rattle.std.proofs.Common.{◌≡◌, ℕ, ◌+◌, ◌<◌, ◌≤◌, Bool, true, false, cond, ◌&&◌, ◌||◌, nat_lt, List, [], ◌∷◌, Option, None, Some, refl, sym, ◌∙◌, ap, subst, arith}
 use Rattle.std.specs.Prelude.{is_some, is_none}
+use Rattle.session_one.specs.declared.parts.Asked.{Asked}
 use Rattle.gate_history.specs.declared.event.UpCause.{UpCause}
 use Rattle.gate_history.specs.Machine.{Conn, Phase, Alive, Closed, Over, conn_after}
 use Rattle.gate_history.specs.History.{Entry, fault_in, standing, enters_here, entered, own, is_alive, IsFirstAlive}
@@ -44,13 +45,13 @@ open_same (Some conn) = phase_same conn.phase
 
 -- What stands open was alive before the connection to the server ended.
 pub open_alive : (mux : Mux) (T : List Entry) → Stands mux T → (i : ℕ) → stands_open (conn_at mux.seats i) ≡ is_alive i (standing T)
-open_alive mux T s i = ap stands_open (s.books.seats i) ∙ open_same (conn_in i (standing T)) ∙ sym (alive_open (standing T) (standing_history T s.is_history) i)
+open_alive mux T s i = ap stands_open (s.books.seats i) ∙ open_same (conn_in mux.bases i (standing T)) ∙ sym (alive_open mux.bases (standing T) (standing_history mux.bases T s.is_history) i)
 
 pub alive_still : (mux : Mux) (T : List Entry) → Stands mux T → mux.ended ≡ None → (i : ℕ) → stands_open (conn_at mux.seats i) ≡ is_alive i T
 alive_still mux T s still i = open_alive mux T s i ∙ ap (is_alive i) (standing_open T (sym s.ended ∙ still))
 
 dead_by : (mux : Mux) (T : List Entry) (fault : Option UpCause) → Stands mux T → mux.ended ≡ fault → is_some fault ≡ true → (i : ℕ) → false ≡ is_alive i T
-dead_by mux T (Some cause) s e over i = sym (ended_dead T s.is_history cause (sym s.ended ∙ e) i)
+dead_by mux T (Some cause) s e over i = sym (ended_dead mux.bases T s.is_history cause (sym s.ended ∙ e) i)
 dead_by mux T None s e over i = cc
 
 pub dead_over : (mux : Mux) (T : List Entry) → Stands mux T → is_some mux.ended ≡ true → (i : ℕ) → false ≡ is_alive i T
@@ -62,9 +63,9 @@ first_alive mux T from (Some conn) s (low, open_here, before) =
     (low, sym (open_alive mux T s conn) ∙ open_here, λ i from_low high. sym (open_alive mux T s i) ∙ before i from_low high)
 
 -- what is told as busy
-busy_ready : (phase : Phase) (open_request : Option ℕ) → is_busy_readiness (ready_at phase open_request) ≡ busy_at phase open_request
+busy_ready : (phase : Phase) (open_request : Option Asked) → is_busy_readiness (ready_at phase open_request) ≡ busy_at phase open_request
 busy_ready Alive None = refl
-busy_ready Alive (Some cseq) = refl
+busy_ready Alive (Some asked) = refl
 busy_ready Closed open_request = refl
 busy_ready Over open_request = refl
 
@@ -72,15 +73,15 @@ busy_same : (conn : Option Conn) → is_busy_readiness (readiness_of conn) ≡ i
 busy_same None = refl
 busy_same (Some conn) = busy_ready conn.phase conn.open_request
 
-pub busy_still : (mux : Mux) (T : List Entry) → Stands mux T → mux.ended ≡ None → (i : ℕ) → is_busy_readiness (readiness_of (conn_at mux.seats i)) ≡ is_busy i T
+pub busy_still : (mux : Mux) (T : List Entry) → Stands mux T → mux.ended ≡ None → (i : ℕ) → is_busy_readiness (readiness_of (conn_at mux.seats i)) ≡ is_busy mux.bases i T
 busy_still mux T s still i =
-    busy_same (conn_at mux.seats i) ∙ ap is_busy_conn (s.books.seats i) ∙ ap (λ (earlier : List Entry). is_busy i earlier) (standing_open T (sym s.ended ∙ still))
+    busy_same (conn_at mux.seats i) ∙ ap is_busy_conn (s.books.seats i) ∙ ap (λ (earlier : List Entry). is_busy mux.bases i earlier) (standing_open T (sym s.ended ∙ still))
 
-idle_by : (mux : Mux) (T : List Entry) (fault : Option UpCause) → Stands mux T → mux.ended ≡ fault → is_some fault ≡ true → (i : ℕ) → false ≡ is_busy i T
-idle_by mux T (Some cause) s e over i = sym (ended_idle T s.is_history cause (sym s.ended ∙ e) i)
+idle_by : (mux : Mux) (T : List Entry) (fault : Option UpCause) → Stands mux T → mux.ended ≡ fault → is_some fault ≡ true → (i : ℕ) → false ≡ is_busy mux.bases i T
+idle_by mux T (Some cause) s e over i = sym (ended_idle mux.bases T s.is_history cause (sym s.ended ∙ e) i)
 idle_by mux T None s e over i = cc
 
-pub idle_over : (mux : Mux) (T : List Entry) → Stands mux T → is_some mux.ended ≡ true → (i : ℕ) → false ≡ is_busy i T
+pub idle_over : (mux : Mux) (T : List Entry) → Stands mux T → is_some mux.ended ≡ true → (i : ℕ) → false ≡ is_busy mux.bases i T
 idle_over mux T s over i = idle_by mux T mux.ended s refl over i
 
 -- a number that never entered is fresh
@@ -98,4 +99,4 @@ never_standing i (entry ∷ T) never = entered_by i entry T (is_some (fault_in (
 
 pub never_fresh : (mux : Mux) (T : List Entry) → Stands mux T → (i : ℕ) → entered i T ≡ false → IsFresh mux i
 never_fresh mux T s i never =
-    record { absent = s.books.seats i ∙ ap (λ en. cond en (Some (conn_after (own i (standing T)))) None) (never_standing i T never) }
+    record { absent = s.books.seats i ∙ ap (λ en. cond en (Some (conn_after mux.bases (own i (standing T)))) None) (never_standing i T never) }

@@ -14,6 +14,7 @@ use Rattle.head_two.proofs.AnswerLemmas.{answer_no_request}
 use Rattle.head_two.proofs.ReadLemmas.{ask_small}
 use Rattle.head_two.specs.declared.request.Request2.{Request2}
 use Rattle.head_two.specs.Requests.{request_in, request_text}
+use Rattle.rtsp_uri.specs.declared.base.Bases.{Bases}
 use Rattle.gate_history.specs.declared.event.UpCause.{UpCause}
 use Rattle.gate_history.specs.declared.event.Outcome.{Outcome}
 use Rattle.gate_history.specs.Heard.{Heard, replies, requests, frames, faults, heard, heard_at, heard_ask, heard_reply, answer_up}
@@ -21,7 +22,8 @@ use Rattle.gate_history.specs.Machine.{PrivateEvent, conn_after}
 use Rattle.gate_history.specs.History.{Happening, enters, takes, ends, hears, Entry, fault_in, enters_here, entered, heard_turn, turn_by, asker, turn, is_turn, event_of, own, own_here, issued, carries, settles}
 use Rattle.gate_history.specs.Follows.{conn_in, conn_of_turn, effect_at, effect, breach_by, answer_due, said_breach, spent}
 use Rattle.gate_history.specs.Next.{up_piece, silent, outcome_of, outcome_at, next}
-use Rattle.gate_history.proofs.NextLemmas.{turn_answer, second_none, effect_asks, asked_reads}
+use Rattle.gate_history.proofs.NextLemmas.{turn_answer, second_none, asked_reads}
+use Rattle.gate_history.proofs.SoundLemmas.{turn_fit, effect_asks}
 use Rattle.gateway_mux.specs.declared.mux.Mux.{Mux}
 use Rattle.gateway_mux.specs.Seats.{conn_at}
 use Rattle.gateway_mux.specs.Loans.{owner}
@@ -41,32 +43,32 @@ turn_same one other (takes conn shape) same = refl
 turn_same one other (ends conn) same = refl
 turn_same one other (hears shape) same = heard_same one other (heard shape) same
 
-turned_same : (mux : Mux) (T : List Entry) (turn : Option ℕ) → ((i : ℕ) → conn_at mux.seats i ≡ conn_in i T) → turned mux turn ≡ conn_of_turn T turn
+turned_same : (mux : Mux) (T : List Entry) (turn : Option ℕ) → ((i : ℕ) → conn_at mux.seats i ≡ conn_in mux.bases i T) → turned mux turn ≡ conn_of_turn mux.bases T turn
 turned_same mux T None same = refl
 turned_same mux T (Some i) same = same i
 
 -- what the machine of the turn does, by the books
-pub effect_same : (mux : Mux) (T : List Entry) (h : Happening) → Books mux T → effect_at (turned mux (turn_at mux h)) (event_of h) ≡ effect T h
+pub effect_same : (mux : Mux) (T : List Entry) (h : Happening) → Books mux T → effect_at mux.bases (turned mux (turn_at mux h)) (event_of h) ≡ effect mux.bases T h
 effect_same mux T h books =
-    ap (λ t. effect_at (turned mux t) (event_of h)) (turn_same (owner mux.loans) (asker T) h books.loans)
-    ∙ ap (λ c. effect_at c (event_of h)) (turned_same mux T (turn T h) books.seats)
+    ap (λ t. effect_at mux.bases (turned mux t) (event_of h)) (turn_same (owner mux.loans) (asker T) h books.loans)
+    ∙ ap (λ c. effect_at mux.bases c (event_of h)) (turned_same mux T (turn T h) books.seats)
 
 -- what is handed out is the next of the history
-pub hands_next : (mux : Mux) (T : List Entry) (h : Happening) → Books mux T → fault_in T ≡ None → outcome_at (turn_at mux h) (turned mux (turn_at mux h)) mux.issued h ≡ next T h
+pub hands_next : (mux : Mux) (T : List Entry) (h : Happening) → Books mux T → fault_in T ≡ None → outcome_at mux.bases (turn_at mux h) (turned mux (turn_at mux h)) mux.issued h ≡ next mux.bases T h
 hands_next mux T h books open_still =
-    ap (λ t. outcome_at t (turned mux t) mux.issued h) (turn_same (owner mux.loans) (asker T) h books.loans)
-    ∙ ap (λ c. outcome_at (turn T h) c mux.issued h) (turned_same mux T (turn T h) books.seats)
-    ∙ ap (λ n. outcome_at (turn T h) (conn_of_turn T (turn T h)) n h) books.issued
-    ∙ sym (ap (λ (f : Option UpCause). cond (is_some f) silent (outcome_of (turn T h) (issued T) h (effect T h))) open_still)
+    ap (λ t. outcome_at mux.bases t (turned mux t) mux.issued h) (turn_same (owner mux.loans) (asker T) h books.loans)
+    ∙ ap (λ c. outcome_at mux.bases (turn T h) c mux.issued h) (turned_same mux T (turn T h) books.seats)
+    ∙ ap (λ n. outcome_at mux.bases (turn T h) (conn_of_turn mux.bases T (turn T h)) n h) books.issued
+    ∙ sym (ap (λ (f : Option UpCause). cond (is_some f) silent (outcome_of (turn T h) (issued T) h (effect mux.bases T h))) open_still)
 
 -- Of one connection: what the event does to it is what its own events then say.
-seat_step : (en here : Bool) (event : Option PrivateEvent) (events : List PrivateEvent) →
-    conn_then here event (cond en (Some (conn_after events)) None) ≡ cond en (Some (conn_after (cond en (cond here (option_to_list event) []) [] ++ events))) None
-seat_step true true None events = refl
-seat_step true true (Some event) events = refl
-seat_step true false event events = refl
-seat_step false true event events = refl
-seat_step false false event events = refl
+seat_step : (bases : Bases) (en here : Bool) (event : Option PrivateEvent) (events : List PrivateEvent) →
+    conn_then bases here event (cond en (Some (conn_after bases events)) None) ≡ cond en (Some (conn_after bases (cond en (cond here (option_to_list event) []) [] ++ events))) None
+seat_step bases true true None events = refl
+seat_step bases true true (Some event) events = refl
+seat_step bases true false event events = refl
+seat_step bases false true event events = refl
+seat_step bases false false event events = refl
 
 pub dropped_step : (here : Bool) (count all : ℕ) → count ≡ min all (2 ^ 64 - 1) → cond here (min (count + 1) (2 ^ 64 - 1)) count ≡ min (cond here 1 0 + all) (2 ^ 64 - 1)
 dropped_step true count all h = omega arith
@@ -79,15 +81,15 @@ here_open here (Some cause) e = cc
 
 -- the seats after an event that is no entering
 pub seats_after : (old new : Mux) (h : Happening) (outcome : Outcome) (T : List Entry) → ((i : ℕ) → enters_here i h ≡ false) → Books old T → outcome.fault ≡ None →
-    ((i : ℕ) → conn_at new.seats i ≡ conn_then (is_turn i (turn_at old h)) (event_of h) (conn_at old.seats i)) →
-    (i : ℕ) → conn_at new.seats i ≡ conn_in i (record { happening = h; outcome = outcome } ∷ T)
+    ((i : ℕ) → conn_at new.seats i ≡ conn_then old.bases (is_turn i (turn_at old h)) (event_of h) (conn_at old.seats i)) →
+    (i : ℕ) → conn_at new.seats i ≡ conn_in old.bases i (record { happening = h; outcome = outcome } ∷ T)
 seats_after old new h outcome T stays books quiet seats i =
     seats i
-    ∙ ap (λ t. conn_then (is_turn i t) (event_of h) (conn_at old.seats i)) (turn_same (owner old.loans) (asker T) h books.loans)
-    ∙ ap (conn_then (is_turn i (turn T h)) (event_of h)) (books.seats i)
-    ∙ seat_step (entered i T) (is_turn i (turn T h)) (event_of h) (own i T)
-    ∙ sym (ap (λ (f : Option UpCause). cond (entered i T) (Some (conn_after (cond (entered i T) (own_here i f (turn T h) h) [] ++ own i T))) None) quiet)
-    ∙ ap (λ b. cond ((b && is_none (fault_in T)) || entered i T) (Some (conn_after (cond (entered i T) (own_here i outcome.fault (turn T h) h) [] ++ own i T))) None) (sym (stays i))
+    ∙ ap (λ t. conn_then old.bases (is_turn i t) (event_of h) (conn_at old.seats i)) (turn_same (owner old.loans) (asker T) h books.loans)
+    ∙ ap (conn_then old.bases (is_turn i (turn T h)) (event_of h)) (books.seats i)
+    ∙ seat_step old.bases (entered i T) (is_turn i (turn T h)) (event_of h) (own i T)
+    ∙ sym (ap (λ (f : Option UpCause). cond (entered i T) (Some (conn_after old.bases (cond (entered i T) (own_here i f (turn T h) h) [] ++ own i T))) None) quiet)
+    ∙ ap (λ b. cond ((b && is_none (fault_in T)) || entered i T) (Some (conn_after old.bases (cond (entered i T) (own_here i outcome.fault (turn T h) h) [] ++ own i T))) None) (sym (stays i))
 
 -- what is known of what goes up: the request in it is the one that is due, under the next number
 pub record Goes (up : Option (List ℕ)) (number : ℕ) (ask : Option Request2) : Type 0 where
@@ -147,19 +149,19 @@ answered_none (ends conn) text e = cc
 answered_none (hears shape) text e = heard_answered shape shape.kind text e
 
 -- and is nobody's turn, so nothing is asked
-turnless_ask : (T : List Entry) (turn : Option ℕ) (event : Option PrivateEvent) → turn ≡ None → (effect_at (conn_of_turn T turn) event).ask ≡ None
-turnless_ask T None event e = refl
-turnless_ask T (Some i) event e = cc
+turnless_ask : (bases : Bases) (T : List Entry) (turn : Option ℕ) (event : Option PrivateEvent) → turn ≡ None → (effect_at bases (conn_of_turn bases T turn) event).ask ≡ None
+turnless_ask bases T None event e = refl
+turnless_ask bases T (Some i) event e = cc
 
 answered_turn : (who : ℕ → Option ℕ) (h : Happening) (turn : Option ℕ) (text : List ℕ) → turn_by who h ≡ turn → answer_due h ≡ Some text → turn ≡ None
 answered_turn who h None text t e = refl
 answered_turn who h (Some i) text t e = let none : answer_due h ≡ None = turn_answer who h i t in cc
 
 -- what an entry without a fault hands to the server
-pub goes_next : (T : List Entry) (h : Happening) (number : ℕ) → number ≡ issued T + 1 → breach_by (turn T h) (issued T) h (effect T h).ask ≡ None →
-    Goes (up_piece (answer_due h) (issued T + 1) (effect T h).ask) number (effect T h).ask
-goes_next T h number same right =
-    subst (λ (n : ℕ). Goes (up_piece (answer_due h) (issued T + 1) (effect T h).ask) n (effect T h).ask) (sym same)
-    (goes_by (answer_due h) (issued T + 1) (effect T h).ask
-    (λ text e. (answered_none h text e, turnless_ask T (turn T h) (event_of h) (answered_turn (asker T) h (turn T h) text refl e)))
-    (asked_reads (issued T) (effect T h).ask (second_none (said_breach (turn T h) h) (spent (issued T) (effect T h).ask) right) (effect_asks (conn_of_turn T (turn T h)) (event_of h))))
+pub goes_next : (bases : Bases) (T : List Entry) (h : Happening) (number : ℕ) → number ≡ issued T + 1 → breach_by (turn T h) (issued T) h (effect bases T h).ask ≡ None →
+    Goes (up_piece (answer_due h) (issued T + 1) (effect bases T h).ask) number (effect bases T h).ask
+goes_next bases T h number same right =
+    subst (λ (n : ℕ). Goes (up_piece (answer_due h) (issued T + 1) (effect bases T h).ask) n (effect bases T h).ask) (sym same)
+    (goes_by (answer_due h) (issued T + 1) (effect bases T h).ask
+    (λ text e. (answered_none h text e, turnless_ask bases T (turn T h) (event_of h) (answered_turn (asker T) h (turn T h) text refl e)))
+    (asked_reads (issued T) (effect bases T h).ask (second_none (said_breach (turn T h) h) (spent (issued T) (effect bases T h).ask) right) (effect_asks bases (conn_of_turn bases T (turn T h)) (event_of h) (turn_fit bases T (turn T h)))))

@@ -2,7 +2,9 @@
 use Rattle.std.specs.Prelude.{◌≡◌, ℕ, ◌+◌, ◌==◌, Bool, false, is_some, List, [], ◌++◌, drop, Option, Some, None, if◌then◌else◌}
 use Rattle.std.specs.Option.{option_map}
 use Rattle.rtsp_head.specs.Items.{Shape}
+use Rattle.rtsp_uri.specs.declared.base.Bases.{Bases}
 use Rattle.head_two.specs.declared.request.Request2.{Request2}
+use Rattle.session_one.specs.declared.parts.Asked.{Asked}
 use Rattle.gate_history.specs.declared.event.Closed.TheVariants.{Nobody, All}
 use Rattle.gate_history.specs.declared.event.UpCause.{UpCause}
 use Rattle.gate_history.specs.declared.event.Outcome.{Outcome}
@@ -12,9 +14,10 @@ use Rattle.gate_history.specs.Follows.{effect_at, spent}
 use Rattle.gate_history.specs.Next.{client_piece, up_piece}
 use Rattle.gateway_mux.specs.declared.act.Ask.{Ask}
 use Rattle.gateway_mux.specs.declared.act.Act.{Act}
+use Rattle.gateway_mux.specs.declared.slot.Change.{Change}
 use Rattle.gateway_mux.specs.declared.mux.Mux.{Mux}
 use Rattle.gateway_mux.specs.Seats.{conn_at}
-use Rattle.gateway_mux.specs.Slots.{with_waiting}
+use Rattle.gateway_mux.specs.Slots.{with_waiting, gone_on, changed}
 use Rattle.gateway_mux.specs.Loans.{owner, has_room}
 use Rattle.gateway_mux.specs.Commits.{goes_under, Stays}
 use Rattle.gateway_mux.specs.Short.{IsShort}
@@ -26,18 +29,14 @@ pub record Deed : Type 0 where
   pub settles : Option ℕ
   pub change : Conn → Conn
 
--- some waiting requests were treated, and then this is open
-abbrev pub gone_on : ℕ → Option ℕ → Conn → Conn
-gone_on count open_request conn = record { phase = conn.phase; open_request = open_request; waiting = drop count conn.waiting }
-
 abbrev pub asked_up : Option Ask → Option Request2
 asked_up ask = option_map (λ one. one.request) ask
 
-abbrev pub opened : Option Ask → Option ℕ
-opened ask = option_map (λ one. one.cseq) ask
+abbrev pub opened : Option Ask → Option Asked
+opened ask = option_map (λ one. one.asked) ask
 
 abbrev pub deed_of : Act → Deed
-deed_of act = record { hand = act.hand; ask = asked_up act.ask; settles = act.settles; change = gone_on act.treated (opened act.ask) }
+deed_of act = record { hand = act.hand; ask = asked_up act.ask; settles = act.settles; change = gone_on act.treated act.described (opened act.ask) }
 
 -- a request waits
 abbrev pub waits : Shape → Deed
@@ -45,19 +44,25 @@ waits shape = record { hand = []; ask = None; settles = None; change = λ conn. 
 
 -- what a request of a connection without an open request leads to
 abbrev pub act_for : Decision → Act
-act_for (answers text) = record { hand = text; ask = None; treated = 0; settles = None }
-act_for (forwards request cseq) = record { hand = []; ask = Some (record { request = request; cseq = cseq }); treated = 0; settles = None }
+act_for (answers text) = record { hand = text; ask = None; treated = 0; described = false; settles = None }
+act_for (forwards request asked) = record { hand = []; ask = Some (record { request = request; asked = asked }); treated = 0; described = false; settles = None }
 
 -- a number is settled, and nothing else happens
-abbrev pub act_settling : ℕ → Act
-act_settling number = record { hand = []; ask = None; treated = 0; settles = Some number }
+abbrev pub act_settling : Bool → ℕ → Act
+act_settling described number = record { hand = []; ask = None; treated = 0; described = described; settles = Some number }
+
+-- none of the requests that wait was treated yet
+pub record IsBegun (act : Act) : Type 0 where
+  pub none : act.treated ≡ 0
+  pub ask : act.ask ≡ None
 
 -- After these bytes come the answers to requests that wait, until one goes up.
-pub record IsTreated (first : List ℕ) (waiting : List Shape) (number : Option ℕ) (act : Act) : Type 0 where
-  pub hand : act.hand ≡ first ++ (treated waiting).hand
-  pub ask : asked_up act.ask ≡ (treated waiting).ask
-  pub opened : opened act.ask ≡ (treated waiting).open_request
-  pub left : drop act.treated waiting ≡ (treated waiting).waiting
+pub record IsTreated (bases : Bases) (control : Option (List ℕ)) (first : List ℕ) (waiting : List Shape) (tells : Bool) (number : Option ℕ) (act : Act) : Type 0 where
+  pub hand : act.hand ≡ first ++ (treated bases control waiting).hand
+  pub ask : asked_up act.ask ≡ (treated bases control waiting).ask
+  pub opened : opened act.ask ≡ (treated bases control waiting).open_request
+  pub left : drop act.treated waiting ≡ (treated bases control waiting).waiting
+  pub described : act.described ≡ tells
   pub settles : act.settles ≡ number
 
 -- whether the number is settled
@@ -94,15 +99,15 @@ abbrev pub Acted : Mux → Mux → ℕ → Deed → Outcome → Type 0
 Acted old new conn deed outcome = ActedBy (spent old.issued deed.ask) old new conn deed outcome
 
 -- It is what the machine does, and no close.
-pub record Fits (state : Option Conn) (event : Option PrivateEvent) (deed : Deed) : Type 0 where
-  pub hand : (effect_at state event).hand ≡ deed.hand
-  pub ask : (effect_at state event).ask ≡ deed.ask
-  pub close : (effect_at state event).close ≡ None
-  pub conn : option_map (λ one. (effect_at (Some one) event).conn) state ≡ option_map deed.change state
+pub record Fits (bases : Bases) (state : Option Conn) (event : Option PrivateEvent) (deed : Deed) : Type 0 where
+  pub hand : (effect_at bases state event).hand ≡ deed.hand
+  pub ask : (effect_at bases state event).ask ≡ deed.ask
+  pub close : (effect_at bases state event).close ≡ None
+  pub conn : option_map (λ one. (effect_at bases (Some one) event).conn) state ≡ option_map deed.change state
 
--- So many waiting requests of a connection were treated, this is open then, and that number is settled.
-pub record GoesOn (old new : Mux) (conn treated : ℕ) (open_request settles : Option ℕ) : Type 0 where
-  pub seats : (i : ℕ) → conn_at new.seats i ≡ (if conn == i then option_map (gone_on treated open_request) (conn_at old.seats i) else conn_at old.seats i)
+-- A connection changes, and that number is settled.
+pub record GoesOn (old new : Mux) (conn : ℕ) (change : Change) (settles : Option ℕ) : Type 0 where
+  pub seats : (i : ℕ) → conn_at new.seats i ≡ (if conn == i then option_map (changed change) (conn_at old.seats i) else conn_at old.seats i)
   pub loans : (g : ℕ) → owner new.loans g ≡ (if settled_at settles g then None else owner old.loans g)
   pub room : has_room old.loans → has_room new.loans
   pub issued : new.issued ≡ old.issued

@@ -15,7 +15,7 @@ use Rattle.gateway_mux.specs.Short.{IsShort}
 
 -- a connection that was alive is closed, and its waiting requests are dropped
 abbrev pub closed_at : Phase → Conn → Conn
-closed_at phase.Alive conn = record { phase = phase.Closed; open_request = conn.open_request; waiting = [] }
+closed_at phase.Alive conn = record { phase = phase.Closed; control = conn.control; open_request = conn.open_request; waiting = [] }
 closed_at phase.Closed conn = conn
 closed_at phase.Over conn = conn
 

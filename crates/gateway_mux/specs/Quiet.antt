@@ -13,7 +13,7 @@ use Rattle.gateway_mux.specs.Short.{IsShort}
 
 -- The machine of the connection whose turn it is does nothing, nothing is wrong, and nothing is due to the server.
 pub record IsQuiet (mux : Mux) (happening : Happening) : Type 0 where
-  pub still : (conn : Conn) → turned mux (turn_at mux happening) ≡ Some conn → effect_at (Some conn) (event_of happening) ≡ nothing conn
+  pub still : (conn : Conn) → turned mux (turn_at mux happening) ≡ Some conn → effect_at mux.bases (Some conn) (event_of happening) ≡ nothing conn
   pub right : said_breach (turn_at mux happening) happening ≡ None
   pub unanswered : answer_due happening ≡ None
   pub unsettled : (g : ℕ) → settles g happening ≡ false

@@ -10,14 +10,14 @@ use Rattle.gateway_mux.specs.Loans.{owner}
 -- Each connection is as it would be alone after its own events, the open requests are owed to those who asked them, and
 -- the last number is that of the last request.
 pub record Books (mux : Mux) (history : List Entry) : Type 0 where
-  pub seats : (i : ℕ) → conn_at mux.seats i ≡ conn_in i history
+  pub seats : (i : ℕ) → conn_at mux.seats i ≡ conn_in mux.bases i history
   pub loans : (g : ℕ) → owner mux.loans g ≡ asker history g
   pub issued : mux.issued ≡ issued history
 
 -- The list is a history, the books are those of its entries before the connection to the server ended, and its end and
 -- the count of dropped frames are the history's.
 pub record Stands (mux : Mux) (history : List Entry) : Type 0 where
-  pub is_history : IsHistory history
+  pub is_history : IsHistory mux.bases history
   pub ended : mux.ended ≡ fault_in history
   pub dropped : mux.dropped ≡ dropped_frames history
   pub books : Books mux (standing history)

@@ -6,7 +6,6 @@
 #![tactic(auto)]
 
 mod act;
-mod answer;
 mod decide;
 mod hear;
 mod loans;

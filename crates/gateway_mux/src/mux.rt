@@ -94,7 +94,7 @@ impl Mux {
 
     /// Whether a request of a connection would wait: it is alive, and another request of it is open.
     pub fn busy(&self, conn: u32) -> bool
-        ensures { (T : List Entry) → Stands self.now T → result ≡ is_busy conn T }
+        ensures { (T : List Entry) → Stands self.now T → result ≡ is_busy (bases_of self.now) conn T }
     {
         self.ended.is_none() && self.readiness(conn).is_busy()
     }

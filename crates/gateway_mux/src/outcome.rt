@@ -52,4 +52,3 @@ pub(crate) fn fitting(text: Text) -> Result<Text, Memory>
         Err(Memory)
     }
 }
-

@@ -26,6 +26,7 @@ pub(crate) struct Seats {
 impl Seats {
     ghost use Rattle.gateway_mux.specs.Seats.{conn_at, IsNextSeat};
     ghost use Rattle.gateway_mux.specs.Closes.{stands_open, IsFirstOpen};
+    ghost use Rattle.gateway_mux.specs.Answered.{control_of};
 
     /// No connection. It takes no memory.
     pub fn new(alloc: Global) -> Seats
@@ -43,6 +44,13 @@ impl Seats {
     {
         let key = *self.keys.get(&conn)?;
         self.slots.get(key)
+    }
+
+    /// What a connection is about, where that is known.
+    pub fn control(&self, conn: u32) -> Option<&[u8]>
+        ensures { option_map (λ uri. uri.now) result ≡ control_of (conn_at self.now conn) }
+    {
+        self.slot(conn)?.control()
     }
 
     /// The first number from this one on that entered.

@@ -1,11 +1,13 @@
 //! One connection's state.
-ghost use Rattle.std.specs.Prelude.{◌≡◌, ◌++◌, ◌∷◌, [], drop, Some, IfOk, OnOk, IfErr, OnErr};
+ghost use Rattle.std.specs.Prelude.{◌≡◌, ◌++◌, ◌∷◌, [], drop, Some, IfOk, OnOk, IfErr, OnErr, option_map};
 ghost use Rattle.rtsp_head.specs.Shapes.{shape_of};
 
 use crate::act::{self, Act};
-use gate_bytes::Memory;
+use gate_bytes::{Memory, Text};
+use gate_history::Bases;
 use head_two::Reply2;
 use rtsp_head::Item;
+use session_one::Asked;
 use std::alloc::Global;
 use std::collections::VecDeque;
 
@@ -14,18 +16,20 @@ use std::collections::VecDeque;
 pub(crate) struct Slot {
     /// Whether it was not closed.
     pub alive: bool,
-    /// The client's number of the request that is open at the server.
-    pub open_request: Option<u64>,
+    /// The URI that stands for what it is about, where it is known.
+    pub control: Option<Text>,
+    /// The client's request that is open at the server.
+    pub open_request: Option<Asked>,
     /// The requests that wait for it, the oldest first.
     pub waiting: VecDeque<Item>,
 }
 
 /// A change of a connection that takes no memory.
-#[derive(Clone, Copy, Debug, PartialEq, Eq)]
+#[derive(Drop)]
 pub(crate) enum Change {
-    /// So many waiting requests were treated, and then the request with this number of its client is
-    /// open, or none.
-    Goes(usize, Option<u64>),
+    /// So many waiting requests were treated, the connection may be about the URI of its open request
+    /// then, and this request is open, or none.
+    Goes(usize, bool, Option<Asked>),
     /// It is closed, and its waiting requests are dropped.
     Closes,
 }
@@ -51,7 +55,7 @@ impl Readiness {
 }
 
 impl Slot {
-    ghost use Rattle.gateway_mux.specs.Slots.{conn_of, changed, with_waiting};
+    ghost use Rattle.gateway_mux.specs.Slots.{conn_of, changed, with_waiting, told_control};
     ghost use Rattle.gateway_mux.specs.Answered.{readiness_of, IsAnswered};
     ghost use Rattle.gate_history.specs.Machine.{new_conn};
 
@@ -61,6 +65,7 @@ impl Slot {
     {
         Slot {
             alive: true,
+            control: None,
             open_request: None,
             waiting: VecDeque::new(alloc),
         }
@@ -70,20 +75,39 @@ impl Slot {
     pub fn readiness(&self) -> Readiness
         ensures { result ≡ readiness_of (Some (conn_of self.now)) }
     {
-        match (self.alive, self.open_request) {
+        match (self.alive, &self.open_request) {
             (true, None) => Readiness::Ready,
             (true, Some(_)) => Readiness::Busy,
             (false, _) => Readiness::Gone,
         }
     }
 
-    /// What the final reply to its open request leads to.
-    pub fn answered(&self, alloc: Global, reply: &Reply2) -> Result<Act, Memory>
-        ensures { IfOk result (λ act. IsAnswered (Some (conn_of self.now)) reply.now act) }
+    /// The URI that stands for what it is about.
+    pub fn control(&self) -> Option<&[u8]>
+        ensures { option_map (λ uri. uri.now) result ≡ (conn_of self.now).control }
     {
-        match (self.alive, self.open_request) {
-            (true, Some(cseq)) => act::reply(alloc, cseq, reply, &self.waiting),
-            (true, None) | (false, _) => Ok(act::settle(alloc, reply.cseq)),
+        match &self.control {
+            Some(uri) => Some(uri.as_bytes()),
+            None => None,
+        }
+    }
+
+    /// What the final reply to its open request leads to.
+    pub fn answered<'a>(
+        &'a self,
+        alloc: Global,
+        bases: &'a Bases,
+        reply: &Reply2,
+    ) -> Result<Act, Memory>
+        ensures { IfOk result (λ act. IsAnswered bases.now (Some (conn_of self.now)) reply.now act) }
+    {
+        let Some(asked) = &self.open_request else {
+            return Ok(act::settle(alloc, false, reply.cseq));
+        };
+        if self.alive {
+            act::reply(alloc, bases, asked, self.control(), reply, &self.waiting)
+        } else {
+            Ok(act::settle(alloc, act::describes(asked, reply.code), reply.cseq))
         }
     }
 
@@ -105,14 +129,31 @@ impl Slot {
         ensures { conn_of self.new ≡ changed change (conn_of self.old) }
     {
         match change {
-            Change::Goes(count, open_request) => {
-                drop_front(&mut self.waiting, count);
-                self.open_request = open_request;
+            Change::Goes(treated, described, open_request) => {
+                drop_front(&mut self.waiting, treated);
+                self.open(described, open_request);
             }
             Change::Closes => {
                 self.alive = false;
                 self.waiting.clear();
             }
+        }
+    }
+
+    /// Another request is open, or none. The connection may be about the URI of the one before.
+    fn open(&mut self, described: bool, open_request: Option<Asked>)
+        ensures control { self.new.control ≡ told_control described self.old.open_request self.old.control }
+        ensures request { self.new.open_request ≡ open_request }
+        ensures alive { self.new.alive ≡ self.old.alive }
+        ensures waiting { self.new.waiting ≡ self.old.waiting }
+    {
+        let before = self.open_request.take();
+        self.open_request = open_request;
+        if !described {
+            return;
+        }
+        if let Some(asked) = before {
+            self.control = Some(asked.uri);
         }
     }
 }

@@ -79,7 +79,7 @@ fn a_request_goes_up(rt: HostRuntime) -> Result<(), Fail> {
     let text = outcome.to_up.ok_or(Memory)?;
     assert_eq!(rt;
         text.as_bytes(),
-        b"DESCRIBE rtsp://gate.example/m RTSP/2.0\r\nCSeq: 1\r\n\r\n".as_slice()
+        b"DESCRIBE rtsp://media.example/m RTSP/2.0\r\nCSeq: 1\r\n\r\n".as_slice()
     );
     assert!(rt; mux.busy(1));
     Ok(())

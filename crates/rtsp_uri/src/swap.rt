@@ -23,7 +23,10 @@ pub fn swap_authority(alloc: Global, from: &Base, to: &Base, uri: &[u8]) -> Resu
     let Some(rest) = rest_behind(from, uri) else {
         return Text::copy(alloc, uri);
     };
-    let mut text = Text::with_room(alloc, rest.len())?;
+    let room = SCHEME
+        .saturating_add(to.text.len())
+        .saturating_add(rest.len());
+    let mut text = Text::with_room(alloc, room)?;
     text.push_slice(b"rtsp://")?;
     text.push_slice(to.text.as_bytes())?;
     text.push_slice(rest)?;

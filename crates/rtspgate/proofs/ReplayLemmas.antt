@@ -1,6 +1,7 @@
 -- Entries, one after another: what a replay has done so far.
 use Rattle.std.proofs.Common.{◌≡◌, ℕ, Bool, true, false, not, List, [], ◌∷◌, ◌++◌, Option, Some, None, Ok, Err, refl, sym, ◌∙◌, ap}
 use Rattle.std.proofs.lemmas.List.{append_assoc, append-nil}
+use Rattle.rtsp_uri.specs.declared.base.Bases.{Bases}
 use Rattle.gate_history.specs.History.{Happening, History, happened}
 use Rattle.gateway_mux.specs.declared.mux.Mux.{Mux}
 use Rattle.gateway_mux.specs.Stands.{Stands}
@@ -23,7 +24,7 @@ use Rattle.rtspgate.specs.Replays.{SoFar, TellsFront, Interrupted, TreatedWhole,
 use Rattle.rtspgate.proofs.ReaderLemmas.{given_front}
 use Rattle.rtspgate.proofs.ProperLemmas.{reads_proper, entered_never}
 use Rattle.rtspgate.proofs.RunLemmas.{happened-append, grows_on, grows_on_in_part}
-use Rattle.rtspgate.proofs.StandingLemmas.{not_entered_fresh}
+use Rattle.rtspgate.proofs.StandingLemmas.{not_entered_fresh, stood}
 
 fresh_by : (kind : EntryKind) (mux : Mux) (history : History) (entries : List Entry) (conn : ℕ) → Stands mux history → happened history ≡ events_of entries
     → may_come (λ c. entered c entries) kind conn ≡ true → EntersFresh kind mux conn
@@ -38,22 +39,23 @@ fresh_by Upstream mux history entries conn stands told may = tt
 fresh_by End mux history entries conn stands told may = tt
 
 -- a connection that enters by the next entry is new
-pub enters_fresh : (reader next : EntryReader) (streams : Streams) (mux : Mux) (bytes : List ℕ) (before now : Option (List ℕ)) (e : Entry)
-    → SoFar reader streams mux bytes before now → NextSays reader next (Ok (Some e)) → EntersFresh e.kind mux e.conn
-enters_fresh reader next streams mux bytes before now e s says =
+pub enters_fresh : (bases : Bases) (reader next : EntryReader) (streams : Streams) (mux : Mux) (bytes : List ℕ) (before now : Option (List ℕ)) (e : Entry)
+    → SoFar bases reader streams mux bytes before now → NextSays reader next (Ok (Some e)) → EntersFresh e.kind mux e.conn
+enters_fresh bases reader next streams mux bytes before now e s says =
     let proper = reads_proper next bytes (e ∷ s.entries) (says bytes s.entries s.reads) in
     fresh_by e.kind mux s.history s.entries e.conn s.stands s.told proper.0
 
 -- one entry more
-pub so_far_more : (reader next : EntryReader) (streams streams_now : Streams) (mux mux_now : Mux) (bytes : List ℕ) (before mid now : Option (List ℕ)) (e : Entry)
-    → SoFar reader streams mux bytes before mid → NextSays reader next (Ok (Some e)) → TakesEntry streams streams_now mux mux_now e mid now (Ok tt)
-    → SoFar next streams_now mux_now bytes before now
-so_far_more reader next streams streams_now mux mux_now bytes before mid now e s says t = record {
+pub so_far_more : (bases : Bases) (reader next : EntryReader) (streams streams_now : Streams) (mux mux_now : Mux) (bytes : List ℕ) (before mid now : Option (List ℕ)) (e : Entry)
+    → SoFar bases reader streams mux bytes before mid → NextSays reader next (Ok (Some e)) → TakesEntry streams streams_now mux mux_now e mid now (Ok tt)
+    → SoFar bases next streams_now mux_now bytes before now
+so_far_more bases reader next streams streams_now mux mux_now bytes before mid now e s says t = record {
   entries = e ∷ s.entries;
   history = t.more ++ s.history;
   reads = says bytes s.entries s.reads;
   fit = (t.told s.entries s.fit).0;
-  stands = t.advances s.history s.stands;
+  stands = t.advances.stands s.history s.stands;
+  based = t.advances.bases ∙ s.based;
   told =
       happened-append t.more s.history
       ∙ ap (λ (l : List Happening). l ++ happened t.more) s.told
@@ -62,29 +64,29 @@ so_far_more reader next streams streams_now mux mux_now bytes before mid now e s
 }
 
 -- no entry more
-pub so_far_whole : (reader next : EntryReader) (streams : Streams) (mux : Mux) (bytes : List ℕ) (before now : Option (List ℕ))
-    → SoFar reader streams mux bytes before now → NextSays reader next (Ok None) → TreatedWhole next streams mux bytes before now
-so_far_whole reader next streams mux bytes before now s says =
+pub so_far_whole : (bases : Bases) (reader next : EntryReader) (streams : Streams) (mux : Mux) (bytes : List ℕ) (before now : Option (List ℕ))
+    → SoFar bases reader streams mux bytes before now → NextSays reader next (Ok None) → TreatedWhole bases next streams mux bytes before now
+so_far_whole bases reader next streams mux bytes before now s says =
     let after = says bytes s.entries s.reads in record {
-      so_far = record { entries = s.entries; history = s.history; reads = after.0; fit = s.fit; stands = s.stands; told = s.told; grown = s.grown };
+      so_far = record { entries = s.entries; history = s.history; reads = after.0; fit = s.fit; stands = s.stands; based = s.based; told = s.told; grown = s.grown };
       whole = after.1;
     }
 
-pub so_far_bad : (reader next : EntryReader) (streams : Streams) (mux : Mux) (bytes : List ℕ) (before now : Option (List ℕ)) (bad : BadEntry)
-    → SoFar reader streams mux bytes before now → NextSays reader next (Err (entry_fault.Bad bad)) → TreatedToFault bad next streams mux bytes before now
-so_far_bad reader next streams mux bytes before now bad s says =
+pub so_far_bad : (bases : Bases) (reader next : EntryReader) (streams : Streams) (mux : Mux) (bytes : List ℕ) (before now : Option (List ℕ)) (bad : BadEntry)
+    → SoFar bases reader streams mux bytes before now → NextSays reader next (Err (entry_fault.Bad bad)) → TreatedToFault bases bad next streams mux bytes before now
+so_far_bad bases reader next streams mux bytes before now bad s says =
     let after = says bytes s.entries s.reads in record {
-      so_far = record { entries = s.entries; history = s.history; reads = after.0; fit = s.fit; stands = s.stands; told = s.told; grown = s.grown };
+      so_far = record { entries = s.entries; history = s.history; reads = after.0; fit = s.fit; stands = s.stands; based = s.based; told = s.told; grown = s.grown };
       stops = after.1;
     }
 
 -- an interruption between two entries
-pub so_far_interrupted : (reader : EntryReader) (streams : Streams) (mux : Mux) (bytes : List ℕ) (before now : Option (List ℕ))
-    → SoFar reader streams mux bytes before now → Interrupted bytes before now
-so_far_interrupted reader streams mux bytes before now s =
+pub so_far_interrupted : (bases : Bases) (reader : EntryReader) (streams : Streams) (mux : Mux) (bytes : List ℕ) (before now : Option (List ℕ))
+    → SoFar bases reader streams mux bytes before now → Interrupted bases bytes before now
+so_far_interrupted bases reader streams mux bytes before now s =
     let given = given_front reader bytes s.entries s.reads in record {
       history = s.history;
-      is_history = s.stands.is_history;
+      is_history = stood bases mux s.history s.stands s.based;
       tells = record {
         front = given.front;
         rest = given.rest;
@@ -95,10 +97,10 @@ so_far_interrupted reader streams mux bytes before now s =
     }
 
 -- a fault of the reader
-pub so_far_faulted : (reader next : EntryReader) (streams : Streams) (mux : Mux) (bytes : List ℕ) (before now : Option (List ℕ)) (fault : EntryFault)
-    → SoFar reader streams mux bytes before now → NextSays reader next (Err fault) → Treated (Err (stop_at fault)) next streams mux bytes before now
-so_far_faulted reader next streams mux bytes before now (entry_fault.Bad bad) s says = so_far_bad reader next streams mux bytes before now bad s says
-so_far_faulted reader next streams mux bytes before now entry_fault.Memory s says = so_far_interrupted reader streams mux bytes before now s
+pub so_far_faulted : (bases : Bases) (reader next : EntryReader) (streams : Streams) (mux : Mux) (bytes : List ℕ) (before now : Option (List ℕ)) (fault : EntryFault)
+    → SoFar bases reader streams mux bytes before now → NextSays reader next (Err fault) → Treated bases (Err (stop_at fault)) next streams mux bytes before now
+so_far_faulted bases reader next streams mux bytes before now (entry_fault.Bad bad) s says = so_far_bad bases reader next streams mux bytes before now bad s says
+so_far_faulted bases reader next streams mux bytes before now entry_fault.Memory s says = so_far_interrupted bases reader streams mux bytes before now s
 
 -- an interruption within an entry
 tells_part : (next : EntryReader) (bytes : List ℕ) (entries : List Entry) (e : Entry) (history more : History)
@@ -119,18 +121,18 @@ tells_part next bytes entries e history more reads told part =
       };
     }
 
-pub so_far_stopped : (reader next : EntryReader) (streams streams_now : Streams) (mux mux_now : Mux) (bytes : List ℕ) (before mid now : Option (List ℕ)) (e : Entry) (fault : TreatFault)
-    → SoFar reader streams mux bytes before mid → NextSays reader next (Ok (Some e)) → TakesEntry streams streams_now mux mux_now e mid now (Err fault)
-    → Treated (Err (stop_of fault)) next streams_now mux_now bytes before now
-so_far_stopped reader next streams streams_now mux mux_now bytes before mid now e Sink s says t = record {
+pub so_far_stopped : (bases : Bases) (reader next : EntryReader) (streams streams_now : Streams) (mux mux_now : Mux) (bytes : List ℕ) (before mid now : Option (List ℕ)) (e : Entry) (fault : TreatFault)
+    → SoFar bases reader streams mux bytes before mid → NextSays reader next (Ok (Some e)) → TakesEntry streams streams_now mux mux_now e mid now (Err fault)
+    → Treated bases (Err (stop_of fault)) next streams_now mux_now bytes before now
+so_far_stopped bases reader next streams streams_now mux mux_now bytes before mid now e Sink s says t = record {
   history = t.more ++ s.history;
-  is_history = (t.advances s.history s.stands).is_history;
+  is_history = stood bases mux_now (t.more ++ s.history) (t.advances.stands s.history s.stands) (t.advances.bases ∙ s.based);
   tells = tells_part next bytes s.entries e s.history t.more (says bytes s.entries s.reads) s.told (t.told s.entries s.fit);
   grown = grows_on_in_part before mid now s.history t.more s.grown (t.written s.history s.stands);
 }
-so_far_stopped reader next streams streams_now mux mux_now bytes before mid now e Memory s says t = record {
+so_far_stopped bases reader next streams streams_now mux mux_now bytes before mid now e Memory s says t = record {
   history = t.more ++ s.history;
-  is_history = (t.advances s.history s.stands).is_history;
+  is_history = stood bases mux_now (t.more ++ s.history) (t.advances.stands s.history s.stands) (t.advances.bases ∙ s.based);
   tells = tells_part next bytes s.entries e s.history t.more (says bytes s.entries s.reads) s.told (t.told s.entries s.fit);
   grown = grows_on before mid now s.history t.more s.grown (t.written s.history s.stands);
 }

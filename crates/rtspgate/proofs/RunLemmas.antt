@@ -9,7 +9,7 @@ use Rattle.gate_history.specs.declared.event.Event.{Event}
 use Rattle.gate_history.specs.declared.event.Outcome.{Outcome}
 use Rattle.gate_history.specs.History.{Happening, History, ends, happened, happening_of, entry_of, entering}
 use Rattle.gateway_mux.specs.declared.mux.Mux.{Mux}
-use Rattle.gateway_mux.specs.Stands.{Stands}
+use Rattle.gateway_mux.specs.Stands.{Stands, bases_of}
 use Rattle.rtspgate.specs.declared.transcript.Entry.{Entry}
 use Rattle.rtspgate.specs.declared.transcript.EntryKind.{EntryKind}
 use Rattle.rtspgate.specs.declared.transcript.EntryKind.TheVariants.{Enter, Client, Upstream, End}
@@ -51,7 +51,10 @@ records_after-append T one (e ∷ other) =
 
 pub advances_twice : (before between now : Mux) (one other : History) → Advances before between one → Advances between now other → Advances before now (other ++ one)
 advances_twice before between now one other first next =
-    λ T s. subst (λ (l : History). Stands now l) (sym (append_assoc other one T)) (next (one ++ T) (first T s))
+    record {
+      stands = λ T s. subst (λ (l : History). Stands now l) (sym (append_assoc other one T)) (next.stands (one ++ T) (first.stands T s));
+      bases = next.bases ∙ first.bases;
+    }
 
 writes_twice : (T : History) (before between now : Option (List ℕ)) (one other : History) (r : Result (Unit {0}) TreatFault)
     → Grows before between (records_after T one) → WritesAfter between now (one ++ T) other r → WritesAfter before now T (other ++ one) r
@@ -78,32 +81,32 @@ grows_on_in_part before between now T more first next =
     (then_writes {T = Unit {0}} {E = Unit {0}} before between now (records T) (records_after T more) (Err tt) first next)
 
 -- one event
-pub untaken : (before now : Mux) (happening : Happening) (written : Option (List ℕ)) → ((T : History) → Stands before T → Stands now T)
+pub untaken : (before now : Mux) (happening : Happening) (written : Option (List ℕ)) → ((T : History) → Stands before T → Stands now T) → bases_of now ≡ bases_of before
     → TakesEvent before now happening written written (Err Memory)
-untaken before now happening written kept = record {
+untaken before now happening written kept based = record {
   more = [];
   told = refl;
-  advances = kept;
+  advances = record { stands = kept; bases = based };
   written = λ T s. grows_nothing written;
 }
 
 pub taken : (before now : Mux) (event : Event) (outcome : Outcome) (written_before written_now : Option (List ℕ))
-    → ((T : History) → Stands before T → Stands now (entry_of event outcome ∷ T)) → ((happening : Happening) (T : History) → Stands now (record { happening = happening; outcome = outcome } ∷ T) → Grows written_before written_now (records_of outcome T))
+    → ((T : History) → Stands before T → Stands now (entry_of event outcome ∷ T)) → bases_of now ≡ bases_of before → ((happening : Happening) (T : History) → Stands now (record { happening = happening; outcome = outcome } ∷ T) → Grows written_before written_now (records_of outcome T))
     → TakesEvent before now (happening_of event) written_before written_now (Ok tt)
-taken before now event outcome written_before written_now steps grown = record {
+taken before now event outcome written_before written_now steps based grown = record {
   more = entry_of event outcome ∷ [];
   told = refl;
-  advances = steps;
+  advances = record { stands = steps; bases = based };
   written = λ T s. grown (happening_of event) T (steps T s);
 }
 
 pub taken_in_part : (before now : Mux) (event : Event) (outcome : Outcome) (written_before written_now : Option (List ℕ))
-    → ((T : History) → Stands before T → Stands now (entry_of event outcome ∷ T)) → ((happening : Happening) (T : History) → Stands now (record { happening = happening; outcome = outcome } ∷ T) → GrowsByFront written_before written_now (records_of outcome T))
+    → ((T : History) → Stands before T → Stands now (entry_of event outcome ∷ T)) → bases_of now ≡ bases_of before → ((happening : Happening) (T : History) → Stands now (record { happening = happening; outcome = outcome } ∷ T) → GrowsByFront written_before written_now (records_of outcome T))
     → TakesEvent before now (happening_of event) written_before written_now (Err Sink)
-taken_in_part before now event outcome written_before written_now steps grown = record {
+taken_in_part before now event outcome written_before written_now steps based grown = record {
   more = entry_of event outcome ∷ [];
   told = refl;
-  advances = steps;
+  advances = record { stands = steps; bases = based };
   written = λ T s. grown (happening_of event) T (steps T s);
 }
 
@@ -120,7 +123,7 @@ takes_none streams mux who written = record {
   more = [];
   shapes = [];
   told = refl;
-  advances = λ T s. s;
+  advances = record { stands = λ T s. s; bases = refl };
   grown = λ T s. grows_nothing written;
   fed = λ stream given fed. subst (λ (l : List Shape). Fed (framer_at streams who) stream l) (sym (append-nil given)) fed;
   others = λ other apart. refl;
@@ -145,7 +148,7 @@ takes_one_more streams between streams_now mux mid now who shape written written
       ∙ sym (map-append (said_by who) so_far.shapes (shape ∷ []));
   advances = advances_twice mux mid now so_far.more event.more so_far.advances event.advances;
   grown = λ T s.
-      writes_twice T written written_mid written_now so_far.more event.more (Ok tt) (so_far.grown T s) (event.written (so_far.more ++ T) (so_far.advances T s));
+      writes_twice T written written_mid written_now so_far.more event.more (Ok tt) (so_far.grown T s) (event.written (so_far.more ++ T) (so_far.advances.stands T s));
   fed = λ stream given fed.
       subst (λ (l : List Shape). Fed (framer_at streams_now who) stream l) (append_assoc given so_far.shapes (shape ∷ []))
       (gives stream (given ++ so_far.shapes) (so_far.fed stream given fed));
@@ -186,7 +189,7 @@ takes_to_fault streams between streams_now mux mid now who shape written written
       ∙ sym (map-append (said_by who) so_far.shapes (shape ∷ []));
   advances = advances_twice mux mid now so_far.more event.more so_far.advances event.advances;
   written = λ T s.
-      writes_twice T written written_mid written_now so_far.more event.more (Err Sink) (so_far.grown T s) (event.written (so_far.more ++ T) (so_far.advances T s));
+      writes_twice T written written_mid written_now so_far.more event.more (Err Sink) (so_far.grown T s) (event.written (so_far.more ++ T) (so_far.advances.stands T s));
   fed = λ stream given fed.
       fed_front (framer_at streams_now who) stream (given ++ (so_far.shapes ++ shape ∷ []))
       (subst (λ (l : List Shape). Fed (framer_at streams_now who) stream l) (append_assoc given so_far.shapes (shape ∷ []))
@@ -203,7 +206,7 @@ takes_to_fault streams between streams_now mux mid now who shape written written
       ∙ append-nil (map (said_by who) so_far.shapes);
   advances = advances_twice mux mid now so_far.more event.more so_far.advances event.advances;
   written = λ T s.
-      writes_twice T written written_mid written_now so_far.more event.more (Err Memory) (so_far.grown T s) (event.written (so_far.more ++ T) (so_far.advances T s));
+      writes_twice T written written_mid written_now so_far.more event.more (Err Memory) (so_far.grown T s) (event.written (so_far.more ++ T) (so_far.advances.stands T s));
   fed = λ stream given fed. fed_front (framer_at between who) stream (given ++ so_far.shapes) (so_far.fed stream given fed);
   others = λ other apart. others other apart ∙ so_far.others other apart;
 }
@@ -225,7 +228,7 @@ pub takes_no_bytes : (streams now : Streams) (mux : Mux) (who : Speaker) (piece 
     → TakesBytes streams now mux mux who piece written written (Err Memory)
 takes_no_bytes streams now mux who piece written = record {
   more = [];
-  advances = λ T s. s;
+  advances = record { stands = λ T s. s; bases = refl };
   written = λ T s. grows_nothing written;
   told = λ earlier fit. told_nothing now who piece earlier Memory;
 }
@@ -264,11 +267,11 @@ end_silent (speaker.Client i) conn = refl
 end_silent speaker.Server conn = refl
 
 pub takes_enter : (streams : Streams) (before now : Mux) (entry : Entry) (written : Option (List ℕ)) → entry.kind ≡ Enter
-    → ((T : History) → Stands before T → Stands now (entering entry.conn ∷ T))
+    → ((T : History) → Stands before T → Stands now (entering entry.conn ∷ T)) → bases_of now ≡ bases_of before
     → TakesEntry streams streams before now entry written written (Ok tt)
-takes_enter streams before now entry written kind steps = record {
+takes_enter streams before now entry written kind steps based = record {
   more = entering entry.conn ∷ [];
-  advances = steps;
+  advances = record { stands = steps; bases = based };
   written = λ T s. grows_nothing written;
   told = λ earlier fit. (
     no_bytes streams entry earlier (λ who. ap (λ (k : EntryKind). speaks who k entry.conn) kind ∙ enter_silent who entry.conn) fit,
@@ -277,11 +280,11 @@ takes_enter streams before now entry written kind steps = record {
 }
 
 -- an entering that was not taken
-pub takes_no_enter : (streams : Streams) (before now : Mux) (entry : Entry) (written : Option (List ℕ)) → ((T : History) → Stands before T → Stands now T)
+pub takes_no_enter : (streams : Streams) (before now : Mux) (entry : Entry) (written : Option (List ℕ)) → ((T : History) → Stands before T → Stands now T) → bases_of now ≡ bases_of before
     → TakesEntry streams streams before now entry written written (Err Memory)
-takes_no_enter streams before now entry written kept = record {
+takes_no_enter streams before now entry written kept based = record {
   more = [];
-  advances = kept;
+  advances = record { stands = kept; bases = based };
   written = λ T s. grows_nothing written;
   told = λ earlier fit. record { more = told_by entry.kind entry earlier; whole = refl };
 }

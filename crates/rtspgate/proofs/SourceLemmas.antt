@@ -5,9 +5,10 @@ use Rattle.std.proofs.lemmas.Bool.{le-leb, leb-true, leb-false, lt-leb}
 use Rattle.std.proofs.lemmas.List.{append_assoc, append-nil, length-append, take-append-drop, take-append-le, take-take, length-take-le}
 use Rattle.std.proofs.Math.Seq.{take-append-add, take-append_seam}
 use Rattle.gate_outside.specs.Contents.{Reads, TakesFront}
+use Rattle.rtsp_uri.specs.declared.base.Bases.{Bases}
 use Rattle.gate_history.specs.History.{History, happened}
 use Rattle.gateway_mux.specs.declared.mux.Mux.{Mux}
-use Rattle.gateway_mux.specs.Stands.{Stands}
+use Rattle.gateway_mux.specs.Stands.{Stands, bases_of}
 use Rattle.rtspgate.specs.declared.status.Status.{Status}
 use Rattle.rtspgate.specs.declared.status.Status.TheVariants.{BadTranscript, TooLong}
 use Rattle.rtspgate.specs.declared.transcript.Entry.{Entry}
@@ -26,25 +27,27 @@ use Rattle.rtspgate.specs.Fed.{Fed}
 use Rattle.rtspgate.specs.Streams.{framer_at}
 use Rattle.rtspgate.specs.Stops.{status_of}
 use Rattle.rtspgate.specs.Replays.{limit, ends_by, cut_by_kind, cut_by_limit, ends_as, TakenFrom, SoFar, Interrupted, TreatedWhole, Treated, IsAtEnd, Ended, Broken, ReplaySays, FaultRose, StopRose, Going}
+use Rattle.rtspgate.proofs.StandingLemmas.{stood}
 use Rattle.rtspgate.proofs.RunLemmas.{grows_nothing}
 
 -- a piece more was fed
-pub so_far_fed : (reader next : EntryReader) (streams : Streams) (mux : Mux) (bytes piece : List ℕ) (before now : Option (List ℕ))
-    → SoFar reader streams mux bytes before now → ((stream : List ℕ) (given : List Entry) → ReadsSo reader stream given → ReadsSo next (stream ++ piece) given)
-    → SoFar next streams mux (bytes ++ piece) before now
-so_far_fed reader next streams mux bytes piece before now s fed = record {
+pub so_far_fed : (bases : Bases) (reader next : EntryReader) (streams : Streams) (mux : Mux) (bytes piece : List ℕ) (before now : Option (List ℕ))
+    → SoFar bases reader streams mux bytes before now → ((stream : List ℕ) (given : List Entry) → ReadsSo reader stream given → ReadsSo next (stream ++ piece) given)
+    → SoFar bases next streams mux (bytes ++ piece) before now
+so_far_fed bases reader next streams mux bytes piece before now s fed = record {
   entries = s.entries;
   history = s.history;
   reads = fed bytes s.entries s.reads;
   fit = s.fit;
   stands = s.stands;
+  based = s.based;
   told = s.told;
   grown = s.grown;
 }
 
 -- an interruption before a piece is one after it
-pub interrupted_more : (bytes piece : List ℕ) (before now : Option (List ℕ)) → Interrupted bytes before now → Interrupted (bytes ++ piece) before now
-interrupted_more bytes piece before now i = record {
+pub interrupted_more : (bases : Bases) (bytes piece : List ℕ) (before now : Option (List ℕ)) → Interrupted bases bytes before now → Interrupted bases (bytes ++ piece) before now
+interrupted_more bases bytes piece before now i = record {
   history = i.history;
   is_history = i.is_history;
   tells = record {
@@ -112,19 +115,19 @@ whole_end (Some whole) left bytes history entries taken at_end short given told 
       told ∙ ap events_of (sym given.entries) ∙ ap (λ (l : List ℕ). events_of (reading l).entries) (sym (ap (take limit) same ∙ take_short limit bytes short)),
     )
 
-finish_by : (fault : Option BadEntry) (all left before now : Option (List ℕ)) → IsAtEnd left → Ended (ends_by fault) all before now → ReplaySays (ends_by fault) all left before now
-finish_by None all left before now at_end ended = (ended, at_end)
-finish_by (Some bad) all left before now at_end ended = ended
+finish_by : (bases : Bases) (fault : Option BadEntry) (all left before now : Option (List ℕ)) → IsAtEnd left → Ended bases (ends_by fault) all before now → ReplaySays bases (ends_by fault) all left before now
+finish_by bases None all left before now at_end ended = (ended, at_end)
+finish_by bases (Some bad) all left before now at_end ended = ended
 
-pub finish_says : (reader : EntryReader) (streams : Streams) (mux : Mux) (room : ℕ) (all left before now : Option (List ℕ)) (status : Status)
-    → (going : Going reader streams mux room all left before now) → IsAtEnd left → status ≡ ends_by (reading going.bytes).fault → ReplaySays status all left before now
-finish_says reader streams mux room all left before now status going at_end answer =
+pub finish_says : (bases : Bases) (reader : EntryReader) (streams : Streams) (mux : Mux) (room : ℕ) (all left before now : Option (List ℕ)) (status : Status)
+    → (going : Going bases reader streams mux room all left before now) → IsAtEnd left → status ≡ ends_by (reading going.bytes).fault → ReplaySays bases status all left before now
+finish_says bases reader streams mux room all left before now status going at_end answer =
     let s = going.treated.so_far in
     let short : length going.bytes ≤ limit = omega (arith, going.room_left) in
-    subst (λ (x : Status). ReplaySays x all left before now) (sym answer)
-    (finish_by (reading going.bytes).fault all left before now at_end (record {
+    subst (λ (x : Status). ReplaySays bases x all left before now) (sym answer)
+    (finish_by bases (reading going.bytes).fault all left before now at_end (record {
       history = s.history;
-      is_history = s.stands.is_history;
+      is_history = stood bases mux s.history s.stands s.based;
       grown = s.grown;
       ends = whole_end all left going.bytes s.history s.entries going.taken at_end short going.treated.whole s.told;
     }))
@@ -169,26 +172,26 @@ fault_ends (Some whole) left bytes history entries bad taken short stops told =
       told ∙ ap events_of ends.1 ∙ ap (λ (l : List ℕ). events_of (reading (take limit l)).entries) (sym taken.1),
     )
 
-pub stop_says : (stop : Stop) (reader : EntryReader) (streams : Streams) (mux : Mux) (bytes : List ℕ) (all left before now : Option (List ℕ))
-    → TakenFrom all left bytes → length bytes ≤ limit → Treated (Err stop) reader streams mux bytes before now → ReplaySays (status_of stop) all left before now
-stop_says (stop.Bad bad) reader streams mux bytes all left before now taken short t = record {
+pub stop_says : (bases : Bases) (stop : Stop) (reader : EntryReader) (streams : Streams) (mux : Mux) (bytes : List ℕ) (all left before now : Option (List ℕ))
+    → TakenFrom all left bytes → length bytes ≤ limit → Treated bases (Err stop) reader streams mux bytes before now → ReplaySays bases (status_of stop) all left before now
+stop_says bases (stop.Bad bad) reader streams mux bytes all left before now taken short t = record {
   history = t.so_far.history;
-  is_history = t.so_far.stands.is_history;
+  is_history = stood bases mux t.so_far.history t.so_far.stands t.so_far.based;
   grown = t.so_far.grown;
   ends = fault_ends all left bytes t.so_far.history t.so_far.entries bad taken short t.stops t.so_far.told;
 }
-stop_says stop.Sink reader streams mux bytes all left before now taken short t = record { bytes = bytes; taken = taken; part = t }
-stop_says stop.Memory reader streams mux bytes all left before now taken short t = record { bytes = bytes; taken = taken; part = t }
+stop_says bases stop.Sink reader streams mux bytes all left before now taken short t = record { bytes = bytes; taken = taken; part = t }
+stop_says bases stop.Memory reader streams mux bytes all left before now taken short t = record { bytes = bytes; taken = taken; part = t }
 
 -- the source fails
-pub broken_says : (reader : EntryReader) (streams : Streams) (mux : Mux) (room : ℕ) (all left left_now before now : Option (List ℕ))
-    → Going reader streams mux room all left before now → left_now ≡ left → Broken all left_now before now
-broken_says reader streams mux room all left left_now before now going kept =
+pub broken_says : (bases : Bases) (reader : EntryReader) (streams : Streams) (mux : Mux) (room : ℕ) (all left left_now before now : Option (List ℕ))
+    → Going bases reader streams mux room all left before now → left_now ≡ left → Broken bases all left_now before now
+broken_says bases reader streams mux room all left left_now before now going kept =
     let s = going.treated.so_far in record {
       bytes = going.bytes;
       taken = subst (λ (o : Option (List ℕ)). TakenFrom all o going.bytes) (sym kept) going.taken;
       history = s.history;
-      is_history = s.stands.is_history;
+      is_history = stood bases mux s.history s.stands s.based;
       grown = s.grown;
       told = s.told ∙ ap events_of (sym going.treated.whole.entries);
     }
@@ -217,26 +220,26 @@ too_long_ends (Some whole) left bytes history entries taken more full long given
       told ∙ ap events_of (sym given.entries) ∙ ap (λ (l : List ℕ). events_of (reading l).entries) (sym cut),
     )
 
-pub too_long_says : (reader : EntryReader) (streams : Streams) (mux : Mux) (all left before now : Option (List ℕ))
-    → Going reader streams mux 0 all left before now → IfSome left (λ l. 0 < length l) → Ended TooLong all before now
+pub too_long_says : (bases : Bases) (reader : EntryReader) (streams : Streams) (mux : Mux) (all left before now : Option (List ℕ))
+    → Going bases reader streams mux 0 all left before now → IfSome left (λ l. 0 < length l) → Ended bases TooLong all before now
 unfolding limit
-too_long_says reader streams mux all left before now going more =
+too_long_says bases reader streams mux all left before now going more =
     let s = going.treated.so_far in record {
       history = s.history;
-      is_history = s.stands.is_history;
+      is_history = stood bases mux s.history s.stands s.based;
       grown = s.grown;
       ends = too_long_ends all left going.bytes s.history s.entries going.taken more (omega (arith, going.room_left)) (omega (arith, going.room_left)) going.treated.whole s.told;
     }
 
 -- nothing was taken yet
-pub going_from : (reader : EntryReader) (streams : Streams) (mux : Mux) (all written : Option (List ℕ)) → ReadsSo reader [] [] → ((who : Speaker) → Fed (framer_at streams who) [] []) → Stands mux []
-    → Going reader streams mux limit all all written written
-going_from reader streams mux all written reads fed stands = record {
+pub going_from : (bases : Bases) (reader : EntryReader) (streams : Streams) (mux : Mux) (all written : Option (List ℕ)) → ReadsSo reader [] [] → ((who : Speaker) → Fed (framer_at streams who) [] []) → Stands mux [] → bases_of mux ≡ bases
+    → Going bases reader streams mux limit all all written written
+going_from bases reader streams mux all written reads fed stands based = record {
   bytes = [];
   taken = untaken all;
   room_left = omega arith;
   treated = record {
-    so_far = record { entries = []; history = []; reads = reads; fit = fed; stands = stands; told = refl; grown = grows_nothing written };
+    so_far = record { entries = []; history = []; reads = reads; fit = fed; stands = stands; based = based; told = refl; grown = grows_nothing written };
     whole = record { entries = refl; unfinished = lit< tt };
   };
 }
@@ -245,17 +248,17 @@ going_from reader streams mux all written reads fed stands = record {
     untaken None = refl
     untaken (Some bytes) = (bytes, refl, refl)
 
-pub going_start : (reader : EntryReader) (streams : Streams) (mux : Mux) (all written : Option (List ℕ)) → ReadsSo reader [] [] → ((who : Speaker) → Fed (framer_at streams who) [] []) → Stands mux []
-    → Going reader streams mux 67108864 all all written written
+pub going_start : (bases : Bases) (reader : EntryReader) (streams : Streams) (mux : Mux) (all written : Option (List ℕ)) → ReadsSo reader [] [] → ((who : Speaker) → Fed (framer_at streams who) [] []) → Stands mux [] → bases_of mux ≡ bases
+    → Going bases reader streams mux 67108864 all all written written
 unfolding limit
-going_start reader streams mux all written reads fed stands = going_from reader streams mux all written reads fed stands
+going_start bases reader streams mux all written reads fed stands based = going_from bases reader streams mux all written reads fed stands based
 
 -- a piece more was taken and treated
-pub going_on : (reader next : EntryReader) (streams streams_now : Streams) (mux mux_now : Mux) (room n : ℕ) (all left left_now before mid now : Option (List ℕ)) (buffer : List ℕ)
-    → (going : Going reader streams mux room all left before mid) → Reads {E = Unit {0}} left left_now (Ok n) buffer → n ≤ room → n ≤ length buffer
-    → TreatedWhole next streams_now mux_now (going.bytes ++ take n buffer) before now
-    → Going next streams_now mux_now (room - n) all left_now before now
-going_on reader next streams streams_now mux mux_now room n all left left_now before mid now buffer going reads fits enough treated =
+pub going_on : (bases : Bases) (reader next : EntryReader) (streams streams_now : Streams) (mux mux_now : Mux) (room n : ℕ) (all left left_now before mid now : Option (List ℕ)) (buffer : List ℕ)
+    → (going : Going bases reader streams mux room all left before mid) → Reads {E = Unit {0}} left left_now (Ok n) buffer → n ≤ room → n ≤ length buffer
+    → TreatedWhole bases next streams_now mux_now (going.bytes ++ take n buffer) before now
+    → Going bases next streams_now mux_now (room - n) all left_now before now
+going_on bases reader next streams streams_now mux mux_now room n all left left_now before mid now buffer going reads fits enough treated =
     let size : length (take n buffer) ≡ n = length-take-le n buffer enough in record {
       bytes = going.bytes ++ take n buffer;
       taken = taken_more all left left_now going.bytes buffer n going.taken reads;
@@ -264,9 +267,9 @@ going_on reader next streams streams_now mux mux_now room n all left left_now be
     }
 
 -- and the bytes so far still fit
-pub piece_fits : (reader : EntryReader) (streams : Streams) (mux : Mux) (room n : ℕ) (all left before now : Option (List ℕ)) (buffer : List ℕ)
-    → (going : Going reader streams mux room all left before now) → n ≤ room → n ≤ length buffer → length (going.bytes ++ take n buffer) ≤ limit
-piece_fits reader streams mux room n all left before now buffer going fits enough =
+pub piece_fits : (bases : Bases) (reader : EntryReader) (streams : Streams) (mux : Mux) (room n : ℕ) (all left before now : Option (List ℕ)) (buffer : List ℕ)
+    → (going : Going bases reader streams mux room all left before now) → n ≤ room → n ≤ length buffer → length (going.bytes ++ take n buffer) ≤ limit
+piece_fits bases reader streams mux room n all left before now buffer going fits enough =
     let size : length (take n buffer) ≡ n = length-take-le n buffer enough in
     omega (arith, length-append going.bytes (take n buffer), going.room_left)
 

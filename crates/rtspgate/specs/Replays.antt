@@ -1,12 +1,13 @@
 -- What a replay of a transcript does (this project's own).
-use Rattle.std.specs.Prelude.{◌≡◌, ℕ, ◌+◌, ◌<◌, ◌≤◌, nat_le, Bool, true, false, List, [], ◌++◌, length, take, Option, Some, None, IfSome, Result, Ok, Err, if◌then◌else◌}
+use Rattle.std.specs.Prelude.{◌≡◌, ℕ, ◌+◌, ◌<◌, ◌≤◌, nat_le, Bool, true, false, List, [], ◌++◌, length, take, Option, Some, None, IfSome, Result, Ok, Err, ◌⊎◌, if◌then◌else◌}
 use Rattle.gate_outside.specs.Causes.{Rose}
 use Rattle.gate_outside.specs.Contents.{Grows, GrowsByFront}
 use Rattle.gate_outside.specs.declared.Failed.{Failed}
+use Rattle.rtsp_uri.specs.declared.base.Bases.{Bases}
 use Rattle.gate_history.specs.History.{History, happened}
 use Rattle.gate_history.specs.Follows.{IsHistory}
 use Rattle.gateway_mux.specs.declared.mux.Mux.{Mux}
-use Rattle.gateway_mux.specs.Stands.{Stands}
+use Rattle.gateway_mux.specs.Stands.{Stands, bases_of}
 use Rattle.rtspgate.specs.declared.status.Status.{Status}
 use Rattle.rtspgate.specs.declared.status.Status.TheVariants.{Done, Usage, SourceFault, SinkFault, BadTranscript, TooLong, Memory}
 use Rattle.rtspgate.specs.declared.transcript.Entry.{Entry}
@@ -22,6 +23,7 @@ use Rattle.rtspgate.specs.Reads.{ReadsSo, GivenWhole, StopsAt}
 use Rattle.rtspgate.specs.Events.{events_of}
 use Rattle.rtspgate.specs.Runs.{StreamsFit, ToldInPart}
 use Rattle.rtspgate.specs.Written.{records}
+use Rattle.rtspgate.specs.Words.{NamesReplay}
 
 -- the longest transcript that is replayed, in bytes
 unfoldable pub limit : ℕ
@@ -54,19 +56,21 @@ TakenFrom None now bytes = now ≡ None
 TakenFrom (Some all) now bytes = (left : List ℕ) × (all ≡ bytes ++ left) × (now ≡ Some left)
 
 -- The replay so far: these entries were given by the reader and treated, and the records of their history written.
-pub record SoFar (reader : EntryReader) (streams : Streams) (mux : Mux) (bytes : List ℕ) (before now : Option (List ℕ)) : Type 0 where
+pub record SoFar (bases : Bases) (reader : EntryReader) (streams : Streams) (mux : Mux) (bytes : List ℕ) (before now : Option (List ℕ)) : Type 0 where
   pub entries : List Entry
   pub history : History
   pub reads : ReadsSo reader bytes entries
   pub fit : StreamsFit streams entries
   pub stands : Stands mux history
+  pub based : bases_of mux ≡ bases
   pub told : happened history ≡ events_of entries
   pub grown : Grows before now (records history)
 
 pub record SomeSoFar (reader : EntryReader) (streams : Streams) (mux : Mux) (now : Option (List ℕ)) : Type 0 where
+  pub bases : Bases
   pub bytes : List ℕ
   pub before : Option (List ℕ)
-  pub so_far : SoFar reader streams mux bytes before now
+  pub so_far : SoFar bases reader streams mux bytes before now
 
 -- What happened is the first part of what the whole entries of some front of the bytes tell.
 pub record TellsFront (bytes : List ℕ) (history : History) : Type 0 where
@@ -76,32 +80,32 @@ pub record TellsFront (bytes : List ℕ) (history : History) : Type 0 where
   pub told : ToldInPart (happened history) (events_of (reading front).entries)
 
 -- A replay that was interrupted: by want of memory, between two events, or by the sink, in one event's records.
-pub record Interrupted (bytes : List ℕ) (before now : Option (List ℕ)) : Type 0 where
+pub record Interrupted (bases : Bases) (bytes : List ℕ) (before now : Option (List ℕ)) : Type 0 where
   pub history : History
-  pub is_history : IsHistory history
+  pub is_history : IsHistory bases history
   pub tells : TellsFront bytes history
   pub grown : Grows before now (records history)
 
-pub record InterruptedInPart (bytes : List ℕ) (before now : Option (List ℕ)) : Type 0 where
+pub record InterruptedInPart (bases : Bases) (bytes : List ℕ) (before now : Option (List ℕ)) : Type 0 where
   pub history : History
-  pub is_history : IsHistory history
+  pub is_history : IsHistory bases history
   pub tells : TellsFront bytes history
   pub grown : GrowsByFront before now (records history)
 
-pub record TreatedWhole (reader : EntryReader) (streams : Streams) (mux : Mux) (bytes : List ℕ) (before now : Option (List ℕ)) : Type 0 where
-  pub so_far : SoFar reader streams mux bytes before now
+pub record TreatedWhole (bases : Bases) (reader : EntryReader) (streams : Streams) (mux : Mux) (bytes : List ℕ) (before now : Option (List ℕ)) : Type 0 where
+  pub so_far : SoFar bases reader streams mux bytes before now
   pub whole : GivenWhole bytes so_far.entries
 
-pub record TreatedToFault (bad : BadEntry) (reader : EntryReader) (streams : Streams) (mux : Mux) (bytes : List ℕ) (before now : Option (List ℕ)) : Type 0 where
-  pub so_far : SoFar reader streams mux bytes before now
+pub record TreatedToFault (bases : Bases) (bad : BadEntry) (reader : EntryReader) (streams : Streams) (mux : Mux) (bytes : List ℕ) (before now : Option (List ℕ)) : Type 0 where
+  pub so_far : SoFar bases reader streams mux bytes before now
   pub stops : StopsAt bad bytes so_far.entries
 
 -- What treating all entries that the reader can give says, by how it ended.
-abbrev pub Treated : Result (Unit {0}) Stop → EntryReader → Streams → Mux → List ℕ → Option (List ℕ) → Option (List ℕ) → Type 0
-Treated (Ok u) reader streams mux bytes before now = TreatedWhole reader streams mux bytes before now
-Treated (Err (stop.Bad bad)) reader streams mux bytes before now = TreatedToFault bad reader streams mux bytes before now
-Treated (Err stop.Sink) reader streams mux bytes before now = InterruptedInPart bytes before now
-Treated (Err stop.Memory) reader streams mux bytes before now = Interrupted bytes before now
+abbrev pub Treated : Bases → Result (Unit {0}) Stop → EntryReader → Streams → Mux → List ℕ → Option (List ℕ) → Option (List ℕ) → Type 0
+Treated bases (Ok u) reader streams mux bytes before now = TreatedWhole bases reader streams mux bytes before now
+Treated bases (Err (stop.Bad bad)) reader streams mux bytes before now = TreatedToFault bases bad reader streams mux bytes before now
+Treated bases (Err stop.Sink) reader streams mux bytes before now = InterruptedInPart bases bytes before now
+Treated bases (Err stop.Memory) reader streams mux bytes before now = Interrupted bases bytes before now
 
 abbrev pub StopRose : ℕ → ℕ → Result (Unit {0}) Stop → Type 0
 StopRose before now (Ok u) = Unit {0}
@@ -120,40 +124,40 @@ IsAtEnd now = IfSome now (λ left. left ≡ [])
 -- How the replay of a whole source ended: a history whose records were written, and where the source's content is
 -- told, the status that its bytes have, and the events that the whole entries tell which stand within the limit and
 -- before the first fault.
-pub record Ended (status : Status) (all before now : Option (List ℕ)) : Type 0 where
+pub record Ended (bases : Bases) (status : Status) (all before now : Option (List ℕ)) : Type 0 where
   pub history : History
-  pub is_history : IsHistory history
+  pub is_history : IsHistory bases history
   pub grown : Grows before now (records history)
   pub ends : IfSome all (λ bytes. (status ≡ ends_as bytes) × (happened history ≡ events_of (reading (take limit bytes)).entries))
 
 -- Where the source failed: the records of the whole entries of the bytes that were taken.
-pub record Broken (all left before now : Option (List ℕ)) : Type 0 where
+pub record Broken (bases : Bases) (all left before now : Option (List ℕ)) : Type 0 where
   pub bytes : List ℕ
   pub taken : TakenFrom all left bytes
   pub history : History
-  pub is_history : IsHistory history
+  pub is_history : IsHistory bases history
   pub grown : Grows before now (records history)
   pub told : happened history ≡ events_of (reading bytes).entries
 
-pub record SinkBroken (all left before now : Option (List ℕ)) : Type 0 where
+pub record SinkBroken (bases : Bases) (all left before now : Option (List ℕ)) : Type 0 where
   pub bytes : List ℕ
   pub taken : TakenFrom all left bytes
-  pub part : InterruptedInPart bytes before now
+  pub part : InterruptedInPart bases bytes before now
 
-pub record MemoryWanting (all left before now : Option (List ℕ)) : Type 0 where
+pub record MemoryWanting (bases : Bases) (all left before now : Option (List ℕ)) : Type 0 where
   pub bytes : List ℕ
   pub taken : TakenFrom all left bytes
-  pub part : Interrupted bytes before now
+  pub part : Interrupted bases bytes before now
 
 -- What a replay's answer says of the source before and after it, and of what was written.
-abbrev pub ReplaySays : Status → Option (List ℕ) → Option (List ℕ) → Option (List ℕ) → Option (List ℕ) → Type 0
-ReplaySays Done all left before now = Ended Done all before now × IsAtEnd left
-ReplaySays (Usage place) all left before now = ⊥
-ReplaySays SourceFault all left before now = Broken all left before now
-ReplaySays SinkFault all left before now = SinkBroken all left before now
-ReplaySays (BadTranscript place fault) all left before now = Ended (BadTranscript place fault) all before now
-ReplaySays TooLong all left before now = Ended TooLong all before now
-ReplaySays Memory all left before now = MemoryWanting all left before now
+abbrev pub ReplaySays : Bases → Status → Option (List ℕ) → Option (List ℕ) → Option (List ℕ) → Option (List ℕ) → Type 0
+ReplaySays bases Done all left before now = Ended bases Done all before now × IsAtEnd left
+ReplaySays bases (Usage place) all left before now = ⊥
+ReplaySays bases SourceFault all left before now = Broken bases all left before now
+ReplaySays bases SinkFault all left before now = SinkBroken bases all left before now
+ReplaySays bases (BadTranscript place fault) all left before now = Ended bases (BadTranscript place fault) all before now
+ReplaySays bases TooLong all left before now = Ended bases TooLong all before now
+ReplaySays bases Memory all left before now = MemoryWanting bases all left before now
 
 -- The count that tells of the answer's fault rose.
 abbrev pub FaultRose : Status → ℕ → ℕ → ℕ → ℕ → Type 0
@@ -166,11 +170,11 @@ FaultRose TooLong source_before source_now sink_before sink_now = Unit {0}
 FaultRose Memory source_before source_now sink_before sink_now = Unit {0}
 
 -- The loop of a replay: these bytes were taken, and what they hold was treated; there is room for so many more.
-pub record Going (reader : EntryReader) (streams : Streams) (mux : Mux) (room : ℕ) (all left before now : Option (List ℕ)) : Type 0 where
+pub record Going (bases : Bases) (reader : EntryReader) (streams : Streams) (mux : Mux) (room : ℕ) (all left before now : Option (List ℕ)) : Type 0 where
   pub bytes : List ℕ
   pub taken : TakenFrom all left bytes
   pub room_left : length bytes + room ≡ limit
-  pub treated : TreatedWhole reader streams mux bytes before now
+  pub treated : TreatedWhole bases reader streams mux bytes before now
 
 -- Whether a source whose content is told holds more.
 abbrev pub TellsMore : Option (List ℕ) → Option (List ℕ) → Result Bool Failed → Type 0
@@ -183,12 +187,18 @@ pub record IsUntouched (all left before now : Option (List ℕ)) : Type 0 where
   pub source : left ≡ all
   pub sink : now ≡ before
 
--- What the answer of the top call says.
-abbrev pub PlainSays : Status → Option (List ℕ) → Option (List ℕ) → Option (List ℕ) → Option (List ℕ) → Type 0
-PlainSays (Usage place) all left before now = IsUntouched all left before now
-PlainSays Done all left before now = Ended Done all before now × IsAtEnd left
-PlainSays SourceFault all left before now = Broken all left before now
-PlainSays SinkFault all left before now = SinkBroken all left before now
-PlainSays (BadTranscript place fault) all left before now = Ended (BadTranscript place fault) all before now
-PlainSays TooLong all left before now = Ended TooLong all before now
-PlainSays Memory all left before now = MemoryWanting all left before now
+-- Where the words were accepted: what is said of the replay between the bases that they name.
+pub record SaysReplay (words : List (List ℕ)) (status : Status) (all left before now : Option (List ℕ)) : Type 0 where
+  pub bases : Bases
+  pub names : NamesReplay bases words
+  pub says : ReplaySays bases status all left before now
+
+-- What the answer of the top call says. Memory may have been wanting while the words were read.
+abbrev pub PlainSays : List (List ℕ) → Status → Option (List ℕ) → Option (List ℕ) → Option (List ℕ) → Option (List ℕ) → Type 0
+PlainSays words (Usage place) all left before now = IsUntouched all left before now
+PlainSays words Done all left before now = SaysReplay words Done all left before now
+PlainSays words SourceFault all left before now = SaysReplay words SourceFault all left before now
+PlainSays words SinkFault all left before now = SaysReplay words SinkFault all left before now
+PlainSays words (BadTranscript place fault) all left before now = SaysReplay words (BadTranscript place fault) all left before now
+PlainSays words TooLong all left before now = SaysReplay words TooLong all left before now
+PlainSays words Memory all left before now = IsUntouched all left before now ⊎ SaysReplay words Memory all left before now

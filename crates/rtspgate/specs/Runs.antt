@@ -7,7 +7,7 @@ use Rattle.rtsp_head.specs.Items.{Shape, items_of}
 use Rattle.rtsp_frame.specs.Framing.{Held}
 use Rattle.gate_history.specs.History.{Happening, History, happened}
 use Rattle.gateway_mux.specs.declared.mux.Mux.{Mux}
-use Rattle.gateway_mux.specs.Stands.{Stands, IsFresh}
+use Rattle.gateway_mux.specs.Stands.{Stands, IsFresh, bases_of}
 use Rattle.rtspgate.specs.declared.transcript.Entry.{Entry}
 use Rattle.rtspgate.specs.declared.transcript.EntryKind.{EntryKind}
 use Rattle.rtspgate.specs.declared.transcript.EntryKind.TheVariants.{Enter, Client, Upstream, End}
@@ -25,9 +25,10 @@ pub record StandsForSome (mux : Mux) : Type 0 where
   pub history : History
   pub stands : Stands mux history
 
--- the multiplexer stands for the longer history, whichever history it stood for
-abbrev pub Advances : Mux → Mux → History → Type 0
-Advances before now more = (T : History) → Stands before T → Stands now (more ++ T)
+-- The multiplexer stands for the longer history, whichever history it stood for, and has the same bases.
+pub record Advances (before now : Mux) (more : History) : Type 0 where
+  pub stands : (T : History) → Stands before T → Stands now (more ++ T)
+  pub bases : bases_of now ≡ bases_of before
 
 -- After these entries, what was written is the records of more of them, or, where the sink failed, a front of those.
 abbrev pub WritesAfter : Option (List ℕ) → Option (List ℕ) → History → History → Result (Unit {0}) TreatFault → Type 0

@@ -46,6 +46,10 @@ pub record NamesReplay (bases : Bases) (words : List (List ℕ)) : Type 0 where
   pub front_base : base_in front ≡ Some bases.front.text
   pub up_base : base_in up ≡ Some bases.up.text
 
+-- the bases of a command
+abbrev pub bases_between : Command → Bases
+bases_between (Replay bases) = bases
+
 abbrev pub Names : Command → List (List ℕ) → Type 0
 Names (Replay bases) words = NamesReplay bases words
 

@@ -1,6 +1,6 @@
 //! The commands that must return. No lock, channel or thread is used.
 ghost use Rattle.std.specs.Prelude.{◌≡◌, ◌≤◌, map, string_bytes};
-ghost use Rattle.rtspgate.specs.Words.{word_fault, TellsUsage};
+ghost use Rattle.rtspgate.specs.Words.{word_fault, bases_between, TellsUsage};
 ghost use Rattle.rtspgate.specs.Replays.{PlainSays, ReplaySays, FaultRose};
 
 use crate::replay::replay;
@@ -19,13 +19,13 @@ pub fn plain<S: Source, K: Sink>(
     sink: &mut K,
 ) -> Status
     ensures usage { TellsUsage result (word_fault (map string_bytes words.now)) }
-    ensures says { PlainSays result (S.rest source.old) (S.rest source.new) (K.written sink.old) (K.written sink.new) }
+    ensures says { PlainSays (map string_bytes words.now) result (S.rest source.old) (S.rest source.new) (K.written sink.old) (K.written sink.new) }
     ensures rose { FaultRose result (S.faults source.old) (S.faults source.new) (K.faults sink.old) (K.faults sink.new) }
     ensures source_later { S.faults source.old ≤ S.faults source.new }
     ensures sink_later { K.faults sink.old ≤ K.faults sink.new }
 {
     match read_words(alloc, words) {
-        Ok(Command::Replay(bases)) => replay_between(alloc, bases, source, sink),
+        Ok(command) => obey(alloc, command, source, sink),
         Err(fault) => Status::from(fault),
     }
 }
@@ -44,6 +44,18 @@ impl From<WordsFault> for Status {
     }
 }
 
+/// Does what a command asks for.
+fn obey<S: Source, K: Sink>(alloc: Global, command: Command, source: &mut S, sink: &mut K) -> Status
+    ensures says { ReplaySays (bases_between command) result (S.rest source.old) (S.rest source.new) (K.written sink.old) (K.written sink.new) }
+    ensures rose { FaultRose result (S.faults source.old) (S.faults source.new) (K.faults sink.old) (K.faults sink.new) }
+    ensures source_later { S.faults source.old ≤ S.faults source.new }
+    ensures sink_later { K.faults sink.old ≤ K.faults sink.new }
+{
+    match command {
+        Command::Replay(bases) => replay_between(alloc, bases, source, sink),
+    }
+}
+
 /// Replays the transcript that the source holds, between these bases.
 fn replay_between<S: Source, K: Sink>(
     alloc: Global,
@@ -51,7 +63,7 @@ fn replay_between<S: Source, K: Sink>(
     source: &mut S,
     sink: &mut K,
 ) -> Status
-    ensures says { ReplaySays result (S.rest source.old) (S.rest source.new) (K.written sink.old) (K.written sink.new) }
+    ensures says { ReplaySays bases result (S.rest source.old) (S.rest source.new) (K.written sink.old) (K.written sink.new) }
     ensures rose { FaultRose result (S.faults source.old) (S.faults source.new) (K.faults sink.old) (K.faults sink.new) }
     ensures source_later { S.faults source.old ≤ S.faults source.new }
     ensures sink_later { K.faults sink.old ≤ K.faults sink.new }

@@ -3,7 +3,8 @@
 ghost use Rattle.std.specs.Prelude.{◌≡◌, ◌<◌, ◌≤◌, ◌++◌, [], ℕ, List, Option, length, IfOk};
 ghost use Rattle.gate_outside.specs.Causes.{HasCause};
 ghost use Rattle.gate_outside.specs.Contents.{Reads};
-ghost use Rattle.gateway_mux.specs.Stands.{Stands};
+ghost use Rattle.rtsp_uri.specs.declared.base.Bases.{Bases};
+ghost use Rattle.gateway_mux.specs.Stands.{Stands, bases_of};
 ghost use Rattle.rtspgate.specs.declared.status.Status.TheVariants.{BadTranscript};
 ghost use Rattle.rtspgate.specs.declared.transcript.Entry.{Entry};
 ghost use Rattle.rtspgate.specs.Transcript.{reading};
@@ -91,7 +92,7 @@ fn bad_transcript(bad: BadEntry) -> Status
 /// Replays the transcript that the source holds. The multiplexer stands for the history in which nothing happened.
 pub fn replay<S: Source, K: Sink>(alloc: Global, mux: Mux, source: &mut S, sink: &mut K) -> Status
     requires { Stands mux [] }
-    ensures says { ReplaySays result (S.rest source.old) (S.rest source.new) (K.written sink.old) (K.written sink.new) }
+    ensures says { ReplaySays (bases_of mux) result (S.rest source.old) (S.rest source.new) (K.written sink.old) (K.written sink.new) }
     ensures rose { FaultRose result (S.faults source.old) (S.faults source.new) (K.faults sink.old) (K.faults sink.new) }
     ensures source_later { S.faults source.old ≤ S.faults source.new }
     ensures sink_later { K.faults sink.old ≤ K.faults sink.new }
@@ -150,8 +151,8 @@ fn take_piece<K: Sink>(
     piece: &[u8],
 ) -> Result<(), Stop>
     requires { SomeSoFar reader.old run.old.streams run.old.mux (K.written sink.old) }
-    ensures treated { (bytes : List ℕ) (before : Option (List ℕ)) → SoFar reader.old run.old.streams run.old.mux bytes before (K.written sink.old)
-        → Treated result reader.new run.new.streams run.new.mux (bytes ++ piece.now) before (K.written sink.new) }
+    ensures treated { (bases : Bases) (bytes : List ℕ) (before : Option (List ℕ)) → SoFar bases reader.old run.old.streams run.old.mux bytes before (K.written sink.old)
+        → Treated bases result reader.new run.new.streams run.new.mux (bytes ++ piece.now) before (K.written sink.new) }
     ensures cause { StopCause (K.faults sink.old) (K.faults sink.new) result }
 {
     let Ok(()) = reader.feed(piece) else {
@@ -188,8 +189,8 @@ fn treat<K: Sink>(
     sink: &mut K,
 ) -> Result<(), Stop>
     requires { SomeSoFar reader.old run.old.streams run.old.mux (K.written sink.old) }
-    ensures treated { (bytes : List ℕ) (before : Option (List ℕ)) → SoFar reader.old run.old.streams run.old.mux bytes before (K.written sink.old)
-        → Treated result reader.new run.new.streams run.new.mux bytes before (K.written sink.new) }
+    ensures treated { (bases : Bases) (bytes : List ℕ) (before : Option (List ℕ)) → SoFar bases reader.old run.old.streams run.old.mux bytes before (K.written sink.old)
+        → Treated bases result reader.new run.new.streams run.new.mux bytes before (K.written sink.new) }
     ensures cause { StopCause (K.faults sink.old) (K.faults sink.new) result }
 {
     loop {

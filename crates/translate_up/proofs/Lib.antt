@@ -9,3 +9,5 @@ pub mod SoundLemmas
 pub mod TargetLemmas
 pub mod TransportLemmas
 pub mod VisibleLemmas
+pub mod GatewayLemmas
+pub mod OptionsLemmas

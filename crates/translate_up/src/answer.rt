@@ -6,14 +6,15 @@ ghost use Rattle.translate_up.specs.Upward.{header_with};
 ghost use Rattle.translate_up.specs.Answers.{answer_text, refusal_text, options_text, play_text, HasReason};
 
 use crate::header::{borrowed, push_header};
-use gate_bytes::{Memory, Text};
+use gate_bytes::{Memory, Text, push_decimal};
 use head_one::{Refusal, Reply1, write_reply};
 use rtsp_head::Headers;
 use std::alloc::Global;
 
-/// The methods of an answer to OPTIONS (RFC 2326, 12.28).
-const METHODS: &[u8] =
-    b"OPTIONS, DESCRIBE, SETUP, PLAY, PAUSE, TEARDOWN, GET_PARAMETER, SET_PARAMETER";
+/// What stands behind the number in an answer to OPTIONS: the methods that the gateway has (RFC 2326,
+/// 12.28).
+const OPTIONS_REST: &[u8] =
+    b"\r\nPublic: OPTIONS, DESCRIBE, SETUP, PLAY, PAUSE, TEARDOWN, GET_PARAMETER, SET_PARAMETER\r\n\r\n";
 
 /// The answer with this code, with the number and these headers alone.
 fn answer_with(
@@ -65,13 +66,18 @@ fn unsupported_headers(alloc: Global, refusal: &Refusal) -> Result<Headers, Memo
     Ok(headers)
 }
 
-/// The answer to OPTIONS.
+/// The answer to OPTIONS. It is the same for every player but for its number, so it is written as it
+/// stands.
 pub(crate) fn options_text(alloc: Global, cseq: u64) -> Result<Text, Memory>
     ensures { IfOk result (λ text. text ≡ options_text cseq) }
 {
-    let mut headers = Headers::new(alloc);
-    push_header(alloc, &mut headers, b"Public", Some(METHODS))?;
-    answer_with(alloc, 200, Some(cseq), headers)
+    let mut text = Text::with_room(alloc, 160)?;
+    text.push_slice(b"RTSP/1.0 ")?;
+    push_decimal(&mut text, 200)?;
+    text.push_slice(b" OK\r\nCSeq: ")?;
+    push_decimal(&mut text, cseq)?;
+    text.push_slice(OPTIONS_REST)?;
+    Ok(text)
 }
 
 /// The answer to a PLAY while streams play: the session, and the range where one will be played.

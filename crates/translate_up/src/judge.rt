@@ -42,10 +42,14 @@ pub fn decide(alloc: Global, view: &View<'_>, item: &Item) -> Result<Decision, M
     }
 }
 
-/// What becomes of a request that its head does not refuse.
+/// What becomes of a request that its head does not refuse. No rule refuses one for the gateway itself,
+/// so its URI is not looked at.
 pub(crate) fn accept(alloc: Global, view: &View<'_>, request: &Request1) -> Result<Decision, Memory>
     ensures { IfOk result (λ decision. decision ≡ accepted (given_of view.now) request.now) }
 {
+    if is_for_gateway(request) {
+        return Ok(Decision::Answer(options_text(alloc, request.cseq)?));
+    }
     let uri = uri_up(alloc, view, request.uri.as_bytes())?;
     rule(alloc, view, request, uri)
 }

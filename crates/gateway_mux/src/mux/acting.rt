@@ -26,11 +26,12 @@ impl Mux {
             hand,
             ask,
             treated,
+            described,
             settles,
         } = act;
         let to_client = piece(conn, hand)?;
         let Some(ask) = ask else {
-            self.go_on(conn, treated, None, settles);
+            self.go_on(conn, Change::Goes(treated, described, None), settles);
             return Ok(handing(to_client, None));
         };
         if self.issued >= MOST_NUMBER {
@@ -39,18 +40,21 @@ impl Mux {
         let number = self.issued + 1;
         let text = fitting(write_request(alloc, &ask.request, number)?)?;
         self.loans.room()?;
-        self.go_on(conn, treated, Some(ask.cseq), settles);
+        self.go_on(
+            conn,
+            Change::Goes(treated, described, Some(ask.asked)),
+            settles,
+        );
         self.loans.lend(number, conn);
         self.issued = number;
         Ok(handing(to_client, Some(text)))
     }
 
-    /// So many waiting requests of a connection were treated, this one is open then, and that number
-    /// is settled.
-    fn go_on(&mut self, conn: u32, treated: usize, open_request: Option<u64>, settles: Option<u32>)
-        ensures { GoesOn self.old self.new conn treated open_request settles }
+    /// Changes a connection, and settles that number.
+    fn go_on(&mut self, conn: u32, change: Change, settles: Option<u32>)
+        ensures { GoesOn self.old self.new conn change settles }
     {
-        self.seats.change(conn, Change::Goes(treated, open_request));
+        self.seats.change(conn, change);
         if let Some(number) = settles {
             self.loans.settle(number);
         }

@@ -6,7 +6,7 @@ ghost use Rattle.gate_history.specs.Decisions.{decide};
 ghost use Rattle.gate_history.specs.History.{Happening, takes, drops_here};
 
 use super::Mux;
-use crate::act::arrive;
+use crate::act::{Act, arrive};
 use crate::outcome::nothing;
 use crate::slot::{Change, Readiness};
 use gate_bytes::Memory;
@@ -18,12 +18,17 @@ impl Mux {
     ghost use Rattle.gateway_mux.specs.Seats.{conn_at};
     ghost use Rattle.gateway_mux.specs.Commits.{Commits};
     ghost use Rattle.gateway_mux.specs.Acts.{Acts, Acted, waits, deed_of, act_for};
-    ghost use Rattle.gateway_mux.specs.Answered.{readiness_of};
+    ghost use Rattle.gateway_mux.specs.Answered.{readiness_of, control_of};
     ghost use Rattle.gateway_mux.specs.Quiet.{Idles, Keeps};
     ghost use Rattle.gateway_mux.specs.Closes.{Closes};
 
     /// Takes an item of a client.
-    pub(super) fn take(&mut self, alloc: Global, conn: u32, item: Item) -> Result<Outcome, (Item, Memory)>
+    pub(super) fn take(
+        &mut self,
+        alloc: Global,
+        conn: u32,
+        item: Item,
+    ) -> Result<Outcome, (Item, Memory)>
         requires { self.old.ended ≡ None }
         ensures ok { IfOk result (λ outcome. Commits self.old self.new (takes conn (shape_of item)) outcome) }
         ensures given_back { IfErr result (λ refused. refused.0 ≡ item) }
@@ -85,11 +90,18 @@ impl Mux {
 
     /// A request is treated at once.
     fn treat_now(&mut self, alloc: Global, conn: u32, item: &Item) -> Result<Outcome, Memory>
-        ensures ok { IfOk result (λ outcome. Acted self.old self.new conn (deed_of (act_for (decide (shape_of item.now)))) outcome) }
+        ensures ok { IfOk result (λ outcome. Acted self.old self.new conn (deed_of (act_for (decide self.old.bases (control_of (conn_at self.old.seats conn)) (shape_of item.now)))) outcome) }
         ensures err { OnErr result (Keeps self.old self.new) }
     {
-        let act = arrive(alloc, item)?;
+        let act = self.arrival(alloc, conn, item)?;
         self.act(alloc, conn, act)
+    }
+
+    /// What a request leads to that is treated at once.
+    fn arrival(&self, alloc: Global, conn: u32, item: &Item) -> Result<Act, Memory>
+        ensures { IfOk result (λ act. act ≡ act_for (decide self.now.bases (control_of (conn_at self.now.seats conn)) (shape_of item.now))) }
+    {
+        arrive(alloc, &self.bases, self.seats.control(conn), item)
     }
 
     /// Closes a connection, where it is alive.

@@ -55,11 +55,11 @@ impl Mux {
 
     /// What the final reply to an open request leads to.
     fn answered(&self, alloc: Global, conn: u32, reply: &Reply2) -> Result<Act, Memory>
-        ensures { IfOk result (λ act. IsAnswered (conn_at self.now.seats conn) reply.now act) }
+        ensures { IfOk result (λ act. IsAnswered self.now.bases (conn_at self.now.seats conn) reply.now act) }
     {
         match self.seats.slot(conn) {
-            Some(slot) => slot.answered(alloc, reply),
-            None => Ok(settle(alloc, reply.cseq)),
+            Some(slot) => slot.answered(alloc, &self.bases, reply),
+            None => Ok(settle(alloc, false, reply.cseq)),
         }
     }
 

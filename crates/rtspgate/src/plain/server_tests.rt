@@ -23,16 +23,16 @@ const DESCRIBE_7: &[u8] = b"DESCRIBE rtsp://gate.example/m RTSP/1.0\r\nCSeq: 7\r
 
 const DESCRIBE_8: &[u8] = b"DESCRIBE rtsp://gate.example/m RTSP/1.0\r\nCSeq: 8\r\n\r\n";
 
-const UP_1: &[u8] = b"DESCRIBE rtsp://gate.example/m RTSP/2.0\r\nCSeq: 1\r\n\r\n";
+const UP_1: &[u8] = b"DESCRIBE rtsp://media.example/m RTSP/2.0\r\nCSeq: 1\r\n\r\n";
 
-const UP_2: &[u8] = b"DESCRIBE rtsp://gate.example/m RTSP/2.0\r\nCSeq: 2\r\n\r\n";
+const UP_2: &[u8] = b"DESCRIBE rtsp://media.example/m RTSP/2.0\r\nCSeq: 2\r\n\r\n";
 
 // A request of the server, and its answer.
 const REDIRECT: &[u8] = b"REDIRECT * RTSP/2.0\r\nCSeq: 3\r\n\r\n";
 
 const REFUSED: &[u8] = b"RTSP/2.0 501 Not Implemented\r\nCSeq: 3\r\n\r\n";
 
-const CASES: [Case; 6] = [
+const CASES: [Case; 8] = [
     (
         "a description is asked for and comes back",
         &[
@@ -67,7 +67,7 @@ const CASES: [Case; 6] = [
             (b'Y', 0, UP_1),
             (b'Y', 0, UP_2),
             (b'T', 2, b"RTSP/1.0 200 OK\r\nCSeq: 8\r\n\r\n"),
-            (b'T', 1, b"RTSP/1.0 502 Bad Gateway\r\nCSeq: 7\r\n\r\n"),
+            (b'T', 1, b"RTSP/1.0 404 Not Found\r\nCSeq: 7\r\n\r\n"),
         ],
     ),
     (
@@ -85,6 +85,65 @@ const CASES: [Case; 6] = [
             1,
             b"RTSP/1.0 551 Option not supported\r\nCSeq: 1\r\nUnsupported: x\r\n\r\n",
         )],
+    ),
+    (
+        "addresses are swapped in both directions, and a server's parameters are asked of what was described",
+        &[
+            (b'O', 1, b""),
+            (
+                b'A',
+                1,
+                b"DESCRIBE rtsp://gate.example/m RTSP/1.0\r\nAccept: application/sdp\r\nAuthorization: Basic eA==\r\nCSeq: 2\r\n\r\nGET_PARAMETER * RTSP/1.0\r\nCSeq: 3\r\n\r\n",
+            ),
+            (
+                b'U',
+                0,
+                b"RTSP/2.0 200 OK\r\nCSeq: 1\r\nContent-Base: rtsp://media.example/m/\r\nContent-Type: application/sdp\r\nContent-Length: 41\r\n\r\nv=0\r\na=control:rtsp://media.example/m/1\r\n",
+            ),
+            (b'U', 0, b"RTSP/2.0 401 Unauthorized\r\nCSeq: 2\r\n\r\n"),
+        ],
+        &[
+            (
+                b'Y',
+                0,
+                b"DESCRIBE rtsp://media.example/m RTSP/2.0\r\nCSeq: 1\r\nAccept: application/sdp\r\n\r\n",
+            ),
+            (
+                b'T',
+                1,
+                b"RTSP/1.0 200 OK\r\nCSeq: 2\r\nContent-Base: rtsp://gate.example/m/\r\nContent-Type: application/sdp\r\nContent-Length: 40\r\n\r\nv=0\r\na=control:rtsp://gate.example/m/1\r\n",
+            ),
+            (
+                b'Y',
+                0,
+                b"GET_PARAMETER rtsp://media.example/m RTSP/2.0\r\nCSeq: 2\r\n\r\n",
+            ),
+            (b'T', 1, b"RTSP/1.0 403 Forbidden\r\nCSeq: 3\r\n\r\n"),
+        ],
+    ),
+    (
+        "a session can't be set up yet",
+        &[
+            (b'O', 1, b""),
+            (
+                b'A',
+                1,
+                b"SETUP rtsp://gate.example/m/1 RTSP/1.0\r\nCSeq: 1\r\nTransport: RTP/AVP;unicast;client_port=5000-5001\r\n\r\nSETUP rtsp://gate.example/m/1 RTSP/1.0\r\nCSeq: 2\r\nTransport: RTP/AVP/TCP;interleaved=0-1\r\n\r\nPLAY rtsp://gate.example/m RTSP/1.0\r\nCSeq: 3\r\n\r\n",
+            ),
+        ],
+        &[
+            (
+                b'T',
+                1,
+                b"RTSP/1.0 461 Unsupported transport\r\nCSeq: 1\r\n\r\n",
+            ),
+            (b'T', 1, b"RTSP/1.0 501 Not Implemented\r\nCSeq: 2\r\n\r\n"),
+            (
+                b'T',
+                1,
+                b"RTSP/1.0 454 Session Not Found\r\nCSeq: 3\r\n\r\n",
+            ),
+        ],
     ),
     (
         "a request of the server is refused",

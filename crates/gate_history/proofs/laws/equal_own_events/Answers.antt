@@ -4,8 +4,8 @@ use Rattle.gate_history.proofs.HistoryLemmas.{sent_alone, shut_alone, asked_alon
 use Rattle.gate_history.proofs.laws.equal_own_events.Goals as goal
 
 pub returns : goal.returns
-returns c = λ one other i j h k same. (
-  sent_alone one h i ∙ ap hand same ∙ sym (sent_alone other k j),
-  shut_alone one h i ∙ ap close same ∙ sym (shut_alone other k j),
-  asked_alone one h i ∙ ap ask same ∙ sym (asked_alone other k j),
+returns c = λ bases one other i j h k same. (
+  sent_alone bases one h i ∙ ap (hand bases) same ∙ sym (sent_alone bases other k j),
+  shut_alone bases one h i ∙ ap (close bases) same ∙ sym (shut_alone bases other k j),
+  asked_alone bases one h i ∙ ap (ask bases) same ∙ sym (asked_alone bases other k j),
 )

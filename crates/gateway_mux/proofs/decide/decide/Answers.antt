@@ -1,9 +1,14 @@
-use Rattle.std.proofs.Common.{subst, Err}
+use Rattle.std.proofs.Common.{◌≡◌, ◌<◌, ◌^◌, ◌∙◌, sym, ap, length, rules}
+use Rattle.std.specs.Option.{option_map}
+use Rattle.std.proofs.lemmas.Result.{IfOk-weaker}
 use Rattle.rtsp_head.specs.Shapes.{shape_of}
-use Rattle.head_one.specs.declared.refusal.RequestFault.{RequestFault}
-use Rattle.head_one.specs.Requests.{request_in, IsUnlessMemory}
-use Rattle.gateway_mux.proofs.ReasonLemmas.{refusal_reason}
+use Rattle.gate_history.specs.Decisions.{built}
+use Rattle.gateway_mux.proofs.DecideLemmas.{decide_fits}
 use Rattle.gateway_mux.proofs.decide.decide.Goals as goal
 
-pub refuse-requires : goal.refuse-requires
-refuse-requires c = refusal_reason (shape_of c.args.item.now) _ (subst (λ (fault : RequestFault). IsUnlessMemory (Err fault) (request_in (shape_of c.args.item.now))) c.in-Err-Refused.field-0-is c.in-Err-Refused.ensures)
+pub returns : goal.returns
+returns c =
+    let small : length c.args.item.now.bytes < 2 ^ 64 = search rules in
+    IfOk-weaker c.build.result _ _
+    (λ done is. is ∙ ap built c.in_ok-decision.ensures ∙ sym (decide_fits c.args.bases.now (option_map (λ uri. uri.now) c.args.control) (shape_of c.args.item.now) small))
+    c.build.ensures

@@ -1,8 +1,17 @@
-use Rattle.rtspgate.proofs.UsageLemmas.{usage_says, refusal_says}
+use Rattle.std.proofs.Common.{map}
+use Rattle.std.specs.Prelude.{string_bytes}
+use Rattle.rtspgate.specs.Words.{bases_between}
+use Rattle.rtspgate.proofs.UsageLemmas.{usage_says, refusal_says, plain_says, names_between}
 use Rattle.rtspgate.proofs.plain.plain.Goals as goal
 
 pub returns-in-Err-clause-usage : goal.returns-in-Err-clause-usage
 returns-in-Err-clause-usage g c = rw c.from.ensures (usage_says c.in-Err.fault _ c.in-Err.ensures)
 
 pub returns-in-Err-clause-says : goal.returns-in-Err-clause-says
-returns-in-Err-clause-says g c = rw c.from.ensures (refusal_says c.in-Err.fault (g.S.Source.rest c.args.source.now) (g.K.Sink.written c.args.sink.now))
+returns-in-Err-clause-says g c =
+    rw c.from.ensures (refusal_says (map string_bytes c.args.words.now) c.in-Err.fault (g.S.Source.rest c.args.source.now) (g.K.Sink.written c.args.sink.now))
+
+pub returns-in-Ok-clause-says : goal.returns-in-Ok-clause-says
+returns-in-Ok-clause-says g c =
+    plain_says (map string_bytes c.args.words.now) (bases_between c.in-Ok.command) c.obey.result (g.S.Source.rest c.args.source.now) (g.S.Source.rest c.obey.new.source)
+    (g.K.Sink.written c.args.sink.now) (g.K.Sink.written c.obey.new.sink) (names_between c.in-Ok.command (map string_bytes c.args.words.now) c.in-Ok.ensures.0) c.obey.ensures.says

@@ -5,19 +5,20 @@ use Rattle.rtspgate.proofs.replay.take_piece.Goals as goal
 
 pub treat-requires : goal.treat-requires
 treat-requires g c = record {
+  bases = c.requires.bases;
   bytes = c.requires.bytes ++ c.args.piece.now;
   before = c.requires.before;
   so_far =
-      so_far_fed c.args.reader.now c.feed.new.self c.args.run.now.streams c.args.run.now.mux c.requires.bytes c.args.piece.now c.requires.before (g.K.Sink.written c.args.sink.now)
+      so_far_fed c.requires.bases c.args.reader.now c.feed.new.self c.args.run.now.streams c.args.run.now.mux c.requires.bytes c.args.piece.now c.requires.before (g.K.Sink.written c.args.sink.now)
       c.requires.so_far c.in-Ok.ensures.ok;
 }
 
 pub returns-clause-treated : goal.returns-clause-treated
-returns-clause-treated g c = λ bytes before s.
-    c.treat.ensures.treated (bytes ++ c.args.piece.now) before
-    (so_far_fed c.args.reader.now c.feed.new.self c.args.run.now.streams c.args.run.now.mux bytes c.args.piece.now before (g.K.Sink.written c.args.sink.now) s c.in-Ok.ensures.ok)
+returns-clause-treated g c = λ bases bytes before s.
+    c.treat.ensures.treated bases (bytes ++ c.args.piece.now) before
+    (so_far_fed bases c.args.reader.now c.feed.new.self c.args.run.now.streams c.args.run.now.mux bytes c.args.piece.now before (g.K.Sink.written c.args.sink.now) s c.in-Ok.ensures.ok)
 
 pub returns-in_default-clause-treated : goal.returns-in_default-clause-treated
-returns-in_default-clause-treated g c = λ bytes before s.
-    interrupted_more bytes c.args.piece.now before (g.K.Sink.written c.args.sink.now)
-    (so_far_interrupted c.args.reader.now c.args.run.now.streams c.args.run.now.mux bytes before (g.K.Sink.written c.args.sink.now) s)
+returns-in_default-clause-treated g c = λ bases bytes before s.
+    interrupted_more bases bytes c.args.piece.now before (g.K.Sink.written c.args.sink.now)
+    (so_far_interrupted bases c.args.reader.now c.args.run.now.streams c.args.run.now.mux bytes before (g.K.Sink.written c.args.sink.now) s)

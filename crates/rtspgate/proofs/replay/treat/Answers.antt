@@ -1,5 +1,6 @@
 use Rattle.std.proofs.Common.{ℕ, List, Option, Some, None, Ok, arith}
 use Rattle.std.proofs.lemmas.Result.{err_from_is_err_and}
+use Rattle.rtsp_uri.specs.declared.base.Bases.{Bases}
 use Rattle.rtspgate.specs.Reads.{NextSays}
 use Rattle.rtspgate.specs.Replays.{SoFar}
 use Rattle.rtspgate.proofs.ReplayLemmas.{enters_fresh, so_far_more, so_far_whole, so_far_faulted, so_far_stopped}
@@ -13,39 +14,39 @@ pub take-requires-clause-fresh : goal.take-requires-clause-fresh
 take-requires-clause-fresh g c =
     let says : NextSays c.loop-entry.reader c.next.new.self (Ok (Some c.in-Ok-Some.entry)) = rw c.in-Ok-Some.field-0-is at c.in-Ok-Some.ensures.says in
     let some = c.loop-entry.invariant.some in
-    enters_fresh c.loop-entry.reader c.next.new.self c.loop-entry.run.streams c.loop-entry.run.mux some.bytes some.before (g.K.Sink.written c.loop-entry.sink) c.in-Ok-Some.entry some.so_far says
+    enters_fresh some.bases c.loop-entry.reader c.next.new.self c.loop-entry.run.streams c.loop-entry.run.mux some.bytes some.before (g.K.Sink.written c.loop-entry.sink) c.in-Ok-Some.entry some.so_far says
 
 pub returns-in_err-take-in-Ok-Some-clause-treated : goal.returns-in_err-take-in-Ok-Some-clause-treated
-returns-in_err-take-in-Ok-Some-clause-treated g c = λ bytes before s.
+returns-in_err-take-in-Ok-Some-clause-treated g c = λ bases bytes before s.
     let says : NextSays c.loop-entry.reader c.next.new.self (Ok (Some c.in-Ok-Some.entry)) = rw c.in-Ok-Some.field-0-is at c.in-Ok-Some.ensures.says in
     let p = err_from_is_err_and c.from_residual.result c.from_residual.ensures.1 in
     rw (p.1, p.2)
-    (so_far_stopped c.loop-entry.reader c.next.new.self c.loop-entry.run.streams c.take.new.self.streams c.loop-entry.run.mux c.take.new.self.mux bytes before
+    (so_far_stopped bases c.loop-entry.reader c.next.new.self c.loop-entry.run.streams c.take.new.self.streams c.loop-entry.run.mux c.take.new.self.mux bytes before
     (g.K.Sink.written c.loop-entry.sink) (g.K.Sink.written c.take.new.sink) c.in-Ok-Some.entry c.in_err-take-in-Ok-Some.field-0.0
-    (c.loop-entry.invariant.keeps bytes before s) says c.in_err-take-in-Ok-Some.ensures.takes)
+    (c.loop-entry.invariant.keeps bases bytes before s) says c.in_err-take-in-Ok-Some.ensures.takes)
 
 pub loop-entry-preserved : goal.loop-entry-preserved
 loop-entry-preserved g c =
     let says : NextSays c.loop-entry.reader c.next.new.self (Ok (Some c.in-Ok-Some.entry)) = rw c.in-Ok-Some.field-0-is at c.in-Ok-Some.ensures.says in
-    let more : (bytes : List ℕ) (before : Option (List ℕ)) → SoFar c.loop-entry.reader c.loop-entry.run.streams c.loop-entry.run.mux bytes before (g.K.Sink.written c.loop-entry.sink)
-    → SoFar c.next.new.self c.take.new.self.streams c.take.new.self.mux bytes before (g.K.Sink.written c.take.new.sink) =
-    λ bytes before s.
-    so_far_more c.loop-entry.reader c.next.new.self c.loop-entry.run.streams c.take.new.self.streams c.loop-entry.run.mux c.take.new.self.mux bytes before
+    let more : (bases : Bases) (bytes : List ℕ) (before : Option (List ℕ)) → SoFar bases c.loop-entry.reader c.loop-entry.run.streams c.loop-entry.run.mux bytes before (g.K.Sink.written c.loop-entry.sink)
+    → SoFar bases c.next.new.self c.take.new.self.streams c.take.new.self.mux bytes before (g.K.Sink.written c.take.new.sink) =
+    λ bases bytes before s.
+    so_far_more bases c.loop-entry.reader c.next.new.self c.loop-entry.run.streams c.take.new.self.streams c.loop-entry.run.mux c.take.new.self.mux bytes before
     (g.K.Sink.written c.loop-entry.sink) (g.K.Sink.written c.take.new.sink) c.in-Ok-Some.entry s says c.in_ok-take-in-Ok-Some.ensures.takes in
     record {
-      keeps = λ bytes before s. more bytes before (c.loop-entry.invariant.keeps bytes before s);
-      some = let some = c.loop-entry.invariant.some in record { bytes = some.bytes; before = some.before; so_far = more some.bytes some.before some.so_far };
+      keeps = λ bases bytes before s. more bases bytes before (c.loop-entry.invariant.keeps bases bytes before s);
+      some = let some = c.loop-entry.invariant.some in record { bases = some.bases; bytes = some.bytes; before = some.before; so_far = more some.bases some.bytes some.before some.so_far };
       later = omega (arith, c.loop-entry.invariant.later, c.take.ensures.cause.later);
     }
 
 pub returns-in-Ok-None-clause-treated : goal.returns-in-Ok-None-clause-treated
-returns-in-Ok-None-clause-treated g c = λ bytes before s.
+returns-in-Ok-None-clause-treated g c = λ bases bytes before s.
     let says : NextSays c.loop-entry.reader c.next.new.self (Ok None) = rw c.in-Ok-None.field-0-is at c.in-Ok-None.ensures.says in
-    so_far_whole c.loop-entry.reader c.next.new.self c.loop-entry.run.streams c.loop-entry.run.mux bytes before (g.K.Sink.written c.loop-entry.sink)
-    (c.loop-entry.invariant.keeps bytes before s) says
+    so_far_whole bases c.loop-entry.reader c.next.new.self c.loop-entry.run.streams c.loop-entry.run.mux bytes before (g.K.Sink.written c.loop-entry.sink)
+    (c.loop-entry.invariant.keeps bases bytes before s) says
 
 pub returns-in-Err-clause-treated : goal.returns-in-Err-clause-treated
-returns-in-Err-clause-treated g c = λ bytes before s.
+returns-in-Err-clause-treated g c = λ bases bytes before s.
     rw c.from.ensures
-    (so_far_faulted c.loop-entry.reader c.next.new.self c.loop-entry.run.streams c.loop-entry.run.mux bytes before (g.K.Sink.written c.loop-entry.sink) c.in-Err.fault
-    (c.loop-entry.invariant.keeps bytes before s) c.in-Err.ensures.says)
+    (so_far_faulted bases c.loop-entry.reader c.next.new.self c.loop-entry.run.streams c.loop-entry.run.mux bytes before (g.K.Sink.written c.loop-entry.sink) c.in-Err.fault
+    (c.loop-entry.invariant.keeps bases bytes before s) c.in-Err.ensures.says)

@@ -1,4 +1,5 @@
 use Rattle.std.proofs.Common.{◌≤◌, ℕ, List, Option}
+use Rattle.rtsp_uri.specs.declared.base.Bases.{Bases}
 use Rattle.rtspgate.specs.Reads.{bytes_held}
 use Rattle.rtspgate.specs.Replays.{SoFar, SomeSoFar}
 use Rattle.rtspgate.proofs.replay.treat.Given as goal
@@ -6,8 +7,8 @@ use Rattle.rtspgate.proofs.replay.treat.Given as goal
 -- what was so before is so, with the entries that were treated since
 abbrev pub invariant-loop-entry : goal.invariant-loop-entry
 invariant-loop-entry g l = record {
-  keeps : (bytes : List ℕ) (before : Option (List ℕ)) → SoFar l.fn.reader l.fn.run.streams l.fn.run.mux bytes before (g.K.Sink.written l.fn.sink)
-      → SoFar l.reader l.run.streams l.run.mux bytes before (g.K.Sink.written l.sink);
+  keeps : (bases : Bases) (bytes : List ℕ) (before : Option (List ℕ)) → SoFar bases l.fn.reader l.fn.run.streams l.fn.run.mux bytes before (g.K.Sink.written l.fn.sink)
+      → SoFar bases l.reader l.run.streams l.run.mux bytes before (g.K.Sink.written l.sink);
   some : SomeSoFar l.reader l.run.streams l.run.mux (g.K.Sink.written l.sink);
   later : g.K.Sink.faults l.fn.sink ≤ g.K.Sink.faults l.sink;
 }

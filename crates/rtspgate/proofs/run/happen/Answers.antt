@@ -10,14 +10,14 @@ write_outcome-requires-clause-stands g c = record {
 }
 
 pub returns-in-Err-clause-takes : goal.returns-in-Err-clause-takes
-returns-in-Err-clause-takes g c = untaken c.args.mux.now c.step.new.self (happening_of c.args.event) (g.K.Sink.written c.args.sink.now) c.in-Err.ensures.err
+returns-in-Err-clause-takes g c = untaken c.args.mux.now c.step.new.self (happening_of c.args.event) (g.K.Sink.written c.args.sink.now) c.in-Err.ensures.err c.step.ensures.bases
 
 pub returns-in-Ok-write_outcome-clause-takes : goal.returns-in-Ok-write_outcome-clause-takes
 returns-in-Ok-write_outcome-clause-takes g c =
     taken c.args.mux.now c.step.new.self c.args.event c.in-Ok.outcome (g.K.Sink.written c.args.sink.now) (g.K.Sink.written c.write_outcome.new.sink)
-    c.in-Ok.ensures.ok c.in-Ok-write_outcome.ensures.bytes
+    c.in-Ok.ensures.ok c.step.ensures.bases c.in-Ok-write_outcome.ensures.bytes
 
 pub returns-clause-takes : goal.returns-clause-takes
 returns-clause-takes g c =
     taken_in_part c.args.mux.now c.step.new.self c.args.event c.in-Ok.outcome (g.K.Sink.written c.args.sink.now) (g.K.Sink.written c.write_outcome.new.sink)
-    c.in-Ok.ensures.ok c.in-Err-write_outcome.ensures.bytes
+    c.in-Ok.ensures.ok c.step.ensures.bases c.in-Err-write_outcome.ensures.bytes

@@ -10,7 +10,7 @@ pub happen-requires : goal.happen-requires
 happen-requires g c =
     let some = c.loop-item.invariant.some in record {
       history = some.more ++ c.requires.history;
-      stands = some.advances c.requires.history c.requires.stands;
+      stands = some.advances.stands c.requires.history c.requires.stands;
     }
 
 pub loop-item-init : goal.loop-item-init

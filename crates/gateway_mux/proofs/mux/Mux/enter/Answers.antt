@@ -13,5 +13,5 @@ returns-clause-ok c =
     let old : Mux = c.args.self.now in
     let new : Mux = record { seats = c.enter.new.self; loans = old.loans; issued = old.issued; ended = old.ended; bases = old.bases; dropped = old.dropped } in
     on_ok_weaker c.enter.result
-    (λ seats T s. stands_entering old new c.args.conn T (still_open old.ended (sym c.is_some.ensures ∙ c.if-is_some.false)) s c.requires.absent seats (λ g. refl) refl refl refl)
+    (λ seats T s. stands_entering old new c.args.conn T (still_open old.ended (sym c.is_some.ensures ∙ c.if-is_some.false)) s c.requires.absent seats (λ g. refl) refl refl refl refl)
     c.enter.ensures.ok

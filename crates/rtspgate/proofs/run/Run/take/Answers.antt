@@ -7,13 +7,13 @@ use Rattle.rtspgate.proofs.run.Run.take.Goals as goal
 
 pub returns-in_ok-enter-in-Enter-clause-takes : goal.returns-in_ok-enter-in-Enter-clause-takes
 returns-in_ok-enter-in-Enter-clause-takes g c =
-    takes_enter c.args.self.now.streams c.args.self.now.mux c.enter.new.self c.args.entry.now (g.K.Sink.written c.args.sink.now) c.in-Enter.is c.in_ok-enter-in-Enter.ensures.ok
+    takes_enter c.args.self.now.streams c.args.self.now.mux c.enter.new.self c.args.entry.now (g.K.Sink.written c.args.sink.now) c.in-Enter.is c.in_ok-enter-in-Enter.ensures.ok c.enter.ensures.bases
 
 pub returns-in_err-enter-in-Enter-clause-takes : goal.returns-in_err-enter-in-Enter-clause-takes
 returns-in_err-enter-in-Enter-clause-takes g c =
     let p = err_from_is_err_and c.from_residual.result c.from_residual.ensures.1 in
     rw (p.1, p.2)
-    (takes_no_enter c.args.self.now.streams c.args.self.now.mux c.enter.new.self c.args.entry.now (g.K.Sink.written c.args.sink.now) c.in_err-enter-in-Enter.ensures.err)
+    (takes_no_enter c.args.self.now.streams c.args.self.now.mux c.enter.new.self c.args.entry.now (g.K.Sink.written c.args.sink.now) c.in_err-enter-in-Enter.ensures.err c.enter.ensures.bases)
 
 pub returns-in-Client-clause-takes : goal.returns-in-Client-clause-takes
 returns-in-Client-clause-takes g c =

@@ -1,0 +1,45 @@
+-- The answer to OPTIONS, written as it stands.
+use Rattle.std.proofs.Common.{◌≡◌, ℕ, List, [], ◌∷◌, ◌++◌, refl, sym, ◌∙◌, ap}
+use Rattle.std.specs.Prelude.{codes, decimal}
+use Rattle.std.proofs.lemmas.List.{append_assoc, append-nil}
+use Rattle.translate_up.specs.Answers.{methods_text, options_text}
+
+-- the end of a line
+abbrev line_end : List ℕ
+line_end = 13 ∷ 10 ∷ []
+
+-- how the status line, the fields and the empty line are put together
+text_joined : (code reason fields : List ℕ) → ((((code ++ reason) ++ line_end) ++ fields) ++ line_end) ++ [] ≡ code ++ (reason ++ (line_end ++ (fields ++ line_end)))
+text_joined code reason fields =
+    append-nil ((((code ++ reason) ++ line_end) ++ fields) ++ line_end)
+    ∙ append_assoc ((code ++ reason) ++ line_end) fields line_end
+    ∙ append_assoc (code ++ reason) line_end (fields ++ line_end)
+    ∙ append_assoc code reason (line_end ++ (fields ++ line_end))
+
+fields_joined : (number methods : List ℕ) → ((number ++ line_end) ++ methods) ++ line_end ≡ number ++ (line_end ++ (methods ++ line_end))
+fields_joined number methods = append_assoc (number ++ line_end) methods line_end ∙ append_assoc number line_end (methods ++ line_end)
+
+-- the pieces in the order in which they are pushed
+pieces_joined : (front code middle number rest : List ℕ) → (((front ++ code) ++ middle) ++ number) ++ rest ≡ front ++ (code ++ (middle ++ (number ++ rest)))
+pieces_joined front code middle number rest =
+    append_assoc ((front ++ code) ++ middle) number rest ∙ append_assoc (front ++ code) middle (number ++ rest) ∙ append_assoc front code (middle ++ (number ++ rest))
+
+abbrev public_line : List ℕ
+public_line = codes "Public: " ++ methods_text ++ line_end
+
+options_joined : (cseq : ℕ) → options_text cseq ≡ codes "RTSP/1.0 " ++ (decimal 200 ++ (codes " OK" ++ (line_end ++ (codes "CSeq: " ++ (decimal cseq ++ (line_end ++ (public_line ++ line_end)))))))
+options_joined cseq =
+    ap (λ text. codes "RTSP/1.0 " ++ text) (text_joined (decimal 200) (codes " OK") (codes "CSeq: " ++ ((decimal cseq ++ line_end) ++ public_line)))
+    ∙ ap (λ fields. codes "RTSP/1.0 " ++ (decimal 200 ++ (codes " OK" ++ (line_end ++ (codes "CSeq: " ++ fields))))) (fields_joined (decimal cseq) public_line)
+
+options_spelled : (cseq : ℕ) → (((codes "RTSP/1.0 " ++ decimal 200) ++ (codes " OK" ++ (line_end ++ codes "CSeq: "))) ++ decimal cseq) ++ (line_end ++ (public_line ++ line_end)) ≡ options_text cseq
+options_spelled cseq =
+    pieces_joined (codes "RTSP/1.0 ") (decimal 200) (codes " OK" ++ (line_end ++ codes "CSeq: ")) (decimal cseq) (line_end ++ (public_line ++ line_end)) ∙ sym (options_joined cseq)
+
+-- what was pushed piece by piece
+pub options_pushed : (cseq : ℕ) (a b c d e : List ℕ) → a ≡ codes "RTSP/1.0 " → b ≡ a ++ decimal 200 → c ≡ b ++ (codes " OK" ++ (line_end ++ codes "CSeq: ")) → d ≡ c ++ decimal cseq →
+    e ≡ d ++ (line_end ++ (public_line ++ line_end)) → e ≡ options_text cseq
+options_pushed cseq a b c d e first second third fourth fifth =
+    fifth
+    ∙ ap (λ (text : List ℕ). text ++ (line_end ++ (public_line ++ line_end))) (fourth ∙ ap (λ (text : List ℕ). text ++ decimal cseq) (third ∙ ap (λ (text : List ℕ). text ++ (codes " OK" ++ (line_end ++ codes "CSeq: "))) (second ∙ ap (λ (text : List ℕ). text ++ decimal 200) first)))
+    ∙ options_spelled cseq
