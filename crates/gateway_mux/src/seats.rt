@@ -1,5 +1,5 @@
 //! The connections, in a slab, each under its number.
-ghost use Rattle.std.specs.Prelude.{◌≡◌, ◌≢◌, ◌==◌, ℕ, true, None, Some, OnOk, OnErr, IfErr, is_some, if◌then◌else◌, option_map};
+ghost use Rattle.std.specs.Prelude.{◌≡◌, ◌≢◌, ◌==◌, ℕ, true, None, Some, OnOk, OnErr, IfErr, IfSome, is_some, if◌then◌else◌, option_map};
 ghost use Rattle.std.specs.Ordering.{nat_cmp};
 ghost use Rattle.std.specs.BTreeMap.{get};
 ghost use Rattle.slab.specs.Slab.{get as slab_get};
@@ -55,7 +55,8 @@ impl Seats {
 
     /// The first number from this one on that entered.
     pub fn next(&self, from: u32) -> Option<u32>
-        ensures { IsNextSeat self.now from result }
+        ensures next { IsNextSeat self.now from result }
+        ensures entered { IfSome result (λ conn. is_some (get nat_cmp self.now.keys conn) ≡ true) }
     {
         let (conn, _) = self.keys.range(from..).next()?;
         Some(*conn)
