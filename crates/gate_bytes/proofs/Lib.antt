@@ -1,3 +1,4 @@
 pub mod DigitLemmas
 pub mod EndLemmas
+pub mod PartLemmas
 pub mod PlaceLemmas

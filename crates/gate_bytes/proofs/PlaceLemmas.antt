@@ -1,8 +1,8 @@
--- The first place of a byte, by index and by recursion.
+-- The first place of a byte, by index and by recursion, and that it lies within its text.
 use Rattle.std.proofs.Common.{◌≡◌, ℕ, zero, suc, ◌+◌, ◌<◌, ◌==◌, Bool, true, false, cond, List, [], ◌∷◌, length, Option, None, Some, refl, sym, ◌∙◌, ap, arith, add-one}
 use Rattle.std.specs.Option.{option_map}
-use Rattle.memchr.specs.Find.{IsFirstByte, is_byte}
 use Rattle.gate_bytes.specs.Places.{place_of}
+use Rattle.memchr.specs.Find.{IsFirstByte, is_byte}
 
 -- The answer of a search is the first place, where the first byte's test went so, and the search of
 -- the rest goes by recursion.
@@ -28,3 +28,16 @@ pub first_byte_place : (byte : ℕ) (text : List ℕ) (r : Option ℕ) → IsFir
 first_byte_place byte [] None h = refl
 first_byte_place byte [] (Some k) h = absurd (omega (arith, h.0.high))
 first_byte_place byte (b ∷ text) r h = place_with byte b text (b == byte) refl r h (first_byte_place byte text)
+
+-- the place of a later byte
+place_later : (test : Bool) (later : Option ℕ) (k n : ℕ) → cond test (Some 0) (option_map (λ j. j + 1) later) ≡ Some k → ((j : ℕ) → later ≡ Some j → j < n) → k < n + 1
+place_later true later k n h within = grind arith
+place_later false None k n h within = cc
+place_later false (Some j) k n h within = let below : j < n = within j refl in grind arith
+
+-- a place lies within its text
+pub place_within : (byte : ℕ) (text : List ℕ) (k : ℕ) → place_of byte text ≡ Some k → k < length text
+place_within byte [] k h = cc
+place_within byte (b ∷ text) k h =
+    let below : k < length text + 1 = place_later (b == byte) (place_of byte text) k (length text) h (place_within byte text) in
+    omega arith

@@ -13,7 +13,7 @@ mod token;
 
 pub use decimal::{push_decimal, read_decimal};
 pub use memory::Memory;
-pub use place::{after, before, find};
+pub use place::{after, before, find, split_once, up_to};
 pub use text::Text;
 pub use token::{eq_fold, is_token, trim};
 

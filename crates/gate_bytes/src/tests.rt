@@ -101,6 +101,28 @@ fn the_first_place_is_found(rt: HostRuntime) -> Result<(), Fail> {
 }
 
 #[test]
+fn texts_are_split_at_the_first_place(rt: HostRuntime) -> Result<(), Fail> {
+    let rows = [
+        (
+            b"a=b=c".as_slice(),
+            b"a".as_slice(),
+            Some(b"b=c".as_slice()),
+        ),
+        (b"=", b"", Some(b"")),
+        (b"ab", b"ab", None),
+        (b"", b"", None),
+    ];
+    for (text, front, rest) in rows {
+        assert_eq!(rt; up_to(b'=', text), front, "{text:?}");
+        match (split_once(b'=', text), rest) {
+            (Some(parts), Some(rest)) => assert_eq!(rt; parts, (front, rest), "{text:?}"),
+            (parts, rest) => assert_eq!(rt; parts.is_some(), rest.is_some(), "{text:?}"),
+        }
+    }
+    Ok(())
+}
+
+#[test]
 fn a_text_holds_its_bytes(rt: HostRuntime) -> Result<(), Fail> {
     let mut text = Text::new(rt.alloc());
     assert!(rt; text.is_empty());
@@ -111,5 +133,8 @@ fn a_text_holds_its_bytes(rt: HostRuntime) -> Result<(), Fail> {
     text.set(5, b'2');
     assert_eq!(rt; text.as_bytes(), b"RTSP/2.0".as_slice());
     assert!(rt; Text::with_room(rt.alloc(), 8)?.is_empty());
+    let copy = Text::copied(rt.alloc(), Some(b"PLAY"))?.ok_or("no copy")?;
+    assert_eq!(rt; copy.as_bytes(), b"PLAY".as_slice());
+    assert!(rt; Text::copied(rt.alloc(), None)?.is_none());
     Ok(())
 }

@@ -1,5 +1,6 @@
 //! Owned bytes.
 ghost use Rattle.std.specs.Prelude.{◌≡◌, ◌<◌, ◌↔◌, [], ◌++◌, length, slice_set, IsTrue, IfOk, OnOk, OnErr};
+ghost use Rattle.std.specs.Option.{option_copied};
 
 use crate::Memory;
 use std::alloc::Global;
@@ -45,6 +46,16 @@ impl Text {
         Ok(Text {
             bytes: Vec::from_slice(alloc, bytes)?,
         })
+    }
+
+    /// A text with these bytes, where there are some.
+    pub fn copied(alloc: Global, bytes: Option<&[u8]>) -> Result<Option<Text>, Memory>
+        ensures { IfOk result (λ copy. copy ≡ option_copied bytes.entry) }
+    {
+        match bytes {
+            Some(bytes) => Ok(Some(Text::copy(alloc, bytes)?)),
+            None => Ok(None),
+        }
     }
 
     /// The bytes.

@@ -4,7 +4,8 @@ use Rattle.std.specs.List.{list_all, starts_with}
 use Rattle.std.specs.Char.{is_ascii_hexdigit}
 use Rattle.gate_bytes.specs.Tokens.{is_blank, trimmed}
 use Rattle.gate_bytes.specs.Places.{cut_at}
-use Rattle.rtp_info.specs.Parts.{parts_at, is_last, with_first}
+use Rattle.gate_bytes.specs.Places.{parts_at}
+use Rattle.rtp_info.specs.Parts.{is_last, with_first}
 use Rattle.rtp_info.specs.Parameters.{Notes, read_parameters}
 
 -- a text that begins with a space or a tab

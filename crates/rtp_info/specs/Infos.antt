@@ -1,10 +1,11 @@
 -- The list that an RTP-Info field is.
 use Rattle.std.specs.Prelude.{◌≡◌, ℕ, List, Option, Some, None, Result, Ok, Err}
 use Rattle.gate_bytes.specs.Tokens.{trimmed}
+use Rattle.gate_bytes.specs.Places.{parts_at}
 use Rattle.rtp_info.specs.declared.entry.InfoEntry.{InfoEntry}
 use Rattle.rtp_info.specs.declared.fault.InfoFault.{InfoFault}
 use Rattle.rtp_info.specs.declared.fault.InfoFault.TheVariants.{Grammar, Memory}
-use Rattle.rtp_info.specs.Parts.{parts_at, each_read}
+use Rattle.rtp_info.specs.Parts.{each_read}
 use Rattle.rtp_info.specs.Specs.{spec_of}
 
 -- Commas part specs, with blanks round them (RFC 7826, 18.45); nothing where one part is none.

@@ -5,7 +5,8 @@ use Rattle.std.specs.Str.{bytes_eq}
 use Rattle.gate_bytes.specs.Tokens.{is_token, trimmed}
 use Rattle.gate_bytes.specs.Places.{cut_at}
 use Rattle.gate_bytes.specs.Numbers.{number_in}
-use Rattle.rtp_info.specs.Parts.{parts_at, each_read}
+use Rattle.gate_bytes.specs.Places.{parts_at}
+use Rattle.rtp_info.specs.Parts.{each_read}
 
 -- what a parameter says: a sequence number, an RTP time, or something that is passed over
 pub data Says : Type 0 where

@@ -1,10 +1,6 @@
 -- The parts of a value, and reading all of them.
 use Rattle.std.specs.Prelude.{ℕ, Bool, true, false, ◌==◌, List, [], ◌∷◌, Option, Some, None, option_map, option_and_then}
-use Rattle.std.specs.List.{slice_split}
-
--- all parts of a text between the places of a byte
-abbrev pub parts_at : ℕ → List ℕ → List (List ℕ)
-parts_at byte text = slice_split (λ b. b == byte) text
+use Rattle.gate_bytes.specs.Places.{parts_at}
 
 -- the parts of what is left, if anything is
 abbrev pub parts_left : ℕ → Option (List ℕ) → List (List ℕ)

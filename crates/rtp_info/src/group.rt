@@ -1,15 +1,15 @@
 //! The groups of a spec: a label and parameters, once or more often.
 ghost use Rattle.std.specs.Prelude.{◌≡◌, Some, option_map};
-ghost use Rattle.std.specs.Option.{option_or};
+ghost use Rattle.std.specs.Option.{option_copied, option_or};
 ghost use Rattle.std.specs.List.{list_all};
 ghost use Rattle.std.specs.Char.{is_ascii_hexdigit};
-ghost use Rattle.rtp_info.specs.Parts.{parts_at};
+ghost use Rattle.gate_bytes.specs.Places.{parts_at};
 ghost use Rattle.rtp_info.specs.Groups.{begins_blank, is_label, before_label, group_of, first_group, groups_of};
-ghost use Rattle.rtp_info.specs.Views.{noted_seen, seen};
+ghost use Rattle.rtp_info.specs.Views.{noted_seen};
 
 use crate::parameter::{Noted, read_parameters};
-use crate::part::{cut, first_part};
-use gate_bytes::{after, before, trim};
+use crate::part::first_part;
+use gate_bytes::{after, before, split_once, trim};
 
 /// The length of a label: `ssrc=` and eight digits.
 const LABEL: usize = 13;
@@ -19,7 +19,7 @@ const LABEL: usize = 13;
 pub(crate) fn read_groups(text: &[u8]) -> Option<Noted>
     ensures { option_map noted_seen result ≡ groups_of text.now }
 {
-    let (label, pieces) = cut(b':', text)?;
+    let (label, pieces) = split_once(b':', text)?;
     if !begins_blank(label) || !is_label(trim(label)) {
         return None;
     }
@@ -67,7 +67,7 @@ fn read_group(piece: &[u8], last: bool) -> Option<Noted>
 
 /// What stands before a blank and a label at the end of a text.
 fn before_label(text: &[u8]) -> Option<&[u8]>
-    ensures { seen result ≡ before_label text.now }
+    ensures { option_copied result ≡ before_label text.now }
 {
     if text.len() < LABEL + 1 {
         return None;

@@ -3,8 +3,8 @@ ghost use Rattle.std.specs.Prelude.{◌≡◌, option_map};
 ghost use Rattle.rtp_info.specs.Parameters.{named, with_value, seq_of, time_of, parameter_of, nothing_noted, noted_with, read_parameters};
 ghost use Rattle.rtp_info.specs.Views.{parameter_seen, noted_seen};
 
-use crate::part::{cut, first_part};
-use gate_bytes::{is_token, read_decimal, trim};
+use crate::part::first_part;
+use gate_bytes::{is_token, read_decimal, split_once, trim};
 
 /// What a parameter says.
 #[derive(Clone, Copy)]
@@ -74,7 +74,7 @@ pub(crate) fn read_parameters(text: &[u8]) -> Option<Noted>
 fn read_parameter(text: &[u8]) -> Option<Parameter>
     ensures { option_map parameter_seen result ≡ parameter_of text.now }
 {
-    match cut(b'=', text) {
+    match split_once(b'=', text) {
         Some((name, value)) => with_value(name, value),
         None => named(text),
     }

@@ -5,7 +5,7 @@ ghost use Rattle.rtp_info.specs.Specs.{is_url_byte, is_url, spec_of};
 ghost use Rattle.rtp_info.specs.Views.{spec_seen};
 
 use crate::group::read_groups;
-use crate::part::cut;
+use gate_bytes::split_once;
 
 /// What a spec says, with its URI where it stands in it.
 #[derive(Clone, Copy)]
@@ -19,11 +19,11 @@ pub(crate) struct Spec<'a> {
 pub(crate) fn read_spec(text: &[u8]) -> Option<Spec<'_>>
     ensures { option_map spec_seen result ≡ spec_of text.now }
 {
-    let (name, quoted) = cut(b'"', text)?;
+    let (name, quoted) = split_once(b'"', text)?;
     if name != b"url=".as_slice() {
         return None;
     }
-    let (url, groups) = cut(b'"', quoted)?;
+    let (url, groups) = split_once(b'"', quoted)?;
     if !is_url(url) {
         return None;
     }

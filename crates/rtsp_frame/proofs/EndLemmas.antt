@@ -4,10 +4,11 @@ use Rattle.std.specs.Option.{option_map}
 use Rattle.std.proofs.lemmas.List.{take_at, take-take, drop-take, length-append, length-drop, nil_from_length}
 use Rattle.std.proofs.lemmas.Bool.{eqb-true, eq-eqb, cases_Bool}
 use Rattle.gate_bytes.specs.Places.{place_of}
+use Rattle.gate_bytes.proofs.PlaceLemmas.{place_within}
 use Rattle.rtsp_head.specs.Items.{head_len}
 use Rattle.rtsp_head.specs.Spellings.{empty_line, IsLine, AreLines, with_ends, EndsEmpty}
 use Rattle.rtsp_frame.specs.Lines.{is_empty_line}
-use Rattle.rtsp_frame.proofs.LineLemmas.{later, place_turn, place_fits, head_ends, head_goes_on, head_needs_lf}
+use Rattle.rtsp_frame.proofs.LineLemmas.{later, place_turn, head_ends, head_goes_on, head_needs_lf}
 
 -- From lines to the length
 
@@ -129,7 +130,7 @@ ends_by (suc n) text k le h =
     (λ none. let never : None ≡ Some k = sym (head_needs_lf text true none) ∙ h in cc never)
     (λ end at.
     let line = line_at text end at in
-    let below : end < length text = place_fits 10 text end at in
+    let below : end < length text = place_within 10 text end at in
     elim (cases_Bool (is_empty_line (take end text))) [
       | inl empty ↦
           let found : Some (end + 1) ≡ Some k = sym (head_ends text end at empty) ∙ h in

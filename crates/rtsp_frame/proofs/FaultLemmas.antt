@@ -9,7 +9,7 @@ use Rattle.rtsp_head.specs.declared.fault.HeadFault.{HeadFault}
 use Rattle.rtsp_head.specs.declared.fault.HeadFault.TheVariants as faults
 use Rattle.rtsp_head.specs.Lines.{and_then, result_map, has_control, head_lines}
 use Rattle.rtsp_head.specs.Starts.{start_of, status_of, request_of, names_protocol}
-use Rattle.rtsp_head.specs.Headers.{SoFar, Further, More, Begins, header_with, header_of, goes_on, continued, headers_in, further_of, with_further, with_line, after_lines, no_headers, headers_of}
+use Rattle.rtsp_head.specs.Headers.{SoFar, Further, More, Begins, header_from, header_of, goes_on, continued, headers_in, further_of, with_further, with_line, after_lines, no_headers, headers_of}
 use Rattle.rtsp_head.specs.Heads.{head_of_lines, head_of, facts, facts_of}
 
 pub record NoMemory {A : Type 0} (r : Result A HeadFault) : Type 0 where
@@ -42,7 +42,7 @@ start_takes line =
     choice_takes (has_control line) (Err faults.Control) (ok_or (cond (names_protocol line) (status_of line) (request_of line)) faults.Start)
     control_takes (start_known (cond (names_protocol line) (status_of line) (request_of line)))
 
-header_takes : (parts : Option (List ℕ × List ℕ)) → NoMemory (header_with parts)
+header_takes : (parts : Option (List ℕ × List ℕ)) → NoMemory (header_from parts)
 header_takes None = record { never = λ h. cc }
 header_takes (Some parts) =
     choice_takes (is_token parts.0) (Ok (record { name = parts.0; value = trimmed parts.1 })) (Err faults.Name) (ok_takes _) (record { never = λ h. cc })

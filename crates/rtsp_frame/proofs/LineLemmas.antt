@@ -31,14 +31,6 @@ place_turn true o end P f g h = let e : end ≡ 0 = cc in f refl e
 place_turn false None end P f g h = cc
 place_turn false (Some k) end P f g h = let e : k + 1 ≡ end = cc in g k refl refl (omega arith)
 
--- a place lies within its text
-pub place_fits : (byte : ℕ) (text : List ℕ) (end : ℕ) → place_of byte text ≡ Some end → end < length text
-place_fits byte [] end h = cc
-place_fits byte (b ∷ text) end h =
-    place_turn (eqb b byte) (place_of byte text) end (end < suc (length text))
-    (λ t e. omega arith)
-    (λ k t at e. let below : k < length text = place_fits byte text k at in omega arith) h
-
 -- Within a line the head goes on to the line's end, and a line starts behind it.
 within_line : (text : List ℕ) (end : ℕ) → place_of 10 text ≡ Some end → head_from false text ≡ later (suc end) (head_from true (drop (suc end) text))
 within_line [] end h = cc

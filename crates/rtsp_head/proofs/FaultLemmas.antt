@@ -9,7 +9,7 @@ use Rattle.rtsp_head.specs.declared.fault.HeadFault.{HeadFault}
 use Rattle.rtsp_head.specs.declared.fault.HeadFault.TheVariants as faults
 use Rattle.rtsp_head.specs.Lines.{and_then, result_map, has_control}
 use Rattle.rtsp_head.specs.Starts.{names_protocol, status_of, request_of, start_of}
-use Rattle.rtsp_head.specs.Headers.{SoFar, Further, More, Begins, no_headers, headers_in, goes_on, header_with, header_of, continued, with_further, further_of, with_line, after_lines, headers_of}
+use Rattle.rtsp_head.specs.Headers.{SoFar, Further, More, Begins, no_headers, headers_in, goes_on, header_from, header_of, continued, with_further, further_of, with_line, after_lines, headers_of}
 use Rattle.rtsp_head.specs.Heads.{length_in_headers}
 
 -- anything but want of memory
@@ -41,7 +41,7 @@ start_none true start = tt
 start_none false None = tt
 start_none false (Some start) = tt
 
-header_none : (parts : Option (List ℕ × List ℕ)) → NeedsNoMemory (header_with parts)
+header_none : (parts : Option (List ℕ × List ℕ)) → NeedsNoMemory (header_from parts)
 header_none None = tt
 header_none (Some parts) = by_test (is_token parts.0)
   where

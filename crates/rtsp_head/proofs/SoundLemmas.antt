@@ -17,7 +17,7 @@ use Rattle.rtsp_head.specs.declared.fault.HeadFault.{HeadFault}
 use Rattle.rtsp_head.specs.declared.fault.HeadFault.TheVariants as faults
 use Rattle.rtsp_head.specs.Lines.{and_then, result_map, head_lines, has_control}
 use Rattle.rtsp_head.specs.Starts.{is_unspaced, names_protocol, request_with, request_of, status_with, status_of, start_of}
-use Rattle.rtsp_head.specs.Headers.{SoFar, Further, More, Begins, no_headers, closed, headers_in, goes_on, header_with, header_of, continued, with_header, with_further, further_of, with_line, after_lines, headers_of, field_of}
+use Rattle.rtsp_head.specs.Headers.{SoFar, Further, More, Begins, no_headers, closed, headers_in, goes_on, header_from, header_of, continued, with_header, with_further, further_of, with_line, after_lines, headers_of, field_of}
 use Rattle.rtsp_head.specs.Heads.{head_of_lines, head_of}
 use Rattle.rtsp_head.specs.Written.{is_line_text, is_start, is_trimmed, is_value, is_header, CanBeWritten}
 use Rattle.rtsp_head.proofs.DigitLemmas.{number_small}
@@ -125,7 +125,7 @@ FurtherIfOk (Ok (More text)) = is_line_text text ≡ true
 FurtherIfOk (Ok (Begins header)) = Opened header
 FurtherIfOk (Err fault) = Unit {0}
 
-header_sound : (line : List ℕ) (cut : Option (List ℕ × List ℕ)) → CutIfSome 58 line cut → is_line_text line ≡ true → FurtherIfOk (result_map Begins (header_with cut))
+header_sound : (line : List ℕ) (cut : Option (List ℕ × List ℕ)) → CutIfSome 58 line cut → is_line_text line ≡ true → FurtherIfOk (result_map Begins (header_from cut))
 header_sound line None cut text = tt
 header_sound line (Some parts) cut text = by_test (is_token parts.0) refl
   where

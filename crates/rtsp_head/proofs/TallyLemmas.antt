@@ -19,7 +19,7 @@ use Rattle.rtsp_head.specs.declared.tally.Last.{Last}
 use Rattle.rtsp_head.specs.declared.tally.Last.TheVariants as lasts
 use Rattle.rtsp_head.specs.declared.tally.Tally.{Tally}
 use Rattle.rtsp_head.specs.Lines.{and_then, result_map, has_control}
-use Rattle.rtsp_head.specs.Headers.{SoFar, Further, More, Begins, closed, headers_in, goes_on, header_with, continued, with_header, with_further, further_of, with_line, after_lines, no_headers, headers_of, field_of}
+use Rattle.rtsp_head.specs.Headers.{SoFar, Further, More, Begins, closed, headers_in, goes_on, header_from, continued, with_header, with_further, further_of, with_line, after_lines, no_headers, headers_of, field_of}
 use Rattle.rtsp_head.specs.Heads.{length_in, length_of, length_in_headers}
 use Rattle.rtsp_head.specs.Tallies.{number_part, part_of, joined, last_part, last_of, tally_more, tally_header, tally_with, tally_line, tally_lines, empty_tally, part_length, tally_length}
 use Rattle.rtsp_head.proofs.TrimLemmas.{front_blank, front_kept, end_blank, end_kept, blank_nothing, other_something, trimmed_twice}
@@ -201,14 +201,14 @@ named_tidy : (name rest : List ℕ) (test : Bool) → TidyIfOk (result_map Begin
 named_tidy name rest true = trimmed_twice rest
 named_tidy name rest false = tt
 
-header_tidy : (parts : Option (List ℕ × List ℕ)) → TidyIfOk (result_map Begins (header_with parts))
+header_tidy : (parts : Option (List ℕ × List ℕ)) → TidyIfOk (result_map Begins (header_from parts))
 header_tidy None = tt
 header_tidy (Some parts) = named_tidy parts.0 parts.1 (is_token parts.0)
 
 line_tidy : (line : List ℕ) → TidyIfOk (further_of line)
 line_tidy line = by_tests (has_control line) (goes_on line)
   where
-    by_tests : (control more : Bool) → TidyIfOk (cond control (Err faults.Control) (cond more (Ok (More (trimmed line))) (result_map Begins (header_with (cut_at 58 line)))))
+    by_tests : (control more : Bool) → TidyIfOk (cond control (Err faults.Control) (cond more (Ok (More (trimmed line))) (result_map Begins (header_from (cut_at 58 line)))))
     by_tests true more = tt
     by_tests false true = trimmed_twice line
     by_tests false false = header_tidy (cut_at 58 line)

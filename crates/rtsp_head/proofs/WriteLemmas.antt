@@ -18,7 +18,7 @@ use Rattle.rtsp_head.specs.declared.start.Start.TheVariants.{Request, Status}
 use Rattle.rtsp_head.specs.declared.fault.HeadFault.TheVariants as faults
 use Rattle.rtsp_head.specs.Lines.{and_then, result_map, before_empty, head_lines}
 use Rattle.rtsp_head.specs.Starts.{is_unspaced, names_protocol, request_with, request_of, code_of, status_with, status_of, start_of}
-use Rattle.rtsp_head.specs.Headers.{SoFar, More, Begins, no_headers, closed, headers_in, goes_on, header_with, header_of, with_further, further_of, with_line, after_lines, headers_of}
+use Rattle.rtsp_head.specs.Headers.{SoFar, More, Begins, no_headers, closed, headers_in, goes_on, header_from, header_of, with_further, further_of, with_line, after_lines, headers_of}
 use Rattle.rtsp_head.specs.Heads.{head_of_lines, head_of}
 use Rattle.rtsp_head.specs.Written.{ended, start_text, header_text, head_text, is_line_text, is_part, is_start, is_trimmed, is_value, is_header}
 use Rattle.rtsp_head.proofs.DigitLemmas.{own}
@@ -179,7 +179,7 @@ header_read header s =
     let line = header_text header in
     let value : trimmed (32 ∷ header.value) ≡ header.value = s.trimmed in
     let named : header_of line ≡ Ok header =
-    ap header_with (cut_at_seam 58 header.name (32 ∷ header.value) (token_uncut header.name s.tokens))
+    ap header_from (cut_at_seam 58 header.name (32 ∷ header.value) (token_uncut header.name s.tokens))
     ∙ ap (λ t. cond t (Ok (record { name = header.name; value = trimmed (32 ∷ header.value) })) (Err faults.Name)) s.token
     ∙ ap (λ v. Ok (record { name = header.name; value = v })) value in
     ap (λ t. cond t (Err faults.Control) (cond (goes_on line) (Ok (More (trimmed line))) (result_map Begins (header_of line)))) (no_control line (header_fits header s))

@@ -10,12 +10,12 @@ use Rattle.rtsp_head.specs.Lines.{and_then, result_map, has_control}
 
 -- What stands before the first colon is the name, a token, and the rest without the blanks round it is
 -- the value (RFC 2326, 4.2; RFC 7826, 5.2).
-abbrev pub header_with : Option (List ℕ × List ℕ) → Result Header HeadFault
-header_with None = Err Colon
-header_with (Some parts) = if is_token parts.0 then Ok (record { name = parts.0; value = trimmed parts.1 }) else Err Name
+abbrev pub header_from : Option (List ℕ × List ℕ) → Result Header HeadFault
+header_from None = Err Colon
+header_from (Some parts) = if is_token parts.0 then Ok (record { name = parts.0; value = trimmed parts.1 }) else Err Name
 
 abbrev pub header_of : List ℕ → Result Header HeadFault
-header_of line = header_with (cut_at 58 line)
+header_of line = header_from (cut_at 58 line)
 
 -- The headers of the lines so far: the last one apart, since the next line may go on with it.
 pub record SoFar : Type 0 where

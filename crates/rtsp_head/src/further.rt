@@ -5,8 +5,8 @@ ghost use Rattle.rtsp_head.specs.Headers.{goes_on, further_of};
 ghost use Rattle.rtsp_head.specs.Views.{further_seen};
 
 use crate::HeadFault;
-use crate::line::{cut, has_control};
-use gate_bytes::{is_token, trim};
+use crate::line::has_control;
+use gate_bytes::{is_token, split_once, trim};
 
 /// What a line after the first one says, with its parts where they stand in it.
 #[derive(Clone, Copy)]
@@ -28,7 +28,7 @@ pub(crate) fn further_line(line: &[u8]) -> Result<FurtherLine<'_>, HeadFault>
     if goes_on(line) {
         return Ok(FurtherLine::More(trim(line)));
     }
-    let Some((name, rest)) = cut(b':', line) else {
+    let Some((name, rest)) = split_once(b':', line) else {
         return Err(HeadFault::Colon);
     };
     if !is_token(name) {

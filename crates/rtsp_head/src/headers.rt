@@ -1,6 +1,8 @@
 //! The list of a head's headers.
 ghost use Rattle.std.specs.Prelude.{◌≡◌, ◌<◌, ◌↔◌, [], ◌∷◌, ◌++◌, length, slice_get, option_map, IsTrue, IfErr, OnOk, OnErr};
+ghost use Rattle.std.specs.Option.{option_copied};
 ghost use Rattle.rtsp_head.specs.Headers.{field_of};
+ghost use Rattle.rtsp_head.specs.Optional.{header_with};
 
 use crate::Header;
 use gate_bytes::{Memory, Text, eq_fold};
@@ -64,6 +66,40 @@ impl Headers {
             Ok(()) => Ok(()),
             Err(failed) => Err((failed.value, Memory)),
         }
+    }
+
+    /// Appends a header with this value, where there is one.
+    pub fn push_value(
+        &mut self,
+        alloc: Global,
+        name: &[u8],
+        value: Option<Text>,
+    ) -> Result<(), Memory>
+        ensures ok { OnOk result (self.new ≡ self.old ++ header_with name.now value) }
+        ensures err { OnErr result (self.new ≡ self.old) }
+    {
+        let Some(value) = value else {
+            return Ok(());
+        };
+        let name = Text::copy(alloc, name)?;
+        match self.push(Header { name, value }) {
+            Ok(()) => Ok(()),
+            Err((_, memory)) => Err(memory),
+        }
+    }
+
+    /// Appends a header with a copy of this value, where there is one.
+    pub fn push_copy(
+        &mut self,
+        alloc: Global,
+        name: &[u8],
+        value: Option<&[u8]>,
+    ) -> Result<(), Memory>
+        ensures ok { OnOk result (self.new ≡ self.old ++ header_with name.now (option_copied value.entry)) }
+        ensures err { OnErr result (self.new ≡ self.old) }
+    {
+        let value = Text::copied(alloc, value)?;
+        self.push_value(alloc, name, value)
     }
 
     /// The headers, in their order.

@@ -2,18 +2,9 @@
 ghost use Rattle.std.specs.Prelude.{◌≡◌, ◌<◌, length, IfSome, option_map};
 ghost use Rattle.std.specs.List.{list_any};
 ghost use Rattle.std.specs.Str.Lines.{strip_carriage_return};
-ghost use Rattle.gate_bytes.specs.Places.{cut_at};
 ghost use Rattle.rtsp_head.specs.Lines.{first_line, head_lines, lines_with, has_control};
 
-use gate_bytes::{after, before, find};
-
-/// The parts of a text before and after the first place of a byte.
-pub(crate) fn cut(byte: u8, text: &[u8]) -> Option<(&[u8], &[u8])>
-    ensures { option_map (λ parts. (parts.0.now, parts.1.now)) result ≡ cut_at byte text.now }
-{
-    let at = find(byte, text)?;
-    Some((before(text, at), after(text, at + 1)))
-}
+use gate_bytes::{after, split_once};
 
 /// The line without the CR at its end, if it has one.
 fn without_return(line: &[u8]) -> &[u8]
@@ -29,7 +20,7 @@ fn without_return(line: &[u8]) -> &[u8]
 fn first_line(bytes: &[u8]) -> (&[u8], &[u8])
     ensures { (result.0.now, result.1.now) ≡ first_line bytes.now }
 {
-    match cut(b'\n', bytes) {
+    match split_once(b'\n', bytes) {
         Some((line, rest)) => (without_return(line), rest),
         None => (bytes, after(bytes, bytes.len())),
     }

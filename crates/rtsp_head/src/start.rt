@@ -5,8 +5,8 @@ ghost use Rattle.rtsp_head.specs.Starts.{names_protocol, is_unspaced, code_of, r
 ghost use Rattle.rtsp_head.specs.Views.{start_seen};
 
 use crate::HeadFault;
-use crate::line::{cut, has_control};
-use gate_bytes::{Memory, Text, read_decimal};
+use crate::line::has_control;
+use gate_bytes::{Memory, Text, read_decimal, split_once};
 use std::alloc::Global;
 
 /// What the first line of a head says.
@@ -95,8 +95,8 @@ pub(crate) fn start_line(line: &[u8]) -> Result<StartLine<'_>, HeadFault>
 fn request_line(line: &[u8]) -> Option<StartLine<'_>>
     ensures { option_map start_seen result ≡ request_of line.now }
 {
-    let (method, rest) = cut(b' ', line)?;
-    let (uri, version) = cut(b' ', rest)?;
+    let (method, rest) = split_once(b' ', line)?;
+    let (uri, version) = split_once(b' ', rest)?;
     if !method.is_empty() && !uri.is_empty() && is_unspaced(version) && names_protocol(version) {
         Some(StartLine::Request {
             method,
@@ -112,8 +112,8 @@ fn request_line(line: &[u8]) -> Option<StartLine<'_>>
 fn status_line(line: &[u8]) -> Option<StartLine<'_>>
     ensures { option_map start_seen result ≡ status_of line.now }
 {
-    let (version, rest) = cut(b' ', line)?;
-    let (code, reason) = match cut(b' ', rest) {
+    let (version, rest) = split_once(b' ', line)?;
+    let (code, reason) = match split_once(b' ', rest) {
         Some(parts) => parts,
         None => (rest, b"".as_slice()),
     };

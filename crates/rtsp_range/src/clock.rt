@@ -3,7 +3,8 @@ ghost use Rattle.std.specs.Prelude.{◌≡◌};
 ghost use Rattle.rtsp_range.specs.Clock.{moment_of, clock_end, clock_range};
 
 use crate::Range;
-use crate::part::{behind, cut, fraction, front_number};
+use crate::part::{behind, fraction, front_number};
+use gate_bytes::split_once;
 
 /// An absolute time in UTC (RFC 2326, 3.7; RFC 7826, 4.4.3). Its fields are read by their digits
 /// alone, so it may be the 31st of a month of 30 days.
@@ -30,7 +31,7 @@ pub struct Moment {
 pub(crate) fn clock_range(text: &[u8]) -> Option<Range>
     ensures { result ≡ clock_range text.now }
 {
-    let (from, to) = cut(b'-', text)?;
+    let (from, to) = split_once(b'-', text)?;
     let from = read_moment(from)?;
     let to = clock_end(to)?;
     Some(Range::Clock { from, to })
@@ -59,7 +60,7 @@ fn read_moment(text: &[u8]) -> Option<Moment>
     let (hour, text) = front_number(text, 2, 0, 23)?;
     let (minute, text) = front_number(text, 2, 0, 59)?;
     let (second, text) = front_number(text, 2, 0, 60)?;
-    let (rest, end) = cut(b'Z', text)?;
+    let (rest, end) = split_once(b'Z', text)?;
     let nanos = fraction(rest)?;
     if !end.is_empty() {
         return None;

@@ -4,8 +4,9 @@ ghost use Rattle.rtsp_range.specs.Parts.{whole_number};
 ghost use Rattle.rtsp_range.specs.Npt.{clocked_seconds, seconds_of, nanoseconds_of, npt_time, npt_part, npt_range};
 ghost use Rattle.rtsp_range.specs.Judged.{most_seconds, too_late, judged_time, judged_part};
 
-use crate::part::{cut, fraction, part, short_number};
+use crate::part::{fraction, part, short_number};
 use crate::{Range, RangeFault};
+use gate_bytes::split_once;
 
 /// A normal play time (RFC 2326, 3.6; RFC 7826, 4.4.2).
 #[derive(Clone, Copy, Debug, PartialEq, Eq)]
@@ -32,7 +33,7 @@ const MOST_SECONDS: u64 = 10_000_000_000;
 pub(crate) fn npt_range(text: &[u8]) -> Result<Range, RangeFault>
     ensures { result ≡ npt_range text.now }
 {
-    let Some((from, to)) = cut(b'-', text) else {
+    let Some((from, to)) = split_once(b'-', text) else {
         return Err(RangeFault::Time);
     };
     match (npt_part(from), npt_part(to)) {
@@ -89,7 +90,7 @@ fn nanoseconds(text: &[u8]) -> Option<u64>
 fn seconds(text: &[u8]) -> Option<u64>
     ensures { result ≡ option_map (min most_seconds) (seconds_of text.now) }
 {
-    match cut(b':', text) {
+    match split_once(b':', text) {
         None => whole_number(text),
         Some((hours, rest)) => clocked_seconds(hours, rest),
     }
@@ -100,7 +101,7 @@ fn seconds(text: &[u8]) -> Option<u64>
 fn clocked_seconds(hours: &[u8], rest: &[u8]) -> Option<u64>
     ensures { result ≡ option_map (min most_seconds) (clocked_seconds hours.now rest.now) }
 {
-    let (minutes, seconds) = cut(b':', rest)?;
+    let (minutes, seconds) = split_once(b':', rest)?;
     let hour = whole_number(hours)?;
     let minute = short_number(minutes, 59)?;
     let second = short_number(seconds, 59)?;

@@ -3,18 +3,9 @@ ghost use Rattle.std.specs.Prelude.{◌≡◌, ◌≤◌, IsTrue, slice_index_or
 ghost use Rattle.std.specs.List.{list_all};
 ghost use Rattle.std.specs.Char.{is_ascii_digit, digit_value};
 ghost use Rattle.std.specs.Str.Parse.{digits_value};
-ghost use Rattle.gate_bytes.specs.Places.{cut_at};
 ghost use Rattle.rtsp_range.specs.Parts.{part_at, short_number, front_number, behind, nine_digits, nanos_of, fraction_of};
 
 use gate_bytes::{after, before, find, read_decimal};
-
-/// The parts of a text before and after the first place of a byte.
-pub(crate) fn cut(byte: u8, text: &[u8]) -> Option<(&[u8], &[u8])>
-    ensures { option_map (λ parts. (parts.0.now, parts.1.now)) result ≡ cut_at byte text.now }
-{
-    let place = find(byte, text)?;
-    Some((before(text, place), after(text, place + 1)))
-}
 
 /// A text without the part that a mark begins, and that part, which is empty where there is no mark.
 pub(crate) fn part(mark: u8, text: &[u8]) -> (&[u8], &[u8])

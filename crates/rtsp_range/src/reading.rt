@@ -5,10 +5,10 @@ ghost use Rattle.rtsp_range.specs.Writable.{can_be_written};
 
 use crate::clock::clock_range;
 use crate::npt::npt_range;
-use crate::part::cut;
 use crate::smpte::smpte_range;
 use crate::unit::{TimeUnit, has_time_parameter, read_unit};
 use crate::{Range, RangeFault};
+use gate_bytes::split_once;
 
 /// The range that the value of a Range header of RTSP 1.0 means (RFC 2326, 12.29), or its first
 /// fault.
@@ -42,7 +42,7 @@ pub fn read_two(value: &[u8]) -> Result<Range, RangeFault>
 fn unit_and_times(value: &[u8]) -> Option<(TimeUnit, &[u8])>
     ensures { option_map (λ found. (found.0, found.1.now)) result ≡ unit_and_times value.now }
 {
-    let (name, text) = cut(b'=', value)?;
+    let (name, text) = split_once(b'=', value)?;
     let unit = read_unit(name)?;
     Some((unit, text))
 }

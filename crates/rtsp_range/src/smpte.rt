@@ -3,7 +3,8 @@ ghost use Rattle.std.specs.Prelude.{◌≡◌};
 ghost use Rattle.rtsp_range.specs.Smpte.{marked_number, smpte_time, smpte_end, smpte_range};
 
 use crate::Range;
-use crate::part::{cut, part, short_number};
+use crate::part::{part, short_number};
+use gate_bytes::split_once;
 
 /// How many frames a second has (RFC 2326, 3.5; RFC 7826, 4.4.1).
 #[derive(Clone, Copy, Debug, PartialEq, Eq)]
@@ -36,7 +37,7 @@ pub struct Smpte {
 pub(crate) fn smpte_range(rate: Rate, text: &[u8]) -> Option<Range>
     ensures { result ≡ smpte_range rate text.now }
 {
-    let (from, to) = cut(b'-', text)?;
+    let (from, to) = split_once(b'-', text)?;
     let from = smpte_time(from)?;
     let to = smpte_end(to)?;
     Some(Range::Smpte { rate, from, to })
@@ -60,8 +61,8 @@ fn smpte_time(text: &[u8]) -> Option<Smpte>
 {
     let (main, parts) = part(b'.', text);
     let parts = marked_number(b'.', parts)?;
-    let (hours, rest) = cut(b':', main)?;
-    let (minutes, rest) = cut(b':', rest)?;
+    let (hours, rest) = split_once(b':', main)?;
+    let (minutes, rest) = split_once(b':', rest)?;
     let (seconds, frames) = part(b':', rest);
     let hours = short_number(hours, 99)?;
     let minutes = short_number(minutes, 59)?;

@@ -8,13 +8,14 @@ use Rattle.std.specs.Str.Parse.{digits_value}
 use Rattle.std.proofs.lemmas.Bool.{and_parts}
 use Rattle.std.proofs.lemmas.List.{append-nil}
 use Rattle.std.proofs.lemmas.Fmt.{digits_decimal, digits_value-decimal, length-decimal-le, decimal_nonempty}
+use Rattle.std.proofs.lemmas.Str.Parse.{IsNumeralModel, numerals_by_value}
 use Rattle.gate_bytes.specs.Tokens.{is_blank, without_end, trimmed}
 use Rattle.gate_bytes.specs.Places.{cut_at}
 use Rattle.gate_bytes.specs.Numbers.{number_in}
-use Rattle.std.proofs.lemmas.Str.Parse.{IsNumeralModel, numerals_by_value}
-use Rattle.rtsp_small.specs.Parts.{parts_at}
+use Rattle.gate_bytes.specs.Places.{parts_at}
+use Rattle.gate_bytes.proofs.PartLemmas.{parts_by_cut}
 use Rattle.rtsp_small.specs.Sessions.{Session, is_session_byte, is_session_id, timeout_in, first_timeout, session_with, session_in, session_of, timeout_text, session_text}
-use Rattle.rtsp_small.proofs.PartLemmas.{parts_by_cut, whole_without, first_without}
+use Rattle.rtsp_small.proofs.PartLemmas.{whole_without, first_without}
 
 own : IsNumeralModel (λ ds. list_all is_ascii_digit ds ≡ true) (digits_value 10)
 own = numerals_by_value _ (search rules)

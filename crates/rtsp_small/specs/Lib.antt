@@ -1,6 +1,5 @@
 pub mod Methods
 pub mod Notices
-pub mod Parts
 pub mod Scales
 pub mod Sessions
 pub mod Views

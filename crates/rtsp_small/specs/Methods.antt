@@ -19,6 +19,10 @@ method_name SetParameter = codes "SET_PARAMETER"
 abbrev pub methods : List Method
 methods = Options ∷ Describe ∷ Setup ∷ Play ∷ Pause ∷ Teardown ∷ GetParameter ∷ SetParameter ∷ []
 
+-- the names of all methods, as the field Public tells them (RFC 2326, 12.28; RFC 7826, 18.39)
+abbrev pub methods_text : List ℕ
+methods_text = codes "OPTIONS, DESCRIBE, SETUP, PLAY, PAUSE, TEARDOWN, GET_PARAMETER, SET_PARAMETER"
+
 -- the method with this name, with case (RFC 2326, 6.1); nothing for any other text
 abbrev pub method_of : List ℕ → Option Method
 method_of text = find (λ method. bytes_eq text (method_name method)) methods

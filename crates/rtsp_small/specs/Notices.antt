@@ -4,7 +4,7 @@ use Rattle.std.specs.List.{find}
 use Rattle.gate_bytes.specs.Tokens.{equal_fold}
 use Rattle.gate_bytes.specs.Places.{cut_at}
 use Rattle.gate_bytes.specs.Numbers.{number_in}
-use Rattle.rtsp_small.specs.Parts.{up_to}
+use Rattle.gate_bytes.specs.Places.{up_to}
 use Rattle.rtsp_small.specs.declared.notify.NotifyReason.{NotifyReason}
 use Rattle.rtsp_small.specs.declared.notify.NotifyReason.TheVariants.{EndOfStream, MediaProperties, ScaleChange}
 

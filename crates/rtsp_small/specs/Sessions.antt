@@ -7,7 +7,7 @@ use Rattle.std.specs.Str.{bytes_eq}
 use Rattle.gate_bytes.specs.Tokens.{trimmed}
 use Rattle.gate_bytes.specs.Places.{cut_at}
 use Rattle.gate_bytes.specs.Numbers.{number_in}
-use Rattle.rtsp_small.specs.Parts.{parts_at}
+use Rattle.gate_bytes.specs.Places.{parts_at}
 
 -- what a Session field says: an id, and after how many seconds the server may close it
 pub record Session : Type 0 where

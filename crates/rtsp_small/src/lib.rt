@@ -8,14 +8,13 @@
 mod cseq;
 mod method;
 mod notify;
-mod part;
 mod scale;
 mod session;
 #[cfg(test)]
 mod tests;
 
 pub use cseq::{read_cseq_one, read_cseq_two};
-pub use method::{Method, read_method};
+pub use method::{Method, PUBLIC, read_method};
 pub use notify::{NotifyReason, read_reason, read_request_status};
 pub use scale::is_scale;
 pub use session::{SessionField, read_session, write_session};

@@ -42,6 +42,10 @@ impl Method {
     }
 }
 
+/// The names of all methods, as the field Public tells them (RFC 2326, 12.28; RFC 7826, 18.39).
+pub const PUBLIC: &[u8] =
+    b"OPTIONS, DESCRIBE, SETUP, PLAY, PAUSE, TEARDOWN, GET_PARAMETER, SET_PARAMETER";
+
 /// All methods.
 const METHODS: [Method; 8] = [
     Method::Options,

@@ -2,9 +2,8 @@
 ghost use Rattle.std.specs.Prelude.{◌≡◌};
 ghost use Rattle.rtsp_small.specs.Notices.{reason_name, reason_of, request_status_of};
 
-use crate::part::{cut, up_to};
 use crate::read_cseq_two;
-use gate_bytes::eq_fold;
+use gate_bytes::{eq_fold, split_once, up_to};
 
 /// Why a server notifies (RFC 7826, 18.32).
 #[derive(Clone, Copy, Debug, PartialEq, Eq)]
@@ -54,7 +53,7 @@ pub fn read_reason(value: &[u8]) -> Option<NotifyReason>
 pub fn read_request_status(value: &[u8]) -> Option<u32>
     ensures { result ≡ request_status_of value.now }
 {
-    let (name, status) = cut(b'=', value)?;
+    let (name, status) = split_once(b'=', value)?;
     if !eq_fold(name, b"cseq") {
         return None;
     }

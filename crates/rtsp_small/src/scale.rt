@@ -5,8 +5,7 @@ ghost use Rattle.std.specs.Char.{is_ascii_digit};
 ghost use Rattle.gate_bytes.specs.Numbers.{number_in};
 ghost use Rattle.rtsp_small.specs.Scales.{without_minus, is_whole, is_fraction, is_scale};
 
-use crate::part::cut;
-use gate_bytes::read_decimal;
+use gate_bytes::{read_decimal, split_once};
 
 /// Whether a text is a scale: an optional `-`, 1 to 10 digits, and optionally `.` and 0 to 9 digits
 /// (RFC 2326, 12.34; RFC 7826, 18.46).
@@ -14,7 +13,7 @@ pub fn is_scale(value: &[u8]) -> bool
     ensures { result ≡ is_scale value.now }
 {
     let number = without_minus(value);
-    match cut(b'.', number) {
+    match split_once(b'.', number) {
         Some((whole, fraction)) => is_whole(whole) && is_fraction(fraction),
         None => is_whole(number),
     }

@@ -1,12 +1,11 @@
 //! The field Session.
 ghost use Rattle.std.specs.Prelude.{◌≡◌, ◌<◌, ◌^◌, true, Some, ◌++◌, IfSome, IfOk, OnOk, option_map};
 ghost use Rattle.std.specs.List.{list_all, slice_split};
-ghost use Rattle.rtsp_small.specs.Parts.{parts_at};
+ghost use Rattle.gate_bytes.specs.Places.{parts_at};
 ghost use Rattle.rtsp_small.specs.Sessions.{is_session_byte, is_session_id, timeout_in, first_timeout, session_with, session_of, timeout_text, session_text};
 ghost use Rattle.rtsp_small.specs.Views.{session_seen};
 
-use crate::part::cut;
-use gate_bytes::{Memory, Text, push_decimal, read_decimal, trim};
+use gate_bytes::{Memory, Text, push_decimal, read_decimal, split_once, trim};
 use std::alloc::Global;
 
 /// The most bytes of a session id.
@@ -26,7 +25,7 @@ pub struct SessionField<'a> {
 pub fn read_session(value: &[u8]) -> Option<SessionField<'_>>
     ensures { option_map session_seen result ≡ session_of value.now }
 {
-    match cut(b';', value) {
+    match split_once(b';', value) {
         Some((id, parameters)) => session(id, first_timeout(parameters)),
         None => session(value, None),
     }
@@ -68,7 +67,7 @@ fn first_timeout(parameters: &[u8]) -> Option<u64>
     ensures { result ≡ first_timeout (parts_at 59 parameters.now) }
 {
     let mut rest = parameters;
-    while let Some((parameter, more)) = cut(b';', rest) {
+    while let Some((parameter, more)) = split_once(b';', rest) {
         let timeout = read_timeout(trim(parameter));
         if timeout.is_some() {
             return timeout;
@@ -82,7 +81,7 @@ fn first_timeout(parameters: &[u8]) -> Option<u64>
 fn read_timeout(parameter: &[u8]) -> Option<u64>
     ensures { result ≡ timeout_in parameter.now }
 {
-    let (name, seconds) = cut(b'=', parameter)?;
+    let (name, seconds) = split_once(b'=', parameter)?;
     if name != b"timeout".as_slice() {
         return None;
     }

@@ -6,7 +6,7 @@ use Rattle.std.proofs.lemmas.Bool.{and_parts}
 use Rattle.std.proofs.Math.Seq.{take-append_seam}
 use Rattle.gate_bytes.specs.Tokens.{is_blank, without_end}
 use Rattle.gate_bytes.specs.Places.{place_of, cut_at}
-use Rattle.rtsp_transport.specs.Parts.{up_to}
+use Rattle.gate_bytes.specs.Places.{up_to}
 use Rattle.rtsp_transport.specs.Splits.{split_from, parts_at, has_open_quote}
 
 -- neither this byte nor a double quote

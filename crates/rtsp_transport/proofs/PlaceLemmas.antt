@@ -1,7 +1,6 @@
--- Places of a byte, outside double quotes or anywhere, lie within their text.
+-- Places of a byte outside double quotes lie within their text.
 use Rattle.std.proofs.Common.{◌≡◌, ℕ, ◌+◌, ◌<◌, Bool, true, false, not, ◌==◌, ◌&&◌, cond, List, [], ◌∷◌, length, Option, None, Some, refl, arith}
 use Rattle.std.specs.Option.{option_map}
-use Rattle.gate_bytes.specs.Places.{place_of}
 use Rattle.rtsp_transport.specs.Splits.{quoted_after, place_outside}
 
 -- the place of a later byte
@@ -9,13 +8,6 @@ place_later : (test : Bool) (later : Option ℕ) (k n : ℕ) → cond test (Some
 place_later true later k n h within = grind arith
 place_later false None k n h within = cc
 place_later false (Some j) k n h within = let below : j < n = within j refl in grind arith
-
--- a place lies within its text
-pub place_within : (byte : ℕ) (text : List ℕ) (k : ℕ) → place_of byte text ≡ Some k → k < length text
-place_within byte [] k h = cc
-place_within byte (b ∷ text) k h =
-    let below : k < length text + 1 = place_later (b == byte) (place_of byte text) k (length text) h (place_within byte text) in
-    omega arith
 
 -- a place outside double quotes lies within its text
 pub outside_within : (byte : ℕ) (quoted : Bool) (text : List ℕ) (k : ℕ) → place_outside byte quoted text ≡ Some k → k < length text

@@ -1,9 +1,7 @@
 pub mod Channels
 pub mod Grants
 pub mod Parameters
-pub mod Parts
 pub mod Sources
 pub mod Splits
-pub mod Views
 pub mod Wants
 pub mod Written

@@ -4,7 +4,7 @@ use Rattle.std.specs.Option.{option_or}
 use Rattle.std.specs.List.{list_all}
 use Rattle.std.specs.Char.{is_ascii_hexdigit}
 use Rattle.std.specs.Str.Parse.{digits_value}
-use Rattle.rtsp_transport.specs.Parts.{up_to}
+use Rattle.gate_bytes.specs.Places.{up_to}
 use Rattle.rtsp_transport.specs.Parameters.{value_in}
 
 -- the number that eight hexadecimal digits write

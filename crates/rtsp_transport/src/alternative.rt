@@ -1,9 +1,9 @@
 //! What a player wants.
 ghost use Rattle.std.specs.Prelude.{◌≡◌, IfOk};
+ghost use Rattle.std.specs.Option.{option_copied};
 ghost use Rattle.rtsp_transport.specs.Splits.{parts_at};
 ghost use Rattle.rtsp_transport.specs.Parameters.{parameters_of};
 ghost use Rattle.rtsp_transport.specs.Wants.{NamesApart, is_tcp, plays, wanted_channels, wanted_in, first_fit, wanted_of};
-ghost use Rattle.rtsp_transport.specs.Views.{seen};
 
 use crate::channels::{Pair, read_asked};
 use crate::fault::TransportFault;
@@ -71,7 +71,7 @@ pub(crate) fn is_tcp(protocol: &[u8]) -> bool
 
 /// Whether a mode is missing, or is `PLAY`, in double quotes or not.
 fn plays(mode: Option<&[u8]>) -> bool
-    ensures { result ≡ plays (seen mode.entry) }
+    ensures { result ≡ plays (option_copied mode.entry) }
 {
     match mode {
         Some(mode) => eq_fold(mode, b"PLAY") || eq_fold(mode, b"\"PLAY\""),
@@ -81,7 +81,7 @@ fn plays(mode: Option<&[u8]>) -> bool
 
 /// The channels that are wanted: any, where none are named.
 fn wanted_channels(interleaved: Option<&[u8]>) -> Option<Wanted>
-    ensures { result ≡ wanted_channels (seen interleaved.entry) }
+    ensures { result ≡ wanted_channels (option_copied interleaved.entry) }
 {
     match interleaved {
         Some(channels) => Some(Wanted::Exact(read_asked(channels)?)),

@@ -2,8 +2,7 @@
 ghost use Rattle.std.specs.Prelude.{◌≡◌};
 ghost use Rattle.rtsp_transport.specs.Channels.{channel_of, two_channels, pair_of, first_channel, pair_or_first};
 
-use crate::part::cut;
-use gate_bytes::read_decimal;
+use gate_bytes::{read_decimal, split_once};
 
 /// Two channels of one track (RFC 2326, 10.12; RFC 7826, 14).
 #[derive(Clone, Copy, Debug, PartialEq, Eq)]
@@ -19,7 +18,7 @@ pub struct Pair {
 pub(crate) fn read_asked(value: &[u8]) -> Option<Pair>
     ensures { result ≡ pair_or_first value.now }
 {
-    match cut(b'-', value) {
+    match split_once(b'-', value) {
         Some((rtp, rtcp)) => two_channels(rtp, rtcp),
         None => first_channel(value),
     }
@@ -29,7 +28,7 @@ pub(crate) fn read_asked(value: &[u8]) -> Option<Pair>
 pub(crate) fn read_pair(value: &[u8]) -> Option<Pair>
     ensures { result ≡ pair_of value.now }
 {
-    let (rtp, rtcp) = cut(b'-', value)?;
+    let (rtp, rtcp) = split_once(b'-', value)?;
     two_channels(rtp, rtcp)
 }
 

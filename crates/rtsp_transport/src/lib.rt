@@ -9,7 +9,6 @@ mod channels;
 mod fault;
 mod grant;
 mod parameters;
-mod part;
 mod split;
 mod ssrc;
 #[cfg(test)]

@@ -1,16 +1,15 @@
 //! The parameters of an alternative.
 ghost use Rattle.std.specs.Prelude.{◌≡◌};
 ghost use Rattle.std.specs.List.{list_any};
+ghost use Rattle.std.specs.Option.{option_copied};
 ghost use Rattle.rtsp_transport.specs.Parameters.{parameters_left, value_in, value_of, is_multicast};
-ghost use Rattle.rtsp_transport.specs.Views.{seen};
 
-use crate::part::cut;
 use crate::split::first_part;
-use gate_bytes::{eq_fold, trim};
+use gate_bytes::{eq_fold, split_once, trim};
 
 /// The value of the first parameter with this name, without ASCII case.
 pub(crate) fn value_of<'a>(name: &[u8], parameters: Option<&'a [u8]>) -> Option<&'a [u8]>
-    ensures { seen result ≡ value_of name.now (parameters_left (seen parameters.entry)) }
+    ensures { option_copied result ≡ value_of name.now (parameters_left (option_copied parameters.entry)) }
 {
     let mut left = parameters;
     while let Some(text) = left {
@@ -26,9 +25,9 @@ pub(crate) fn value_of<'a>(name: &[u8], parameters: Option<&'a [u8]>) -> Option<
 
 /// The value of a parameter with this name, without ASCII case: what stands behind the first `=`.
 pub(crate) fn value_in<'a>(name: &[u8], parameter: &'a [u8]) -> Option<&'a [u8]>
-    ensures { seen result ≡ value_in name.now parameter.now }
+    ensures { option_copied result ≡ value_in name.now parameter.now }
 {
-    let (own_name, value) = cut(b'=', parameter)?;
+    let (own_name, value) = split_once(b'=', parameter)?;
     if !eq_fold(own_name, name) {
         return None;
     }
@@ -37,7 +36,7 @@ pub(crate) fn value_in<'a>(name: &[u8], parameter: &'a [u8]) -> Option<&'a [u8]>
 
 /// Whether one of the parameters is `multicast`, without ASCII case.
 pub(crate) fn has_multicast(parameters: Option<&[u8]>) -> bool
-    ensures { result ≡ list_any is_multicast (parameters_left (seen parameters.entry)) }
+    ensures { result ≡ list_any is_multicast (parameters_left (option_copied parameters.entry)) }
 {
     let mut left = parameters;
     while let Some(text) = left {

@@ -1,18 +1,17 @@
 //! Sources of RTP packets, as eight hexadecimal digits.
 ghost use Rattle.std.specs.Prelude.{◌≡◌, ◌<◌, ◌++◌, true, OnOk};
 ghost use Rattle.std.specs.Char.{is_ascii_hexdigit, digit_value};
+ghost use Rattle.std.specs.Option.{option_copied};
 ghost use Rattle.rtsp_transport.specs.Sources.{source_number, source_in, first_source, hex_digit, source_digits};
 ghost use Rattle.rtsp_transport.specs.Parameters.{parameters_left};
-ghost use Rattle.rtsp_transport.specs.Views.{seen};
 
 use crate::parameters::value_in;
-use crate::part::up_to;
 use crate::split::first_part;
-use gate_bytes::{Memory, Text, trim};
+use gate_bytes::{Memory, Text, trim, up_to};
 
 /// The first source among the parameters.
 pub(crate) fn first_source(parameters: Option<&[u8]>) -> Option<u32>
-    ensures { result ≡ first_source (parameters_left (seen parameters.entry)) }
+    ensures { result ≡ first_source (parameters_left (option_copied parameters.entry)) }
 {
     let mut left = parameters;
     while let Some(text) = left {

@@ -8,8 +8,9 @@ use Rattle.std.proofs.lemmas.Bool.Decides.{Decides-eqb}
 use Rattle.std.proofs.lemmas.List.Splits.{join_with_byte-slice_split}
 use Rattle.std.proofs.lemmas.Slice.Eq.{starts_is}
 use Rattle.gate_bytes.proofs.EndLemmas.{last_apart}
+use Rattle.gate_bytes.specs.Places.{parts_at}
 use Rattle.rtsp_uri.specs.Swaps.{swapped}
-use Rattle.rtsp_uri.specs.Descriptions.{control, swapped_control, return_of, swapped_ended, swapped_lines, parts_of, rewritten, is_control}
+use Rattle.rtsp_uri.specs.Descriptions.{control, swapped_control, return_of, swapped_ended, swapped_lines, rewritten, is_control}
 
 -- a longer text begins so too
 longer_control : (line back : List ℕ) → is_control line ≡ true → is_control (line ++ back) ≡ true
@@ -52,5 +53,5 @@ lines_kept from to (line ∷ next ∷ more) h =
     ∙ ap (λ ts. line ∷ ts) (lines_kept from to (next ∷ more) parts.1)
 
 -- a description without such lines stays
-pub description_kept : (from to body : List ℕ) → list_all (λ line. not (is_control line)) (parts_of body) ≡ true → rewritten from to body ≡ body
-description_kept from to body h = ap (join_with_byte 10) (lines_kept from to (parts_of body) h) ∙ join_with_byte-slice_split 10 body
+pub description_kept : (from to body : List ℕ) → list_all (λ line. not (is_control line)) (parts_at 10 body) ≡ true → rewritten from to body ≡ body
+description_kept from to body h = ap (join_with_byte 10) (lines_kept from to (parts_at 10 body) h) ∙ join_with_byte-slice_split 10 body

@@ -1,7 +1,8 @@
 -- The addresses in a session description (RFC 2326, C.1.1; RFC 4566, 5).
 use Rattle.std.specs.Prelude.{ℕ, Bool, ◌==◌, ◌-◌, nat_eq, List, [], ◌∷◌, ◌++◌, length, drop, slice_index, codes, if◌then◌else◌}
-use Rattle.std.specs.List.{starts_with, slice_split, join_with_byte}
+use Rattle.std.specs.List.{starts_with, join_with_byte}
 use Rattle.std.specs.Str.Lines.{strip_carriage_return}
+use Rattle.gate_bytes.specs.Places.{parts_at}
 use Rattle.rtsp_uri.specs.Swaps.{swapped}
 
 -- "a=control:"
@@ -29,10 +30,6 @@ swapped_lines from to [] = []
 swapped_lines from to (last ∷ []) = swapped_control from to last ∷ []
 swapped_lines from to (line ∷ next ∷ more) = swapped_ended from to line ∷ swapped_lines from to (next ∷ more)
 
--- the parts of a text between its LFs
-abbrev pub parts_of : List ℕ → List (List ℕ)
-parts_of body = slice_split (λ b. b == 10) body
-
--- the description, with the authority of one base in the place of another's
+-- The description, whose lines LFs part, with the authority of one base in the place of another's.
 abbrev pub rewritten : List ℕ → List ℕ → List ℕ → List ℕ
-rewritten from to body = join_with_byte 10 (swapped_lines from to (parts_of body))
+rewritten from to body = join_with_byte 10 (swapped_lines from to (parts_at 10 body))

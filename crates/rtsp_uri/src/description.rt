@@ -4,7 +4,7 @@ ghost use Rattle.rtsp_uri.specs.Descriptions.{swapped_control, swapped_ended, re
 
 use crate::base::Base;
 use crate::swap::swap_authority;
-use gate_bytes::{Memory, Text, after, before, find};
+use gate_bytes::{Memory, Text, after, split_once};
 use std::alloc::Global;
 
 /// What a line with the address of a stream begins with (RFC 2326, C.1.1).
@@ -21,9 +21,9 @@ pub fn rewrite_sdp(alloc: Global, from: &Base, to: &Base, body: &[u8]) -> Result
 {
     let mut text = Text::with_room(alloc, body.len())?;
     let mut rest = body;
-    while let Some(at) = find(b'\n', rest) {
-        push_ended(alloc, from, to, before(rest, at), &mut text)?;
-        rest = after(rest, at + 1);
+    while let Some((line, left)) = split_once(b'\n', rest) {
+        push_ended(alloc, from, to, line, &mut text)?;
+        rest = left;
     }
     push_line(alloc, from, to, rest, &mut text)?;
     Ok(text)

@@ -1,7 +1,8 @@
 //! Laws over the definitions of addresses. Each holds by its contract alone: no call is made.
 ghost use Rattle.std.specs.Prelude.{◌≡◌, ◌<◌, ◌≤◌, ◌^◌, length, true, false, not, List, ◌++◌, ℕ, Some};
 ghost use Rattle.std.specs.List.{list_all};
-ghost use Rattle.rtsp_uri.specs.Descriptions.{is_control, parts_of, rewritten};
+ghost use Rattle.gate_bytes.specs.Places.{parts_at};
+ghost use Rattle.rtsp_uri.specs.Descriptions.{is_control, rewritten};
 ghost use Rattle.rtsp_uri.specs.declared.grammar.UriPlaces.{UriPlaces};
 ghost use Rattle.rtsp_uri.specs.declared.base.Base.{Base};
 ghost use Rattle.rtsp_uri.specs.Uris.{scheme, is_name_byte, is_rest, places_of};
@@ -36,7 +37,7 @@ pub fn other_texts_stay()
 
 /// A description in which no line begins with `a=control:` stays as it is, byte by byte.
 pub fn other_descriptions_stay()
-    ensures { (from to body : List ℕ) → list_all (λ line. not (is_control line)) (parts_of body) ≡ true → rewritten from to body ≡ body }
+    ensures { (from to body : List ℕ) → list_all (λ line. not (is_control line)) (parts_at 10 body) ≡ true → rewritten from to body ≡ body }
 {}
 
 /// A word of `rtsp://`, a name, and a port or none is accepted as it stands, where it has 255 bytes

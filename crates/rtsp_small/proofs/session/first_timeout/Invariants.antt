@@ -1,5 +1,5 @@
 use Rattle.std.proofs.Common.{◌≡◌, length}
-use Rattle.rtsp_small.specs.Parts.{parts_at}
+use Rattle.gate_bytes.specs.Places.{parts_at}
 use Rattle.rtsp_small.specs.Sessions.{first_timeout}
 use Rattle.rtsp_small.proofs.session.first_timeout.Given as goal
 

@@ -1,5 +1,5 @@
 use Rattle.std.proofs.Common.{◌≡◌}
-use Rattle.rtsp_transport.specs.Views.{seen}
+use Rattle.std.specs.Option.{option_copied}
 use Rattle.rtsp_transport.specs.Parameters.{parameters_left}
 use Rattle.rtsp_transport.specs.Sources.{first_source}
 use Rattle.rtsp_transport.proofs.Measures.{left_size}
@@ -7,7 +7,7 @@ use Rattle.rtsp_transport.proofs.ssrc.first_source.Given as goal
 
 -- the source is among the parameters that are left
 abbrev pub invariant-loop-left : goal.invariant-loop-left
-invariant-loop-left l = first_source (parameters_left (seen l.left)) ≡ first_source (parameters_left (seen l.parameters))
+invariant-loop-left l = first_source (parameters_left (option_copied l.left)) ≡ first_source (parameters_left (option_copied l.parameters))
 
 abbrev pub decreases-loop-left : goal.decreases-loop-left
-decreases-loop-left l = left_size (seen l.left)
+decreases-loop-left l = left_size (option_copied l.left)

@@ -1,4 +1,4 @@
--- Headers of a reply, each where there is a value for it. This project's own.
+-- Headers that are written where there is something to say (this project's own).
 use Rattle.std.specs.Prelude.{ℕ, Bool, List, [], ◌∷◌, Option, Some, None, if◌then◌else◌}
 use Rattle.rtsp_head.specs.declared.header.Header.{Header}
 
@@ -7,6 +7,6 @@ abbrev pub header_with : List ℕ → Option (List ℕ) → List Header
 header_with name None = []
 header_with name (Some value) = record { name = name; value = value } ∷ []
 
--- a value, where the table of headers has it
-abbrev pub told_where : Bool → Option (List ℕ) → Option (List ℕ)
-told_where told value = if told then value else None
+-- a value that is said only where a condition holds
+abbrev pub said_where : Bool → Option (List ℕ) → Option (List ℕ)
+said_where holds value = if holds then value else None
