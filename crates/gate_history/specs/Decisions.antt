@@ -7,14 +7,14 @@ use Rattle.rtsp_small.specs.declared.method.Method.TheVariants.{Describe}
 use Rattle.head_two.specs.declared.request.Request2.{Request2}
 use Rattle.session_one.specs.declared.table.State.TheVariants.{Init}
 use Rattle.session_one.specs.declared.parts.Asked.{Asked}
-use Rattle.session_one.specs.Table.{same_method}
+use Rattle.session_one.specs.Table.{same_method, is_success}
 use Rattle.translate_up.specs.Views.{Given}
 use Rattle.translate_up.specs.Answers.{answer_text}
 use Rattle.translate_up.specs.declared.decision.Decision as up
 use Rattle.translate_up.specs.declared.decision.Decision.TheVariants.{Answer, Forward, Queue, Setup}
 use Rattle.translate_up.specs.Decisions as upward
 use Rattle.translate_down.specs.Settings.{Setting}
-use Rattle.translate_down.specs.Replies.{Told, is_success, reply_text_of}
+use Rattle.translate_down.specs.Replies.{Told, reply_text_of}
 
 -- A request is answered by the gateway, or goes up; what is kept of it until the reply comes goes with it.
 pub data Decision : Type 0 where

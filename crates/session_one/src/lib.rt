@@ -10,4 +10,4 @@ mod table;
 mod tests;
 
 pub use parts::{Asked, Play, Track};
-pub use table::{State, after, allowed};
+pub use table::{State, after, allowed, is_success};

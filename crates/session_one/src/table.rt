@@ -35,7 +35,7 @@ pub fn after(state: State, method: Method, code: u16) -> State
 }
 
 /// Whether a code is one of success (RFC 2326, 7.1.1; RFC 7826, 17).
-fn is_success(code: u16) -> bool
+pub fn is_success(code: u16) -> bool
     ensures { result ≡ is_success code }
 {
     (200..=299).contains(&code)

@@ -5,10 +5,10 @@ use Rattle.std.specs.List.{list_all}
 use Rattle.std.specs.Str.{bytes_eq}
 use Rattle.std.proofs.lemmas.Bool.{and_parts}
 use Rattle.gate_bytes.specs.Tokens.{is_token, trimmed}
-use Rattle.gate_bytes.specs.Places.{cut_at}
+use Rattle.gate_bytes.specs.Places.{cut_at, parts_at}
 use Rattle.gate_bytes.specs.Numbers.{number_in}
 use Rattle.rtp_info.specs.declared.entry.InfoEntry.{InfoEntry}
-use Rattle.rtp_info.specs.Parts.{parts_at, is_last, with_first, each_read}
+use Rattle.rtp_info.specs.Parts.{is_last, with_first, each_read}
 use Rattle.rtp_info.specs.Parameters.{Says, Seq, Time, Other, seq_of, time_of, parameter_with, parameter_of, Notes, first_seq, first_time, noted, read_parameters}
 use Rattle.rtp_info.specs.Groups.{begins_blank, is_label, before_label, group_of, each_group, first_note, first_group, groups_of}
 use Rattle.rtp_info.specs.Specs.{is_url_byte, is_url, spec_with, spec_of}

@@ -33,13 +33,15 @@ use Rattle.head_one.specs.Refusals.{version_one}
 use Rattle.head_one.specs.Replies.{reply_start, reply_text, reply_in}
 use Rattle.head_one.proofs.ReadLemmas.{reply_read}
 use Rattle.session_one.specs.declared.parts.Asked.{Asked}
-use Rattle.translate_down.specs.Headers.{header_with, told_where}
+use Rattle.rtsp_head.specs.Optional.{header_with, said_where}
 use Rattle.translate_down.specs.Settings.{Setting}
 use Rattle.translate_down.specs.Sessions.{sets_up, tells_session, told_timeout, session_value, transport_value}
 use Rattle.translate_down.specs.Plays.{moves, plays, range_with, range_told, range_value, scale_told, scale_value, info_value}
 use Rattle.translate_down.specs.Infos.{info_told}
 use Rattle.translate_down.specs.Contents.{brings_description, brings_body, base_value, type_value, encoding_value}
-use Rattle.translate_down.specs.Replies.{Told, is_success, unsupported_value, refusal_of, tells_methods, public_value, session_headers, play_headers, content_headers, success_headers, success_of, reply_down, reply_text_of}
+use Rattle.rtsp_small.specs.Methods.{methods_text}
+use Rattle.session_one.specs.Table.{is_success}
+use Rattle.translate_down.specs.Replies.{Told, unsupported_value, refusal_of, tells_methods, public_value, session_headers, play_headers, content_headers, success_headers, success_of, reply_down, reply_text_of}
 use Rattle.translate_down.specs.Readings.{CanBeRead}
 use Rattle.translate_down.proofs.FieldLemmas.{IsOwn}
 use Rattle.translate_down.proofs.VisibleLemmas.{is_visible, visible_value}
@@ -54,7 +56,7 @@ seen_fits : (value : Option (List ℕ)) → IfSome value (λ text. is_visible te
 seen_fits None h = tt
 seen_fits (Some text) h = visible_value text h
 
-where_fits : (told : Bool) (value : Option (List ℕ)) → Fits value → Fits (told_where told value)
+where_fits : (told : Bool) (value : Option (List ℕ)) → Fits value → Fits (said_where told value)
 where_fits true value h = h
 where_fits false value h = tt
 
@@ -161,7 +163,7 @@ success_fit setting asked told can =
     (fit_more 5 1 (session_headers setting asked ++ play_headers setting asked.method told.fields) (header_with (codes "Public") (public_value asked.method))
     (fit_more 2 3 (session_headers setting asked) (play_headers setting asked.method told.fields) (session_fit setting asked told can) (play_fit setting asked told can))
     (fit_with (codes "Public") (public_value asked.method) refl refl
-    (where_fits (tells_methods asked.method) (Some (codes "OPTIONS, DESCRIBE, SETUP, PLAY, PAUSE, TEARDOWN, GET_PARAMETER, SET_PARAMETER")) refl)))
+    (where_fits (tells_methods asked.method) (Some methods_text) refl)))
     (content_fit setting asked told can)
 
 refusal_fit : (setting : Setting) (asked : Asked) (told : Told) → CanBeRead setting asked told → Fit 1 (header_with (codes "Unsupported") (unsupported_value told))

@@ -6,7 +6,7 @@ use Rattle.gate_bytes.specs.Tokens.{equal_fold}
 use Rattle.rtsp_head.specs.declared.header.Header.{Header}
 use Rattle.rtsp_head.specs.Headers.{field_of}
 use Rattle.session_one.specs.declared.parts.Asked.{Asked}
-use Rattle.translate_down.specs.Headers.{header_with}
+use Rattle.rtsp_head.specs.Optional.{header_with}
 use Rattle.translate_down.specs.Settings.{Setting}
 use Rattle.translate_down.specs.Sessions.{session_value, transport_value}
 use Rattle.translate_down.specs.Plays.{range_value, scale_value, info_value}

@@ -11,11 +11,12 @@ use Rattle.translate_down.specs.Settings.{Setting}
 use Rattle.rtsp_status.specs.Codes.{code_one}
 use Rattle.rtsp_uri.specs.Swaps.{swapped}
 use Rattle.rtsp_uri.specs.Descriptions.{rewritten}
-use Rattle.translate_down.specs.Headers.{header_with, told_where}
+use Rattle.rtsp_head.specs.Optional.{header_with, said_where}
 use Rattle.translate_down.specs.Infos.{info_told}
 use Rattle.translate_down.specs.Plays.{moves, plays, range_told, scale_told}
 use Rattle.translate_down.specs.Contents.{describes, brings_description, brings_body, names_description}
-use Rattle.translate_down.specs.Replies.{session_headers, public_value, Told, is_success, success_of, refusal_of, reply_text_of, told_whole, told_by, is_no_transport}
+use Rattle.session_one.specs.Table.{is_success}
+use Rattle.translate_down.specs.Replies.{session_headers, public_value, Told, success_of, refusal_of, reply_text_of, told_whole, told_by, is_no_transport}
 use Rattle.translate_down.proofs.FieldLemmas.{own_field, untransported_field}
 
 -- the fields that are told
@@ -39,16 +40,16 @@ text_with setting asked code body range scale info base kind encoding unsupporte
       code = 200;
       cseq = Some asked.cseq;
       headers = session_headers setting asked
-          ++ (header_with (codes "Range") (told_where (moves asked.method) (option_and_then range_told range))
-          ++ header_with (codes "Scale") (told_where (plays asked.method) (option_and_then scale_told scale))
-          ++ header_with (codes "RTP-Info") (told_where (plays asked.method) (option_and_then (info_told setting.up setting.front) info)))
+          ++ (header_with (codes "Range") (said_where (moves asked.method) (option_and_then range_told range))
+          ++ header_with (codes "Scale") (said_where (plays asked.method) (option_and_then scale_told scale))
+          ++ header_with (codes "RTP-Info") (said_where (plays asked.method) (option_and_then (info_told setting.up setting.front) info)))
           ++ header_with (codes "Public") (public_value asked.method)
-          ++ (header_with (codes "Content-Base") (told_where (brings_description asked.method body) (option_map (swapped setting.up setting.front) base))
-          ++ header_with (codes "Content-Type") (told_where (brings_body asked.method body) kind)
-          ++ header_with (codes "Content-Encoding") (told_where (brings_body asked.method body) encoding));
+          ++ (header_with (codes "Content-Base") (said_where (brings_description asked.method body) (option_map (swapped setting.up setting.front) base))
+          ++ header_with (codes "Content-Type") (said_where (brings_body asked.method body) kind)
+          ++ header_with (codes "Content-Encoding") (said_where (brings_body asked.method body) encoding));
       body = cond (brings_body asked.method body) (cond (describes asked.method && (names_description kind && is_none encoding)) (rewritten setting.up setting.front body) body) [];
     })
-    (record { code = code_one code; cseq = Some asked.cseq; headers = header_with (codes "Unsupported") (told_where (code == 551) unsupported); body = [] }))
+    (record { code = code_one code; cseq = Some asked.cseq; headers = header_with (codes "Unsupported") (said_where (code == 551) unsupported); body = [] }))
 
 pub same_text : (setting : Setting) (asked : Asked) (code : ℕ) (body : List ℕ) (fields others : List Header) → SameFields fields others →
     reply_text_of setting asked (told_with code fields body) ≡ reply_text_of setting asked (told_with code others body)

@@ -1,6 +1,6 @@
 -- The body of a reply, and what the reply tells of it: Content-Base, Content-Type and Content-Encoding.
 use Rattle.std.specs.Prelude.{ℕ, Bool, true, false, ◌==◌, ◌&&◌, not, is_none, codes, List, [], length, Option, Some, None, option_map, if◌then◌else◌}
-use Rattle.gate_bytes.specs.Places.{cut_at}
+use Rattle.gate_bytes.specs.Places.{up_to}
 use Rattle.gate_bytes.specs.Tokens.{trimmed, equal_fold}
 use Rattle.rtsp_head.specs.declared.header.Header.{Header}
 use Rattle.rtsp_head.specs.Headers.{field_of}
@@ -8,7 +8,7 @@ use Rattle.rtsp_small.specs.declared.method.Method.{Method}
 use Rattle.rtsp_small.specs.declared.method.Method.TheVariants.{Describe, GetParameter}
 use Rattle.rtsp_uri.specs.Swaps.{swapped}
 use Rattle.rtsp_uri.specs.Descriptions.{rewritten}
-use Rattle.translate_down.specs.Headers.{told_where}
+use Rattle.rtsp_head.specs.Optional.{said_where}
 use Rattle.translate_down.specs.Settings.{Setting}
 
 -- whether a request asks for a description (RFC 2326, 10.2)
@@ -37,24 +37,19 @@ brings_body method body = asks_body method && has_byte body
 -- Content-Base, under the player's address (RFC 2326, 12.11)
 abbrev pub base_value : Setting → Method → List Header → List ℕ → Option (List ℕ)
 base_value setting method fields body =
-    told_where (brings_description method body) (option_map (swapped setting.up setting.front) (field_of fields (codes "Content-Base")))
+    said_where (brings_description method body) (option_map (swapped setting.up setting.front) (field_of fields (codes "Content-Base")))
 
 -- Content-Type, unchanged (RFC 2326, 12.16)
 abbrev pub type_value : Method → List Header → List ℕ → Option (List ℕ)
-type_value method fields body = told_where (brings_body method body) (field_of fields (codes "Content-Type"))
+type_value method fields body = said_where (brings_body method body) (field_of fields (codes "Content-Type"))
 
 -- Content-Encoding, unchanged (RFC 2326, 12.12)
 abbrev pub encoding_value : Method → List Header → List ℕ → Option (List ℕ)
-encoding_value method fields body = told_where (brings_body method body) (field_of fields (codes "Content-Encoding"))
+encoding_value method fields body = said_where (brings_body method body) (field_of fields (codes "Content-Encoding"))
 
--- what stands before the first `;`
-abbrev pub before_mark : List ℕ → Option (List ℕ × List ℕ) → List ℕ
-before_mark value None = value
-before_mark value (Some parts) = parts.0
-
--- the type of a body without its parameters (RFC 2326, 12.16)
+-- the type of a body without its parameters, which the first `;` begins (RFC 2326, 12.16)
 abbrev pub media_type : List ℕ → List ℕ
-media_type value = trimmed (before_mark value (cut_at 59 value))
+media_type value = trimmed (up_to 59 value)
 
 -- whether a Content-Type is that of session descriptions (RFC 2326, C; RFC 4566, 8.1)
 abbrev pub names_description : Option (List ℕ) → Bool

@@ -1,5 +1,4 @@
 pub mod Contents
-pub mod Headers
 pub mod Infos
 pub mod Plays
 pub mod Readings

@@ -9,7 +9,7 @@ use Rattle.rtsp_range.specs.declared.range.Range.{Range}
 use Rattle.rtsp_range.specs.declared.fault.RangeFault.{RangeFault}
 use Rattle.rtsp_range.specs.Meaning.{Two, meaning}
 use Rattle.rtsp_range.specs.Written.{range_text}
-use Rattle.translate_down.specs.Headers.{told_where}
+use Rattle.rtsp_head.specs.Optional.{said_where}
 use Rattle.translate_down.specs.Settings.{Setting}
 use Rattle.translate_down.specs.Infos.{info_told}
 
@@ -34,7 +34,7 @@ range_told value = range_with (meaning Two value)
 
 -- Range: with PLAY and PAUSE (RFC 2326, 12.29)
 abbrev pub range_value : Method → List Header → Option (List ℕ)
-range_value method fields = told_where (moves method) (option_and_then range_told (field_of fields (codes "Range")))
+range_value method fields = said_where (moves method) (option_and_then range_told (field_of fields (codes "Range")))
 
 -- a scale as the server wrote it
 abbrev pub scale_told : List ℕ → Option (List ℕ)
@@ -42,8 +42,8 @@ scale_told value = if is_scale value then Some value else None
 
 -- Scale: with PLAY (RFC 2326, 12.34)
 abbrev pub scale_value : Method → List Header → Option (List ℕ)
-scale_value method fields = told_where (plays method) (option_and_then scale_told (field_of fields (codes "Scale")))
+scale_value method fields = said_where (plays method) (option_and_then scale_told (field_of fields (codes "Scale")))
 
 -- RTP-Info: with PLAY (RFC 2326, 12.33)
 abbrev pub info_value : Setting → Method → List Header → Option (List ℕ)
-info_value setting method fields = told_where (plays method) (option_and_then (info_told setting.up setting.front) (field_of fields (codes "RTP-Info")))
+info_value setting method fields = said_where (plays method) (option_and_then (info_told setting.up setting.front) (field_of fields (codes "RTP-Info")))

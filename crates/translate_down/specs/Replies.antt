@@ -1,18 +1,20 @@
 -- The server's replies as players get them (RFC 2326, 7; RFC 7826, 8). Which headers are handed on, and in which order, is
 -- this project's own.
-use Rattle.std.specs.Prelude.{ℕ, Bool, true, false, ◌==◌, ◌&&◌, not, nat_le, codes, List, [], ◌++◌, filter, Option, Some, if◌then◌else◌}
+use Rattle.std.specs.Prelude.{ℕ, Bool, true, false, ◌==◌, not, codes, List, [], ◌++◌, filter, Option, Some, if◌then◌else◌}
 use Rattle.gate_bytes.specs.Tokens.{equal_fold}
 use Rattle.rtsp_head.specs.declared.header.Header.{Header}
 use Rattle.rtsp_head.specs.Headers.{field_of}
 use Rattle.rtsp_head.specs.Messages.{own_fields}
 use Rattle.rtsp_small.specs.declared.method.Method.{Method}
 use Rattle.rtsp_small.specs.declared.method.Method.TheVariants.{Options}
+use Rattle.rtsp_small.specs.Methods.{methods_text}
 use Rattle.rtsp_status.specs.Codes.{code_one}
 use Rattle.head_one.specs.declared.reply.Reply1.{Reply1}
 use Rattle.head_one.specs.Replies.{reply_text}
 use Rattle.head_two.specs.declared.reply.Reply2.{Reply2}
 use Rattle.session_one.specs.declared.parts.Asked.{Asked}
-use Rattle.translate_down.specs.Headers.{header_with, told_where}
+use Rattle.session_one.specs.Table.{is_success}
+use Rattle.rtsp_head.specs.Optional.{header_with, said_where}
 use Rattle.translate_down.specs.Settings.{Setting}
 use Rattle.translate_down.specs.Sessions.{session_value, transport_value}
 use Rattle.translate_down.specs.Plays.{range_value, scale_value, info_value}
@@ -24,13 +26,9 @@ pub record Told : Type 0 where
   pub fields : List Header
   pub body : List ℕ
 
--- whether a code is one of success (RFC 7826, 17)
-abbrev pub is_success : ℕ → Bool
-is_success code = nat_le 200 code && nat_le code 299
-
 -- Unsupported is told with 551 (RFC 2326, 12.41)
 abbrev pub unsupported_value : Told → Option (List ℕ)
-unsupported_value told = told_where (told.code == 551) (field_of told.fields (codes "Unsupported"))
+unsupported_value told = said_where (told.code == 551) (field_of told.fields (codes "Unsupported"))
 
 -- a refusal: the code as RTSP 1.0 has it, and no header but the number and what is not supported
 abbrev pub refusal_of : Asked → Told → Reply1
@@ -47,7 +45,7 @@ tells_methods method = false
 
 -- Public: the methods that the gateway has (RFC 2326, 10.1)
 abbrev pub public_value : Method → Option (List ℕ)
-public_value method = told_where (tells_methods method) (Some (codes "OPTIONS, DESCRIBE, SETUP, PLAY, PAUSE, TEARDOWN, GET_PARAMETER, SET_PARAMETER"))
+public_value method = said_where (tells_methods method) (Some methods_text)
 
 -- the headers of a success in their order; the number comes before them, and the body's length after them
 abbrev pub session_headers : Setting → Asked → List Header

@@ -5,7 +5,7 @@ use Rattle.rtsp_small.specs.declared.method.Method.TheVariants.{Setup, Teardown}
 use Rattle.rtsp_small.specs.Sessions.{session_text}
 use Rattle.rtsp_transport.specs.Written.{grant_text}
 use Rattle.session_one.specs.declared.parts.Asked.{Asked}
-use Rattle.translate_down.specs.Headers.{told_where}
+use Rattle.rtsp_head.specs.Optional.{said_where}
 use Rattle.translate_down.specs.Settings.{Setting}
 
 -- whether a request begins a session or adds a stream to it (RFC 2326, 10.4)
@@ -31,9 +31,9 @@ told_timeout method timeout = None
 -- Session: the id, and with SETUP the timeout where the server tells one (RFC 2326, 12.37)
 abbrev pub session_value : Setting → Asked → Option (List ℕ)
 session_value setting asked =
-    told_where (tells_session asked) (option_map (λ id. session_text (record { id = id; timeout = told_timeout asked.method setting.timeout })) setting.session)
+    said_where (tells_session asked) (option_map (λ id. session_text (record { id = id; timeout = told_timeout asked.method setting.timeout })) setting.session)
 
 -- Transport: the player's own channels, and the source of the packets where the server tells it (RFC 2326, 12.39)
 abbrev pub transport_value : Setting → Method → Option (List ℕ)
 transport_value setting method =
-    told_where (sets_up method) (option_map (λ pair. grant_text (record { pair = pair; ssrc = setting.ssrc })) setting.client)
+    said_where (sets_up method) (option_map (λ pair. grant_text (record { pair = pair; ssrc = setting.ssrc })) setting.client)

@@ -4,8 +4,7 @@ ghost use Rattle.translate_down.specs.Settings.{setting_of};
 ghost use Rattle.translate_down.specs.Contents.{describes, asks_body, brings_description, brings_body, base_value, type_value, encoding_value, media_type, names_description, is_description, is_read, body_told};
 
 use crate::Context;
-use crate::headers::copy;
-use gate_bytes::{Memory, Text, before, eq_fold, find, trim};
+use gate_bytes::{Memory, Text, eq_fold, trim, up_to};
 use head_two::Reply2;
 use rtsp_head::Head;
 use rtsp_small::Method;
@@ -52,7 +51,7 @@ pub(crate) fn kind(alloc: Global, method: Method, reply: &Reply2) -> Result<Opti
     ensures { IfOk result (λ value. value ≡ type_value method reply.now.head.headers reply.now.body) }
 {
     if brings_body(method, &reply.body) {
-        copy(alloc, reply.head.field(b"Content-Type"))
+        Text::copied(alloc, reply.head.field(b"Content-Type"))
     } else {
         Ok(None)
     }
@@ -67,7 +66,7 @@ pub(crate) fn encoding(
     ensures { IfOk result (λ value. value ≡ encoding_value method reply.now.head.headers reply.now.body) }
 {
     if brings_body(method, &reply.body) {
-        copy(alloc, reply.head.field(b"Content-Encoding"))
+        Text::copied(alloc, reply.head.field(b"Content-Encoding"))
     } else {
         Ok(None)
     }
@@ -118,12 +117,8 @@ fn names_description(value: Option<&[u8]>) -> bool
 }
 
 /// A type without its parameters: what stands before the first `;`.
-#[tactic(auto, using(rtsp_range::proofs::PlaceLemmas::place_within))]
 fn media_type(value: &[u8]) -> &[u8]
     ensures { result.now ≡ media_type value.now }
 {
-    match find(b';', value) {
-        Some(at) => trim(before(value, at)),
-        None => trim(value),
-    }
+    trim(up_to(b';', value))
 }

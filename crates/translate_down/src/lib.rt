@@ -4,7 +4,6 @@
 
 mod content;
 mod context;
-mod headers;
 mod info;
 mod law;
 mod play;

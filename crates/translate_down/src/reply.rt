@@ -3,25 +3,20 @@ ghost use Rattle.std.specs.Prelude.{◌≡◌, ◌++◌, IfOk, OnOk};
 ghost use Rattle.rtsp_head.specs.Messages.{own_fields};
 ghost use Rattle.head_one.specs.Replies.{reply_text};
 ghost use Rattle.translate_down.specs.Settings.{setting_of, CanBeTold};
-ghost use Rattle.translate_down.specs.Replies.{is_success, unsupported_value, refusal_of, public_value, session_headers, play_headers, content_headers, success_headers, success_of, reply_text_of, told_whole, told_by};
+ghost use Rattle.translate_down.specs.Replies.{unsupported_value, refusal_of, public_value, session_headers, play_headers, content_headers, success_headers, success_of, reply_text_of, told_whole, told_by};
 
 use crate::Context;
 use crate::content::{base, body, encoding, kind};
-use crate::headers::{copy, push};
 use crate::play::{info, range, scale};
 use crate::session::{session, transport};
 use gate_bytes::{Memory, Text};
 use head_one::{Reply1, write_reply};
 use head_two::Reply2;
 use rtsp_head::Headers;
-use rtsp_small::Method;
+use rtsp_small::{Method, PUBLIC};
 use rtsp_status::to_one;
-use session_one::Asked;
+use session_one::{Asked, is_success};
 use std::alloc::Global;
-
-/// The methods of the gateway (RFC 2326, 10.1).
-const PUBLIC: &[u8] =
-    b"OPTIONS, DESCRIBE, SETUP, PLAY, PAUSE, TEARDOWN, GET_PARAMETER, SET_PARAMETER";
 
 /// The server's reply to a request of a player, as the player gets it.
 ///
@@ -45,24 +40,12 @@ pub fn reply_one(
     }
 }
 
-/// Whether a code is one of success.
-fn is_success(code: u16) -> bool
-    ensures { result ≡ is_success code }
-{
-    (200..=299).contains(&code)
-}
-
 /// The text of a refusal.
 fn refusal(alloc: Global, asked: &Asked, reply: &Reply2) -> Result<Text, Memory>
     ensures { IfOk result (λ text. text ≡ reply_text (refusal_of asked.now (told_whole reply.now))) }
 {
     let mut headers = Headers::new(alloc);
-    push(
-        alloc,
-        &mut headers,
-        b"Unsupported",
-        unsupported(alloc, reply)?,
-    )?;
+    headers.push_value(alloc, b"Unsupported", unsupported(alloc, reply)?)?;
     let refusal = Reply1 {
         code: to_one(reply.code),
         cseq: Some(asked.cseq),
@@ -77,7 +60,7 @@ fn unsupported(alloc: Global, reply: &Reply2) -> Result<Option<Text>, Memory>
     ensures { IfOk result (λ value. value ≡ unsupported_value (told_whole reply.now)) }
 {
     if reply.code == 551 {
-        copy(alloc, reply.head.field(b"Unsupported"))
+        Text::copied(alloc, reply.head.field(b"Unsupported"))
     } else {
         Ok(None)
     }
@@ -115,7 +98,7 @@ fn success_headers(
     let mut headers = Headers::new(alloc);
     push_session(alloc, &mut headers, context, asked)?;
     push_play(alloc, &mut headers, context, asked.method, reply)?;
-    push(alloc, &mut headers, b"Public", public(alloc, asked.method)?)?;
+    headers.push_value(alloc, b"Public", public(alloc, asked.method)?)?;
     push_content(alloc, &mut headers, context, asked.method, reply)?;
     Ok(headers)
 }
@@ -130,13 +113,8 @@ fn push_session(
     requires { CanBeTold (setting_of context.now) }
     ensures { OnOk result (headers.new ≡ headers.old ++ session_headers (setting_of context.now) asked.now) }
 {
-    push(alloc, headers, b"Session", session(alloc, context, asked)?)?;
-    push(
-        alloc,
-        headers,
-        b"Transport",
-        transport(alloc, context, asked.method)?,
-    )
+    headers.push_value(alloc, b"Session", session(alloc, context, asked)?)?;
+    headers.push_value(alloc, b"Transport", transport(alloc, context, asked.method)?)
 }
 
 /// Appends what is told of playing.
@@ -149,14 +127,9 @@ fn push_play(
 ) -> Result<(), Memory>
     ensures { OnOk result (headers.new ≡ headers.old ++ play_headers (setting_of context.now) method reply.now.head.headers) }
 {
-    push(alloc, headers, b"Range", range(alloc, method, &reply.head)?)?;
-    push(alloc, headers, b"Scale", scale(alloc, method, &reply.head)?)?;
-    push(
-        alloc,
-        headers,
-        b"RTP-Info",
-        info(alloc, context, method, &reply.head)?,
-    )
+    headers.push_value(alloc, b"Range", range(alloc, method, &reply.head)?)?;
+    headers.push_value(alloc, b"Scale", scale(alloc, method, &reply.head)?)?;
+    headers.push_value(alloc, b"RTP-Info", info(alloc, context, method, &reply.head)?)
 }
 
 /// The value of Public, with OPTIONS.
@@ -164,7 +137,7 @@ fn public(alloc: Global, method: Method) -> Result<Option<Text>, Memory>
     ensures { IfOk result (λ value. value ≡ public_value method) }
 {
     if method == Method::Options {
-        copy(alloc, Some(PUBLIC))
+        Text::copied(alloc, Some(PUBLIC))
     } else {
         Ok(None)
     }
@@ -180,17 +153,7 @@ fn push_content(
 ) -> Result<(), Memory>
     ensures { OnOk result (headers.new ≡ headers.old ++ content_headers (setting_of context.now) method reply.now.head.headers reply.now.body) }
 {
-    push(
-        alloc,
-        headers,
-        b"Content-Base",
-        base(alloc, context, method, reply)?,
-    )?;
-    push(alloc, headers, b"Content-Type", kind(alloc, method, reply)?)?;
-    push(
-        alloc,
-        headers,
-        b"Content-Encoding",
-        encoding(alloc, method, reply)?,
-    )
+    headers.push_value(alloc, b"Content-Base", base(alloc, context, method, reply)?)?;
+    headers.push_value(alloc, b"Content-Type", kind(alloc, method, reply)?)?;
+    headers.push_value(alloc, b"Content-Encoding", encoding(alloc, method, reply)?)
 }

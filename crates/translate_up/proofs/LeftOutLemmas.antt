@@ -9,8 +9,9 @@ use Rattle.rtsp_head.specs.declared.header.Header.{Header}
 use Rattle.rtsp_transport.specs.declared.channels.Pair.{Pair}
 use Rattle.head_one.specs.declared.request.Request1.{Request1}
 use Rattle.translate_up.specs.Views.{Given}
-use Rattle.translate_up.specs.Fields.{field, is_describe, is_setup, is_play, said_where, scale_of}
-use Rattle.translate_up.specs.Upward.{header_with, session_said, units, range_said, has_body, headers_up, request_up, transport_header, transported, with_transport, is_other, without_transport}
+use Rattle.rtsp_head.specs.Optional.{header_with, said_where}
+use Rattle.translate_up.specs.Fields.{field, is_describe, is_setup, is_play, scale_of}
+use Rattle.translate_up.specs.Upward.{session_said, units, range_said, has_body, headers_up, request_up, transport_header, transported, with_transport, is_other, without_transport}
 use Rattle.translate_up.proofs.SoundLemmas.{all_seven}
 
 all_kept : (test : Header → Bool) (headers : List Header) → list_all test headers ≡ true → filter test headers ≡ headers

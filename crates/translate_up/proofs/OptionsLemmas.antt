@@ -2,7 +2,8 @@
 use Rattle.std.proofs.Common.{◌≡◌, ℕ, List, [], ◌∷◌, ◌++◌, refl, sym, ◌∙◌, ap}
 use Rattle.std.specs.Prelude.{codes, decimal}
 use Rattle.std.proofs.lemmas.List.{append_assoc, append-nil}
-use Rattle.translate_up.specs.Answers.{methods_text, options_text}
+use Rattle.rtsp_small.specs.Methods.{methods_text}
+use Rattle.translate_up.specs.Answers.{options_text}
 
 -- the end of a line
 abbrev line_end : List ℕ
@@ -36,10 +37,23 @@ options_spelled : (cseq : ℕ) → (((codes "RTSP/1.0 " ++ decimal 200) ++ (code
 options_spelled cseq =
     pieces_joined (codes "RTSP/1.0 ") (decimal 200) (codes " OK" ++ (line_end ++ codes "CSeq: ")) (decimal cseq) (line_end ++ (public_line ++ line_end)) ∙ sym (options_joined cseq)
 
+-- the name of the field, the methods and the ends of the lines as they are pushed
+rest_joined : (front name methods : List ℕ) → ((front ++ (line_end ++ name)) ++ methods) ++ (line_end ++ line_end) ≡ front ++ (line_end ++ (((name ++ methods) ++ line_end) ++ line_end))
+rest_joined front name methods =
+    append_assoc (front ++ (line_end ++ name)) methods (line_end ++ line_end)
+    ∙ append_assoc front (line_end ++ name) (methods ++ (line_end ++ line_end))
+    ∙ ap (λ rest. front ++ (line_end ++ rest)) (sym (append_assoc (name ++ methods) line_end line_end ∙ append_assoc name methods (line_end ++ line_end)))
+
+rest_pushed : (d e f g : List ℕ) → e ≡ d ++ (line_end ++ codes "Public: ") → f ≡ e ++ methods_text → g ≡ f ++ (line_end ++ line_end) → g ≡ d ++ (line_end ++ (public_line ++ line_end))
+rest_pushed d e f g fifth sixth seventh =
+    seventh
+    ∙ ap (λ (text : List ℕ). text ++ (line_end ++ line_end)) (sixth ∙ ap (λ (text : List ℕ). text ++ methods_text) fifth)
+    ∙ rest_joined d (codes "Public: ") methods_text
+
 -- what was pushed piece by piece
-pub options_pushed : (cseq : ℕ) (a b c d e : List ℕ) → a ≡ codes "RTSP/1.0 " → b ≡ a ++ decimal 200 → c ≡ b ++ (codes " OK" ++ (line_end ++ codes "CSeq: ")) → d ≡ c ++ decimal cseq →
-    e ≡ d ++ (line_end ++ (public_line ++ line_end)) → e ≡ options_text cseq
-options_pushed cseq a b c d e first second third fourth fifth =
-    fifth
+pub options_pushed : (cseq : ℕ) (a b c d e f g : List ℕ) → a ≡ codes "RTSP/1.0 " → b ≡ a ++ decimal 200 → c ≡ b ++ (codes " OK" ++ (line_end ++ codes "CSeq: ")) → d ≡ c ++ decimal cseq →
+    e ≡ d ++ (line_end ++ codes "Public: ") → f ≡ e ++ methods_text → g ≡ f ++ (line_end ++ line_end) → g ≡ options_text cseq
+options_pushed cseq a b c d e f g first second third fourth fifth sixth seventh =
+    rest_pushed d e f g fifth sixth seventh
     ∙ ap (λ (text : List ℕ). text ++ (line_end ++ (public_line ++ line_end))) (fourth ∙ ap (λ (text : List ℕ). text ++ decimal cseq) (third ∙ ap (λ (text : List ℕ). text ++ (codes " OK" ++ (line_end ++ codes "CSeq: "))) (second ∙ ap (λ (text : List ℕ). text ++ decimal 200) first)))
     ∙ options_spelled cseq

@@ -26,8 +26,9 @@ use Rattle.rtsp_transport.specs.declared.channels.Pair.{Pair}
 use Rattle.head_one.specs.declared.request.Request1.{Request1}
 use Rattle.head_two.specs.Messages.{version_two}
 use Rattle.translate_up.specs.Views.{Given}
-use Rattle.translate_up.specs.Fields.{field, is_describe, is_setup, is_play, is_named, said_where, passing, scale_of}
-use Rattle.translate_up.specs.Upward.{method_up, header_with, session_said, units, text_of, range_up, range_said, has_body, headers_up, request_up, transport_header, transported}
+use Rattle.rtsp_head.specs.Optional.{header_with, said_where}
+use Rattle.translate_up.specs.Fields.{field, is_describe, is_setup, is_play, is_named, passing, scale_of}
+use Rattle.translate_up.specs.Upward.{method_up, session_said, units, text_of, range_up, range_said, has_body, headers_up, request_up, transport_header, transported}
 use Rattle.translate_up.specs.Sound.{is_target, IsFit, IsSound, IsSoundSetup}
 use Rattle.translate_up.proofs.VisibleLemmas.{visible_value, id_visible, grant_visible}
 use Rattle.translate_up.proofs.RangeLemmas.{range_visible}

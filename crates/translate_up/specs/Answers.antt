@@ -1,10 +1,11 @@
 -- What the gateway answers by itself (RFC 2326, 7).
 use Rattle.std.specs.Prelude.{◌≡◌, ℕ, true, codes, List, [], ◌++◌, Option, Some}
 use Rattle.rtsp_head.specs.declared.header.Header.{Header}
+use Rattle.rtsp_head.specs.Optional.{header_with}
+use Rattle.rtsp_small.specs.Methods.{methods_text}
 use Rattle.rtsp_status.specs.Reasons.{has_reason}
 use Rattle.head_one.specs.declared.refusal.Refusal.{Refusal}
 use Rattle.head_one.specs.Replies.{reply_text}
-use Rattle.translate_up.specs.Upward.{header_with}
 
 -- the answer with this code, and the fields beside the number
 abbrev pub answer_text : ℕ → Option ℕ → List Header → List ℕ
@@ -18,11 +19,7 @@ refusal_text refusal = answer_text refusal.code refusal.cseq (header_with (codes
 abbrev pub HasReason : Refusal → Type 0
 HasReason refusal = has_reason refusal.code ≡ true
 
--- the methods that the gateway has (RFC 2326, 12.28)
-abbrev pub methods_text : List ℕ
-methods_text = codes "OPTIONS, DESCRIBE, SETUP, PLAY, PAUSE, TEARDOWN, GET_PARAMETER, SET_PARAMETER"
-
--- the answer to OPTIONS
+-- the answer to OPTIONS: the methods that the gateway has (RFC 2326, 12.28)
 abbrev pub options_text : ℕ → List ℕ
 options_text cseq = answer_text 200 (Some cseq) (header_with (codes "Public") (Some methods_text))
 

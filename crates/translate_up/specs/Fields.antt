@@ -3,6 +3,7 @@ use Rattle.std.specs.Prelude.{ℕ, Bool, true, false, codes, List, Option, Some,
 use Rattle.std.specs.List.{list_any}
 use Rattle.std.specs.Str.{bytes_eq}
 use Rattle.rtsp_head.specs.Headers.{field_of}
+use Rattle.rtsp_head.specs.Optional.{said_where}
 use Rattle.rtsp_small.specs.declared.method.Method.{Method}
 use Rattle.rtsp_small.specs.declared.method.Method.TheVariants.{Options, Describe, Setup, Play, Pause, Teardown, GetParameter, SetParameter}
 use Rattle.rtsp_small.specs.Sessions.{session_of}
@@ -66,10 +67,6 @@ brings_body SetParameter = true
 -- whether a URI is that of a stream that was set up
 abbrev pub is_track : List Track → List ℕ → Bool
 is_track tracks uri = list_any (λ track. bytes_eq track.uri uri) tracks
-
--- a value that is said only where a condition holds
-abbrev pub said_where : Bool → Option (List ℕ) → Option (List ℕ)
-said_where holds value = if holds then value else None
 
 -- a value that passes a test
 abbrev pub passing : (List ℕ → Bool) → Option (List ℕ) → Option (List ℕ)

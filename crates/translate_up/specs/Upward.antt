@@ -4,6 +4,7 @@ use Rattle.std.specs.List.{filter}
 use Rattle.std.specs.Str.{bytes_eq}
 use Rattle.gate_bytes.specs.Tokens.{equal_fold}
 use Rattle.rtsp_head.specs.declared.header.Header.{Header}
+use Rattle.rtsp_head.specs.Optional.{header_with, said_where}
 use Rattle.rtsp_small.specs.declared.method.Method.{Method}
 use Rattle.rtsp_small.specs.declared.method.Method.TheVariants.{Options, Describe, Setup, Play, Pause, Teardown, GetParameter, SetParameter}
 use Rattle.rtsp_small.specs.Methods.{method_name}
@@ -18,7 +19,7 @@ use Rattle.head_one.specs.declared.request.Request1.{Request1}
 use Rattle.head_two.specs.declared.request.Request2.{Request2}
 use Rattle.session_one.specs.declared.parts.Asked.{Asked}
 use Rattle.translate_up.specs.Views.{Given}
-use Rattle.translate_up.specs.Fields.{field, is_describe, is_setup, is_play, is_named, brings_body, said_where, scale_of}
+use Rattle.translate_up.specs.Fields.{field, is_describe, is_setup, is_play, is_named, brings_body, scale_of}
 
 -- The URI with the server's authority in the place of the gateway's. What is asked of the server itself is asked of what
 -- the connection is about, where that is known (this project's own).
@@ -35,11 +36,6 @@ method_up Pause = Pause
 method_up Teardown = Teardown
 method_up GetParameter = GetParameter
 method_up SetParameter = SetParameter
-
--- a header with this value, where there is one
-abbrev pub header_with : List ℕ → Option (List ℕ) → List Header
-header_with name None = []
-header_with name (Some value) = record { name = name; value = value } ∷ []
 
 -- the session, where the request names it (RFC 7826, 18.49): its id alone
 abbrev pub session_said : Given → Request1 → Option (List ℕ)

@@ -1,6 +1,6 @@
 -- What a request is judged by. This project's own.
-use Rattle.std.specs.Prelude.{ℕ, Bool, List, Option, option_map}
-use Rattle.std.specs.Borrow.{Bor}
+use Rattle.std.specs.Prelude.{ℕ, Bool, List, Option}
+use Rattle.std.specs.Option.{option_copied}
 use Rattle.session_one.specs.declared.table.State.{State}
 use Rattle.session_one.specs.declared.parts.Track.{Track}
 use Rattle.translate_up.specs.declared.view.View.{View}
@@ -17,18 +17,14 @@ pub record Given : Type 0 where
   pub front : List ℕ
   pub up : List ℕ
 
--- a borrowed text that may be missing
-abbrev pub seen : Option (Bor (List ℕ)) → Option (List ℕ)
-seen text = option_map (λ borrowed. borrowed.now) text
-
 -- what a view shows, without where it lies in memory
 abbrev pub given_of : View → Given
 given_of view = record {
   state = view.state;
-  session = seen view.session;
+  session = option_copied view.session;
   tracks = view.tracks.now;
   queued = view.queued;
-  control = seen view.control;
+  control = option_copied view.control;
   full = view.full;
   front = view.bases.now.front.text;
   up = view.bases.now.up.text;

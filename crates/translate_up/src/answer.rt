@@ -1,20 +1,14 @@
 //! What the gateway answers by itself.
 ghost use Rattle.std.specs.Prelude.{◌≡◌, true, codes, [], IfOk};
+ghost use Rattle.std.specs.Option.{option_copied};
 ghost use Rattle.rtsp_status.specs.Reasons.{has_reason};
-ghost use Rattle.translate_up.specs.Views.{seen};
-ghost use Rattle.translate_up.specs.Upward.{header_with};
 ghost use Rattle.translate_up.specs.Answers.{answer_text, refusal_text, options_text, play_text, HasReason};
 
-use crate::header::{borrowed, push_header};
 use gate_bytes::{Memory, Text, push_decimal};
 use head_one::{Refusal, Reply1, write_reply};
 use rtsp_head::Headers;
+use rtsp_small::PUBLIC;
 use std::alloc::Global;
-
-/// What stands behind the number in an answer to OPTIONS: the methods that the gateway has (RFC 2326,
-/// 12.28).
-const OPTIONS_REST: &[u8] =
-    b"\r\nPublic: OPTIONS, DESCRIBE, SETUP, PLAY, PAUSE, TEARDOWN, GET_PARAMETER, SET_PARAMETER\r\n\r\n";
 
 /// The answer with this code, with the number and these headers alone.
 fn answer_with(
@@ -43,27 +37,14 @@ pub(crate) fn answer(alloc: Global, code: u16, cseq: Option<u64>) -> Result<Text
     answer_with(alloc, code, cseq, Headers::new(alloc))
 }
 
-/// The answer to a request that its head refuses.
-pub(crate) fn refusal_text(alloc: Global, refusal: &Refusal) -> Result<Text, Memory>
-    requires { HasReason refusal.now }
-    ensures { IfOk result (λ text. text ≡ refusal_text refusal.now) }
-{
-    let headers = unsupported_headers(alloc, refusal)?;
-    answer_with(alloc, refusal.code, refusal.cseq, headers)
-}
-
-/// The header that tells what is not supported, where something isn't.
-fn unsupported_headers(alloc: Global, refusal: &Refusal) -> Result<Headers, Memory>
-    ensures { IfOk result (λ headers. headers ≡ header_with (codes "Unsupported") refusal.now.unsupported) }
+/// The answer to a request that its head refuses: with what is not supported, where something isn't.
+pub(crate) fn refusal_text(alloc: Global, refusal: Refusal) -> Result<Text, Memory>
+    requires { HasReason refusal }
+    ensures { IfOk result (λ text. text ≡ refusal_text refusal) }
 {
     let mut headers = Headers::new(alloc);
-    push_header(
-        alloc,
-        &mut headers,
-        b"Unsupported",
-        borrowed(&refusal.unsupported),
-    )?;
-    Ok(headers)
+    headers.push_value(alloc, b"Unsupported", refusal.unsupported)?;
+    answer_with(alloc, refusal.code, refusal.cseq, headers)
 }
 
 /// The answer to OPTIONS. It is the same for every player but for its number, so it is written as it
@@ -76,7 +57,9 @@ pub(crate) fn options_text(alloc: Global, cseq: u64) -> Result<Text, Memory>
     push_decimal(&mut text, 200)?;
     text.push_slice(b" OK\r\nCSeq: ")?;
     push_decimal(&mut text, cseq)?;
-    text.push_slice(OPTIONS_REST)?;
+    text.push_slice(b"\r\nPublic: ")?;
+    text.push_slice(PUBLIC)?;
+    text.push_slice(b"\r\n\r\n")?;
     Ok(text)
 }
 
@@ -85,12 +68,12 @@ pub(crate) fn play_text(
     alloc: Global,
     cseq: u64,
     session: Option<&[u8]>,
-    range: Option<&[u8]>,
+    range: Option<Text>,
 ) -> Result<Text, Memory>
-    ensures { IfOk result (λ text. text ≡ play_text cseq (seen session.entry) (seen range.entry)) }
+    ensures { IfOk result (λ text. text ≡ play_text cseq (option_copied session.entry) range) }
 {
     let mut headers = Headers::new(alloc);
-    push_header(alloc, &mut headers, b"Session", session)?;
-    push_header(alloc, &mut headers, b"Range", range)?;
+    headers.push_copy(alloc, b"Session", session)?;
+    headers.push_value(alloc, b"Range", range)?;
     answer_with(alloc, 200, Some(cseq), headers)
 }

@@ -1,6 +1,6 @@
 //! The channels of a stream on the player's connection.
 ghost use Rattle.std.specs.Prelude.{◌≡◌, ◌<◌};
-ghost use Rattle.translate_up.specs.Views.{seen};
+ghost use Rattle.std.specs.Option.{option_copied};
 ghost use Rattle.translate_up.specs.Channels.{share, is_taken, pair_at, free_pair, client_pair};
 
 use rtsp_transport::{Pair, Wanted, pick};
@@ -10,7 +10,7 @@ use session_one::Track;
 /// no channel of it is taken, and where it asks for none, the lowest free one. There is none where
 /// the field is missing or of no use.
 pub(crate) fn client_pair(tracks: &[Track], transport: Option<&[u8]>) -> Option<Pair>
-    ensures { result ≡ client_pair tracks.now (seen transport.entry) }
+    ensures { result ≡ client_pair tracks.now (option_copied transport.entry) }
 {
     match pick(transport?) {
         Ok(Wanted::Any) => Some(free_pair(tracks)),

@@ -1,8 +1,10 @@
 //! What a player's request says of its session, its stream and its scale.
 ghost use Rattle.std.specs.Prelude.{◌≡◌, codes, option_map};
+ghost use Rattle.std.specs.Option.{option_copied};
 ghost use Rattle.rtsp_small.specs.Scales.{is_scale};
-ghost use Rattle.translate_up.specs.Views.{given_of, seen};
-ghost use Rattle.translate_up.specs.Fields.{is_describe, is_setup, is_play, is_pause, is_named, id_of, are_same, needs_session, brings_body, is_track, said_where, scale_of};
+ghost use Rattle.translate_up.specs.Views.{given_of};
+ghost use Rattle.rtsp_head.specs.Optional.{said_where};
+ghost use Rattle.translate_up.specs.Fields.{is_describe, is_setup, is_play, is_pause, is_named, id_of, are_same, needs_session, brings_body, is_track, scale_of};
 ghost use Rattle.translate_up.specs.Upward.{session_said};
 
 use crate::view::View;
@@ -47,14 +49,14 @@ pub(crate) fn is_named(request: &Request1) -> bool
 
 /// The session, where a request names it.
 pub(crate) fn session_said<'a>(view: &View<'a>, request: &Request1) -> Option<&'a [u8]>
-    ensures { seen result ≡ session_said (given_of view.now) request.now }
+    ensures { option_copied result ≡ session_said (given_of view.now) request.now }
 {
     said_where(is_named(request), view.session)
 }
 
 /// Whether the id in a Session field is that of a session.
 pub(crate) fn is_of_session(session: Option<&[u8]>, value: &[u8]) -> bool
-    ensures { result ≡ are_same (seen session.entry) (id_of value.now) }
+    ensures { result ≡ are_same (option_copied session.entry) (id_of value.now) }
 {
     match (session, read_session(value)) {
         (Some(session), Some(named)) => session == named.id,
@@ -85,14 +87,14 @@ pub(crate) fn is_track(tracks: &[Track], uri: &[u8]) -> bool
 
 /// A value that is said only where a condition holds.
 pub(crate) fn said_where(holds: bool, value: Option<&[u8]>) -> Option<&[u8]>
-    ensures { seen result ≡ said_where holds (seen value.entry) }
+    ensures { option_copied result ≡ said_where holds (option_copied value.entry) }
 {
     if holds { value } else { None }
 }
 
 /// The scale of a request, where it has one in the grammar (RFC 2326, 12.34).
 pub(crate) fn scale_of(request: &Request1) -> Option<&[u8]>
-    ensures { seen result ≡ scale_of request.now }
+    ensures { option_copied result ≡ scale_of request.now }
 {
     let value = request.head.field(b"Scale")?;
     if is_scale(value) { Some(value) } else { None }

@@ -11,7 +11,6 @@ use crate::answer::{answer, options_text, play_text, refusal_text};
 use crate::channels::client_pair;
 use crate::decision::Decision;
 use crate::field::{is_named, is_play, is_setup, scale_of, session_said};
-use crate::header::owned;
 use crate::rule::first_code;
 use crate::upward::{asked_of, request_up, uri_up};
 use crate::view::View;
@@ -37,7 +36,7 @@ pub fn decide(alloc: Global, view: &View<'_>, item: &Item) -> Result<Decision, M
 {
     match read_request(alloc, item) {
         Ok(request) => accept(alloc, view, &request),
-        Err(RequestFault::Refused(refusal)) => Ok(Decision::Answer(refusal_text(alloc, &refusal)?)),
+        Err(RequestFault::Refused(refusal)) => Ok(Decision::Answer(refusal_text(alloc, refusal)?)),
         Err(RequestFault::Memory) => Err(Memory),
     }
 }
@@ -131,7 +130,7 @@ fn queue(
 {
     let session = session_said(view, request);
     let written = write(alloc, &range)?;
-    let text = play_text(alloc, request.cseq, session, Some(written.as_bytes()))?;
-    let scale = owned(alloc, scale_of(request))?;
+    let text = play_text(alloc, request.cseq, session, Some(written))?;
+    let scale = Text::copied(alloc, scale_of(request))?;
     Ok(Decision::Queue(Play { uri, range, scale }, text))
 }

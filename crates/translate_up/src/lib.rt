@@ -6,7 +6,6 @@ mod answer;
 mod channels;
 mod decision;
 mod field;
-mod header;
 mod judge;
 mod laws;
 mod rule;

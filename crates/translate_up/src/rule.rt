@@ -1,8 +1,9 @@
 //! The rules by which a request is refused that its head does not refuse.
 ghost use Rattle.std.specs.Prelude.{◌≡◌, true, codes, IfSome};
+ghost use Rattle.std.specs.Option.{option_copied};
 ghost use Rattle.rtsp_status.specs.Reasons.{has_reason};
 ghost use Rattle.head_one.specs.Refusals.{first_code};
-ghost use Rattle.translate_up.specs.Views.{given_of, seen};
+ghost use Rattle.translate_up.specs.Views.{given_of};
 ghost use Rattle.translate_up.specs.Fields.{field};
 ghost use Rattle.translate_up.specs.Rules.{rules, names_no_session, sets_up_again, is_out_of_turn, names_one_of_many, has_no_channels, has_bad_range, finds_none_free, must_wait, finds_no_place};
 
@@ -49,7 +50,7 @@ pub(crate) fn first_code(view: &View<'_>, request: &Request1, uri: &[u8]) -> Opt
 /// Whether a Session field is not that of the player's session, or is missing where there must be
 /// one.
 fn names_no_session(method: Method, session: Option<&[u8]>, field: Option<&[u8]>) -> bool
-    ensures { result ≡ names_no_session method (seen session.entry) (seen field.entry) }
+    ensures { result ≡ names_no_session method (option_copied session.entry) (option_copied field.entry) }
 {
     match field {
         Some(value) => !is_of_session(session, value),
@@ -90,7 +91,7 @@ fn has_no_channels(view: &View<'_>, request: &Request1) -> bool
 
 /// Whether a PLAY has a range that can't be read, or a PAUSE has one.
 fn has_bad_range(request: &Request1, range: Option<&[u8]>) -> bool
-    ensures { result ≡ has_bad_range request.now (seen range.entry) }
+    ensures { result ≡ has_bad_range request.now (option_copied range.entry) }
 {
     match range {
         Some(value) => (is_play(request) && read_one(value).is_err()) || is_pause(request),

@@ -3,7 +3,7 @@ ghost use Rattle.std.specs.Prelude.{◌≡◌, ◌≢◌, ◌&&◌, not, codes, 
 ghost use Rattle.std.specs.Str.{bytes_eq};
 ghost use Rattle.translate_up.specs.Upward.{transport_header, transported, with_transport};
 
-use gate_bytes::{Memory, Text};
+use gate_bytes::Memory;
 use head_two::Request2;
 use rtsp_head::{Header, Headers};
 use rtsp_transport::{Pair, write_two};
@@ -57,35 +57,13 @@ fn push_transport(alloc: Global, headers: &mut Headers, pair: &Pair) -> Result<(
     requires { pair.now.rtp ≢ pair.now.rtcp }
     ensures { OnOk result (headers.new ≡ headers.old ++ transport_header pair.now ∷ []) }
 {
-    let header = transport_header(alloc, pair)?;
-    push(headers, header)
-}
-
-/// The header with these channels.
-fn transport_header(alloc: Global, pair: &Pair) -> Result<Header, Memory>
-    requires { pair.now.rtp ≢ pair.now.rtcp }
-    ensures { IfOk result (λ header. header ≡ transport_header pair.now) }
-{
-    let name = Text::copy(alloc, b"Transport")?;
-    let value = write_two(alloc, pair)?;
-    Ok(Header { name, value })
+    headers.push_value(alloc, b"Transport", Some(write_two(alloc, pair)?))
 }
 
 /// Appends a copy of a header.
 fn push_copy(alloc: Global, headers: &mut Headers, header: &Header) -> Result<(), Memory>
     ensures { OnOk result (headers.new ≡ headers.old ++ header.now ∷ []) }
 {
-    let name = Text::copy(alloc, header.name.as_bytes())?;
-    let value = Text::copy(alloc, header.value.as_bytes())?;
-    push(headers, Header { name, value })
-}
-
-/// Appends a header.
-fn push(headers: &mut Headers, header: Header) -> Result<(), Memory>
-    ensures { OnOk result (headers.new ≡ headers.old ++ header ∷ []) }
-{
-    match headers.push(header) {
-        Ok(()) => Ok(()),
-        Err((_, memory)) => Err(memory),
-    }
+    let value = Some(header.value.as_bytes());
+    headers.push_copy(alloc, header.name.as_bytes(), value)
 }

@@ -7,7 +7,6 @@ ghost use Rattle.translate_up.specs.Upward.{uri_up, method_up, text_of, range_sa
 use crate::field::{
     brings_body, is_describe, is_named, is_play, is_setup, said_where, scale_of, session_said,
 };
-use crate::header::{borrowed, push_header};
 use crate::view::View;
 use gate_bytes::{Memory, Text};
 use head_one::Request1;
@@ -104,13 +103,13 @@ fn headers_up(alloc: Global, view: &View<'_>, request: &Request1) -> Result<Head
     let kind = said_where(has_body(request), head.field(b"Content-Type"));
     let encoding = said_where(has_body(request), head.field(b"Content-Encoding"));
     let mut headers = Headers::new(alloc);
-    push_header(alloc, &mut headers, b"Session", session_said(view, request))?;
-    push_header(alloc, &mut headers, b"Accept", accept)?;
-    push_header(alloc, &mut headers, b"Accept-Ranges", units)?;
-    push_header(alloc, &mut headers, b"Range", borrowed(&range))?;
-    push_header(alloc, &mut headers, b"Scale", scale)?;
-    push_header(alloc, &mut headers, b"Content-Type", kind)?;
-    push_header(alloc, &mut headers, b"Content-Encoding", encoding)?;
+    headers.push_copy(alloc, b"Session", session_said(view, request))?;
+    headers.push_copy(alloc, b"Accept", accept)?;
+    headers.push_copy(alloc, b"Accept-Ranges", units)?;
+    headers.push_value(alloc, b"Range", range)?;
+    headers.push_copy(alloc, b"Scale", scale)?;
+    headers.push_copy(alloc, b"Content-Type", kind)?;
+    headers.push_copy(alloc, b"Content-Encoding", encoding)?;
     Ok(headers)
 }
 
