@@ -11,7 +11,7 @@ use gate_history::Bases;
 use head_two::{Reply2, Request2};
 use rtsp_head::Item;
 use rtsp_small::Method;
-use session_one::Asked;
+use session_one::{Asked, is_success};
 use std::alloc::Global;
 use std::collections::VecDeque;
 use translate_down::{Context, reply_one};
@@ -77,7 +77,7 @@ pub(crate) fn settle(alloc: Global, described: bool, number: u32) -> Act
 pub(crate) fn describes(asked: &Asked, code: u16) -> bool
     ensures { result ≡ describes asked.now code }
 {
-    (200..=299).contains(&code) && asked.method == Method::Describe
+    is_success(code) && asked.method == Method::Describe
 }
 
 /// What a connection is about after a reply with this code.

@@ -14,9 +14,13 @@ use std::alloc::Global;
 /// An item of the server, as it is taken.
 #[derive(Drop)]
 pub(crate) enum Heard {
+    /// A reply to a request that went up.
     Reply(Reply2),
+    /// A request of the server's own.
     Ask(Ask2),
+    /// A frame of media.
     Frame,
+    /// Nothing that can be taken, and why.
     Fault(FramingFault),
 }
 

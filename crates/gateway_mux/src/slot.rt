@@ -27,9 +27,15 @@ pub(crate) struct Slot {
 /// A change of a connection that takes no memory.
 #[derive(Drop)]
 pub(crate) enum Change {
-    /// So many waiting requests were treated, the connection may be about the URI of its open request
-    /// then, and this request is open, or none.
-    Goes(usize, bool, Option<Asked>),
+    /// It goes on after its open request, where it had one.
+    Goes {
+        /// How many of its waiting requests were treated, the oldest first.
+        treated: usize,
+        /// Whether it is now about the URI of the request that was open.
+        described: bool,
+        /// The request that is open now, or none.
+        open_request: Option<Asked>,
+    },
     /// It is closed, and its waiting requests are dropped.
     Closes,
 }
@@ -41,12 +47,14 @@ pub(crate) enum Readiness {
     Gone,
     /// Another request of it is open.
     Busy,
+    /// Its next request is treated at once.
     Ready,
 }
 
 impl Readiness {
     ghost use Rattle.gateway_mux.specs.Answered.{is_busy_readiness};
 
+    /// Whether another request of it is open.
     pub fn is_busy(self) -> bool
         ensures { result ≡ is_busy_readiness self }
     {
@@ -129,7 +137,11 @@ impl Slot {
         ensures { conn_of self.new ≡ changed change (conn_of self.old) }
     {
         match change {
-            Change::Goes(treated, described, open_request) => {
+            Change::Goes {
+                treated,
+                described,
+                open_request,
+            } => {
                 drop_front(&mut self.waiting, treated);
                 self.open(described, open_request);
             }

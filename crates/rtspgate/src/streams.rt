@@ -15,6 +15,7 @@ use std::collections::HashMap;
 pub enum Speaker {
     /// The client of the connection with this number, which may be 0.
     Client(u32),
+    /// The server.
     Server,
 }
 

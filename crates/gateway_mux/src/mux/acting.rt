@@ -31,7 +31,12 @@ impl Mux {
         } = act;
         let to_client = piece(conn, hand)?;
         let Some(ask) = ask else {
-            self.go_on(conn, Change::Goes(treated, described, None), settles);
+            let change = Change::Goes {
+                treated,
+                described,
+                open_request: None,
+            };
+            self.go_on(conn, change, settles);
             return Ok(handing(to_client, None));
         };
         if self.issued >= MOST_NUMBER {
@@ -40,11 +45,12 @@ impl Mux {
         let number = self.issued + 1;
         let text = fitting(write_request(alloc, &ask.request, number)?)?;
         self.loans.room()?;
-        self.go_on(
-            conn,
-            Change::Goes(treated, described, Some(ask.asked)),
-            settles,
-        );
+        let change = Change::Goes {
+            treated,
+            described,
+            open_request: Some(ask.asked),
+        };
+        self.go_on(conn, change, settles);
         self.loans.lend(number, conn);
         self.issued = number;
         Ok(handing(to_client, Some(text)))
