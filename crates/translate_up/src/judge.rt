@@ -1,5 +1,5 @@
 //! What becomes of a request.
-ghost use Rattle.std.specs.Prelude.{◌≡◌, codes, Ok, IsTrue, IfOk};
+ghost use Rattle.std.specs.Prelude.{◌≡◌, false, codes, Ok, IsTrue, IfOk};
 ghost use Rattle.rtsp_head.specs.Shapes.{shape_of};
 ghost use Rattle.rtsp_range.specs.Writable.{can_be_written};
 ghost use Rattle.translate_up.specs.Views.{given_of};
@@ -53,8 +53,10 @@ pub(crate) fn accept(alloc: Global, view: &View<'_>, request: &Request1) -> Resu
     rule(alloc, view, request, uri)
 }
 
-/// What becomes of a request that its head does not refuse, and that has this URI on its way up.
+/// What becomes of a request that its head does not refuse, that is not for the gateway itself, and
+/// that has this URI on its way up.
 fn rule(alloc: Global, view: &View<'_>, request: &Request1, uri: Text) -> Result<Decision, Memory>
+    requires { is_for_gateway request.now ≡ false }
     ensures { IfOk result (λ decision. decision ≡ ruled (given_of view.now) request.now uri) }
 {
     match first_code(view, request, uri.as_bytes()) {
@@ -63,13 +65,12 @@ fn rule(alloc: Global, view: &View<'_>, request: &Request1, uri: Text) -> Result
     }
 }
 
-/// What becomes of a request that no rule refuses.
+/// What becomes of a request that no rule refuses and that is not for the gateway itself.
 fn pass(alloc: Global, view: &View<'_>, request: &Request1, uri: Text) -> Result<Decision, Memory>
+    requires { is_for_gateway request.now ≡ false }
     ensures { IfOk result (λ decision. decision ≡ passed (given_of view.now) request.now uri) }
 {
-    if is_for_gateway(request) {
-        Ok(Decision::Answer(options_text(alloc, request.cseq)?))
-    } else if is_setup(request) {
+    if is_setup(request) {
         set_up(alloc, view, request, uri)
     } else if is_play(request) && view.state == State::Playing {
         play_on(alloc, view, request, uri)

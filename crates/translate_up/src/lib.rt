@@ -27,4 +27,6 @@ mod kept_tests;
 #[cfg(test)]
 mod stages;
 #[cfg(test)]
+mod table;
+#[cfg(test)]
 mod tests;

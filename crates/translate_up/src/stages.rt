@@ -1,16 +1,14 @@
 // Connections, requests and decisions for tests.
 
 use super::*;
-use crate::judge::accept;
 use gate_bytes::{Memory, Text};
-use head_one::Request1;
 use head_two::write_request;
-use rtsp_head::{Start, read_head};
-use rtsp_small::{read_cseq_one, read_method};
+use rtsp_frame::{Framer, Item};
 use rtsp_transport::Pair;
 use rtsp_uri::{BaseFault, Bases, read_base};
 use session_one::{State, Track};
 use std::alloc::Global;
+use std::test::Fail;
 
 // How far a connection is.
 #[derive(Clone, Copy, Debug, PartialEq, Eq)]
@@ -19,6 +17,7 @@ pub(crate) enum Stage {
     Full,
     One,
     Two,
+    Seven,
     Eight,
     Playing,
     Waiting,
@@ -33,7 +32,7 @@ pub(crate) enum Fate {
     Setup,
 }
 
-pub(crate) fn bases(alloc: Global) -> Result<Bases, BaseFault> {
+fn bases(alloc: Global) -> Result<Bases, BaseFault> {
     Ok(Bases {
         front: read_base(alloc, "rtsp://gate.example")?,
         up: read_base(alloc, "rtsp://media.example")?,
@@ -41,7 +40,7 @@ pub(crate) fn bases(alloc: Global) -> Result<Bases, BaseFault> {
 }
 
 // Streams on the channels 0 and 1, 2 and 3, and so on.
-pub(crate) fn tracks(alloc: Global) -> Result<[Track; 8], Memory> {
+fn tracks(alloc: Global) -> Result<[Track; 8], Memory> {
     Ok([
         track(alloc, b"rtsp://media.example/m/1", 0)?,
         track(alloc, b"rtsp://media.example/m/2", 2)?,
@@ -62,11 +61,12 @@ fn track(alloc: Global, uri: &[u8], rtp: u8) -> Result<Track, Memory> {
     })
 }
 
-pub(crate) fn view<'a>(stage: Stage, tracks: &'a [Track; 8], bases: &'a Bases) -> View<'a> {
+fn view<'a>(stage: Stage, tracks: &'a [Track; 8], bases: &'a Bases) -> View<'a> {
     let (state, count) = match stage {
         Stage::None | Stage::Full => (State::Init, 0),
         Stage::One => (State::Ready, 1),
         Stage::Two => (State::Ready, 2),
+        Stage::Seven => (State::Ready, 7),
         Stage::Eight => (State::Ready, 8),
         Stage::Playing | Stage::Waiting => (State::Playing, 2),
     };
@@ -86,25 +86,15 @@ pub(crate) fn view<'a>(stage: Stage, tracks: &'a [Track; 8], bases: &'a Bases) -
     }
 }
 
-// The request with this head, as it is read.
-pub(crate) fn request(alloc: Global, head: &[u8], body: &[u8]) -> Result<Request1, Memory> {
-    let Ok(head) = read_head(alloc, head) else {
-        return Err(Memory);
-    };
-    let Start::Request { method, uri, .. } = &head.start else {
-        return Err(Memory);
-    };
-    let method = read_method(method.as_bytes()).ok_or(Memory)?;
-    let uri = Text::copy(alloc, uri.as_bytes())?;
-    let number = head.field(b"CSeq").ok_or(Memory)?;
-    let cseq = read_cseq_one(number).ok_or(Memory)?;
-    Ok(Request1 {
-        method,
-        uri,
-        cseq,
-        head,
-        body: Text::copy(alloc, body)?,
-    })
+// The request with these bytes, as it comes from the stream of a connection.
+fn request(alloc: Global, bytes: &[u8]) -> Result<Item, Fail> {
+    let mut framer = Framer::new(alloc);
+    framer.feed(alloc, bytes)?;
+    let item = framer.next().ok_or("no whole request")?;
+    if framer.next().is_some() {
+        return Err("more than a request".into());
+    }
+    Ok(item)
 }
 
 // What becomes of a request, and its text: what goes up has the number 9, and a SETUP the channels 6 and 7.
@@ -120,27 +110,10 @@ pub(crate) fn told(alloc: Global, decision: Decision) -> Result<(Fate, Text), Me
     }
 }
 
-// What becomes of a request with this head and body at a stage.
-pub(crate) fn decided(
-    alloc: Global,
-    stage: Stage,
-    head: &[u8],
-    body: &[u8],
-) -> Result<Decision, Memory> {
-    let Ok(bases) = bases(alloc) else {
-        return Err(Memory);
-    };
+// What becomes of the request with these bytes at a stage.
+pub(crate) fn decided(alloc: Global, stage: Stage, bytes: &[u8]) -> Result<Decision, Fail> {
+    let bases = bases(alloc)?;
     let tracks = tracks(alloc)?;
-    let request = request(alloc, head, body)?;
-    accept(alloc, &view(stage, &tracks, &bases), &request)
-}
-
-// The same, and its text.
-pub(crate) fn judged(
-    alloc: Global,
-    stage: Stage,
-    head: &[u8],
-    body: &[u8],
-) -> Result<(Fate, Text), Memory> {
-    told(alloc, decided(alloc, stage, head, body)?)
+    let item = request(alloc, bytes)?;
+    Ok(decide(alloc, &view(stage, &tracks, &bases), &item)?)
 }
