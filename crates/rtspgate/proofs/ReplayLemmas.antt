@@ -5,24 +5,25 @@ use Rattle.rtsp_uri.specs.declared.base.Bases.{Bases}
 use Rattle.gate_history.specs.History.{Happening, History, happened}
 use Rattle.gateway_mux.specs.declared.mux.Mux.{Mux}
 use Rattle.gateway_mux.specs.Stands.{Stands}
-use Rattle.rtspgate.specs.declared.transcript.Entry.{Entry}
-use Rattle.rtspgate.specs.declared.transcript.EntryKind.{EntryKind}
-use Rattle.rtspgate.specs.declared.transcript.EntryKind.TheVariants.{Enter, Client, Upstream, End}
-use Rattle.rtspgate.specs.declared.transcript.EntryFault.{EntryFault}
-use Rattle.rtspgate.specs.declared.transcript.EntryFault.TheVariants as entry_fault
-use Rattle.rtspgate.specs.declared.transcript.BadEntry.{BadEntry}
-use Rattle.rtspgate.specs.declared.transcript.reader.EntryReader.{EntryReader}
+use Rattle.gate_transcript.specs.declared.entry.Entry.{Entry}
+use Rattle.gate_transcript.specs.declared.entry.EntryKind.{EntryKind}
+use Rattle.gate_transcript.specs.declared.entry.EntryKind.TheVariants.{Enter, Client, Upstream, End}
+use Rattle.gate_transcript.specs.declared.fault.EntryFault.{EntryFault}
+use Rattle.gate_transcript.specs.declared.fault.EntryFault.TheVariants as entry_fault
+use Rattle.gate_transcript.specs.declared.fault.BadEntry.{BadEntry}
+use Rattle.gate_transcript.specs.declared.reader.EntryReader.{EntryReader}
+use Rattle.gate_transcript.specs.Transcript.{entered, may_come}
+use Rattle.gate_transcript.specs.Reads.{ReadsSo, NextSays}
+use Rattle.gate_transcript.proofs.ReaderLemmas.{given_front}
+use Rattle.gate_transcript.proofs.ProperLemmas.{reads_proper}
 use Rattle.rtspgate.specs.declared.streams.Streams.{Streams}
 use Rattle.rtspgate.specs.declared.run.TreatFault.{TreatFault}
 use Rattle.rtspgate.specs.declared.run.TreatFault.TheVariants.{Sink, Memory}
-use Rattle.rtspgate.specs.Transcript.{entered, may_come}
-use Rattle.rtspgate.specs.Reads.{ReadsSo, NextSays}
 use Rattle.rtspgate.specs.Events.{told_by, events_of}
 use Rattle.rtspgate.specs.Runs.{TakesEntry, ToldInPart, EntersFresh}
 use Rattle.rtspgate.specs.Stops.{stop_at, stop_of}
 use Rattle.rtspgate.specs.Replays.{SoFar, TellsFront, Interrupted, TreatedWhole, TreatedToFault, Treated}
-use Rattle.rtspgate.proofs.ReaderLemmas.{given_front}
-use Rattle.rtspgate.proofs.ProperLemmas.{reads_proper, entered_never}
+use Rattle.rtspgate.proofs.EnteredLemmas.{entered_never}
 use Rattle.rtspgate.proofs.RunLemmas.{happened-append, grows_on, grows_on_in_part}
 use Rattle.rtspgate.proofs.StandingLemmas.{not_entered_fresh, stood}
 

@@ -10,9 +10,9 @@ use Rattle.gate_history.specs.declared.event.Outcome.{Outcome}
 use Rattle.gate_history.specs.History.{Happening, History, ends, happened, happening_of, entry_of, entering}
 use Rattle.gateway_mux.specs.declared.mux.Mux.{Mux}
 use Rattle.gateway_mux.specs.Stands.{Stands, bases_of}
-use Rattle.rtspgate.specs.declared.transcript.Entry.{Entry}
-use Rattle.rtspgate.specs.declared.transcript.EntryKind.{EntryKind}
-use Rattle.rtspgate.specs.declared.transcript.EntryKind.TheVariants.{Enter, Client, Upstream, End}
+use Rattle.gate_transcript.specs.declared.entry.Entry.{Entry}
+use Rattle.gate_transcript.specs.declared.entry.EntryKind.{EntryKind}
+use Rattle.gate_transcript.specs.declared.entry.EntryKind.TheVariants.{Enter, Client, Upstream, End}
 use Rattle.rtspgate.specs.declared.streams.Streams.{Streams}
 use Rattle.rtspgate.specs.declared.streams.Speaker.{Speaker}
 use Rattle.rtspgate.specs.declared.streams.Speaker.TheVariants as speaker

@@ -9,19 +9,19 @@ use Rattle.rtsp_uri.specs.declared.base.Bases.{Bases}
 use Rattle.gate_history.specs.History.{History, happened}
 use Rattle.gateway_mux.specs.declared.mux.Mux.{Mux}
 use Rattle.gateway_mux.specs.Stands.{Stands, bases_of}
+use Rattle.gate_transcript.specs.declared.entry.Entry.{Entry}
+use Rattle.gate_transcript.specs.declared.fault.BadEntry.{BadEntry}
+use Rattle.gate_transcript.specs.declared.fault.BadEntryKind.{BadEntryKind}
+use Rattle.gate_transcript.specs.declared.fault.BadEntryKind.TheVariants.{Magic, Kind, Conn, Length, Cut}
+use Rattle.gate_transcript.specs.declared.reader.EntryReader.{EntryReader}
+use Rattle.gate_transcript.specs.Transcript.{reading, Reading}
+use Rattle.gate_transcript.specs.Reads.{ReadsSo, GivenWhole, IsLasting, StopsAt, MayGoOn, IsUnfinished}
 use Rattle.rtspgate.specs.declared.status.Status.{Status}
 use Rattle.rtspgate.specs.declared.status.Status.TheVariants.{BadTranscript, TooLong}
-use Rattle.rtspgate.specs.declared.transcript.Entry.{Entry}
-use Rattle.rtspgate.specs.declared.transcript.BadEntry.{BadEntry}
-use Rattle.rtspgate.specs.declared.transcript.BadEntryKind.{BadEntryKind}
-use Rattle.rtspgate.specs.declared.transcript.BadEntryKind.TheVariants.{Magic, Kind, Conn, Length, Cut}
-use Rattle.rtspgate.specs.declared.transcript.reader.EntryReader.{EntryReader}
 use Rattle.rtspgate.specs.declared.streams.Streams.{Streams}
 use Rattle.rtspgate.specs.declared.streams.Speaker.{Speaker}
 use Rattle.rtspgate.specs.declared.replay.Stop.{Stop}
 use Rattle.rtspgate.specs.declared.replay.Stop.TheVariants as stop
-use Rattle.rtspgate.specs.Transcript.{reading, Reading}
-use Rattle.rtspgate.specs.Reads.{ReadsSo, GivenWhole, IsLasting, StopsAt, MayGoOn, IsUnfinished}
 use Rattle.rtspgate.specs.Events.{events_of}
 use Rattle.rtspgate.specs.Fed.{Fed}
 use Rattle.rtspgate.specs.Streams.{framer_at}

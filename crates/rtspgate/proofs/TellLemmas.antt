@@ -6,9 +6,9 @@ use Rattle.std.proofs.lemmas.List.{append_assoc, append-nil, map-append}
 use Rattle.std.proofs.Math.Seq.{drop-append_seam}
 use Rattle.rtsp_head.specs.Items.{Shape, items_of}
 use Rattle.gate_history.specs.History.{Happening}
-use Rattle.rtspgate.specs.declared.transcript.Entry.{Entry}
-use Rattle.rtspgate.specs.declared.transcript.EntryKind.{EntryKind}
-use Rattle.rtspgate.specs.declared.transcript.EntryKind.TheVariants.{Client, Upstream}
+use Rattle.gate_transcript.specs.declared.entry.Entry.{Entry}
+use Rattle.gate_transcript.specs.declared.entry.EntryKind.{EntryKind}
+use Rattle.gate_transcript.specs.declared.entry.EntryKind.TheVariants.{Client, Upstream}
 use Rattle.rtspgate.specs.declared.streams.Streams.{Streams}
 use Rattle.rtspgate.specs.declared.streams.Speaker.{Speaker}
 use Rattle.rtspgate.specs.declared.streams.Speaker.TheVariants as speaker

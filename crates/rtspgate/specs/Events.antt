@@ -2,9 +2,9 @@
 use Rattle.std.specs.Prelude.{ℕ, Bool, true, false, ◌==◌, List, [], ◌∷◌, ◌++◌, length, drop, map, if◌then◌else◌}
 use Rattle.rtsp_head.specs.Items.{Shape, items_of}
 use Rattle.gate_history.specs.History.{Happening, enters, takes, ends, hears}
-use Rattle.rtspgate.specs.declared.transcript.Entry.{Entry}
-use Rattle.rtspgate.specs.declared.transcript.EntryKind.{EntryKind}
-use Rattle.rtspgate.specs.declared.transcript.EntryKind.TheVariants.{Enter, Client, Upstream, End}
+use Rattle.gate_transcript.specs.declared.entry.Entry.{Entry}
+use Rattle.gate_transcript.specs.declared.entry.EntryKind.{EntryKind}
+use Rattle.gate_transcript.specs.declared.entry.EntryKind.TheVariants.{Enter, Client, Upstream, End}
 use Rattle.rtspgate.specs.declared.streams.Speaker.{Speaker}
 use Rattle.rtspgate.specs.declared.streams.Speaker.TheVariants as speaker
 

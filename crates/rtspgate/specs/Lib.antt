@@ -1,9 +1,5 @@
-pub mod Connections
-pub mod Reads
 pub mod Records
 pub mod ExitCodes
-pub mod Steps
-pub mod Transcript
 pub mod Words
 pub mod Events
 pub mod Fed

@@ -8,18 +8,18 @@ use Rattle.gate_history.specs.History.{History, happened}
 use Rattle.gate_history.specs.Follows.{IsHistory}
 use Rattle.gateway_mux.specs.declared.mux.Mux.{Mux}
 use Rattle.gateway_mux.specs.Stands.{Stands, bases_of}
+use Rattle.gate_transcript.specs.declared.entry.Entry.{Entry}
+use Rattle.gate_transcript.specs.declared.fault.BadEntry.{BadEntry}
+use Rattle.gate_transcript.specs.declared.fault.BadEntryKind.{BadEntryKind}
+use Rattle.gate_transcript.specs.declared.fault.BadEntryKind.TheVariants.{Magic, Kind, Conn, Length, Cut}
+use Rattle.gate_transcript.specs.declared.reader.EntryReader.{EntryReader}
+use Rattle.gate_transcript.specs.Transcript.{reading}
+use Rattle.gate_transcript.specs.Reads.{ReadsSo, GivenWhole, StopsAt}
 use Rattle.rtspgate.specs.declared.status.Status.{Status}
 use Rattle.rtspgate.specs.declared.status.Status.TheVariants.{Done, Usage, SourceFault, SinkFault, BadTranscript, TooLong, Memory}
-use Rattle.rtspgate.specs.declared.transcript.Entry.{Entry}
-use Rattle.rtspgate.specs.declared.transcript.BadEntry.{BadEntry}
-use Rattle.rtspgate.specs.declared.transcript.BadEntryKind.{BadEntryKind}
-use Rattle.rtspgate.specs.declared.transcript.BadEntryKind.TheVariants.{Magic, Kind, Conn, Length, Cut}
-use Rattle.rtspgate.specs.declared.transcript.reader.EntryReader.{EntryReader}
 use Rattle.rtspgate.specs.declared.streams.Streams.{Streams}
 use Rattle.rtspgate.specs.declared.replay.Stop.{Stop}
 use Rattle.rtspgate.specs.declared.replay.Stop.TheVariants as stop
-use Rattle.rtspgate.specs.Transcript.{reading}
-use Rattle.rtspgate.specs.Reads.{ReadsSo, GivenWhole, StopsAt}
 use Rattle.rtspgate.specs.Events.{events_of}
 use Rattle.rtspgate.specs.Runs.{StreamsFit, ToldInPart}
 use Rattle.rtspgate.specs.Written.{records}

@@ -8,9 +8,9 @@ use Rattle.rtsp_frame.specs.Framing.{Held}
 use Rattle.gate_history.specs.History.{Happening, History, happened}
 use Rattle.gateway_mux.specs.declared.mux.Mux.{Mux}
 use Rattle.gateway_mux.specs.Stands.{Stands, IsFresh, bases_of}
-use Rattle.rtspgate.specs.declared.transcript.Entry.{Entry}
-use Rattle.rtspgate.specs.declared.transcript.EntryKind.{EntryKind}
-use Rattle.rtspgate.specs.declared.transcript.EntryKind.TheVariants.{Enter, Client, Upstream, End}
+use Rattle.gate_transcript.specs.declared.entry.Entry.{Entry}
+use Rattle.gate_transcript.specs.declared.entry.EntryKind.{EntryKind}
+use Rattle.gate_transcript.specs.declared.entry.EntryKind.TheVariants.{Enter, Client, Upstream, End}
 use Rattle.rtspgate.specs.declared.streams.Streams.{Streams}
 use Rattle.rtspgate.specs.declared.streams.Speaker.{Speaker}
 use Rattle.rtspgate.specs.declared.run.TreatFault.{TreatFault}

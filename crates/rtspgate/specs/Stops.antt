@@ -1,6 +1,6 @@
 -- What a fault of an entry, and one of its treatment, is to a replay (this project's own).
-use Rattle.rtspgate.specs.declared.transcript.EntryFault.{EntryFault}
-use Rattle.rtspgate.specs.declared.transcript.EntryFault.TheVariants as entry
+use Rattle.gate_transcript.specs.declared.fault.EntryFault.{EntryFault}
+use Rattle.gate_transcript.specs.declared.fault.EntryFault.TheVariants as entry
 use Rattle.rtspgate.specs.declared.run.TreatFault.{TreatFault}
 use Rattle.rtspgate.specs.declared.run.TreatFault.TheVariants as fault
 use Rattle.rtspgate.specs.declared.words.WordsFault.{WordsFault}

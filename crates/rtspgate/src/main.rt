@@ -9,7 +9,6 @@ mod run;
 mod standard;
 mod status;
 mod streams;
-mod transcript;
 mod words;
 
 use crate::plain::plain;

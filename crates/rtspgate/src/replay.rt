@@ -5,17 +5,17 @@ ghost use Rattle.gate_outside.specs.Causes.{HasCause};
 ghost use Rattle.gate_outside.specs.Contents.{Reads};
 ghost use Rattle.rtsp_uri.specs.declared.base.Bases.{Bases};
 ghost use Rattle.gateway_mux.specs.Stands.{Stands, bases_of};
+ghost use Rattle.gate_transcript.specs.declared.entry.Entry.{Entry};
+ghost use Rattle.gate_transcript.specs.Transcript.{reading};
+ghost use Rattle.gate_transcript.specs.Reads.{ReadsSo, GivenWhole};
 ghost use Rattle.rtspgate.specs.declared.status.Status.TheVariants.{BadTranscript};
-ghost use Rattle.rtspgate.specs.declared.transcript.Entry.{Entry};
-ghost use Rattle.rtspgate.specs.Transcript.{reading};
-ghost use Rattle.rtspgate.specs.Reads.{ReadsSo, GivenWhole};
 ghost use Rattle.rtspgate.specs.Replays.{SoFar, SomeSoFar, Treated, StopCause, ReplaySays, FaultRose, TellsMore, ends_by};
 
 use crate::run::{Run, TreatFault};
 use crate::status::Status;
-use crate::transcript::{BadEntry, EntryFault, EntryReader};
 use gate_bytes::before;
 use gate_outside::{Failed, Sink, Source};
+use gate_transcript::{BadEntry, EntryFault, EntryReader};
 use gateway_mux::Mux;
 use std::alloc::{AllocError, Global};
 

@@ -7,9 +7,9 @@ ghost use Rattle.rtspgate.specs.Runs.{StandsForSome, TakesEvent, TakesItems, Tak
 
 use crate::outcomes::write_outcome;
 use crate::streams::{Speaker, Streams};
-use crate::transcript::{Entry, EntryKind};
 use gate_bytes::Memory;
 use gate_outside::{Failed, Sink};
+use gate_transcript::{Entry, EntryKind};
 use gateway_mux::{Event, Mux};
 use rtsp_frame::Item;
 use std::alloc::Global;

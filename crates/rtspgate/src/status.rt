@@ -1,6 +1,6 @@
 //! What a run answers.
 
-use crate::transcript::BadEntryKind;
+use gate_transcript::BadEntryKind;
 use std::fmt;
 
 /// How a run ended.

@@ -2,9 +2,9 @@
 ghost use Rattle.std.specs.Prelude.{◌<◌};
 
 use super::*;
-use crate::transcript::BadEntryKind;
 use gate_bytes::Text;
 use gate_outside::{MemorySink, MemorySource, Numbers, Script};
+use gate_transcript::BadEntryKind;
 use std::test::Fail;
 
 // A player's first request.

@@ -3,8 +3,8 @@ use Rattle.std.proofs.Math.Nat.{le_refl}
 use Rattle.gate_outside.specs.Contents.{ReadsOk}
 use Rattle.gateway_mux.specs.declared.mux.Mux.{Mux}
 use Rattle.gateway_mux.specs.Stands.{Stands, bases_of}
+use Rattle.gate_transcript.specs.Transcript.{reading}
 use Rattle.rtspgate.specs.declared.status.Status.{Status}
-use Rattle.rtspgate.specs.Transcript.{reading}
 use Rattle.rtspgate.specs.Replays.{Treated, ReplaySays, FaultRose, Going}
 use Rattle.rtspgate.proofs.SourceLemmas.{read_end, finish_says, finish_cause, stop_says, stop_rose, too_long_says, going_start, going_on, piece_fits, taken_more, front_of_front}
 use Rattle.rtspgate.proofs.UsageLemmas.{nothing_done}

@@ -1,7 +1,7 @@
 use Rattle.std.proofs.Common.{ℕ, List, Option, Some, None, Ok, arith}
 use Rattle.std.proofs.lemmas.Result.{err_from_is_err_and}
 use Rattle.rtsp_uri.specs.declared.base.Bases.{Bases}
-use Rattle.rtspgate.specs.Reads.{NextSays}
+use Rattle.gate_transcript.specs.Reads.{NextSays}
 use Rattle.rtspgate.specs.Replays.{SoFar}
 use Rattle.rtspgate.proofs.ReplayLemmas.{enters_fresh, so_far_more, so_far_whole, so_far_faulted, so_far_stopped}
 use Rattle.rtspgate.proofs.replay.treat.Goals as goal

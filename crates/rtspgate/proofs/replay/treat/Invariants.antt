@@ -1,6 +1,6 @@
 use Rattle.std.proofs.Common.{◌≤◌, ℕ, List, Option}
 use Rattle.rtsp_uri.specs.declared.base.Bases.{Bases}
-use Rattle.rtspgate.specs.Reads.{bytes_held}
+use Rattle.gate_transcript.specs.Reads.{bytes_held}
 use Rattle.rtspgate.specs.Replays.{SoFar, SomeSoFar}
 use Rattle.rtspgate.proofs.replay.treat.Given as goal
 

@@ -1,0 +1,148 @@
+-- The head that stands first stays the same when more bytes come.
+use Rattle.std.proofs.Common.{◌≡◌, ℕ, suc, ◌+◌, ◌-◌, ◌<◌, ◌≤◌, Bool, false, List, [], ◌∷◌, ◌++◌, length, take, drop, Option, Some, None, Result, Ok, Err, refl, sym, ◌∙◌, ap, subst, inl, inr, arith, nat_lt, length-append, length-drop}
+use Rattle.std.proofs.lemmas.Bool.{cases_Bool, ltb-false, le-ltb}
+use Rattle.std.proofs.lemmas.List.{take-append-drop, take-append-le, drop-append-le, length-take-le}
+use Rattle.std.proofs.Math.Seq.{drop-append_seam}
+use Rattle.gate_transcript.specs.declared.entry.Entry.{Entry}
+use Rattle.gate_transcript.specs.declared.fault.BadEntryKind.{BadEntryKind}
+use Rattle.gate_transcript.specs.declared.fault.BadEntryKind.TheVariants.{Magic, Cut}
+use Rattle.gate_transcript.specs.declared.head.Head.{Head}
+use Rattle.gate_transcript.specs.Transcript.{head_of, judged, with_room, first_head, entry_of}
+
+-- a head is in the first eight bytes
+pub head_more : (b : ℕ) (xs ys : List ℕ) → 8 ≤ length xs → head_of b (xs ++ ys) ≡ head_of b xs
+head_more b xs ys long =
+    let near : take 4 (xs ++ ys) ≡ take 4 xs = take-append-le 4 xs ys (omega arith) in
+    let far : drop 4 (xs ++ ys) ≡ drop 4 xs ++ ys = drop-append-le 4 xs ys (omega arith) in
+    let room : 4 ≤ length (drop 4 xs) = rw (length-drop 4 xs) (omega arith) in
+    let next : take 4 (drop 4 xs ++ ys) ≡ take 4 (drop 4 xs) = take-append-le 4 (drop 4 xs) ys room in
+    rw (near, far, next) refl
+
+-- what it says that a head stands first
+pub record IsFirst (has : ℕ → Bool) (b : ℕ) (bytes : List ℕ) (head : Head) : Type 0 where
+  pub long : 8 ≤ length bytes
+  pub right : judged has (head_of b bytes) ≡ Ok head
+  pub room : head.size ≤ length bytes - 8
+
+room_parts : (room : ℕ) (r : Result Head BadEntryKind) (head : Head) → with_room room r ≡ Ok (Some head) → (r ≡ Ok head) × (head.size ≤ room)
+room_parts room (Err bad) head e = absurd (cc)
+room_parts room (Ok h) head e =
+    elim (cases_Bool (nat_lt room h.size)) [
+      | inl short ↦ (let f = rw short at e in absurd (cc))
+      | inr enough ↦ (let f = rw enough at e in let same : h ≡ head = cc in (ap (λ (x : Head). let r : Result Head BadEntryKind = Ok x in r) same, subst (λ (x : Head). x.size ≤ room) same (ltb-false room h.size enough)))
+    ]
+
+pub first_parts : (has : ℕ → Bool) (b : ℕ) (bytes : List ℕ) (head : Head) → first_head has (b ∷ bytes) ≡ Ok (Some head) → IsFirst has b bytes head
+first_parts has b bytes head e =
+    elim (cases_Bool (nat_lt (length bytes) 8)) [
+      | inl short ↦ (let f = rw short at e in absurd (cc))
+      | inr enough ↦ (let f = rw enough at e in
+          let parts = room_parts (length bytes - 8) (judged has (head_of b bytes)) head f in
+          record { long = ltb-false (length bytes) 8 enough; right = parts.0; room = parts.1 })
+    ]
+
+pub first_whole : (has : ℕ → Bool) (b : ℕ) (bytes : List ℕ) (head : Head) → IsFirst has b bytes head → first_head has (b ∷ bytes) ≡ Ok (Some head)
+first_whole has b bytes head whole =
+    let long = le-ltb (length bytes) 8 whole.long in
+    let room = le-ltb (length bytes - 8) head.size whole.room in
+    rw (long, whole.right, room) refl
+
+-- the front of the bytes that a whole entry takes
+pub front_len : (has : ℕ → Bool) (bytes : List ℕ) (head : Head) → first_head has bytes ≡ Ok (Some head) → 9 + head.size ≤ length bytes
+front_len has [] head e = absurd (cc)
+front_len has (b ∷ bytes) head e = let parts = first_parts has b bytes head e in let long = parts.long in let room = parts.room in omega arith
+
+first_front : (has : ℕ → Bool) (b : ℕ) (front rest more : List ℕ) (head : Head) → length front ≡ 8 + head.size → IsFirst has b (front ++ rest) head → IsFirst has b (front ++ more) head
+first_front has b front rest more head size first =
+    let long : 8 ≤ length front = omega arith in
+    record {
+      long = rw (length-append front more) (omega arith);
+      right = rw (head_more b front more long) (rw (head_more b front rest long) at first.right);
+      room = rw (length-append front more) (omega arith);
+    }
+
+-- a whole entry stays first, whatever follows it
+pub first_more : (has : ℕ → Bool) (bytes more : List ℕ) (head : Head) → first_head has bytes ≡ Ok (Some head) → first_head has (take (9 + head.size) bytes ++ more) ≡ Ok (Some head)
+first_more has [] more head e = absurd (cc)
+first_more has (b ∷ bytes) more head e =
+    let first = first_parts has b bytes head e in
+    let n : 9 + head.size ≡ suc (8 + head.size) = omega arith in
+    let long = first.long in
+    let room = first.room in
+    let size : length (take (8 + head.size) bytes) ≡ 8 + head.size = length-take-le (8 + head.size) bytes (omega arith) in
+    let all : IsFirst has b (take (8 + head.size) bytes ++ drop (8 + head.size) bytes) head = rw (take-append-drop (8 + head.size) bytes) first in
+    rw n (first_whole has b (take (8 + head.size) bytes ++ more) head (first_front has b (take (8 + head.size) bytes) (drop (8 + head.size) bytes) more head size all))
+
+-- and it is the same entry
+pub entry_more : (bytes more : List ℕ) (head : Head) → 9 + head.size ≤ length bytes → entry_of head (take (9 + head.size) bytes ++ more) ≡ entry_of head bytes
+entry_more bytes more head enough =
+    let front = take (9 + head.size) bytes in
+    let size : length front ≡ 9 + head.size = length-take-le (9 + head.size) bytes enough in
+    let left : (ys : List ℕ) → take head.size (drop 9 (front ++ ys)) ≡ take head.size (drop 9 front) = λ ys.
+    (let room : head.size ≤ length (drop 9 front) = rw (length-drop 9 front) (omega arith) in
+    ap (λ (l : List ℕ). take head.size l) (drop-append-le 9 front ys (omega arith)) ∙ take-append-le head.size (drop 9 front) ys room) in
+    let body : take head.size (drop 9 (front ++ more)) ≡ take head.size (drop 9 bytes) =
+    left more ∙ (sym (left (drop (9 + head.size) bytes)) ∙ ap (λ (l : List ℕ). take head.size (drop 9 l)) (take-append-drop (9 + head.size) bytes)) in
+    ap (λ (l : List ℕ). let e : Entry = record { kind = head.kind; conn = head.conn; body = l } in e) body
+
+-- what follows it is what follows
+pub rest_more : (bytes more : List ℕ) (n : ℕ) → n ≤ length bytes → drop n (take n bytes ++ more) ≡ more
+rest_more bytes more n enough =
+    let size : length (take n bytes) ≡ n = length-take-le n bytes enough in
+    subst (λ (k : ℕ). drop k (take n bytes ++ more) ≡ more) size (drop-append_seam (take n bytes) more)
+
+-- a fault that is not Cut stays, and Magic is none of an entry
+pub record IsFinal (bad : BadEntryKind) : Type 0 where
+  pub whole : bad ≡ Cut → ⊥
+
+room_bad : (room now : ℕ) (r : Result Head BadEntryKind) (bad : BadEntryKind) → IsFinal bad → with_room room r ≡ Err bad → with_room now r ≡ Err bad
+room_bad room now (Err k) bad final e = e
+room_bad room now (Ok h) bad final e =
+    elim (cases_Bool (nat_lt room h.size)) [
+      | inl short ↦ (let f = rw short at e in let same : bad ≡ Cut = cc in absurd (final.whole same))
+      | inr enough ↦ (let f = rw enough at e in absurd (cc))
+    ]
+
+pub bad_more : (has : ℕ → Bool) (bytes more : List ℕ) (bad : BadEntryKind) → IsFinal bad → first_head has bytes ≡ Err bad → first_head has (bytes ++ more) ≡ Err bad
+bad_more has [] more bad final e = absurd (cc)
+bad_more has (b ∷ bytes) more bad final e =
+    elim (cases_Bool (nat_lt (length bytes) 8)) [
+      | inl short ↦ (let f = rw short at e in let same : bad ≡ Cut = cc in absurd (final.whole same))
+      | inr enough ↦ (let f = rw enough at e in
+          let long : 8 ≤ length bytes = ltb-false (length bytes) 8 enough in
+          let still : nat_lt (length (bytes ++ more)) 8 ≡ false = le-ltb (length (bytes ++ more)) 8 (rw (length-append bytes more) (omega arith)) in
+          rw (still, head_more b bytes more long) (room_bad (length bytes - 8) (length (bytes ++ more) - 8) (judged has (head_of b bytes)) bad final f))
+    ]
+
+judged_not_magic : (has : ℕ → Bool) (o : Option Head) → judged has o ≡ Err Magic → ⊥
+judged_not_magic has None e = cc
+judged_not_magic has (Some h) e = grind arith
+
+room_not_magic : (room : ℕ) (r : Result Head BadEntryKind) → (r ≡ Err Magic → ⊥) → with_room room r ≡ Err Magic → ⊥
+room_not_magic room (Err k) never e = let same : k ≡ Magic = cc in never (ap (λ (x : BadEntryKind). let r : Result Head BadEntryKind = Err x in r) same)
+room_not_magic room (Ok h) never e = grind arith
+
+pub first_not_magic : (has : ℕ → Bool) (bytes : List ℕ) → first_head has bytes ≡ Err Magic → ⊥
+first_not_magic has [] e = cc
+first_not_magic has (b ∷ bytes) e =
+    elim (cases_Bool (nat_lt (length bytes) 8)) [
+      | inl short ↦ (let f = rw short at e in cc)
+      | inr enough ↦ (let f = rw enough at e in room_not_magic (length bytes - 8) (judged has (head_of b bytes)) (judged_not_magic has (head_of b bytes)) f)
+    ]
+
+room_not_none : (room : ℕ) (r : Result Head BadEntryKind) → with_room room r ≡ Ok None → ⊥
+room_not_none room (Err k) e = cc
+room_not_none room (Ok h) e =
+    elim (cases_Bool (nat_lt room h.size)) [
+      | inl short ↦ (let f = rw short at e in cc)
+      | inr enough ↦ (let f = rw enough at e in cc)
+    ]
+
+-- where a byte is, something stands first
+pub first_not_none : (has : ℕ → Bool) (bytes : List ℕ) → 0 < length bytes → first_head has bytes ≡ Ok None → ⊥
+first_not_none has [] some e = omega arith
+first_not_none has (b ∷ bytes) some e =
+    elim (cases_Bool (nat_lt (length bytes) 8)) [
+      | inl short ↦ (let f = rw short at e in cc)
+      | inr enough ↦ (let f = rw enough at e in room_not_none (length bytes - 8) (judged has (head_of b bytes)) f)
+    ]

@@ -1,0 +1,5 @@
+pub mod HeadLemmas
+pub mod ReadingLemmas
+pub mod ReaderLemmas
+pub mod LessLemmas
+pub mod ProperLemmas

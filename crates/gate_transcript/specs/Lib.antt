@@ -1,0 +1,4 @@
+pub mod Connections
+pub mod Transcript
+pub mod Reads
+pub mod Steps

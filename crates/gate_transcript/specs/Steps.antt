@@ -1,0 +1,48 @@
+-- What the parts of a reader do to its fields. This project's own.
+use Rattle.std.specs.Prelude.{◌≡◌, ℕ, ◌+◌, ◌-◌, ◌^◌, ◌<◌, ◌≤◌, ◌==◌, ◌&&◌, ◌||◌, min, nat_eq, true, false, length, drop, Option, Some, None, Result, Ok, Err}
+use Rattle.std.specs.List.{starts_with}
+use Rattle.gate_transcript.specs.declared.entry.Entry.{Entry}
+use Rattle.gate_transcript.specs.declared.fault.BadEntryKind.{BadEntryKind}
+use Rattle.gate_transcript.specs.declared.fault.BadEntryKind.TheVariants.{Magic, Cut}
+use Rattle.gate_transcript.specs.declared.fault.EntryFault.{EntryFault}
+use Rattle.gate_transcript.specs.declared.fault.EntryFault.TheVariants.{Bad, Memory}
+use Rattle.gate_transcript.specs.declared.head.Head.{Head}
+use Rattle.gate_transcript.specs.declared.reader.Stage.TheVariants.{Entries, Stopped}
+use Rattle.gate_transcript.specs.declared.reader.EntryReader.{EntryReader}
+use Rattle.gate_transcript.specs.Connections.{has}
+use Rattle.gate_transcript.specs.Transcript.{magic, is_enter, entry_of, bad_entry}
+
+-- a reader with eight bytes or more goes on after the magic, or stops where other bytes stand; with fewer it waits
+pub record PassesMagic (old new : EntryReader) : Type 0 where
+  pub short : length old.left < 8 → new ≡ old
+  pub right : 8 ≤ length old.left → starts_with nat_eq old.left magic ≡ true → new ≡ record old { stage = Entries; place = 8; left = drop 8 old.left }
+  pub wrong : 8 ≤ length old.left → starts_with nat_eq old.left magic ≡ false → new ≡ record old { stage = Stopped (bad_entry 0 Magic) }
+
+-- the same stage, place and bytes, and the same connections
+pub record IsSame (old new : EntryReader) : Type 0 where
+  pub stage : new.stage ≡ old.stage
+  pub place : new.place ≡ old.place
+  pub left : new.left ≡ old.left
+  pub who : (conn : ℕ) → has new.entered conn ≡ has old.entered conn
+
+-- the entry with this head was taken off the front of the bytes
+pub record TakesEntry (head : Head) (old new : EntryReader) (e : Entry) : Type 0 where
+  pub entry : e ≡ entry_of head old.left
+  pub stage : new.stage ≡ old.stage
+  pub place : new.place ≡ min (old.place + (9 + head.size)) (2 ^ 64 - 1)
+  pub left : new.left ≡ drop (9 + head.size) old.left
+  pub who : (conn : ℕ) → has new.entered conn ≡ ((is_enter head.kind && head.conn == conn) || has old.entered conn)
+
+-- the fault of an entry that is whole as far as its head says: the reader stops there
+abbrev pub StopsBy : BadEntryKind → EntryReader → EntryReader → Result (Option Entry) EntryFault → Type 0
+StopsBy Cut old new result = (result ≡ Ok None) × (new ≡ old)
+StopsBy kind old new result = (result ≡ Err (Bad (record { place = old.place; kind = kind }))) × (new ≡ record old { stage = Stopped (record { place = old.place; kind = kind }) })
+
+-- an answer of `next` after the magic, where this stands first in the bytes
+abbrev pub Steps : Result (Option Head) BadEntryKind → EntryReader → EntryReader → Result (Option Entry) EntryFault → Type 0
+Steps (Ok None) old new result = (result ≡ Ok None) × (new ≡ old)
+Steps (Ok (Some head)) old new (Ok (Some e)) = TakesEntry head old new e
+Steps (Ok (Some head)) old new (Ok None) = ⊥
+Steps (Ok (Some head)) old new (Err Memory) = IsSame old new
+Steps (Ok (Some head)) old new (Err (Bad bad)) = ⊥
+Steps (Err kind) old new result = StopsBy kind old new result

@@ -1,0 +1,25 @@
+//! Entries: what a transcript tells, one thing after the other.
+
+use gate_bytes::Text;
+
+/// What an entry tells.
+#[derive(Clone, Copy, Debug, PartialEq, Eq)]
+pub enum EntryKind {
+    /// `O`: a connection enters. It has no body.
+    Enter,
+    /// `A`: bytes of a client, 131,072 at most.
+    Client,
+    /// `U`: bytes of the server, 131,072 at most. Its connection is written as 0.
+    Upstream,
+    /// `E`: a connection ends. It has no body.
+    End,
+}
+
+/// One entry of a transcript.
+#[derive(Drop)]
+pub struct Entry {
+    pub kind: EntryKind,
+    /// The connection's number; 0 where the entry is the server's.
+    pub conn: u32,
+    pub body: Text,
+}

@@ -1,0 +1,116 @@
+//! The head of an entry: its first nine bytes.
+ghost use Rattle.std.specs.Prelude.{◌≡◌, ◌≤◌, length, take, drop};
+ghost use Rattle.std.specs.Int.{w32, from_be_bytes};
+ghost use Rattle.gate_transcript.specs.Connections.{has};
+ghost use Rattle.gate_transcript.specs.Transcript.{kind_of, most_body, may_come, head_of, judged, first_head};
+
+use crate::connections::Connections;
+use crate::entry::EntryKind;
+use crate::fault::BadEntryKind;
+use gate_bytes::after;
+
+/// The length of a head.
+pub const HEAD: usize = 9;
+
+/// The longest body of an entry with bytes of a client or of the server.
+const MOST: u32 = 131_072;
+
+/// What the head of an entry says.
+#[derive(Clone, Copy, Debug, PartialEq, Eq)]
+pub struct Head {
+    pub kind: EntryKind,
+    pub conn: u32,
+    /// The length of the body.
+    pub size: u32,
+}
+
+/// The head of the entry that stands first, nothing where no byte is there, or the fault of the entry.
+pub fn first_head(entered: &Connections, bytes: &[u8]) -> Result<Option<Head>, BadEntryKind>
+    ensures { result ≡ first_head (has entered.now) bytes.now }
+{
+    let [kind, rest @ ..] = bytes else {
+        return Ok(None);
+    };
+    if rest.len() < HEAD - 1 {
+        return Err(BadEntryKind::Cut);
+    }
+    let head = judge(entered, head_of(*kind, rest))?;
+    if rest.len() - (HEAD - 1) < head.size as usize {
+        return Err(BadEntryKind::Cut);
+    }
+    Ok(Some(head))
+}
+
+/// The head, or its fault.
+fn judge(entered: &Connections, head: Option<Head>) -> Result<Head, BadEntryKind>
+    ensures { result ≡ judged (has entered.now) head }
+{
+    let Some(head) = head else {
+        return Err(BadEntryKind::Kind);
+    };
+    if !may_come(entered, head.kind, head.conn) {
+        return Err(BadEntryKind::Conn);
+    }
+    if head.size > most_body(head.kind) {
+        return Err(BadEntryKind::Length);
+    }
+    Ok(head)
+}
+
+/// Whether an entry of this kind may come for the connection.
+fn may_come(entered: &Connections, kind: EntryKind, conn: u32) -> bool
+    ensures { result ≡ may_come (has entered.now) kind conn }
+{
+    match kind {
+        EntryKind::Enter => !entered.has(conn),
+        EntryKind::Client => entered.has(conn),
+        EntryKind::Upstream => conn == 0,
+        EntryKind::End => entered.has(conn),
+    }
+}
+
+/// The longest body of an entry of this kind.
+fn most_body(kind: EntryKind) -> u32
+    ensures { result ≡ most_body kind }
+{
+    match kind {
+        EntryKind::Enter => 0,
+        EntryKind::Client => MOST,
+        EntryKind::Upstream => MOST,
+        EntryKind::End => 0,
+    }
+}
+
+/// What a kind byte and the eight bytes after it say.
+fn head_of(kind: u8, bytes: &[u8]) -> Option<Head>
+    requires { 8 ≤ length bytes.now }
+    ensures { result ≡ head_of kind bytes.now }
+{
+    let kind = kind_of(kind)?;
+    Some(Head {
+        kind,
+        conn: first_number(bytes),
+        size: first_number(after(bytes, 4)),
+    })
+}
+
+/// The kind that a byte names.
+fn kind_of(byte: u8) -> Option<EntryKind>
+    ensures { result ≡ kind_of byte }
+{
+    match byte {
+        b'O' => Some(EntryKind::Enter),
+        b'A' => Some(EntryKind::Client),
+        b'U' => Some(EntryKind::Upstream),
+        b'E' => Some(EntryKind::End),
+        _ => None,
+    }
+}
+
+/// The number in the first four bytes, with the greatest byte first.
+fn first_number(bytes: &[u8]) -> u32
+    requires { 4 ≤ length bytes.now }
+    ensures { result ≡ from_be_bytes w32 (take 4 bytes.now) }
+{
+    u32::from_be_bytes([bytes[0], bytes[1], bytes[2], bytes[3]])
+}

@@ -1,0 +1,22 @@
+//! Transcripts: what came to the gateway, connection by connection, as one stream of bytes.
+//!
+//! A transcript is the eight bytes `RTSPGW1` and a line feed, and then entries: a kind byte, a connection of four
+//! bytes, a length of four bytes, both with the greatest byte first, and a body of that length.
+//!
+//! An [`EntryReader`] is fed the pieces of a transcript and gives its whole entries in order, and then its first
+//! fault. Which entries and which fault a transcript has is defined apart from it, over all of its bytes.
+#![tactic(auto)]
+
+mod connections;
+mod entry;
+mod fault;
+mod head;
+mod pending;
+mod reader;
+
+pub use entry::{Entry, EntryKind};
+pub use fault::{BadEntry, BadEntryKind, EntryFault};
+pub use reader::EntryReader;
+
+#[cfg(test)]
+mod tests;

@@ -1,0 +1,176 @@
+//! The reader of entries, which takes a transcript in any pieces.
+ghost use Rattle.std.specs.Prelude.{◌≡◌, ℕ, ◌≤◌, ◌+◌, List, [], ◌++◌, length, OnOk, OnErr, IfOk};
+
+use crate::connections::Connections;
+use crate::entry::{Entry, EntryKind};
+use crate::fault::{BadEntry, BadEntryKind, EntryFault};
+use crate::head::{HEAD, Head, first_head};
+use crate::pending::Pending;
+use gate_bytes::{Memory, Text, after, before};
+use std::alloc::Global;
+
+/// The eight bytes that a transcript begins with.
+const MAGIC: [u8; 8] = *b"RTSPGW1\n";
+
+/// How far a reader has come.
+#[derive(Clone, Copy)]
+pub enum Stage {
+    /// Fewer than eight bytes were fed.
+    Front,
+    /// The magic was right.
+    Entries,
+    /// The transcript has this fault.
+    Stopped(BadEntry),
+}
+
+/// Reads the entries of a transcript that is fed in any pieces. It keeps the unfinished entry alone, and the
+/// connections that have entered.
+#[derive(Drop)]
+pub struct EntryReader {
+    stage: Stage,
+    place: u64,
+    left: Pending,
+    entered: Connections,
+}
+
+impl EntryReader {
+    ghost use Rattle.gate_transcript.specs.declared.entry.Entry.{Entry};
+    ghost use Rattle.gate_transcript.specs.Connections.{has};
+    ghost use Rattle.gate_transcript.specs.Transcript.{first_head};
+    ghost use Rattle.gate_transcript.specs.Reads.{ReadsSo, KeepsGiven, NextSays, GivenWhole, HasFault, TakesBytes, bytes_held};
+    ghost use Rattle.gate_transcript.specs.Steps.{PassesMagic, Steps, TakesEntry, IsSame};
+
+    /// A reader that was fed nothing. It takes no memory.
+    pub fn new(alloc: Global) -> EntryReader
+        ensures { ReadsSo result [] [] }
+    {
+        EntryReader {
+            stage: Stage::Front,
+            place: 0,
+            left: Pending::new(alloc),
+            entered: Connections::new(alloc),
+        }
+    }
+
+    /// Takes a piece of the transcript, whole or not at all.
+    pub fn feed(&mut self, piece: &[u8]) -> Result<(), Memory>
+        ensures ok { OnOk result ((stream : List ℕ) (given : List Entry) → ReadsSo self.old stream given → ReadsSo self.new (stream ++ piece.now) given) }
+        ensures err { OnErr result (KeepsGiven self.old self.new) }
+    {
+        match self.stage {
+            Stage::Front => self.feed_front(piece),
+            Stage::Entries => self.feed_entries(piece),
+            Stage::Stopped(_) => Ok(()),
+        }
+    }
+
+    /// Appends the piece, and looks at the magic once it is whole.
+    fn feed_front(&mut self, piece: &[u8]) -> Result<(), Memory>
+        requires { self.old.stage ≡ Stage.Front }
+        ensures ok { OnOk result (PassesMagic (record self.old { left = self.old.left ++ piece.now }) self.new) }
+        ensures err { OnErr result (self.new ≡ self.old) }
+    {
+        self.left.push(piece)?;
+        let bytes = self.left.as_bytes();
+        if bytes.len() < MAGIC.len() {
+            return Ok(());
+        }
+        if bytes.starts_with(&MAGIC) {
+            self.left.skip(MAGIC.len());
+            self.place = 8;
+            self.stage = Stage::Entries;
+        } else {
+            self.stage = Stage::Stopped(BadEntry {
+                place: 0,
+                kind: BadEntryKind::Magic,
+            });
+        }
+        Ok(())
+    }
+
+    /// Appends the piece.
+    fn feed_entries(&mut self, piece: &[u8]) -> Result<(), Memory>
+        ensures ok { OnOk result (self.new ≡ record self.old { left = self.old.left ++ piece.now }) }
+        ensures err { OnErr result (self.new ≡ self.old) }
+    {
+        self.left.push(piece)
+    }
+
+    /// The next entry. Nothing where no whole entry and no fault stands next: more may be fed then. The fault of a
+    /// transcript is answered from then on. Where memory runs out, the entry is still to come.
+    pub fn next(&mut self, alloc: Global) -> Result<Option<Entry>, EntryFault>
+        ensures says { NextSays self.old self.new result }
+        ensures less { TakesBytes (bytes_held self.old) (bytes_held self.new) result }
+    {
+        match self.stage {
+            Stage::Front => Ok(None),
+            Stage::Entries => self.next_entry(alloc),
+            Stage::Stopped(bad) => Err(EntryFault::Bad(bad)),
+        }
+    }
+
+    /// The next entry after the magic.
+    fn next_entry(&mut self, alloc: Global) -> Result<Option<Entry>, EntryFault>
+        requires { self.old.stage ≡ Stage.Entries }
+        ensures { Steps (first_head (has self.old.entered) self.old.left) self.old self.new result }
+    {
+        match first_head(&self.entered, self.left.as_bytes()) {
+            Ok(None) => Ok(None),
+            Ok(Some(head)) => Ok(Some(self.take_entry(alloc, head)?)),
+            Err(BadEntryKind::Cut) => Ok(None),
+            Err(kind) => Err(EntryFault::Bad(self.stop(kind))),
+        }
+    }
+
+    /// Takes the entry with this head off the front.
+    fn take_entry(&mut self, alloc: Global, head: Head) -> Result<Entry, Memory>
+        requires { 9 + head.size ≤ length self.old.left }
+        ensures ok { IfOk result (λ e. TakesEntry head self.old self.new e) }
+        ensures err { OnErr result (IsSame self.old self.new) }
+    {
+        let end = HEAD + head.size as usize;
+        let body = Text::copy(alloc, after(before(self.left.as_bytes(), end), HEAD))?;
+        if head.kind == EntryKind::Enter {
+            self.entered.insert(head.conn)?;
+        }
+        self.left.skip(end);
+        self.place = self.place.saturating_add(end as u64);
+        Ok(Entry {
+            kind: head.kind,
+            conn: head.conn,
+            body,
+        })
+    }
+
+    /// Stops at the entry that stands first, with this fault.
+    fn stop(&mut self, kind: BadEntryKind) -> BadEntry
+        ensures bad { result ≡ record { place = self.old.place; kind = kind } }
+        ensures stage { self.new ≡ record self.old { stage = Stage.Stopped result } }
+    {
+        let bad = BadEntry {
+            place: self.place,
+            kind,
+        };
+        self.stage = Stage::Stopped(bad);
+        bad
+    }
+
+    /// Whether the transcript may end where it was fed to: at the end of an entry. Meant for the time after `next`
+    /// answered nothing.
+    pub fn finish(&self) -> Result<(), BadEntry>
+        ensures { (stream : List ℕ) (given : List Entry) → ReadsSo self.now stream given → GivenWhole stream given → HasFault stream result }
+    {
+        match self.stage {
+            Stage::Front => Err(BadEntry {
+                place: 0,
+                kind: BadEntryKind::Magic,
+            }),
+            Stage::Entries if self.left.as_bytes().is_empty() => Ok(()),
+            Stage::Entries => Err(BadEntry {
+                place: self.place,
+                kind: BadEntryKind::Cut,
+            }),
+            Stage::Stopped(bad) => Err(bad),
+        }
+    }
+}

@@ -1,8 +1,0 @@
--- What a set of connections holds. This project's own.
-use Rattle.std.specs.Prelude.{ℕ, Bool, nat_eq}
-use Rattle.std.specs.HashSet.{contains}
-use Rattle.rtspgate.specs.declared.transcript.connections.Connections.{Connections}
-
--- whether a connection has entered
-abbrev pub has : Connections → ℕ → Bool
-has connections conn = contains nat_eq connections.numbers conn
