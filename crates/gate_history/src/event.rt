@@ -28,6 +28,7 @@ pub enum CloseWhy {
 /// Which connections an event closed.
 #[derive(Clone, Copy, Debug, PartialEq, Eq)]
 pub enum Closed {
+    /// None.
     Nobody,
     /// The connection with this number.
     One(u32, CloseWhy),
@@ -62,15 +63,18 @@ pub enum UpCause {
 pub struct ToClient {
     /// The number of its connection.
     pub conn: u32,
+    /// The bytes.
     pub bytes: Text,
 }
 
 /// All that one event hands out.
 #[derive(Drop)]
 pub struct Outcome {
+    /// Bytes that are handed to one client.
     pub to_client: Option<ToClient>,
     /// Bytes that are handed to the server.
     pub to_up: Option<Text>,
+    /// Which connections are closed.
     pub closed: Closed,
     /// Why the connection to the server ended, at the event that ended it.
     pub fault: Option<UpCause>,

@@ -18,8 +18,10 @@ pub enum EntryKind {
 /// One entry of a transcript.
 #[derive(Drop)]
 pub struct Entry {
+    /// What it tells.
     pub kind: EntryKind,
     /// The connection's number; 0 where the entry is the server's.
     pub conn: u32,
+    /// The bytes of the client or of the server; none where the kind has no body.
     pub body: Text,
 }

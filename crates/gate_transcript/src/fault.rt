@@ -22,6 +22,7 @@ pub enum BadEntryKind {
 pub struct BadEntry {
     /// The place of the entry's first byte, counted from 0.
     pub place: u64,
+    /// What is wrong with it.
     pub kind: BadEntryKind,
 }
 

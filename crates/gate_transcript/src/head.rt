@@ -18,7 +18,9 @@ const MOST: u32 = 131_072;
 /// What the head of an entry says.
 #[derive(Clone, Copy, Debug, PartialEq, Eq)]
 pub struct Head {
+    /// What the entry tells.
     pub kind: EntryKind,
+    /// The connection's number.
     pub conn: u32,
     /// The length of the body.
     pub size: u32,

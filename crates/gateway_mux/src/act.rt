@@ -19,7 +19,9 @@ use translate_down::{Context, reply_one};
 /// A request that goes up, and what is kept of it.
 #[derive(Drop)]
 pub(crate) struct Ask {
+    /// The request, without its number.
     pub request: Request2,
+    /// What is kept of the player's request until the reply comes.
     pub asked: Asked,
 }
 

@@ -8,7 +8,9 @@ use std::alloc::Global;
 /// An open request: its number, and the connection that asked it.
 #[derive(Clone, Copy)]
 pub(crate) struct Loan {
+    /// The number with which it went up.
     pub number: u32,
+    /// The connection that asked it.
     pub conn: u32,
 }
 

@@ -12,6 +12,7 @@ pub struct ReadSource<R: Read> {
 }
 
 impl<R: Read> ReadSource<R> {
+    /// The source that this reader is. It has not failed yet.
     pub fn new(reader: R) -> Self {
         ReadSource { reader, faults: 0 }
     }
@@ -41,6 +42,7 @@ pub struct WriteSink<W: Write> {
 }
 
 impl<W: Write> WriteSink<W> {
+    /// The sink that this writer is. It has not failed yet.
     pub fn new(writer: W) -> Self {
         WriteSink { writer, faults: 0 }
     }
