@@ -6,7 +6,7 @@ REPLAY := replay rtsp://gate.example rtsp://media.example
 SOURCES := crates.txt $(shell find crates -name out -prune -o \( -name '*.rt' -o -name '*.antt' \) -print)
 EXAMPLES := players options describe
 
-.PHONY: all demo test check bench install examples clean
+.PHONY: all demo try test check bench install examples clean
 
 # The proved program. Nothing is built that is not proved, so a first `make` takes some minutes.
 all: $(PROGRAM)
@@ -22,6 +22,13 @@ $(PROGRAM): $(SOURCES)
 demo: $(PROGRAM)
 	@mkdir -p examples/out
 	$(PROGRAM) $(REPLAY) < examples/players.rtspgw > examples/out/players.records
+	tools/transcript records < examples/out/players.records
+
+# The same half a minute after a fresh clone, before any proof: the program is compiled with checks, and nothing of it
+# is kept.
+try:
+	@mkdir -p examples/out
+	cd crates/rtspgate && rt try -- $(REPLAY) < ../../examples/players.rtspgw > ../../examples/out/players.records
 	tools/transcript records < examples/out/players.records
 
 test:
