@@ -114,7 +114,11 @@ fn push_session(
     ensures { OnOk result (headers.new ≡ headers.old ++ session_headers (setting_of context.now) asked.now) }
 {
     headers.push_value(alloc, b"Session", session(alloc, context, asked)?)?;
-    headers.push_value(alloc, b"Transport", transport(alloc, context, asked.method)?)
+    headers.push_value(
+        alloc,
+        b"Transport",
+        transport(alloc, context, asked.method)?,
+    )
 }
 
 /// Appends what is told of playing.
@@ -129,7 +133,11 @@ fn push_play(
 {
     headers.push_value(alloc, b"Range", range(alloc, method, &reply.head)?)?;
     headers.push_value(alloc, b"Scale", scale(alloc, method, &reply.head)?)?;
-    headers.push_value(alloc, b"RTP-Info", info(alloc, context, method, &reply.head)?)
+    headers.push_value(
+        alloc,
+        b"RTP-Info",
+        info(alloc, context, method, &reply.head)?,
+    )
 }
 
 /// The value of Public, with OPTIONS.
