@@ -1,6 +1,5 @@
 -- The parts of a text between the places of a byte.
-use Rattle.std.proofs.Common.{◌≡◌, ℕ, zero, suc, ◌+◌, ◌<◌, Bool, true, false, ◌==◌, cond, List, [], ◌∷◌, length, take, drop, Option, None, Some, refl, ap, add-one, arith}
-use Rattle.std.specs.Option.{option_map}
+use Rattle.std.proofs.Common.{◌≡◌, ℕ, Bool, true, false, ◌==◌, cond, List, [], ◌∷◌, Option, None, Some, refl}
 use Rattle.std.specs.List.{onto_first}
 use Rattle.gate_bytes.specs.Places.{cut_at, parts_at}
 use Rattle.gate_bytes.proofs.PartLemmas.{parts_by_cut}

@@ -1,5 +1,5 @@
 -- The parts of a value, and reading all of them.
-use Rattle.std.specs.Prelude.{ℕ, Bool, true, false, ◌==◌, List, [], ◌∷◌, Option, Some, None, option_map, option_and_then}
+use Rattle.std.specs.Prelude.{ℕ, Bool, true, false, List, [], ◌∷◌, Option, Some, None, option_map, option_and_then}
 use Rattle.gate_bytes.specs.Places.{parts_at}
 
 -- the parts of what is left, if anything is

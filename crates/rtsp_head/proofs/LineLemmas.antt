@@ -1,7 +1,7 @@
 -- The lines of a head, one after another.
-use Rattle.std.proofs.Common.{◌≡◌, ℕ, zero, suc, ◌+◌, ◌<◌, Bool, true, false, ◌==◌, cond, List, [], ◌∷◌, length, take, drop, Option, None, Some, refl, sym, ◌∙◌, ap, add-one, arith}
+use Rattle.std.proofs.Common.{◌≡◌, ℕ, ◌+◌, Bool, ◌==◌, cond, List, [], ◌∷◌, length, take, drop, Option, None, Some, refl, sym, ◌∙◌, ap, arith}
 use Rattle.std.specs.Option.{option_map}
-use Rattle.std.specs.List.{slice_split, onto_first}
+use Rattle.std.specs.List.{slice_split}
 use Rattle.std.proofs.lemmas.List.Splits.{length-slice_split}
 use Rattle.std.specs.Str.Lines.{lines, lines_of_parts, strip_carriage_return}
 use Rattle.gate_bytes.specs.Places.{place_of}
