@@ -104,8 +104,8 @@ RTSP/2.0 204 Paused|Scale: 2|Range: smpte-25=1:7:0-10:07:33:05.1||
 RTSP/1.0 200 OK|CSeq: 7|Session: abcd1234|Range: smpte-25=01:07:00-10:07:33:05.01||
 RTSP/1.0 200 OK|CSeq: 7|Range: smpte-25=01:07:00-10:07:33:05.01||
 
-PAUSE unnamed full: the range is told, and the streams are not
-RTSP/2.0 200 OK|CSeq: 3|Range: npt=-20.50|RTP-Info: url=\"rtsp://media.example/m/1\" ssrc=0A0B0C0D:seq=7||
+PAUSE unnamed full: 299 is a success, whose range is told, and the streams are not
+RTSP/2.0 299 OK|CSeq: 3|Range: npt=-20.50|RTP-Info: url=\"rtsp://media.example/m/1\" ssrc=0A0B0C0D:seq=7||
 RTSP/1.0 200 OK|CSeq: 7|Range: npt=-20.5||
 same
 
@@ -114,8 +114,8 @@ RTSP/2.0 200 OK|CSeq: 3|Range: npt=10000000000-||
 RTSP/1.0 200 OK|CSeq: 7|Session: abcd1234||
 RTSP/1.0 200 OK|CSeq: 7||
 
-TEARDOWN named full: 299 is a success, and no range is told
-RTSP/2.0 299 OK|CSeq: 3|Range: npt=0-||
+TEARDOWN named full: no range is told
+RTSP/2.0 200 OK|CSeq: 3|Range: npt=0-||
 RTSP/1.0 200 OK|CSeq: 7||
 same
 
