@@ -1,12 +1,12 @@
 -- A request that is for the gateway itself is answered, whatever else it says.
-use Rattle.std.proofs.Common.{◌≡◌, ℕ, Bool, true, false, cond, ◌&&◌, ◌||◌, not, nat_le, length, List, [], ◌∷◌, Option, None, Some, refl, sym, ◌∙◌, ap}
+use Rattle.std.proofs.Common.{◌≡◌, ℕ, Bool, true, false, cond, ◌&&◌, ◌||◌, not, nat_le, length, List, [], ◌∷◌, Option, None, Some, refl, ◌∙◌, ap}
 use Rattle.std.specs.Prelude.{codes, is_some, is_none}
 use Rattle.std.proofs.lemmas.Bool.{and_parts}
 use Rattle.rtsp_small.specs.declared.method.Method.{Method}
 use Rattle.rtsp_small.specs.declared.method.Method.TheVariants.{Options, Describe, Setup, Play, Pause, Teardown, GetParameter, SetParameter}
 use Rattle.rtsp_range.specs.Meaning.{One, meaning}
 use Rattle.head_one.specs.declared.request.Request1.{Request1}
-use Rattle.head_one.specs.Refusals.{Rule, rule, first_code}
+use Rattle.head_one.specs.Refusals.{rule, first_code}
 use Rattle.session_one.specs.declared.table.State.{State}
 use Rattle.session_one.specs.declared.table.State.TheVariants.{Init, Ready, Playing}
 use Rattle.session_one.specs.Table.{same_method, same_state, is_allowed}
@@ -15,9 +15,9 @@ use Rattle.translate_up.specs.declared.decision.Decision.TheVariants.{Answer}
 use Rattle.translate_up.specs.Views.{Given}
 use Rattle.translate_up.specs.Fields.{field, is_setup, is_play, is_pause, is_named, needs_session, is_track}
 use Rattle.translate_up.specs.Channels.{client_pair}
-use Rattle.translate_up.specs.Rules.{names_no_session, is_out_of_turn, names_one_of_many, has_no_channels, is_fault, has_bad_range, finds_none_free, finds_no_place, rules}
+use Rattle.translate_up.specs.Rules.{names_no_session, is_out_of_turn, names_one_of_many, has_no_channels, is_fault, has_bad_range, finds_none_free, finds_no_place}
 use Rattle.translate_up.specs.Answers.{options_text}
-use Rattle.translate_up.specs.Decisions.{is_for_gateway, passed, judged, ruled}
+use Rattle.translate_up.specs.Decisions.{is_for_gateway, judged, ruled}
 
 is_options : (method : Method) → same_method method Options ≡ true → method ≡ Options
 is_options Options e = refl

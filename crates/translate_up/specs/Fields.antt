@@ -1,5 +1,5 @@
 -- What a player's request says of its session, its stream and its range.
-use Rattle.std.specs.Prelude.{ℕ, Bool, true, false, codes, List, Option, Some, None, is_some, option_map, if◌then◌else◌}
+use Rattle.std.specs.Prelude.{ℕ, Bool, true, false, codes, List, Option, Some, None, is_some, option_map}
 use Rattle.std.specs.List.{list_any}
 use Rattle.std.specs.Str.{bytes_eq}
 use Rattle.rtsp_head.specs.Headers.{field_of}
