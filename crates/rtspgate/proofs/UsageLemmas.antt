@@ -1,5 +1,5 @@
 -- A refusal of words, as the top call answers it.
-use Rattle.std.proofs.Common.{◌≡◌, ℕ, List, [], Option, Some, None, Err, inl, inr, refl, ◌∙◌, ap}
+use Rattle.std.proofs.Common.{◌≡◌, ℕ, ◌+◌, Bool, true, false, cond, List, [], ◌∷◌, Option, Some, None, Err, inl, inr, refl, sym, ◌∙◌, ap, arith}
 use Rattle.rtsp_uri.specs.declared.base.Bases.{Bases}
 use Rattle.rtspgate.specs.declared.status.Status.{Status}
 use Rattle.rtspgate.specs.declared.status.Status.TheVariants.{Done, Usage, SourceFault, SinkFault, BadTranscript, TooLong, Memory}
@@ -7,20 +7,38 @@ use Rattle.rtspgate.specs.declared.words.Command.{Command}
 use Rattle.rtspgate.specs.declared.words.Command.TheVariants.{Replay}
 use Rattle.rtspgate.specs.declared.words.WordsFault.{WordsFault}
 use Rattle.rtspgate.specs.declared.words.WordsFault.TheVariants as word
-use Rattle.rtspgate.specs.Words.{word_fault, ReadsWords, NamesReplay, Names, bases_between, TellsUsage}
+use Rattle.rtspgate.specs.Words.{is_base_word, first_fault, word_fault, ReadsWords, NamesReplay, NamesAddress, Names, bases_between, TellsUsage}
 use Rattle.rtspgate.specs.Stops.{status_at}
 use Rattle.rtspgate.specs.Replays.{TakenFrom, MemoryWanting, ReplaySays, PlainSays, FaultRose}
 use Rattle.rtspgate.proofs.RunLemmas.{grows_nothing}
+
+-- a fault of a later word has a later place
+later_by : (test : Bool) (place : ℕ) (more : Option ℕ) → (more ≡ Some 0 → ⊥) → cond test more (Some (place + 1)) ≡ Some 0 → ⊥
+later_by true place more later h = later h
+later_by false place more later h = let first : place + 1 ≡ 0 = cc in omega (arith, first)
+
+later_fault : (place : ℕ) (kinds : List (List ℕ → Bool)) (words : List (List ℕ)) → first_fault (place + 1) kinds words ≡ Some 0 → ⊥
+later_fault place [] [] h = cc
+later_fault place [] (word ∷ words) h = let first : place + 1 ≡ 0 = cc in omega (arith, first)
+later_fault place (is_kind ∷ kinds) [] h = let first : place + 1 ≡ 0 = cc in omega (arith, first)
+later_fault place (is_kind ∷ kinds) (word ∷ words) h = later_by (is_kind word) place (first_fault (place + 1 + 1) kinds words) (later_fault (place + 1) kinds words) h
+
+-- where an address is named, the command is known
+known_command : (words : List (List ℕ)) → NamesAddress words → word_fault words ≡ Some 0 → ⊥
+known_command words named h =
+    later_fault 0 (is_base_word ∷ is_base_word ∷ []) (named.front ∷ named.more) (sym (ap word_fault named.words_are) ∙ h)
 
 -- what a refusal tells of the words
 pub usage_says : (found : WordsFault) (words : List (List ℕ)) → ReadsWords (Err found) words → TellsUsage (status_at found) (word_fault words)
 usage_says (word.Place at) words says = record {
   only = λ place e. let same : at ≡ place = cc in says ∙ ap (λ n. Some n) same;
   always = λ place e. let same : at ≡ place = cc in inl (ap (λ n. Usage n) same);
+  unknown = λ e. let same : at ≡ 0 = cc in ap (λ n. Usage n) same;
 }
 usage_says word.Memory words says = record {
   only = λ place e. cc;
   always = λ place e. inr refl;
+  unknown = λ e. absurd (known_command words says e);
 }
 
 untaken : (all : Option (List ℕ)) → TakenFrom all all []

@@ -36,7 +36,8 @@ refused_front all one two command front (Place at) first replay second refused =
     let words : all ≡ replay_word ∷ front ∷ two = begins all one two command front first replay second in
     let fault : word_fault (replay_word ∷ front ∷ two) ≡ Some 1 = rw refused.1 refl in
     ap word_fault words ∙ fault ∙ ap (λ n. Some n) (sym refused.0)
-refused_front all one two command front Memory first replay second refused = tt
+refused_front all one two command front Memory first replay second refused =
+    record { front = front; more = two; words_are = begins all one two command front first replay second }
 
 whole : (all one two three : List (List ℕ)) (command front up : List ℕ) → Found all one two three command front up → all ≡ replay_word ∷ front ∷ up ∷ three
 whole all one two three command front up found =
@@ -52,7 +53,8 @@ refused_up all one two three command front up text (Place at) found right refuse
     let words : all ≡ replay_word ∷ front ∷ up ∷ three = whole all one two three command front up found in
     let fault : word_fault (replay_word ∷ front ∷ up ∷ three) ≡ Some 2 = rw (right, refused.1) refl in
     ap word_fault words ∙ fault ∙ ap (λ n. Some n) (sym refused.0)
-refused_up all one two three command front up text Memory found right refused = tt
+refused_up all one two three command front up text Memory found right refused =
+    record { front = front; more = up ∷ three; words_are = whole all one two three command front up found }
 
 more_refused : {A : Type 0} (f : A → List ℕ) (words : List A) (front up front_text up_text : List ℕ) (empty : Bool) → empty ≡ (length words == 0) → empty ≡ false →
     base_in front ≡ Some front_text → base_in up ≡ Some up_text → word_fault (replay_word ∷ front ∷ up ∷ map f words) ≡ Some 3

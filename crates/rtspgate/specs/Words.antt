@@ -53,11 +53,18 @@ bases_between (Replay bases) = bases
 abbrev pub Names : Command → List (List ℕ) → Type 0
 Names (Replay bases) words = NamesReplay bases words
 
+-- The words ask for a replay and name an address at least.
+pub record NamesAddress (words : List (List ℕ)) : Type 0 where
+  pub front : List ℕ
+  pub more : List (List ℕ)
+  pub words_are : words ≡ replay_word ∷ front ∷ more
+
 -- A command is what the words name, and none of them is refused. A place is that of the first word that is refused.
+-- Memory can be wanting only where an address is read.
 abbrev pub ReadsWords : Result Command WordsFault → List (List ℕ) → Type 0
 ReadsWords (Ok command) words = Names command words × (word_fault words ≡ None)
 ReadsWords (Err (Place place)) words = word_fault words ≡ Some place
-ReadsWords (Err Memory) words = Unit {0}
+ReadsWords (Err Memory) words = NamesAddress words
 
 -- the word at this place names no base
 abbrev pub IsRefusedAt : ℕ → Option (List ℕ) → WordsFault → Type 0
@@ -65,7 +72,8 @@ IsRefusedAt place found (Place at) = (at ≡ place) × (found ≡ None)
 IsRefusedAt place found Memory = Unit {0}
 
 -- A refusal of words is told with the place of the first word that is refused; and where one is, it is told, but
--- where memory ran out.
+-- where memory ran out. That there is no word, or an unknown command, is told in any case.
 pub record TellsUsage (status : Status) (fault : Option ℕ) : Type 0 where
   pub only : (place : ℕ) → status ≡ Usage place → fault ≡ Some place
   pub always : (place : ℕ) → fault ≡ Some place → (status ≡ Usage place) ⊎ (status ≡ ends.Memory)
+  pub unknown : fault ≡ Some 0 → status ≡ Usage 0
