@@ -34,9 +34,11 @@ try:
 test:
 	rt ci
 
-# Runs the program over real files and pipes: cuts, bad words, faults of the outside, the longest transcript.
+# Runs the program over real files and pipes: cuts, bad words, faults of the outside, the longest transcript; and
+# compares the records of drawn transcripts with a second reading of docs/FORMATS.md.
 check: $(PROGRAM)
 	tools/check_program $(PROGRAM)
+	tools/compare $(PROGRAM)
 
 bench: $(PROGRAM)
 	bench/run $(PROGRAM)
