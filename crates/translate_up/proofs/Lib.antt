@@ -11,3 +11,4 @@ pub mod TransportLemmas
 pub mod VisibleLemmas
 pub mod GatewayLemmas
 pub mod OptionsLemmas
+pub mod ServedLemmas

@@ -3,6 +3,7 @@ pub mod Channels
 pub mod Decisions
 pub mod Fields
 pub mod Rules
+pub mod Served
 pub mod Sound
 pub mod Upward
 pub mod Views

@@ -87,7 +87,8 @@ fn is_for_gateway(request: &Request1) -> bool
     matches!(request.method, Method::Options) && !is_named(request)
 }
 
-/// A SETUP goes up with the channels that the player gets.
+/// A SETUP goes up with the channels that the player gets. The rules let none through without
+/// channels, so the answer 461 is not given here (`what_no_rule_refuses_is_served`).
 fn set_up(alloc: Global, view: &View<'_>, request: &Request1, uri: Text) -> Result<Decision, Memory>
     ensures { IfOk result (λ decision. decision ≡ set_up (given_of view.now) request.now uri (client_pair (given_of view.now).tracks (field request.now (codes "Transport")))) }
 {
@@ -99,7 +100,8 @@ fn set_up(alloc: Global, view: &View<'_>, request: &Request1, uri: Text) -> Resu
     Ok(Decision::Setup(up, asked, pair))
 }
 
-/// A PLAY while streams play waits with its range; without a range it changes nothing.
+/// A PLAY while streams play waits with its range; without a range it changes nothing. The rules let
+/// none through with a range that can't be read, so the answer 457 is not given here either.
 fn play_on(
     alloc: Global,
     view: &View<'_>,

@@ -17,7 +17,7 @@ pub use decision::Decision;
 pub use judge::decide;
 pub use laws::{
     the_channels_are_all_that_is_put_in, the_lowest_free_channels_are_given,
-    what_goes_up_can_be_written,
+    what_goes_up_can_be_written, what_no_rule_refuses_is_served,
 };
 pub use transport::with_transport;
 pub use view::View;
