@@ -9,4 +9,5 @@ pub mod Closes
 pub mod Quiet
 pub mod Acts
 pub mod Short
+pub mod Free
 pub mod Answered

@@ -1,7 +1,8 @@
 //! What the server says.
-ghost use Rattle.std.specs.Prelude.{◌≡◌, IfOk};
+ghost use Rattle.std.specs.Prelude.{◌≡◌, false, IsOk, IfOk};
 ghost use Rattle.rtsp_head.specs.Shapes.{shape_of};
 ghost use Rattle.gate_history.specs.Heard.{heard, heard_reply, heard_ask};
+ghost use Rattle.gateway_mux.specs.Free.{is_message};
 ghost use Rattle.gateway_mux.specs.Hearing.{heard_seen};
 ghost use Rattle.head_two.specs.Replies.{reply_in, ask_in};
 
@@ -26,7 +27,8 @@ pub(crate) enum Heard {
 
 /// What an item of the server says.
 pub(crate) fn hear(alloc: Global, item: &Item) -> Result<Heard, Memory>
-    ensures { IfOk result (λ said. heard_seen said ≡ heard (shape_of item.now)) }
+    ensures says { IfOk result (λ said. heard_seen said ≡ heard (shape_of item.now)) }
+    ensures free { is_message item.now.kind ≡ false → IsOk result }
 {
     match item.kind {
         ItemKind::Request => hear_ask(alloc, item),

@@ -1,5 +1,5 @@
 //! The multiplexer.
-ghost use Rattle.std.specs.Prelude.{◌≡◌, true, false, IfOk, OnOk, IfErr, OnErr, [], List, ◌∷◌};
+ghost use Rattle.std.specs.Prelude.{◌≡◌, true, false, IfOk, OnOk, IsOk, IfErr, OnErr, [], List, ◌∷◌};
 ghost use Rattle.gate_history.specs.History.{Happening, Entry, entry_of, entering, standing, drops_here, dropped_frames, is_alive, IsFirstAlive, fault_in};
 ghost use Rattle.gate_history.specs.Follows.{is_busy};
 
@@ -29,6 +29,7 @@ pub struct Mux {
 impl Mux {
     ghost use Rattle.gateway_mux.specs.Stands.{Stands, IsFresh, bases_of};
     ghost use Rattle.gateway_mux.specs.Short.{IsShort};
+    ghost use Rattle.gateway_mux.specs.Free.{needs_memory};
     ghost use Rattle.gateway_mux.specs.Seats.{conn_at};
 
     /// A gateway with these addresses, to which nothing happened.
@@ -61,12 +62,14 @@ impl Mux {
     }
 
     /// Takes an event: what it hands out is the next entry of the history. After `Memory` nothing was
-    /// handed out, and the event is given back.
+    /// handed out, and the event is given back. Only a request of a client or a message of the server
+    /// may need memory.
     pub fn step(&mut self, alloc: Global, event: Event) -> Result<Outcome, (Event, Memory)>
         ensures ok { IfOk result (λ outcome. (T : List Entry) → Stands self.old T → Stands self.new (entry_of event outcome ∷ T)) }
         ensures short { IfOk result (λ outcome. IsShort outcome) }
         ensures given_back { IfErr result (λ refused. refused.0 ≡ event) }
         ensures err { OnErr result ((T : List Entry) → Stands self.old T → Stands self.new T) }
+        ensures free { needs_memory event ≡ false → IsOk result }
         ensures bases { bases_of self.new ≡ bases_of self.old }
     {
         if self.ended.is_some() {

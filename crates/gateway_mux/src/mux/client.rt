@@ -1,5 +1,5 @@
 //! Items of clients, and their ends.
-ghost use Rattle.std.specs.Prelude.{◌≡◌, true, None, IfOk, IfErr, OnErr};
+ghost use Rattle.std.specs.Prelude.{◌≡◌, true, false, None, IsOk, IfOk, IfErr, OnErr};
 ghost use Rattle.rtsp_head.specs.Shapes.{shape_of};
 ghost use Rattle.rtsp_head.specs.declared.item.ItemKind.TheVariants.{Request};
 ghost use Rattle.gate_history.specs.Decisions.{decide};
@@ -21,6 +21,7 @@ impl Mux {
     ghost use Rattle.gateway_mux.specs.Answered.{readiness_of, control_of};
     ghost use Rattle.gateway_mux.specs.Quiet.{Idles, Keeps};
     ghost use Rattle.gateway_mux.specs.Closes.{Closes};
+    ghost use Rattle.gateway_mux.specs.Free.{is_request};
 
     /// Takes an item of a client.
     pub(super) fn take(
@@ -33,6 +34,7 @@ impl Mux {
         ensures ok { IfOk result (λ outcome. Commits self.old self.new (takes conn (shape_of item)) outcome) }
         ensures given_back { IfErr result (λ refused. refused.0 ≡ item) }
         ensures err { OnErr result (Keeps self.old self.new) }
+        ensures free { is_request item.kind ≡ false → IsOk result }
     {
         match item.kind {
             ItemKind::Request => self.take_request(alloc, conn, item),

@@ -1,5 +1,5 @@
 //! Items of the server.
-ghost use Rattle.std.specs.Prelude.{◌≡◌, None, IfOk, OnErr};
+ghost use Rattle.std.specs.Prelude.{◌≡◌, false, None, IsOk, IfOk, OnErr};
 ghost use Rattle.rtsp_head.specs.Items.{Shape};
 ghost use Rattle.rtsp_head.specs.Shapes.{shape_of};
 ghost use Rattle.gate_history.specs.Heard.{heard, replies};
@@ -22,12 +22,14 @@ impl Mux {
     ghost use Rattle.gateway_mux.specs.Acts.{Ends};
     ghost use Rattle.gateway_mux.specs.Answered.{IsAnswered};
     ghost use Rattle.gateway_mux.specs.Quiet.{Keeps};
+    ghost use Rattle.gateway_mux.specs.Free.{is_message};
 
     /// Takes an item of the server.
     pub(super) fn hear(&mut self, alloc: Global, item: &Item) -> Result<Outcome, Memory>
         requires { self.old.ended ≡ None }
         ensures ok { IfOk result (λ outcome. Commits self.old self.new (hears (shape_of item.now)) outcome) }
         ensures err { OnErr result (Keeps self.old self.new) }
+        ensures free { is_message item.now.kind ≡ false → IsOk result }
     {
         match hear(alloc, item)? {
             Heard::Reply(reply) => self.take_reply(alloc, &reply),

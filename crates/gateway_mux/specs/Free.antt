@@ -1,0 +1,26 @@
+-- Which events may need memory (this project's own).
+use Rattle.std.specs.Prelude.{Bool, true, false}
+use Rattle.rtsp_head.specs.declared.item.ItemKind.{ItemKind}
+use Rattle.rtsp_head.specs.declared.item.ItemKind.TheVariants.{Request, Response, Frame, Bad}
+use Rattle.gate_history.specs.declared.event.Event.{Event}
+use Rattle.gate_history.specs.declared.event.Event.TheVariants.{Client, Up, End}
+
+-- Whether an item is a request.
+abbrev pub is_request : ItemKind → Bool
+is_request Request = true
+is_request Response = false
+is_request Frame = false
+is_request (Bad kind) = false
+
+-- Whether an item has a message's head.
+abbrev pub is_message : ItemKind → Bool
+is_message Request = true
+is_message Response = true
+is_message Frame = false
+is_message (Bad kind) = false
+
+-- Whether an event may need memory: a request of a client, or a message of the server.
+abbrev pub needs_memory : Event → Bool
+needs_memory (Client conn item) = is_request item.kind
+needs_memory (Up item) = is_message item.kind
+needs_memory (End conn) = false
