@@ -1,3 +1,5 @@
+pub mod Ascii
 pub mod Numbers
+pub mod Outcomes
 pub mod Places
 pub mod Tokens

@@ -3,12 +3,14 @@ use Rattle.std.specs.Prelude.{ℕ, Bool, ◌==◌, ◌&&◌, ◌||◌, not, List
 use Rattle.std.specs.List.{list_all}
 use Rattle.std.specs.Char.{is_ascii_alphanumeric}
 use Rattle.std.specs.Str.{str_eq_ignore_ascii_case}
+use Rattle.gate_bytes.specs.Ascii.{tab, space, exclamation_mark, number_sign, dollar, percent_sign, ampersand, apostrophe, asterisk, plus_sign, hyphen, dot, caret, underscore, backtick, vertical_bar, tilde}
 
 -- a byte of a token that is neither a letter nor a digit: one of !#$%&'*+-.^_`|~ (RFC 7826, 20.1)
 abbrev pub is_token_mark : ℕ → Bool
 is_token_mark b =
-    b == 33 || b == 35 || b == 36 || b == 37 || b == 38 || b == 39 || b == 42 || b == 43
-    || b == 45 || b == 46 || b == 94 || b == 95 || b == 96 || b == 124 || b == 126
+    b == exclamation_mark || b == number_sign || b == dollar || b == percent_sign || b == ampersand || b == apostrophe
+    || b == asterisk || b == plus_sign || b == hyphen || b == dot || b == caret || b == underscore || b == backtick
+    || b == vertical_bar || b == tilde
 
 abbrev pub is_token_byte : ℕ → Bool
 is_token_byte b = is_ascii_alphanumeric b || is_token_mark b
@@ -19,7 +21,7 @@ is_token text = not (length text == 0) && list_all is_token_byte text
 
 -- a space or a tab
 abbrev pub is_blank : ℕ → Bool
-is_blank b = b == 32 || b == 9
+is_blank b = b == space || b == tab
 
 -- without the blanks at the front
 abbrev pub without_front : List ℕ → List ℕ

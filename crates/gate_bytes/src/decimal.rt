@@ -4,9 +4,13 @@ ghost use Rattle.gate_bytes.specs.Numbers.{number_in};
 
 use crate::{Memory, Text};
 
-/// The number that a text of 1 to `most` digits writes. Leading zeros are allowed.
+/// The most digits of a number that is read: every number of so many digits fits into 64 bits.
+pub const MOST_DIGITS: u32 = 19;
+
+/// The number that a text of 1 to `most` digits writes, at most [`MOST_DIGITS`]. Leading zeros are
+/// allowed.
 pub fn read_decimal(text: &[u8], most: u32) -> Option<u64>
-    requires { most ≤ 19 }
+    requires { most ≤ MOST_DIGITS }
     ensures { result ≡ number_in most text.now }
 {
     if text.is_empty() || text.len() > most as usize {

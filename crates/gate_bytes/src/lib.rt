@@ -11,7 +11,7 @@ mod place;
 mod text;
 mod token;
 
-pub use decimal::{push_decimal, read_decimal};
+pub use decimal::{MOST_DIGITS, push_decimal, read_decimal};
 pub use memory::Memory;
 pub use place::{after, before, find, split_once, up_to};
 pub use text::Text;
