@@ -1,4 +1,5 @@
 pub mod DigitLemmas
 pub mod EndLemmas
+pub mod FrontLemmas
 pub mod PartLemmas
 pub mod PlaceLemmas

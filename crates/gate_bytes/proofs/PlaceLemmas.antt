@@ -1,6 +1,7 @@
 -- The first place of a byte, by index and by recursion, and that it lies within its text.
-use Rattle.std.proofs.Common.{◌≡◌, ℕ, zero, suc, ◌+◌, ◌<◌, ◌==◌, Bool, true, false, cond, List, [], ◌∷◌, length, Option, None, Some, refl, sym, ◌∙◌, ap, arith, add-one}
+use Rattle.std.proofs.Common.{◌≡◌, ℕ, zero, suc, ◌+◌, ◌<◌, ◌==◌, ◌||◌, Bool, is_some, true, false, cond, List, [], ◌∷◌, length, Option, None, Some, refl, sym, ◌∙◌, ap, arith, add-one}
 use Rattle.std.specs.Option.{option_map}
+use Rattle.std.specs.List.{list_any}
 use Rattle.gate_bytes.specs.Places.{place_of}
 use Rattle.memchr.specs.Find.{IsFirstByte, is_byte}
 
@@ -41,3 +42,22 @@ place_within byte [] k h = cc
 place_within byte (b ∷ text) k h =
     let below : k < length text + 1 = place_later (b == byte) (place_of byte text) k (length text) h (place_within byte text) in
     omega arith
+
+-- A search finds something exactly where a byte passes its test.
+any_with : (test : ℕ → Bool) (b : ℕ) (text : List ℕ) (t : Bool) → test b ≡ t → (r : Option ℕ) → IsFirstByte test (b ∷ text) r
+    → ((s : Option ℕ) → IsFirstByte test text s → is_some s ≡ list_any test text) → is_some r ≡ t || list_any test text
+any_with test b text true e None h rest = absurd (h zero (omega arith) (omega arith) e)
+any_with test b text true e (Some k) h rest = refl
+any_with test b text false e None h rest = rest None (λ k low high p. h (suc k) (omega arith) (omega arith) p)
+any_with test b text false e (Some zero) h rest = let hit : test b ≡ true = h.1 in cc
+any_with test b text false e (Some (suc k)) h rest =
+    let below : k < length text = omega (arith, h.0.high) in
+    rest (Some k) (
+      record { low = omega arith; high = below; before = λ j low high p. h.0.before (suc j) (omega arith) (omega arith) p },
+      h.1,
+    )
+
+pub finds_any : (test : ℕ → Bool) (text : List ℕ) (r : Option ℕ) → IsFirstByte test text r → is_some r ≡ list_any test text
+finds_any test [] None h = refl
+finds_any test [] (Some k) h = absurd (omega (arith, h.0.high))
+finds_any test (b ∷ text) r h = any_with test b text (test b) refl r h (finds_any test text)

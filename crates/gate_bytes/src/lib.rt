@@ -13,7 +13,7 @@ mod token;
 
 pub use decimal::{MOST_DIGITS, push_decimal, read_decimal};
 pub use memory::Memory;
-pub use place::{after, before, find, split_once, up_to};
+pub use place::{after, before, find, holds_either, split_once, up_to};
 pub use text::Text;
 pub use token::{eq_fold, is_token, trim};
 

@@ -1,5 +1,6 @@
 //! Places of a byte, and the parts of a text round a place.
-ghost use Rattle.std.specs.Prelude.{◌≡◌, ◌<◌, ◌≤◌, length, take, drop, IfSome, option_map};
+ghost use Rattle.std.specs.Prelude.{◌≡◌, ◌<◌, ◌≤◌, ◌==◌, ◌||◌, length, take, drop, IfSome, option_map};
+ghost use Rattle.std.specs.List.{list_any};
 ghost use Rattle.gate_bytes.specs.Places.{place_of, cut_at, up_to};
 
 /// The first place of a byte in a text.
@@ -8,6 +9,13 @@ pub fn find(byte: u8, text: &[u8]) -> Option<usize>
     ensures within { IfSome result (λ at. at < length text.now) }
 {
     memchr::memchr(byte, text)
+}
+
+/// Whether a text holds one of two bytes.
+pub fn holds_either(one: u8, other: u8, text: &[u8]) -> bool
+    ensures { result ≡ list_any (λ b. b == one || b == other) text.now }
+{
+    memchr::memchr2(one, other, text).is_some()
 }
 
 /// What stands before a place.

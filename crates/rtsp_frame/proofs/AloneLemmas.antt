@@ -3,7 +3,7 @@ use Rattle.std.proofs.Common.{◌≡◌, ℕ, zero, suc, ◌+◌, ◌<◌, ◌�
 use Rattle.std.specs.Option.{option_map}
 use Rattle.std.proofs.lemmas.List.{take_all, take-take, length-take-le, length-take, get_or-take}
 use Rattle.std.proofs.lemmas.Bool.{eqb-true, eqb-false, ltb-false, le-ltb, cases_lt}
-use Rattle.rtsp_head.specs.Items.{begins_with_lf, begins_blank, blank_lines, head_from, head_len, most_head, most_body, bad_span, when_whole, body_span, judged_span, headed_span, message_span, frame_span, span_of, first_extent, message_kind, bad_kind}
+use Rattle.rtsp_head.specs.Items.{begins_with_lf, begins_blank, blank_lines, head_from, head_len, bad_span, when_whole, body_span, judged_span, headed_span, message_span, frame_span, span_of, first_extent, message_kind, bad_kind}
 use Rattle.rtsp_head.specs.Heads.{facts_of}
 use Rattle.rtsp_head.specs.declared.facts.Facts.{Facts}
 use Rattle.rtsp_head.specs.declared.facts.Length.{Length}
@@ -15,6 +15,7 @@ use Rattle.rtsp_head.specs.declared.item.Span.{Span}
 use Rattle.rtsp_head.specs.declared.item.Extent.{Extent}
 use Rattle.rtsp_frame.proofs.HeadLemmas.{head_from_fits}
 use Rattle.rtsp_frame.proofs.LineLemmas.{blank_ends}
+use Rattle.rtsp_head.specs.declared.item.TheConstants.{MOST_BODY, MOST_HEAD}
 use Rattle.rtsp_frame.proofs.ExtentLemmas.{when_whole_some, when_whole_from, not_below, unless_below, frame_of, span_is, extent_at, behind_blank, extent_parts, span_from_dollar, span_from_other}
 
 -- Heads
@@ -73,7 +74,7 @@ either_alone false n come span s at le f h = f h
 body_alone : (kind : ItemKind) (come n : ℕ) (len : Length) (s : Span) → body_span kind come n len ≡ Some s → Alone n (λ k. body_span kind k n len) s
 body_alone kind come n lengths.Absent s h = whole_alone come n _ s (omega arith) h
 body_alone kind come n (lengths.Bytes body) s h =
-    either_alone (ltb most_body body) n come (bad_span bad.Body n) s
+    either_alone (ltb MOST_BODY body) n come (bad_span bad.Body n) s
     (λ k. when_whole k (record { kind = kind; len = n + body; head = n })) (omega arith)
     (whole_alone come n (record { kind = kind; len = n + body; head = n }) s (omega arith)) h
 body_alone kind come n lengths.Bad s h = (some_alone n (bad_span bad.Length n) s (omega arith) h, h)
@@ -82,18 +83,18 @@ judged_alone : (come n : ℕ) (facts : Result Facts HeadFault) (s : Span) → ju
 judged_alone come n (Ok facts) s h = body_alone (message_kind facts.request) come n facts.length s h
 judged_alone come n (Err fault) s h = (some_alone n (bad_span (bad_kind fault) n) s (omega arith) h, h)
 
-headed_alone : (xs : List ℕ) (o : Option ℕ) (s : Span) → s.len ≤ length xs → head_len (take most_head xs) ≡ o → headed_span xs o ≡ Some s → message_span (take s.len xs) ≡ Some s
+headed_alone : (xs : List ℕ) (o : Option ℕ) (s : Span) → s.len ≤ length xs → head_len (take MOST_HEAD xs) ≡ o → headed_span xs o ≡ Some s → message_span (take s.len xs) ≡ Some s
 headed_alone xs None s fits at h =
-    let parts = unless_below (ltb (length xs) most_head) (bad_span bad.Head most_head) s h in
-    let enough = ltb-false (length xs) most_head parts.0 in
-    let none : head_len (take most_head (take most_head xs)) ≡ None = ap head_len (take-take most_head most_head xs (omega arith)) ∙ at in
-    let come : length (take most_head xs) ≡ most_head = length-take-le most_head xs enough in
+    let parts = unless_below (ltb (length xs) MOST_HEAD) (bad_span bad.Head MOST_HEAD) s h in
+    let enough = ltb-false (length xs) MOST_HEAD parts.0 in
+    let none : head_len (take MOST_HEAD (take MOST_HEAD xs)) ≡ None = ap head_len (take-take MOST_HEAD MOST_HEAD xs (omega arith)) ∙ at in
+    let come : length (take MOST_HEAD xs) ≡ MOST_HEAD = length-take-le MOST_HEAD xs enough in
     subst (λ (x : Span). message_span (take x.len xs) ≡ Some x) parts.1
-    (ap (headed_span (take most_head xs)) none
-    ∙ ap (λ (b : Bool). cond b None (Some (bad_span bad.Head most_head))) (le-ltb (length (take most_head xs)) most_head (omega arith)))
+    (ap (headed_span (take MOST_HEAD xs)) none
+    ∙ ap (λ (b : Bool). cond b None (Some (bad_span bad.Head MOST_HEAD))) (le-ltb (length (take MOST_HEAD xs)) MOST_HEAD (omega arith)))
 headed_alone xs (Some n) s fits at h =
     let alone = judged_alone (length xs) n (facts_of (take n xs)) s h in
-    ap (headed_span (take s.len xs)) (head_len_front most_head xs n s.len at alone.0)
+    ap (headed_span (take s.len xs)) (head_len_front MOST_HEAD xs n s.len at alone.0)
     ∙ ap (λ (come : ℕ). judged_span come n (facts_of (take n (take s.len xs)))) (length-take-le s.len xs fits)
     ∙ ap (λ (head : List ℕ). judged_span s.len n (facts_of head)) (take-take n s.len xs alone.0)
     ∙ alone.1
@@ -135,7 +136,7 @@ span_alone (b ∷ xs) s h =
     span_from_dollar (take s.len (b ∷ xs)) pos (first ∙ eqb-true b 36 dollar) ∙ frame_alone (b ∷ xs) s fits at)
     (λ other at.
     span_from_other (take s.len (b ∷ xs)) pos (λ e. eqb-false b 36 other (sym first ∙ e))
-    ∙ headed_alone (b ∷ xs) (head_len (take most_head (b ∷ xs))) s fits refl at) h
+    ∙ headed_alone (b ∷ xs) (head_len (take MOST_HEAD (b ∷ xs))) s fits refl at) h
 
 -- Empty lines
 

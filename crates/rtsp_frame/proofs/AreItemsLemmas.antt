@@ -2,7 +2,7 @@
 use Rattle.std.proofs.Common.{◌≡◌, ℕ, zero, suc, ◌+◌, ◌≤◌, Bool, true, false, List, [], ◌∷◌, ◌++◌, length, take, drop, Option, Some, None, refl, sym, ap, ◌∙◌, subst, arith, take-append-drop}
 use Rattle.std.proofs.lemmas.List.{append-nil, take_all, nil_from_length}
 use Rattle.rtsp_head.specs.Items.{Shape, Cut, shape_at, first_extent, is_bad, behind, cut_with, cut, items_of}
-use Rattle.rtsp_head.specs.Spellings.{Spells, NoneBegins, Follows, AreItems, IsItem}
+use Rattle.rtsp_head.specs.Spellings.{Spells, NoneBegins, EndsAtBad, AreItems, IsItem}
 use Rattle.rtsp_head.specs.declared.item.ItemKind.{ItemKind}
 use Rattle.rtsp_head.specs.declared.item.Extent.{Extent}
 use Rattle.rtsp_frame.proofs.CutLemmas.{cut_step, left_shorter}
@@ -21,11 +21,11 @@ none_spelled stream none = λ front rest item h split.
     let never : None ≡ Some (stands_first stream front rest item split h).extent = sym none ∙ found in
     cc never
 
-follow_items : (bad : Bool) (item : Shape) (items : List Shape) (rest : Cut) → Follows bad items (items ≡ rest.items) → item ∷ items ≡ (behind bad item rest).items
+follow_items : (bad : Bool) (item : Shape) (items : List Shape) (rest : Cut) → EndsAtBad bad items (items ≡ rest.items) → item ∷ items ≡ (behind bad item rest).items
 follow_items true item items rest h = ap (λ (l : List Shape). item ∷ l) h
 follow_items false item items rest h = ap (λ (l : List Shape). item ∷ l) h
 
-follow_map : (bad : Bool) (items : List Shape) (P Q : Type 0) → (P → Q) → Follows bad items P → Follows bad items Q
+follow_map : (bad : Bool) (items : List Shape) (P Q : Type 0) → (P → Q) → EndsAtBad bad items P → EndsAtBad bad items Q
 follow_map true items P Q f h = h
 follow_map false items P Q f h = f h
 
@@ -61,14 +61,14 @@ behind_items stream e true kind at more = record {
   rest = drop (e.skipped + e.span.len) stream;
   split = sym (take-append-drop (e.skipped + e.span.len) stream);
   spelled = first_spelled stream e at;
-  later = subst (λ (b : Bool). Follows b [] (AreItems (drop (e.skipped + e.span.len) stream) [])) (sym kind) refl;
+  later = subst (λ (b : Bool). EndsAtBad b [] (AreItems (drop (e.skipped + e.span.len) stream) [])) (sym kind) refl;
 }
 behind_items stream e false kind at more = record {
   front = take (e.skipped + e.span.len) stream;
   rest = drop (e.skipped + e.span.len) stream;
   split = sym (take-append-drop (e.skipped + e.span.len) stream);
   spelled = first_spelled stream e at;
-  later = subst (λ (b : Bool). Follows b (items_of (drop (e.skipped + e.span.len) stream)) (AreItems (drop (e.skipped + e.span.len) stream) (items_of (drop (e.skipped + e.span.len) stream)))) (sym kind) more;
+  later = subst (λ (b : Bool). EndsAtBad b (items_of (drop (e.skipped + e.span.len) stream)) (AreItems (drop (e.skipped + e.span.len) stream) (items_of (drop (e.skipped + e.span.len) stream)))) (sym kind) more;
 }
 
 turn_items : (stream : List ℕ) (o : Option Extent) → first_extent stream ≡ o → ((e : Extent) → first_extent stream ≡ Some e → AreItems (drop (e.skipped + e.span.len) stream) (items_of (drop (e.skipped + e.span.len) stream))) → AreItems stream (cut_with o stream cut).items

@@ -3,7 +3,7 @@ use Rattle.std.proofs.Common.{◌≡◌, ℕ, ◌+◌, ◌*◌, ◌<◌, ◌≤�
 use Rattle.std.specs.Option.{option_map}
 use Rattle.std.proofs.lemmas.List.{nil_from_length, take-append-le, drop-append-le, length-append, length-take, length-drop, get_or_append_left}
 use Rattle.std.proofs.lemmas.Bool.{eqb-true, eq-eqb, ne_eqb, ltb-false, le-ltb, cases_Bool}
-use Rattle.rtsp_head.specs.Items.{blank_lines, head_len, most_head, most_body, bad_span, when_whole, body_span, judged_span, headed_span, message_span, frame_span, span_of, first_extent, message_kind, bad_kind}
+use Rattle.rtsp_head.specs.Items.{blank_lines, head_len, bad_span, when_whole, body_span, judged_span, headed_span, message_span, frame_span, span_of, first_extent, message_kind, bad_kind}
 use Rattle.rtsp_head.specs.Heads.{facts_of}
 use Rattle.rtsp_head.specs.declared.facts.Facts.{Facts}
 use Rattle.rtsp_head.specs.declared.facts.Length.{Length}
@@ -14,6 +14,7 @@ use Rattle.rtsp_head.specs.declared.item.BadKind.TheVariants as bad
 use Rattle.rtsp_head.specs.declared.item.ItemKind.TheVariants as kinds
 use Rattle.rtsp_head.specs.declared.item.Span.{Span}
 use Rattle.rtsp_head.specs.declared.item.Extent.{Extent}
+use Rattle.rtsp_head.specs.declared.item.TheConstants.{MOST_BODY, MOST_HEAD}
 use Rattle.rtsp_frame.proofs.HeadLemmas.{head_within_more, head_from_fits, decided, blank_lines_more, blank_lines_fit}
 
 -- whether the span is s, and has a byte and no more than have come
@@ -60,7 +61,7 @@ choose_more false o p q s f h = f h
 body_more : (kind : ItemKind) (come more n : ℕ) (len : Length) (s : Span) → come ≤ more → body_span kind come n len ≡ Some s → body_span kind more n len ≡ Some s
 body_more kind come more n lengths.Absent s le h = when_whole_more come more _ s le h
 body_more kind come more n (lengths.Bytes body) s le h =
-    choose_more (ltb most_body body) _ _ _ s (when_whole_more come more _ s le) h
+    choose_more (ltb MOST_BODY body) _ _ _ s (when_whole_more come more _ s le) h
 body_more kind come more n lengths.Bad s le h = h
 
 judged_more : (come more n : ℕ) (facts : Result Facts HeadFault) (s : Span) → come ≤ more → judged_span come n facts ≡ Some s → judged_span more n facts ≡ Some s
@@ -74,7 +75,7 @@ choose_is false come o p s f g h = g h
 body_is : (kind : ItemKind) (come n : ℕ) (len : Length) (s : Span) → 0 < n → n ≤ come → body_span kind come n len ≡ Some s → IsSpan come s
 body_is kind come n lengths.Absent s pos le h = when_whole_is come _ s pos h
 body_is kind come n (lengths.Bytes body) s pos le h =
-    choose_is (ltb most_body body) come _ _ s
+    choose_is (ltb MOST_BODY body) come _ _ s
     (some_is come (bad_span bad.Body n) s (record { not_empty = pos; fits = le }))
     (when_whole_is come (record { kind = kind; len = n + body; head = n }) s (omega arith)) h
 body_is kind come n lengths.Bad s pos le h = some_is come (bad_span bad.Length n) s (record { not_empty = pos; fits = le }) h
@@ -89,30 +90,30 @@ longer xs ys = omega (arith, length-append xs ys)
 pub within : (most : ℕ) (xs : List ℕ) (n : ℕ) → n ≤ length (take most xs) → n ≤ length xs
 within most xs n h = omega (arith, length-take most xs)
 
-headed_more : (xs ys : List ℕ) (o : Option ℕ) (s : Span) → head_len (take most_head xs) ≡ o → headed_span xs o ≡ Some s → message_span (xs ++ ys) ≡ Some s
+headed_more : (xs ys : List ℕ) (o : Option ℕ) (s : Span) → head_len (take MOST_HEAD xs) ≡ o → headed_span xs o ≡ Some s → message_span (xs ++ ys) ≡ Some s
 headed_more xs ys None s at h =
-    let parts = unless_below (ltb (length xs) most_head) (bad_span bad.Head most_head) s h in
-    let le = ltb-false (length xs) most_head parts.0 in
-    let none : head_len (take most_head (xs ++ ys)) ≡ None = ap head_len (take-append-le most_head xs ys le) ∙ at in
-    let le_more : most_head ≤ length (xs ++ ys) = omega (arith, length-append xs ys, le) in
+    let parts = unless_below (ltb (length xs) MOST_HEAD) (bad_span bad.Head MOST_HEAD) s h in
+    let le = ltb-false (length xs) MOST_HEAD parts.0 in
+    let none : head_len (take MOST_HEAD (xs ++ ys)) ≡ None = ap head_len (take-append-le MOST_HEAD xs ys le) ∙ at in
+    let le_more : MOST_HEAD ≤ length (xs ++ ys) = omega (arith, length-append xs ys, le) in
     subst (λ (o : Option ℕ). headed_span (xs ++ ys) o ≡ Some s) (sym none)
-    (ap (λ (b : Bool). cond b None (Some (bad_span bad.Head most_head))) (le-ltb (length (xs ++ ys)) most_head le_more) ∙ ap (λ (x : Span). Some x) parts.1)
+    (ap (λ (b : Bool). cond b None (Some (bad_span bad.Head MOST_HEAD))) (le-ltb (length (xs ++ ys)) MOST_HEAD le_more) ∙ ap (λ (x : Span). Some x) parts.1)
 headed_more xs ys (Some n) s at h =
-    let some = head_within_more most_head xs ys n at in
-    let fits = head_from_fits (take most_head xs) true n at in
-    let same = take-append-le n xs ys (within most_head xs n fits.1) in
+    let some = head_within_more MOST_HEAD xs ys n at in
+    let fits = head_from_fits (take MOST_HEAD xs) true n at in
+    let same = take-append-le n xs ys (within MOST_HEAD xs n fits.1) in
     subst (λ (o : Option ℕ). headed_span (xs ++ ys) o ≡ Some s) (sym some)
     (subst (λ (head : List ℕ). judged_span (length (xs ++ ys)) n (facts_of head) ≡ Some s) (sym same)
     (judged_more (length xs) (length (xs ++ ys)) n (facts_of (take n xs)) s (longer xs ys) h))
 
-headed_is : (xs : List ℕ) (o : Option ℕ) (s : Span) → head_len (take most_head xs) ≡ o → headed_span xs o ≡ Some s → IsSpan (length xs) s
+headed_is : (xs : List ℕ) (o : Option ℕ) (s : Span) → head_len (take MOST_HEAD xs) ≡ o → headed_span xs o ≡ Some s → IsSpan (length xs) s
 headed_is xs None s at h =
-    let parts = unless_below (ltb (length xs) most_head) (bad_span bad.Head most_head) s h in
-    let le = ltb-false (length xs) most_head parts.0 in
+    let parts = unless_below (ltb (length xs) MOST_HEAD) (bad_span bad.Head MOST_HEAD) s h in
+    let le = ltb-false (length xs) MOST_HEAD parts.0 in
     subst (λ (x : Span). IsSpan (length xs) x) parts.1 (record { not_empty = omega arith; fits = le })
 headed_is xs (Some n) s at h =
-    let fits = head_from_fits (take most_head xs) true n at in
-    judged_is (length xs) n (facts_of (take n xs)) s fits.0 (within most_head xs n fits.1) h
+    let fits = head_from_fits (take MOST_HEAD xs) true n at in
+    judged_is (length xs) n (facts_of (take n xs)) s fits.0 (within MOST_HEAD xs n fits.1) h
 
 -- A frame
 
@@ -149,7 +150,7 @@ span_more [] ys s h = cc
 span_more (b ∷ xs) ys s h =
     either_more (eqb b 36) _ _ _ _ s
     (frame_more (b ∷ xs) ys s)
-    (headed_more (b ∷ xs) ys (head_len (take most_head (b ∷ xs))) s refl) h
+    (headed_more (b ∷ xs) ys (head_len (take MOST_HEAD (b ∷ xs))) s refl) h
 
 -- it has a byte, and its bytes have come
 pub span_is : (xs : List ℕ) (s : Span) → span_of xs ≡ Some s → IsSpan (length xs) s
@@ -157,7 +158,7 @@ span_is [] s h = cc
 span_is (b ∷ xs) s h =
     choose_is (eqb b 36) (length (b ∷ xs)) _ _ s
     (frame_is (b ∷ xs) s)
-    (headed_is (b ∷ xs) (head_len (take most_head (b ∷ xs))) s refl) h
+    (headed_is (b ∷ xs) (head_len (take MOST_HEAD (b ∷ xs))) s refl) h
 
 -- a lone CR is no item
 lone_cr : span_of (13 ∷ []) ≡ None
@@ -232,7 +233,7 @@ span_from_other (b ∷ xs) pos other = ap (λ (t : Bool). cond t (frame_span (b 
 pub span_from_nothing : (xs : List ℕ) → length xs ≡ 0 → span_of xs ≡ None
 span_from_nothing xs none = ap span_of (nil_from_length xs none)
 
-pub head_within : (xs : List ℕ) (n : ℕ) → head_len (take most_head xs) ≡ Some n → (n ≤ length xs) × (n ≤ most_head)
+pub head_within : (xs : List ℕ) (n : ℕ) → head_len (take MOST_HEAD xs) ≡ Some n → (n ≤ length xs) × (n ≤ MOST_HEAD)
 head_within xs n h =
-    let fits = head_from_fits (take most_head xs) true n h in
-    (within most_head xs n fits.1, omega (arith, length-take most_head xs))
+    let fits = head_from_fits (take MOST_HEAD xs) true n h in
+    (within MOST_HEAD xs n fits.1, omega (arith, length-take MOST_HEAD xs))

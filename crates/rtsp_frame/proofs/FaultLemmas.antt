@@ -9,7 +9,7 @@ use Rattle.rtsp_head.specs.declared.fault.HeadFault.{HeadFault}
 use Rattle.rtsp_head.specs.declared.fault.HeadFault.TheVariants as faults
 use Rattle.rtsp_head.specs.Lines.{and_then, result_map, has_control, head_lines}
 use Rattle.rtsp_head.specs.Starts.{start_of, status_of, request_of, names_protocol}
-use Rattle.rtsp_head.specs.Headers.{SoFar, Further, More, Begins, header_from, header_of, goes_on, continued, headers_in, further_of, with_further, with_line, after_lines, no_headers, headers_of}
+use Rattle.rtsp_head.specs.Headers.{header_limit, SoFar, Further, More, Begins, header_from, header_of, goes_on, continued, headers_in, further_of, with_further, with_line, after_lines, no_headers, headers_of}
 use Rattle.rtsp_head.specs.Heads.{head_of_lines, head_of, facts, facts_of}
 
 pub record NoMemory {A : Type 0} (r : Result A HeadFault) : Type 0 where
@@ -58,22 +58,22 @@ continued_takes : (so_far : SoFar) (text : List ℕ) (last : Option Header) → 
 continued_takes so_far text None = record { never = λ h. cc }
 continued_takes so_far text (Some header) = ok_takes _
 
-with_takes : (so_far : SoFar) (further : Further) → NoMemory (with_further so_far further)
+with_takes : (so_far : SoFar) (further : Further) → NoMemory (with_further header_limit so_far further)
 with_takes so_far (More text) = continued_takes so_far text so_far.last
 with_takes so_far (Begins header) =
     choice_takes (ltb (length (headers_in so_far)) 64) (Ok (record { above = headers_in so_far; last = Some header })) (Err faults.Many) (ok_takes _) (record { never = λ h. cc })
 
-after_takes : (so_far : SoFar) (lines : List (List ℕ)) → NoMemory (after_lines so_far lines)
+after_takes : (so_far : SoFar) (lines : List (List ℕ)) → NoMemory (after_lines header_limit so_far lines)
 after_takes so_far [] = ok_takes so_far
 after_takes so_far (line ∷ lines) =
-    then_takes (λ next. after_lines next lines) (with_line so_far line) (λ next. after_takes next lines)
-    (then_takes (with_further so_far) (further_of line) (with_takes so_far) (further_takes line))
+    then_takes (λ next. after_lines header_limit next lines) (with_line header_limit so_far line) (λ next. after_takes next lines)
+    (then_takes (with_further header_limit so_far) (further_of line) (with_takes so_far) (further_takes line))
 
-lines_take : (lines : List (List ℕ)) → NoMemory (head_of_lines lines)
+lines_take : (lines : List (List ℕ)) → NoMemory (head_of_lines header_limit lines)
 lines_take [] = record { never = λ h. cc }
 lines_take (line ∷ lines) =
-    then_takes (λ start. result_map (λ headers. record { start = start; headers = headers }) (headers_of lines)) (start_of line)
-    (λ start. map_takes (λ headers. record { start = start; headers = headers }) (headers_of lines) (map_takes headers_in (after_lines no_headers lines) (after_takes no_headers lines)))
+    then_takes (λ start. result_map (λ headers. record { start = start; headers = headers }) (headers_of header_limit lines)) (start_of line)
+    (λ start. map_takes (λ headers. record { start = start; headers = headers }) (headers_of header_limit lines) (map_takes headers_in (after_lines header_limit no_headers lines) (after_takes no_headers lines)))
     (start_takes line)
 
 pub facts_take_no_memory : (bytes : List ℕ) → facts_of bytes ≡ Err faults.Memory → ⊥

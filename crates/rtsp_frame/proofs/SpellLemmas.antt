@@ -3,7 +3,7 @@ use Rattle.std.proofs.Common.{◌≡◌, ℕ, zero, suc, ◌+◌, ◌*◌, ◌�
 use Rattle.std.proofs.lemmas.List.{append-nil, take-take, length-take-le, length-drop}
 use Rattle.std.proofs.lemmas.Bool.{eqb-true, ltb-true, ltb-false, cases_Bool, or_cases, and_parts}
 use Rattle.rtsp_head.specs.Heads.{facts_of}
-use Rattle.rtsp_head.specs.Items.{begins_blank, blank_lines, head_len, most_head, most_body, bad_span, when_whole, body_span, judged_span, headed_span, message_span, frame_span, span_of, first_extent, message_kind, bad_kind, shape_at}
+use Rattle.rtsp_head.specs.Items.{begins_blank, blank_lines, head_len, bad_span, when_whole, body_span, judged_span, headed_span, message_span, frame_span, span_of, first_extent, message_kind, bad_kind, shape_at}
 use Rattle.rtsp_head.specs.Spellings.{AreEmptyLines, begins_frame, BeginsMessage, EndsEmpty, IsHead, IsMessage, IsBad, IsItem, Spells}
 use Rattle.rtsp_head.specs.declared.facts.Facts.{Facts}
 use Rattle.rtsp_head.specs.declared.facts.Length.{Length}
@@ -17,6 +17,7 @@ use Rattle.rtsp_head.specs.declared.item.Extent.{Extent}
 use Rattle.rtsp_frame.proofs.AloneLemmas.{none_behind, none_in_front, either_is}
 use Rattle.rtsp_frame.proofs.EndLemmas.{ends_found, none_endless, take_sum}
 use Rattle.rtsp_frame.proofs.FaultLemmas.{facts_take_no_memory}
+use Rattle.rtsp_head.specs.declared.item.TheConstants.{MOST_BODY, MOST_HEAD}
 use Rattle.rtsp_frame.proofs.ExtentLemmas.{not_below, unless_below, when_whole_some, head_within, frame_of, behind_blank, extent_parts}
 
 -- Empty lines
@@ -139,9 +140,9 @@ module _ (bytes : List ℕ) (n : ℕ) (come : n ≤ length bytes) (is_head : IsH
         whole = refl;
       }))
   body_found request (lengths.Bytes named) s sound h =
-      either_is (ltb most_body named) (Some (bad_span bad.Body n)) (when_whole (length bytes) (record { kind = message_kind request; len = n + named; head = n })) s (IsFound bytes s)
+      either_is (ltb MOST_BODY named) (Some (bad_span bad.Body n)) (when_whole (length bytes) (record { kind = message_kind request; len = n + named; head = n })) s (IsFound bytes s)
       (λ more e.
-      bad_found bad.Body s (record { request = request; named = named; is_head = is_head; sound = sound; too_much = ltb-true most_body named more }) e)
+      bad_found bad.Body s (record { request = request; named = named; is_head = is_head; sound = sound; too_much = ltb-true MOST_BODY named more }) e)
       (λ few e.
       let whole = when_whole_some (length bytes) (record { kind = message_kind request; len = n + named; head = n }) s e in
       let fits : named ≤ length (drop n bytes) = omega (arith, whole.0, length-drop n bytes) in
@@ -155,7 +156,7 @@ module _ (bytes : List ℕ) (n : ℕ) (come : n ≤ length bytes) (is_head : IsH
         is_head = is_head;
         counted = head_counted;
         sound = sound;
-        whole = (counted, ltb-false most_body named few);
+        whole = (counted, ltb-false MOST_BODY named few);
       }))) h
   body_found request lengths.Bad s sound h =
       bad_found bad.Length s (record { request = request; is_head = is_head; sound = sound }) h
@@ -175,17 +176,17 @@ begins_in_front n xs h = record {
   no_empty_line = none_in_front n xs h.no_empty_line;
 }
 
-headed_found : (bytes : List ℕ) (o : Option ℕ) (s : Span) → BeginsMessage bytes → head_len (take most_head bytes) ≡ o → headed_span bytes o ≡ Some s → IsFound bytes s
+headed_found : (bytes : List ℕ) (o : Option ℕ) (s : Span) → BeginsMessage bytes → head_len (take MOST_HEAD bytes) ≡ o → headed_span bytes o ≡ Some s → IsFound bytes s
 headed_found bytes None s begins at h =
-    let parts = unless_below (ltb (length bytes) most_head) (bad_span bad.Head most_head) s h in
-    let full = length-take-le most_head bytes (ltb-false (length bytes) most_head parts.0) in
+    let parts = unless_below (ltb (length bytes) MOST_HEAD) (bad_span bad.Head MOST_HEAD) s h in
+    let full = length-take-le MOST_HEAD bytes (ltb-false (length bytes) MOST_HEAD parts.0) in
     subst (λ (x : Span). IsFound bytes x) parts.1
-    (record { begins = begins_in_front most_head bytes begins; endless = λ front rest. none_endless (take most_head bytes) front rest at; full = full }, sym full)
+    (record { begins = begins_in_front MOST_HEAD bytes begins; endless = λ front rest. none_endless (take MOST_HEAD bytes) front rest at; full = full }, sym full)
 headed_found bytes (Some n) s begins at h =
     let fits = head_within bytes n at in
     let counted : n ≡ length (take n bytes) = sym (length-take-le n bytes fits.0) in
     let ends : EndsEmpty (take n bytes) =
-    subst (λ (l : List ℕ). EndsEmpty l) (take-take n most_head bytes fits.1) (ends_found (take most_head bytes) n at) in
+    subst (λ (l : List ℕ). EndsEmpty l) (take-take n MOST_HEAD bytes fits.1) (ends_found (take MOST_HEAD bytes) n at) in
     judged_found bytes n fits.0
     (record {
       begins = begins_in_front n bytes begins;
@@ -200,7 +201,7 @@ span_found (b ∷ bytes) s blank h =
     either_is (eqb b 36) (frame_span (b ∷ bytes)) (message_span (b ∷ bytes)) s (IsFound (b ∷ bytes) s)
     (λ dollar at. frame_found (b ∷ bytes) s dollar at)
     (λ other at.
-    headed_found (b ∷ bytes) (head_len (take most_head (b ∷ bytes))) s (record { no_frame = other; no_empty_line = blank }) refl at) h
+    headed_found (b ∷ bytes) (head_len (take MOST_HEAD (b ∷ bytes))) s (record { no_frame = other; no_empty_line = blank }) refl at) h
 
 -- The first item of a stream is spelled at its front.
 pub first_spelled : (stream : List ℕ) (e : Extent) → first_extent stream ≡ Some e → Spells (take (e.skipped + e.span.len) stream) (shape_at stream e)

@@ -5,7 +5,7 @@ use Rattle.std.specs.Option.{option_map}
 use Rattle.std.proofs.lemmas.List.{append-nil, take_all, take_at, drop_at, length-append}
 use Rattle.std.proofs.lemmas.Bool.{le-ltb, lt-ltb}
 use Rattle.rtsp_head.specs.Heads.{facts_of}
-use Rattle.rtsp_head.specs.Items.{Shape, begins_with_lf, begins_blank, blank_lines, head_len, most_head, most_body, bad_span, when_whole, body_span, judged_span, headed_span, message_span, frame_span, span_of, first_extent, message_kind, bad_kind, shape_at}
+use Rattle.rtsp_head.specs.Items.{Shape, begins_with_lf, begins_blank, blank_lines, head_len, bad_span, when_whole, body_span, judged_span, headed_span, message_span, frame_span, span_of, first_extent, message_kind, bad_kind, shape_at}
 use Rattle.rtsp_head.specs.Spellings.{empty_line, AreEmptyLines, IsFrame, begins_frame, EndsEmpty, IsHead, HasLength, IsMessage, IsEndless, HasFault, IsBad, IsItem, Spells}
 use Rattle.rtsp_head.specs.declared.facts.Length.{Length}
 use Rattle.rtsp_head.specs.declared.facts.Length.TheVariants as lengths
@@ -20,6 +20,7 @@ use Rattle.rtsp_head.specs.declared.item.Extent.{Extent}
 use Rattle.rtsp_frame.proofs.HeadLemmas.{head_within_more, head_from_fits, decided}
 use Rattle.rtsp_frame.proofs.LineLemmas.{blank_ends}
 use Rattle.rtsp_frame.proofs.EndLemmas.{ends_len, endless_none}
+use Rattle.rtsp_head.specs.declared.item.TheConstants.{MOST_BODY, MOST_HEAD}
 use Rattle.rtsp_frame.proofs.ExtentLemmas.{when_whole_from, frame_of, first_more, extent_at, extent_parts}
 
 -- the extent of an item that is all of the bytes
@@ -88,8 +89,8 @@ head_read : (head body : List ℕ) (s : Span) → IsHead head → judged_span (l
 head_read head body s h judged =
     let ends = head_ends_at head h.ends in
     let pos : 0 < length head = (head_from_fits head true (length head) ends).0 in
-    let found : head_len (take most_head (head ++ body)) ≡ Some (length head) =
-    head_within_more most_head head body (length head) (ap head_len (take_all most_head head h.fits) ∙ ends) in
+    let found : head_len (take MOST_HEAD (head ++ body)) ≡ Some (length head) =
+    head_within_more MOST_HEAD head body (length head) (ap head_len (take_all MOST_HEAD head h.fits) ∙ ends) in
     message_read (head ++ body) s
     (begins_more head body (head_decided head h.begins.no_empty_line ends) h.begins.no_empty_line)
     (frame_front head body pos ∙ h.begins.no_frame)
@@ -111,7 +112,7 @@ body_read kind lengths.Absent come n body e h =
     ∙ ap (λ (k : ℕ). Some (record { kind = kind; len = k; head = n })) (sym same)
 body_read kind (lengths.Bytes named) come n body e h =
     let same : come ≡ n + named = omega (arith, h.0) in
-    ap (λ (b : Bool). cond b (Some (bad_span bad.Body n)) (when_whole come (record { kind = kind; len = n + named; head = n }))) (le-ltb most_body named h.1)
+    ap (λ (b : Bool). cond b (Some (bad_span bad.Body n)) (when_whole come (record { kind = kind; len = n + named; head = n }))) (le-ltb MOST_BODY named h.1)
     ∙ when_whole_from come (record { kind = kind; len = n + named; head = n }) (omega arith)
     ∙ ap (λ (k : ℕ). Some (record { kind = kind; len = k; head = n })) (sym same)
 body_read kind lengths.Bad come n body e h = absurd h
@@ -132,10 +133,10 @@ fault_read fault bytes h =
 
 endless_read : (bytes : List ℕ) → IsEndless bytes → first_extent bytes ≡ Some (all_of (Bad bad.Head) bytes (length bytes))
 endless_read bytes h =
-    let none : head_len (take most_head bytes) ≡ None = ap head_len (take_all most_head bytes (omega (arith, h.full))) ∙ endless_none bytes h.endless in
+    let none : head_len (take MOST_HEAD bytes) ≡ None = ap head_len (take_all MOST_HEAD bytes (omega (arith, h.full))) ∙ endless_none bytes h.endless in
     message_read bytes (bad_span bad.Head (length bytes)) h.begins.no_empty_line h.begins.no_frame (omega (arith, h.full))
     (ap (headed_span bytes) none
-    ∙ ap (λ (b : Bool). cond b None (Some (bad_span bad.Head most_head))) (le-ltb (length bytes) most_head (omega (arith, h.full)))
+    ∙ ap (λ (b : Bool). cond b None (Some (bad_span bad.Head MOST_HEAD))) (le-ltb (length bytes) MOST_HEAD (omega (arith, h.full)))
     ∙ ap (λ (k : ℕ). Some (bad_span bad.Head k)) (sym h.full))
 
 bad_read : (kind : BadKind) (bytes : List ℕ) → IsBad kind bytes → first_extent bytes ≡ Some (all_of (Bad kind) bytes (length bytes))
@@ -150,7 +151,7 @@ bad_read bad.Length bytes h =
 bad_read bad.Body bytes h =
     head_alone bytes (bad_span bad.Body (length bytes)) h.is_head
     (ap (judged_span (length bytes) (length bytes)) h.sound
-    ∙ ap (λ (b : Bool). cond b (Some (bad_span bad.Body (length bytes))) (when_whole (length bytes) (record { kind = message_kind h.request; len = length bytes + h.named; head = length bytes }))) (lt-ltb most_body h.named h.too_much))
+    ∙ ap (λ (b : Bool). cond b (Some (bad_span bad.Body (length bytes))) (when_whole (length bytes) (record { kind = message_kind h.request; len = length bytes + h.named; head = length bytes }))) (lt-ltb MOST_BODY h.named h.too_much))
 
 -- an item alone is the first item, and all of it
 pub item_read : (kind : ItemKind) (bytes : List ℕ) (head : ℕ) → IsItem kind bytes head → first_extent bytes ≡ Some (all_of kind bytes head)

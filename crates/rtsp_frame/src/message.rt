@@ -5,13 +5,9 @@ ghost use Rattle.rtsp_head.specs.Items.{head_len, message_span, judged_span, bod
 
 use crate::extent::when_whole;
 use gate_bytes::{after, before, find};
-use rtsp_head::{BadKind, Facts, HeadFault, ItemKind, Length, Span, check_head};
-
-/// The longest head (this project's own).
-const MOST_HEAD: usize = 8_192;
-
-/// The longest body (this project's own).
-const MOST_BODY: u64 = 65_536;
+use rtsp_head::{
+    BadKind, Facts, HeadFault, ItemKind, Length, MOST_BODY, MOST_HEAD, Span, check_head,
+};
 
 /// The message at the front, where it is whole.
 pub fn message_span(bytes: &[u8]) -> Option<Span>
@@ -26,7 +22,7 @@ pub fn message_span(bytes: &[u8]) -> Option<Span>
 
 /// As many bytes as a head may have.
 fn front(bytes: &[u8]) -> &[u8]
-    ensures { result.now ≡ take 8192 bytes.now }
+    ensures { result.now ≡ take MOST_HEAD bytes.now }
 {
     if bytes.len() > MOST_HEAD {
         before(bytes, MOST_HEAD)
@@ -64,7 +60,7 @@ fn is_empty_line(line: &[u8]) -> bool
 
 /// What a head of this length begins, where so many bytes have come.
 fn judged_span(come: usize, len: usize, facts: Result<Facts, HeadFault>) -> Option<Span>
-    requires { len ≤ 8192 }
+    requires { len ≤ MOST_HEAD }
     ensures { result ≡ judged_span come len facts }
 {
     match facts {
@@ -75,7 +71,7 @@ fn judged_span(come: usize, len: usize, facts: Result<Facts, HeadFault>) -> Opti
 
 /// The item whose head has this length and names this body, where so many bytes have come.
 fn body_span(kind: ItemKind, come: usize, len: usize, length: Length) -> Option<Span>
-    requires { len ≤ 8192 }
+    requires { len ≤ MOST_HEAD }
     ensures { result ≡ body_span kind come len length }
 {
     match length {

@@ -9,7 +9,7 @@ use Rattle.rtsp_head.specs.declared.fault.HeadFault.{HeadFault}
 use Rattle.rtsp_head.specs.declared.fault.HeadFault.TheVariants as faults
 use Rattle.rtsp_head.specs.Lines.{and_then, result_map, has_control}
 use Rattle.rtsp_head.specs.Starts.{names_protocol, status_of, request_of, start_of}
-use Rattle.rtsp_head.specs.Headers.{SoFar, Further, More, Begins, no_headers, headers_in, goes_on, header_from, header_of, continued, with_further, further_of, with_line, after_lines, headers_of}
+use Rattle.rtsp_head.specs.Headers.{header_limit, SoFar, Further, More, Begins, no_headers, headers_in, goes_on, header_from, header_of, continued, with_further, further_of, with_line, after_lines, headers_of}
 use Rattle.rtsp_head.specs.Heads.{length_in_headers}
 
 -- anything but want of memory
@@ -59,7 +59,7 @@ more_none : (so_far : SoFar) (text : List ℕ) (last : Option Header) → NeedsN
 more_none so_far text None = tt
 more_none so_far text (Some header) = tt
 
-with_none : (so_far : SoFar) (further : Further) → NeedsNoMemory (with_further so_far further)
+with_none : (so_far : SoFar) (further : Further) → NeedsNoMemory (with_further header_limit so_far further)
 with_none so_far (More text) = more_none so_far text so_far.last
 with_none so_far (Begins header) = by_room (nat_lt (length (headers_in so_far)) 64)
   where
@@ -67,18 +67,18 @@ with_none so_far (Begins header) = by_room (nat_lt (length (headers_in so_far)) 
     by_room true = tt
     by_room false = tt
 
-line_none : (so_far : SoFar) (line : List ℕ) → NeedsNoMemory (with_line so_far line)
+line_none : (so_far : SoFar) (line : List ℕ) → NeedsNoMemory (with_line header_limit so_far line)
 line_none so_far line =
-    then_none (with_further so_far) (further_of line) (further_none (has_control line) (goes_on line) (trimmed line) (header_of line) (header_none (cut_at 58 line))) (with_none so_far)
+    then_none (with_further header_limit so_far) (further_of line) (further_none (has_control line) (goes_on line) (trimmed line) (header_of line) (header_none (cut_at 58 line))) (with_none so_far)
 
-lines_none : (lines : List (List ℕ)) (so_far : SoFar) → NeedsNoMemory (after_lines so_far lines)
+lines_none : (lines : List (List ℕ)) (so_far : SoFar) → NeedsNoMemory (after_lines header_limit so_far lines)
 lines_none [] so_far = tt
-lines_none (line ∷ lines) so_far = then_none (λ next. after_lines next lines) (with_line so_far line) (line_none so_far line) (lines_none lines)
+lines_none (line ∷ lines) so_far = then_none (λ next. after_lines header_limit next lines) (with_line header_limit so_far line) (line_none so_far line) (lines_none lines)
 
 -- A first line's fault is never want of memory.
 pub start_needs_none : (line : List ℕ) → start_of line ≡ Err faults.Memory → ⊥
 start_needs_none line e = subst NeedsNoMemory e (start_none (has_control line) (cond (names_protocol line) (status_of line) (request_of line)))
 
 -- The length that headers give is never want of memory.
-pub length_needs_none : (lines : List (List ℕ)) → result_map length_in_headers (headers_of lines) ≡ Err faults.Memory → ⊥
-length_needs_none lines e = subst NeedsNoMemory e (map_none length_in_headers (headers_of lines) (map_none headers_in (after_lines no_headers lines) (lines_none lines no_headers)))
+pub length_needs_none : (lines : List (List ℕ)) → result_map length_in_headers (headers_of header_limit lines) ≡ Err faults.Memory → ⊥
+length_needs_none lines e = subst NeedsNoMemory e (map_none length_in_headers (headers_of header_limit lines) (map_none headers_in (after_lines header_limit no_headers lines) (lines_none lines no_headers)))

@@ -9,3 +9,4 @@ pub mod FaultLemmas
 pub mod ListLemmas
 pub mod SoundLemmas
 pub mod MessageLemmas
+pub mod StreamLemmas

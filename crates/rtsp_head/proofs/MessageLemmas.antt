@@ -1,23 +1,21 @@
--- A message that was written is read back.
-use Rattle.std.proofs.Common.{◌≡◌, ℕ, suc, ◌+◌, ◌<◌, ◌≤◌, ◌^◌, Bool, true, false, ◌&&◌, ◌==◌, not, cond, List, [], ◌∷◌, ◌++◌, length, take, drop, Option, None, Some, IfSome, refl, sym, ◌∙◌, ap, append_assoc, arith}
+-- What a written message is made of: where its head ends, and which headers it has.
+use Rattle.std.proofs.Common.{◌≡◌, ℕ, suc, ◌+◌, ◌<◌, ◌≤◌, ◌^◌, Bool, true, false, ◌&&◌, ◌==◌, not, cond, List, [], ◌∷◌, ◌++◌, length, Option, None, Some, IfSome, refl, sym, ◌∙◌, ap, append_assoc, arith}
 use Rattle.std.specs.Prelude.{codes, decimal}
-use Rattle.std.specs.Option.{option_map, option_and_then}
+use Rattle.std.specs.Option.{option_map}
 use Rattle.std.specs.List.{list_all, flat_map}
 use Rattle.std.specs.Char.{is_ascii_digit}
 use Rattle.std.proofs.lemmas.Bool.{and_parts}
 use Rattle.std.proofs.lemmas.List.{length-append, append-nil}
 use Rattle.std.proofs.lemmas.List.Folds.{list_all-append}
 use Rattle.std.proofs.lemmas.Fmt.{digits_decimal}
-use Rattle.std.proofs.Math.Seq.{take-append_seam, drop-append_seam}
 use Rattle.gate_bytes.specs.Tokens.{is_blank, without_front, without_end, trimmed}
 use Rattle.rtsp_head.specs.declared.header.Header.{Header}
 use Rattle.rtsp_head.specs.declared.start.Start.{Start}
-use Rattle.rtsp_head.specs.Heads.{head_of}
 use Rattle.rtsp_head.specs.Items.{head_from, head_len}
 use Rattle.rtsp_head.specs.Written.{ended, start_text, header_text, head_text, is_line_text, is_start, is_trimmed, is_value, is_header, CanBeWritten}
-use Rattle.rtsp_head.specs.Messages.{number_headers, length_headers, message_headers, is_added, own_fields, message_text, message_with, message_of}
+use Rattle.rtsp_head.specs.Messages.{number_headers, length_headers, message_headers, is_added, own_fields}
 use Rattle.rtsp_head.proofs.DigitLemmas.{own}
-use Rattle.rtsp_head.proofs.WriteLemmas.{digits_line, head_read, sound, header_fits, header_long, start_fits, start_long}
+use Rattle.rtsp_head.proofs.WriteLemmas.{digits_line, sound, header_fits, header_long, start_fits, start_long}
 
 -- the place, so many bytes later
 abbrev later : ℕ → Option ℕ → Option ℕ
@@ -91,17 +89,6 @@ head_ends start headers body first fields =
     ∙ line_passed (start_text start) (lines ++ (13 ∷ 10 ∷ body)) (start_fits start first) (start_long start)
     ∙ ap (later (length line)) (lines_passed headers (13 ∷ 10 ∷ body) fields)
     ∙ ap Some count
-
--- A message that was written is read back.
-pub message_read : (start : Start) (number : Option ℕ) (headers : List Header) (body : List ℕ) → CanBeWritten start (message_headers number headers body) →
-    message_of (message_text start number headers body) ≡ Some (record { head = record { start = start; headers = message_headers number headers body }; body = body })
-message_read start number headers body can =
-    let all = message_headers number headers body in
-    let head = head_text start all in
-    ap (option_and_then (λ n. message_with (head_of (take n (head ++ body))) (drop n (head ++ body)))) (head_ends start all body can.start can.headers)
-    ∙ ap (λ t. message_with (head_of t) (drop (length head) (head ++ body))) (take-append_seam head body)
-    ∙ ap (λ t. message_with (head_of head) t) (drop-append_seam head body)
-    ∙ ap (λ r. message_with r body) (head_read start all can.start can.few can.headers)
 
 -- A body with a byte has its length told.
 pub length_told : (body : List ℕ) → (body ≡ [] → ⊥) →

@@ -17,7 +17,7 @@ use Rattle.rtsp_head.specs.declared.fault.HeadFault.{HeadFault}
 use Rattle.rtsp_head.specs.declared.fault.HeadFault.TheVariants as faults
 use Rattle.rtsp_head.specs.Lines.{and_then, result_map, head_lines, has_control}
 use Rattle.rtsp_head.specs.Starts.{is_unspaced, names_protocol, request_with, request_of, status_with, status_of, start_of}
-use Rattle.rtsp_head.specs.Headers.{SoFar, Further, More, Begins, no_headers, closed, headers_in, goes_on, header_from, header_of, continued, with_header, with_further, further_of, with_line, after_lines, headers_of, field_of}
+use Rattle.rtsp_head.specs.Headers.{header_limit, SoFar, Further, More, Begins, no_headers, closed, headers_in, goes_on, header_from, header_of, continued, with_header, with_further, further_of, with_line, after_lines, headers_of, field_of}
 use Rattle.rtsp_head.specs.Heads.{head_of_lines, head_of}
 use Rattle.rtsp_head.specs.Written.{is_line_text, is_start, is_trimmed, is_value, is_header, CanBeWritten}
 use Rattle.rtsp_head.proofs.DigitLemmas.{number_small}
@@ -176,7 +176,7 @@ more_sound above (Some header) text h holds = record {
   few = omega (arith, holds.few, length-append above (closed (Some header)), length-append above (closed (Some (record { name = header.name; value = header.value ++ (32 ∷ text) }))));
 }
 
-begins_sound : (so_far : SoFar) (header : Header) → Opened header → Holds so_far → HoldsIfOk (with_header so_far header)
+begins_sound : (so_far : SoFar) (header : Header) → Opened header → Holds so_far → HoldsIfOk (with_header header_limit so_far header)
 begins_sound so_far header h holds = by_room (nat_lt (length (headers_in so_far)) 64) refl
   where
     by_room : (room : Bool) → nat_lt (length (headers_in so_far)) 64 ≡ room → HoldsIfOk (cond room (Ok (record { above = headers_in so_far; last = Some header })) (Err faults.Many))
@@ -187,21 +187,21 @@ begins_sound so_far header h holds = by_room (nat_lt (length (headers_in so_far)
       few = let below : length (headers_in so_far) < 64 = grind arith in omega (arith, length-append (headers_in so_far) (closed (Some header)));
     }
 
-with_sound : (so_far : SoFar) (further : Result Further HeadFault) → FurtherIfOk further → Holds so_far → HoldsIfOk (and_then (with_further so_far) further)
+with_sound : (so_far : SoFar) (further : Result Further HeadFault) → FurtherIfOk further → Holds so_far → HoldsIfOk (and_then (with_further header_limit so_far) further)
 with_sound so_far (Ok (More text)) h holds = more_sound so_far.above so_far.last text h holds
 with_sound so_far (Ok (Begins header)) h holds = begins_sound so_far header h holds
 with_sound so_far (Err fault) h holds = tt
 
-then_sound : (read : Result SoFar HeadFault) (lines : List (List ℕ)) → HoldsIfOk read → ((so_far : SoFar) → Holds so_far → HoldsIfOk (after_lines so_far lines)) →
-    HoldsIfOk (and_then (λ next. after_lines next lines) read)
+then_sound : (read : Result SoFar HeadFault) (lines : List (List ℕ)) → HoldsIfOk read → ((so_far : SoFar) → Holds so_far → HoldsIfOk (after_lines header_limit so_far lines)) →
+    HoldsIfOk (and_then (λ next. after_lines header_limit next lines) read)
 then_sound (Ok so_far) lines h later = later so_far h
 then_sound (Err fault) lines h later = tt
 
-lines_sound : (lines : List (List ℕ)) → are_lines lines ≡ true → (so_far : SoFar) → Holds so_far → HoldsIfOk (after_lines so_far lines)
+lines_sound : (lines : List (List ℕ)) → are_lines lines ≡ true → (so_far : SoFar) → Holds so_far → HoldsIfOk (after_lines header_limit so_far lines)
 lines_sound [] h so_far holds = holds
 lines_sound (line ∷ lines) h so_far holds =
     let parts = and_parts (list_all goes_through line) (are_lines lines) h in
-    then_sound (with_line so_far line) lines (with_sound so_far (further_of line) (further_sound line parts.0) holds) (lines_sound lines parts.1)
+    then_sound (with_line header_limit so_far line) lines (with_sound so_far (further_of line) (further_sound line parts.0) holds) (lines_sound lines parts.1)
 
 abbrev HeadersIfOk : Result (List Header) HeadFault → Type 0
 HeadersIfOk (Ok headers) = (length headers ≤ 64) × (list_all is_header headers ≡ true)
@@ -221,12 +221,12 @@ joined_sound (Err fault) headers s h = tt
 joined_sound (Ok start) (Err fault) s h = tt
 joined_sound (Ok start) (Ok headers) s h = record { start = s; few = h.0; headers = h.1 }
 
-of_lines_sound : (lines : List (List ℕ)) → are_lines lines ≡ true → HeadIfOk (head_of_lines lines)
+of_lines_sound : (lines : List (List ℕ)) → are_lines lines ≡ true → HeadIfOk (head_of_lines header_limit lines)
 of_lines_sound [] h = tt
 of_lines_sound (line ∷ lines) h =
     let parts = and_parts (list_all goes_through line) (are_lines lines) h in
-    joined_sound (start_of line) (headers_of lines) (start_sound line parts.0)
-    (headers_sound (after_lines no_headers lines) (lines_sound lines parts.1 no_headers (record { above = refl; last = tt; few = omega arith })))
+    joined_sound (start_of line) (headers_of header_limit lines) (start_sound line parts.0)
+    (headers_sound (after_lines header_limit no_headers lines) (lines_sound lines parts.1 no_headers (record { above = refl; last = tt; few = omega arith })))
 
 -- A head that was read can be written.
 pub read_sound : (bytes : List ℕ) (head : Head) → head_of bytes ≡ Ok head → CanBeWritten head.start head.headers

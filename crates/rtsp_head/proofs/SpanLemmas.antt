@@ -12,7 +12,8 @@ use Rattle.rtsp_head.specs.declared.item.ItemKind.TheVariants.{Frame}
 use Rattle.rtsp_head.specs.declared.item.Span.{Span}
 use Rattle.rtsp_head.specs.declared.item.Extent.{Extent}
 use Rattle.rtsp_head.specs.Heads.{facts_of}
-use Rattle.rtsp_head.specs.Items.{most_head, most_body, bad_span, message_kind, when_whole, body_span, judged_span, head_len, headed_span, message_span, frame_span, span_of, blank_lines, first_extent}
+use Rattle.rtsp_head.specs.declared.item.TheConstants.{MOST_BODY, MOST_HEAD}
+use Rattle.rtsp_head.specs.Items.{bad_span, message_kind, when_whole, body_span, judged_span, head_len, headed_span, message_span, frame_span, span_of, blank_lines, first_extent}
 
 abbrev HasHead : Option Span → Type 0
 HasHead span = IfSome span (λ s. s.head ≤ s.len)
@@ -29,7 +30,7 @@ whole_has come span h = at (nat_lt come span.len)
 
 body_has : (kind : ItemKind) (come n : ℕ) (length : Length) → HasHead (body_span kind come n length)
 body_has kind come n lengths.Absent = whole_has come (record { kind = kind; len = n; head = n }) (omega arith)
-body_has kind come n (lengths.Bytes body) = at (nat_lt most_body body)
+body_has kind come n (lengths.Bytes body) = at (nat_lt MOST_BODY body)
   where
     at : (b : Bool) → HasHead (cond b (Some (bad_span bad.Body n)) (when_whole come (record { kind = kind; len = n + body; head = n })))
     at true = let le : n ≤ n = omega arith in le
@@ -41,11 +42,11 @@ judged_has come n (Ok facts) = body_has (message_kind facts.request) come n fact
 judged_has come n (Err fault) = let le : n ≤ n = omega arith in le
 
 headed_has : (bytes : List ℕ) (len : Option ℕ) → HasHead (headed_span bytes len)
-headed_has bytes None = at (nat_lt (length bytes) most_head)
+headed_has bytes None = at (nat_lt (length bytes) MOST_HEAD)
   where
-    at : (b : Bool) → HasHead (cond b None (Some (bad_span bad.Head most_head)))
+    at : (b : Bool) → HasHead (cond b None (Some (bad_span bad.Head MOST_HEAD)))
     at true = tt
-    at false = let le : most_head ≤ most_head = omega arith in le
+    at false = let le : MOST_HEAD ≤ MOST_HEAD = omega arith in le
 headed_has bytes (Some n) = judged_has (length bytes) n (facts_of (take n bytes))
 
 either_has : (b : Bool) (one other : Option Span) → HasHead one → HasHead other → HasHead (cond b one other)
@@ -62,7 +63,7 @@ span_has [] = tt
 span_has (b ∷ bytes) =
     either_has (b == 36) (frame_span (b ∷ bytes)) (message_span (b ∷ bytes))
     (frame_has (b ∷ bytes))
-    (headed_has (b ∷ bytes) (head_len (take most_head (b ∷ bytes))))
+    (headed_has (b ∷ bytes) (head_len (take MOST_HEAD (b ∷ bytes))))
 
 found_has : (found : Option Span) (skipped : ℕ) (extent : Extent) → HasHead found
     → option_map (λ span. record { skipped = skipped; span = span }) found ≡ Some extent → extent.span.head ≤ extent.span.len

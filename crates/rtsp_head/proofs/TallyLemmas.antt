@@ -19,7 +19,7 @@ use Rattle.rtsp_head.specs.declared.tally.Last.{Last}
 use Rattle.rtsp_head.specs.declared.tally.Last.TheVariants as lasts
 use Rattle.rtsp_head.specs.declared.tally.Tally.{Tally}
 use Rattle.rtsp_head.specs.Lines.{and_then, result_map, has_control}
-use Rattle.rtsp_head.specs.Headers.{SoFar, Further, More, Begins, closed, headers_in, goes_on, header_from, continued, with_header, with_further, further_of, with_line, after_lines, no_headers, headers_of, field_of}
+use Rattle.rtsp_head.specs.Headers.{header_limit, SoFar, Further, More, Begins, closed, headers_in, goes_on, header_from, continued, with_header, with_further, further_of, with_line, after_lines, no_headers, headers_of, field_of}
 use Rattle.rtsp_head.specs.Heads.{length_in, length_of, length_in_headers}
 use Rattle.rtsp_head.specs.Tallies.{number_part, part_of, joined, last_part, last_of, tally_more, tally_header, tally_with, tally_line, tally_lines, empty_tally, part_length, tally_length}
 use Rattle.rtsp_head.proofs.TrimLemmas.{front_blank, front_kept, end_blank, end_kept, blank_nothing, other_something, trimmed_twice}
@@ -183,12 +183,12 @@ header_by tally so_far header true tidy fits = record {
 header_by tally so_far header false tidy fits = refl
 
 header_alike : (tally : Tally) (so_far : SoFar) (header : Header) → trimmed header.value ≡ header.value → Fits tally so_far →
-    Alike (tally_header tally header) (with_header so_far header)
+    Alike (tally_header tally header) (with_header header_limit so_far header)
 header_alike tally so_far header tidy fits =
     subst (λ n. Alike (tally_header tally header) (cond (nat_lt n 64) (Ok (record { above = headers_in so_far; last = Some header })) (Err faults.Many))) fits.count
     (header_by tally so_far header (nat_lt tally.count 64) tidy fits)
 
-further_alike : (tally : Tally) (so_far : SoFar) (further : Further) → Tidy further → Fits tally so_far → Alike (tally_with tally further) (with_further so_far further)
+further_alike : (tally : Tally) (so_far : SoFar) (further : Further) → Tidy further → Fits tally so_far → Alike (tally_with tally further) (with_further header_limit so_far further)
 further_alike tally so_far (More text) tidy fits =
     subst (λ l. Alike (tally_more tally l (part_of text)) (continued so_far text so_far.last)) (sym fits.last) (more_alike tally so_far.above so_far.last text tidy fits)
 further_alike tally so_far (Begins header) tidy fits = header_alike tally so_far header tidy fits
@@ -214,13 +214,13 @@ line_tidy line = by_tests (has_control line) (goes_on line)
     by_tests false false = header_tidy (cut_at 58 line)
 
 line_alike : (tally : Tally) (so_far : SoFar) (further : Result Further HeadFault) → TidyIfOk further → Fits tally so_far →
-    Alike (and_then (tally_with tally) further) (and_then (with_further so_far) further)
+    Alike (and_then (tally_with tally) further) (and_then (with_further header_limit so_far) further)
 line_alike tally so_far (Ok further) tidy fits = further_alike tally so_far further tidy fits
 line_alike tally so_far (Err fault) tidy fits = refl
 
 go_alike : (tallied : Result Tally HeadFault) (read : Result SoFar HeadFault) (lines : List (List ℕ)) → Alike tallied read →
-    ((tally : Tally) (so_far : SoFar) → Fits tally so_far → result_map tally_length (tally_lines tally lines) ≡ result_map length_in_headers (result_map headers_in (after_lines so_far lines))) →
-    result_map tally_length (and_then (λ next. tally_lines next lines) tallied) ≡ result_map length_in_headers (result_map headers_in (and_then (λ next. after_lines next lines) read))
+    ((tally : Tally) (so_far : SoFar) → Fits tally so_far → result_map tally_length (tally_lines tally lines) ≡ result_map length_in_headers (result_map headers_in (after_lines header_limit so_far lines))) →
+    result_map tally_length (and_then (λ next. tally_lines next lines) tallied) ≡ result_map length_in_headers (result_map headers_in (and_then (λ next. after_lines header_limit next lines) read))
 go_alike (Ok tally) (Ok so_far) lines alike later = later tally so_far alike
 go_alike (Ok tally) (Err fault) lines alike later = absurd alike
 go_alike (Err fault) (Ok so_far) lines alike later = absurd alike
@@ -228,10 +228,10 @@ go_alike (Err fault) (Err other) lines alike later = ap Err alike
 
 -- The length by the tally of the lines is that of their headers, and their faults are the same.
 pub tally_is : (lines : List (List ℕ)) (tally : Tally) (so_far : SoFar) → Fits tally so_far →
-    result_map tally_length (tally_lines tally lines) ≡ result_map length_in_headers (result_map headers_in (after_lines so_far lines))
+    result_map tally_length (tally_lines tally lines) ≡ result_map length_in_headers (result_map headers_in (after_lines header_limit so_far lines))
 tally_is [] tally so_far fits = ap Ok (length_fits tally so_far fits)
 tally_is (line ∷ lines) tally so_far fits =
-    go_alike (tally_line tally line) (with_line so_far line) lines (line_alike tally so_far (further_of line) (line_tidy line) fits) (tally_is lines)
+    go_alike (tally_line tally line) (with_line header_limit so_far line) lines (line_alike tally so_far (further_of line) (line_tidy line) fits) (tally_is lines)
 
 -- An empty tally is that of no headers.
 pub nothing_fits : Fits empty_tally no_headers
@@ -239,13 +239,13 @@ nothing_fits = record { count = refl; found = refl; last = refl }
 
 -- At the last line the tally gives the length.
 pub ends_so : (tally : Tally) (rest all : List (List ℕ)) → rest ≡ [] → tally_lines tally rest ≡ tally_lines empty_tally all →
-    ◌≡◌ {A = Result Length HeadFault} (Ok (tally_length tally)) (result_map length_in_headers (headers_of all))
+    ◌≡◌ {A = Result Length HeadFault} (Ok (tally_length tally)) (result_map length_in_headers (headers_of header_limit all))
 ends_so tally rest all none same = ap (result_map tally_length) (sym (ap (tally_lines tally) none) ∙ same) ∙ tally_is all empty_tally no_headers nothing_fits
 
 -- At a faulty line its fault is that of all lines.
 pub stops_so : (tally : Tally) (line : List ℕ) (more rest all : List (List ℕ)) (fault : HeadFault) → rest ≡ line ∷ more →
     ◌≡◌ {A = Result Tally HeadFault} (Err fault) (tally_line tally line) → tally_lines tally rest ≡ tally_lines empty_tally all →
-    ◌≡◌ {A = Result Length HeadFault} (Err fault) (result_map length_in_headers (headers_of all))
+    ◌≡◌ {A = Result Length HeadFault} (Err fault) (result_map length_in_headers (headers_of header_limit all))
 stops_so tally line more rest all fault next wrong same =
     ap (λ (r : Result Tally HeadFault). result_map tally_length (and_then (λ t. tally_lines t more) r)) wrong
     ∙ ap (result_map tally_length) (sym (ap (tally_lines tally) next) ∙ same) ∙ tally_is all empty_tally no_headers nothing_fits

@@ -1,5 +1,5 @@
 -- What was written reads as it was.
-use Rattle.std.proofs.Common.{◌≡◌, ℕ, ◌+◌, ◌<◌, ◌≤◌, Bool, true, false, ◌&&◌, ◌==◌, not, nat_le, nat_lt, cond, List, [], ◌∷◌, ◌++◌, length, map, Option, None, Some, Ok, Err, refl, sym, ◌∙◌, ap, append_assoc, arith}
+use Rattle.std.proofs.Common.{◌≡◌, ℕ, suc, subst, zero-add, ◌+◌, ◌<◌, ◌≤◌, Bool, true, false, ◌&&◌, ◌==◌, not, nat_le, cond, List, [], ◌∷◌, ◌++◌, length, map, Option, None, Some, Ok, Err, refl, sym, ◌∙◌, ap, append_assoc, arith}
 use Rattle.std.specs.Prelude.{codes, decimal, unwrap_or, option_and_then}
 use Rattle.std.specs.Option.{ok_or}
 use Rattle.std.specs.List.{list_all, flat_map}
@@ -18,8 +18,8 @@ use Rattle.rtsp_head.specs.declared.start.Start.TheVariants.{Request, Status}
 use Rattle.rtsp_head.specs.declared.fault.HeadFault.TheVariants as faults
 use Rattle.rtsp_head.specs.Lines.{and_then, result_map, before_empty, head_lines}
 use Rattle.rtsp_head.specs.Starts.{is_unspaced, names_protocol, request_with, request_of, code_of, status_with, status_of, start_of}
-use Rattle.rtsp_head.specs.Headers.{SoFar, More, Begins, no_headers, closed, headers_in, goes_on, header_from, header_of, with_further, further_of, with_line, after_lines, headers_of}
-use Rattle.rtsp_head.specs.Heads.{head_of_lines, head_of}
+use Rattle.rtsp_head.specs.Headers.{SoFar, has_room, More, Begins, no_headers, closed, headers_in, goes_on, header_from, header_of, with_further, further_of, with_line, after_lines, headers_of}
+use Rattle.rtsp_head.specs.Heads.{head_of_lines, head_within}
 use Rattle.rtsp_head.specs.Written.{ended, start_text, header_text, head_text, is_line_text, is_part, is_start, is_trimmed, is_value, is_header}
 use Rattle.rtsp_head.proofs.DigitLemmas.{own}
 use Rattle.rtsp_head.proofs.TrimLemmas.{trimmed_same}
@@ -187,21 +187,34 @@ header_read header s =
     ∙ ap (result_map Begins) named
 
 -- The lines of headers give these headers after those so far.
-headers_read : (headers : List Header) (so_far : SoFar) → list_all is_header headers ≡ true → length (headers_in so_far) + length headers ≤ 64 →
-    result_map headers_in (after_lines so_far (map header_text headers)) ≡ Ok (headers_in so_far ++ headers)
-headers_read [] so_far h few = ap Ok (sym (append-nil (headers_in so_far)))
-headers_read (header ∷ headers) so_far h few =
+-- a limit on the number of headers, where there is one, leaves room for so many
+abbrev pub IsWithin : Option ℕ → ℕ → Type 0
+IsWithin None count = Unit {0}
+IsWithin (Some most) count = count ≤ most
+
+has_room_more : (limit : Option ℕ) (count more : ℕ) → IsWithin limit (count + suc more) → has_room limit count ≡ true
+has_room_more None count more few = refl
+has_room_more (Some most) count more few = let below : count < most = omega arith in grind arith
+
+within_same : (limit : Option ℕ) (m n : ℕ) → m ≡ n → IsWithin limit m → IsWithin limit n
+within_same limit m n same few = subst (IsWithin limit) same few
+
+headers_read : (limit : Option ℕ) (headers : List Header) (so_far : SoFar) → list_all is_header headers ≡ true → IsWithin limit (length (headers_in so_far) + length headers) →
+    result_map headers_in (after_lines limit so_far (map header_text headers)) ≡ Ok (headers_in so_far ++ headers)
+headers_read limit [] so_far h few = ap Ok (sym (append-nil (headers_in so_far)))
+headers_read limit (header ∷ headers) so_far h few =
     let parts = and_parts (is_header header) (list_all is_header headers) h in
     let s = sound header parts.0 in
     let next : SoFar = record { above = headers_in so_far; last = Some header } in
-    let room : nat_lt (length (headers_in so_far)) 64 ≡ true = grind arith in
-    let one : with_line so_far (header_text header) ≡ Ok next =
-    ap (and_then (with_further so_far)) (header_read header s) ∙ ap (λ t. cond t (Ok next) (Err faults.Many)) room in
+    let room : has_room limit (length (headers_in so_far)) ≡ true = has_room_more limit (length (headers_in so_far)) (length headers) few in
+    let one : with_line limit so_far (header_text header) ≡ Ok next =
+    ap (and_then (with_further limit so_far)) (header_read header s) ∙ ap (λ t. cond t (Ok next) (Err faults.Many)) room in
     let closed_same : headers_in next ≡ headers_in so_far ++ (header ∷ []) =
     ap (λ v. headers_in so_far ++ (record { name = header.name; value = v } ∷ [])) s.trimmed in
-    let short : length (headers_in next) + length headers ≤ 64 = omega (arith, length-append (headers_in so_far) (closed (Some header))) in
-    ap (λ r. result_map headers_in (and_then (λ n. after_lines n (map header_text headers)) r)) one
-    ∙ headers_read headers next parts.1 short
+    let count : length (headers_in so_far) + suc (length headers) ≡ length (headers_in next) + length headers =
+    omega (arith, length-append (headers_in so_far) (closed (Some header))) in
+    ap (λ r. result_map headers_in (and_then (λ n. after_lines limit n (map header_text headers)) r)) one
+    ∙ headers_read limit headers next parts.1 (within_same limit _ _ count few)
     ∙ ap (λ hs. Ok (hs ++ headers)) closed_same
     ∙ ap Ok (append_assoc (headers_in so_far) (header ∷ []) headers)
 
@@ -223,15 +236,15 @@ start_long (Request method uri version) = omega (arith, length-append method (32
 start_long (Status version code reason) = omega (arith, length-append version (32 ∷ (decimal code ++ (32 ∷ reason))))
 
 -- A head that was written reads as it was.
-pub head_read : (start : Start) (headers : List Header) → is_start start ≡ true → length headers ≤ 64 → list_all is_header headers ≡ true →
-    head_of (head_text start headers) ≡ Ok (record { start = start; headers = headers })
-head_read start headers first few fields =
+pub head_read : (limit : Option ℕ) (start : Start) (headers : List Header) → is_start start ≡ true → IsWithin limit (length headers) → list_all is_header headers ≡ true →
+    head_within limit (head_text start headers) ≡ Ok (record { start = start; headers = headers })
+head_read limit start headers first few fields =
     let rest = flat_map (λ header. ended (header_text header)) headers in
     let cut : head_lines (head_text start headers) ≡ start_text start ∷ map header_text headers =
     ap (λ t. before_empty (lines t)) (append_assoc (ended (start_text start)) rest (ended []))
     ∙ ap before_empty (lines_ended (start_text start) (rest ++ ended []) (start_fits start first))
     ∙ line_kept (start_text start) (lines (rest ++ ended [])) (start_long start)
     ∙ ap (λ ls. start_text start ∷ ls) (header_lines headers fields) in
-    ap head_of_lines cut
-    ∙ ap (and_then (λ s. result_map (λ hs. record { start = s; headers = hs }) (headers_of (map header_text headers)))) (start_read start first)
-    ∙ ap (result_map (λ hs. record { start = start; headers = hs })) (headers_read headers no_headers fields (omega arith))
+    ap (head_of_lines limit) cut
+    ∙ ap (and_then (λ s. result_map (λ hs. record { start = s; headers = hs }) (headers_of limit (map header_text headers)))) (start_read start first)
+    ∙ ap (result_map (λ hs. record { start = start; headers = hs })) (headers_read limit headers no_headers fields (within_same limit _ _ (sym (zero-add (length headers))) few))

@@ -12,29 +12,36 @@ use Rattle.rtsp_head.specs.declared.fault.HeadFault.{HeadFault}
 use Rattle.rtsp_head.specs.declared.fault.HeadFault.TheVariants as faults
 use Rattle.rtsp_head.specs.Lines.{and_then, result_map, head_lines}
 use Rattle.rtsp_head.specs.Starts.{start_of}
-use Rattle.rtsp_head.specs.Headers.{headers_of, field_of}
+use Rattle.rtsp_head.specs.Headers.{header_limit, headers_of, field_of}
+use Rattle.rtsp_head.specs.declared.facts.TheConstants.{LENGTH_DIGITS}
 
 -- The first line is looked at first, then each further line in order, and the first fault counts.
-abbrev pub head_of_lines : List (List ℕ) → Result Head HeadFault
-head_of_lines [] = Err faults.Start
-head_of_lines (line ∷ lines) = and_then (λ start. result_map (λ headers. record { start = start; headers = headers }) (headers_of lines)) (start_of line)
+abbrev pub head_of_lines : Option ℕ → List (List ℕ) → Result Head HeadFault
+head_of_lines limit [] = Err faults.Start
+head_of_lines limit (line ∷ lines) =
+    and_then (λ start. result_map (λ headers. record { start = start; headers = headers }) (headers_of limit lines)) (start_of line)
 
--- The head that these bytes spell, up to the first empty line, or its first fault (RFC 2326, 4; RFC 7826, 5).
+-- The head that these bytes spell, up to the first empty line, or its first fault, in a head of any number of headers
+-- or of at most so many (RFC 2326, 4; RFC 7826, 5).
+abbrev pub head_within : Option ℕ → List ℕ → Result Head HeadFault
+head_within limit bytes = head_of_lines limit (head_lines bytes)
+
+-- the head that is read of these bytes
 abbrev pub head_of : List ℕ → Result Head HeadFault
-head_of bytes = head_of_lines (head_lines bytes)
+head_of bytes = head_within header_limit bytes
 
 abbrev pub is_request : Start → Bool
 is_request (Request method uri version) = true
 is_request (Status version code reason) = false
 
--- a length of 1 to 10 digits
+-- a length of 1 to LENGTH_DIGITS digits
 abbrev pub length_in : Option ℕ → Length
 length_in None = lengths.Bad
 length_in (Some n) = lengths.Bytes n
 
 abbrev pub length_of : Option (List ℕ) → Length
 length_of None = lengths.Absent
-length_of (Some value) = length_in (number_in 10 value)
+length_of (Some value) = length_in (number_in LENGTH_DIGITS value)
 
 -- the length of the body, by the first Content-Length (RFC 2326, 12.14; RFC 7826, 18.17)
 abbrev pub length_in_headers : List Header → Length

@@ -2,6 +2,7 @@
 -- The limits on heads and bodies are this project's own.
 use Rattle.std.specs.Prelude.{ℕ, suc, zero, ◌+◌, ◌*◌, ◌==◌, ◌&&◌, ◌||◌, nat_lt, Bool, true, false, List, [], ◌∷◌, length, take, drop, slice_index, Option, Some, None, Result, Ok, Err, if◌then◌else◌}
 use Rattle.std.specs.Option.{option_map}
+use Rattle.gate_bytes.specs.Ascii.{lf, cr, dollar}
 use Rattle.rtsp_head.specs.declared.facts.Facts.{Facts}
 use Rattle.rtsp_head.specs.declared.facts.Length.{Length}
 use Rattle.rtsp_head.specs.declared.facts.Length.TheVariants as lengths
@@ -13,17 +14,18 @@ use Rattle.rtsp_head.specs.declared.item.ItemKind.{ItemKind}
 use Rattle.rtsp_head.specs.declared.item.ItemKind.TheVariants.{Request, Response, Frame, Bad}
 use Rattle.rtsp_head.specs.declared.item.Span.{Span}
 use Rattle.rtsp_head.specs.declared.item.Extent.{Extent}
+use Rattle.rtsp_head.specs.declared.item.TheConstants.{MOST_BODY, MOST_HEAD}
 use Rattle.rtsp_head.specs.Heads.{facts_of}
 
 -- whether the next byte is LF
 abbrev pub begins_with_lf : List ℕ → Bool
 begins_with_lf [] = false
-begins_with_lf (b ∷ bytes) = b == 10
+begins_with_lf (b ∷ bytes) = b == lf
 
 -- whether the first byte belongs to an empty line: an LF, or a CR before an LF
 abbrev pub begins_blank : List ℕ → Bool
 begins_blank [] = false
-begins_blank (b ∷ bytes) = b == 10 || (b == 13 && begins_with_lf bytes)
+begins_blank (b ∷ bytes) = b == lf || (b == cr && begins_with_lf bytes)
 
 -- The length of the empty lines at the front.
 abbrev pub blank_lines : List ℕ → ℕ
@@ -34,19 +36,12 @@ blank_lines (b ∷ bytes) = if begins_blank (b ∷ bytes) then suc (blank_lines 
 abbrev pub head_from : Bool → List ℕ → Option ℕ
 head_from starts [] = None
 head_from starts (b ∷ bytes) =
-    if b == 10 && starts then Some 1
-    else option_map suc (head_from (b == 10 || (starts && (b == 13 && begins_with_lf bytes))) bytes)
+    if b == lf && starts then Some 1
+    else option_map suc (head_from (b == lf || (starts && (b == cr && begins_with_lf bytes))) bytes)
 
 -- The length of the head at the front: up to and with its first empty line.
 abbrev pub head_len : List ℕ → Option ℕ
 head_len bytes = head_from true bytes
-
--- the longest head, and the longest body
-abbrev pub most_head : ℕ
-most_head = 8192
-
-abbrev pub most_body : ℕ
-most_body = 65536
 
 -- A bad item is all head.
 abbrev pub bad_span : BadKind → ℕ → Span
@@ -72,7 +67,7 @@ when_whole come span = if nat_lt come span.len then None else Some span
 abbrev pub body_span : ItemKind → ℕ → ℕ → Length → Option Span
 body_span kind come n lengths.Absent = when_whole come (record { kind = kind; len = n; head = n })
 body_span kind come n (lengths.Bytes body) =
-    if nat_lt most_body body then Some (bad_span bad.Body n)
+    if nat_lt MOST_BODY body then Some (bad_span bad.Body n)
     else when_whole come (record { kind = kind; len = n + body; head = n })
 body_span kind come n lengths.Bad = Some (bad_span bad.Length n)
 
@@ -81,12 +76,12 @@ judged_span come n (Ok facts) = body_span (message_kind facts.request) come n fa
 judged_span come n (Err fault) = Some (bad_span (bad_kind fault) n)
 
 abbrev pub headed_span : List ℕ → Option ℕ → Option Span
-headed_span bytes None = if nat_lt (length bytes) most_head then None else Some (bad_span bad.Head most_head)
+headed_span bytes None = if nat_lt (length bytes) MOST_HEAD then None else Some (bad_span bad.Head MOST_HEAD)
 headed_span bytes (Some n) = judged_span (length bytes) n (facts_of (take n bytes))
 
 -- A head, found within the longest head, and its body.
 abbrev pub message_span : List ℕ → Option Span
-message_span bytes = headed_span bytes (head_len (take most_head bytes))
+message_span bytes = headed_span bytes (head_len (take MOST_HEAD bytes))
 
 -- `$`, the channel, and the length of the load, its greater byte first.
 abbrev pub frame_span : List ℕ → Option Span
@@ -97,7 +92,7 @@ frame_span bytes =
 -- The item that begins with the first byte, where it is whole.
 abbrev pub span_of : List ℕ → Option Span
 span_of [] = None
-span_of (b ∷ bytes) = if b == 36 then frame_span (b ∷ bytes) else message_span (b ∷ bytes)
+span_of (b ∷ bytes) = if b == dollar then frame_span (b ∷ bytes) else message_span (b ∷ bytes)
 
 -- Where the first item of a stream stands, behind its empty lines; none where no whole item stands there.
 abbrev pub first_extent : List ℕ → Option Extent

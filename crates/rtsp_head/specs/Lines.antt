@@ -1,7 +1,8 @@
 -- The lines of a head.
-use Rattle.std.specs.Prelude.{◌≡◌, ℕ, Bool, ◌==◌, ◌||◌, List, [], ◌∷◌, Option, Some, None, Result, Ok, Err}
+use Rattle.std.specs.Prelude.{ℕ, Bool, ◌==◌, ◌||◌, List, [], ◌∷◌, Option, Some, None, Result, Ok, Err}
 use Rattle.std.specs.List.{list_any}
 use Rattle.std.specs.Str.Lines.{lines, strip_carriage_return}
+use Rattle.gate_bytes.specs.Ascii.{nul, lf, cr}
 use Rattle.gate_bytes.specs.Places.{cut_at}
 use Rattle.rtsp_head.specs.declared.fault.HeadFault.{HeadFault}
 use Rattle.rtsp_head.specs.declared.fault.HeadFault.TheVariants.{Memory}
@@ -16,15 +17,10 @@ abbrev pub result_map : {A B E : Type 0} → (A → B) → Result A E → Result
 result_map f (Ok x) = Ok (f x)
 result_map f (Err e) = Err e
 
--- A fault that was answered is the one that the definition says, or want of memory.
-abbrev pub FaultUnlessMemory : {A : Type 0} → HeadFault → Result A HeadFault → Type 0
-FaultUnlessMemory Memory said = Unit {0}
-FaultUnlessMemory fault said = said ≡ Err fault
-
--- What was answered is what the definition says, unless memory was wanting.
-abbrev pub IsUnlessMemory : {A : Type 0} → Result A HeadFault → Result A HeadFault → Type 0
-IsUnlessMemory (Ok x) said = said ≡ Ok x
-IsUnlessMemory (Err fault) said = FaultUnlessMemory fault said
+-- the fault of a head that could not be read; none where memory was wanting
+abbrev pub head_refusal : HeadFault → Option HeadFault
+head_refusal Memory = None
+head_refusal fault = Some fault
 
 -- the lines before the first empty one
 abbrev pub before_empty : List (List ℕ) → List (List ℕ)
@@ -43,7 +39,7 @@ line_apart bytes None = (bytes, [])
 line_apart bytes (Some parts) = (strip_carriage_return parts.0, parts.1)
 
 abbrev pub first_line : List ℕ → List ℕ × List ℕ
-first_line bytes = line_apart bytes (cut_at 10 bytes)
+first_line bytes = line_apart bytes (cut_at lf bytes)
 
 -- the lines of a head, of which the first may stand apart
 abbrev pub lines_with : Option (List ℕ × List ℕ) → List (List ℕ)
@@ -52,4 +48,4 @@ lines_with (Some parts) = parts.0 ∷ head_lines parts.1
 
 -- A line may hold no byte 0, and no CR but at its end (this project's own).
 abbrev pub has_control : List ℕ → Bool
-has_control line = list_any (λ b. b == 13 || b == 0) line
+has_control line = list_any (λ b. b == cr || b == nul) line

@@ -10,13 +10,15 @@ use Rattle.rtsp_head.specs.declared.item.BadKind.{BadKind}
 use Rattle.rtsp_head.specs.declared.item.BadKind.TheVariants as bad
 use Rattle.rtsp_head.specs.declared.item.ItemKind.{ItemKind}
 use Rattle.rtsp_head.specs.declared.item.ItemKind.TheVariants.{Request, Response, Frame, Bad}
+use Rattle.gate_bytes.specs.Ascii.{lf, cr, dollar}
 use Rattle.gate_bytes.specs.Places.{place_of}
 use Rattle.rtsp_head.specs.Heads.{facts_of}
-use Rattle.rtsp_head.specs.Items.{Shape, begins_blank, most_head, most_body, is_bad}
+use Rattle.rtsp_head.specs.declared.item.TheConstants.{MOST_BODY, MOST_HEAD}
+use Rattle.rtsp_head.specs.Items.{Shape, begins_blank, is_bad}
 
 -- an empty line: LF, or CR LF
 abbrev pub empty_line : Bool → List ℕ
-empty_line with_cr = if with_cr then 13 ∷ 10 ∷ [] else 10 ∷ []
+empty_line with_cr = if with_cr then cr ∷ lf ∷ [] else lf ∷ []
 
 -- some empty lines
 pub record AreEmptyLines (bytes : List ℕ) : Type 0 where
@@ -29,12 +31,12 @@ pub record IsFrame (bytes : List ℕ) : Type 0 where
   pub high : ℕ
   pub low : ℕ
   pub load : List ℕ
-  pub spelled : bytes ≡ 36 ∷ channel ∷ high ∷ low ∷ load
+  pub spelled : bytes ≡ dollar ∷ channel ∷ high ∷ low ∷ load
   pub counted : length load ≡ 256 * high + low
 
 abbrev pub begins_frame : List ℕ → Bool
 begins_frame [] = false
-begins_frame (b ∷ bytes) = b == 36
+begins_frame (b ∷ bytes) = b == dollar
 
 -- What begins a message: no `$`, and no empty line.
 pub record BeginsMessage (bytes : List ℕ) : Type 0 where
@@ -43,9 +45,9 @@ pub record BeginsMessage (bytes : List ℕ) : Type 0 where
 
 -- A line of a head without its LF: it holds none, and is neither nothing nor the CR of an end.
 pub record IsLine (line : List ℕ) : Type 0 where
-  pub no_lf : place_of 10 line ≡ None
+  pub no_lf : place_of lf line ≡ None
   pub not_nothing : line ≡ [] → ⊥
-  pub not_cr : line ≡ 13 ∷ [] → ⊥
+  pub not_cr : line ≡ cr ∷ [] → ⊥
 
 abbrev pub AreLines : List (List ℕ) → Type 0
 AreLines [] = Unit {0}
@@ -53,7 +55,7 @@ AreLines (line ∷ lines) = IsLine line × AreLines lines
 
 -- each line and its LF
 abbrev pub with_ends : List (List ℕ) → List ℕ
-with_ends lines = flat_map (λ line. line ++ 10 ∷ []) lines
+with_ends lines = flat_map (λ line. line ++ lf ∷ []) lines
 
 -- lines, and then an empty line
 pub record EndsEmpty (bytes : List ℕ) : Type 0 where
@@ -66,12 +68,12 @@ pub record EndsEmpty (bytes : List ℕ) : Type 0 where
 pub record IsHead (bytes : List ℕ) : Type 0 where
   pub begins : BeginsMessage bytes
   pub ends : EndsEmpty bytes
-  pub fits : length bytes ≤ most_head
+  pub fits : length bytes ≤ MOST_HEAD
 
 -- whether a body of so many bytes follows a head that names this length
 abbrev pub HasLength : Length → ℕ → Type 0
 HasLength lengths.Absent n = n ≡ 0
-HasLength (lengths.Bytes named) n = (n ≡ named) × (named ≤ most_body)
+HasLength (lengths.Bytes named) n = (n ≡ named) × (named ≤ MOST_BODY)
 HasLength lengths.Bad n = ⊥
 
 -- A request or another message: a sound head, and the body that it names.
@@ -89,7 +91,7 @@ pub record IsMessage (request : Bool) (bytes : List ℕ) (head_bytes : ℕ) : Ty
 pub record IsEndless (bytes : List ℕ) : Type 0 where
   pub begins : BeginsMessage bytes
   pub endless : (front rest : List ℕ) → EndsEmpty front → bytes ≡ front ++ rest → ⊥
-  pub full : length bytes ≡ most_head
+  pub full : length bytes ≡ MOST_HEAD
 
 -- a head with this fault first
 pub record HasFault (fault : HeadFault) (bytes : List ℕ) : Type 0 where
@@ -108,7 +110,7 @@ pub record NamesTooMuch (bytes : List ℕ) : Type 0 where
   pub named : ℕ
   pub is_head : IsHead bytes
   pub sound : facts_of bytes ≡ Ok (record { request = request; length = lengths.Bytes named })
-  pub too_much : most_body < named
+  pub too_much : MOST_BODY < named
 
 abbrev pub IsBad : BadKind → List ℕ → Type 0
 IsBad bad.Head bytes = IsEndless bytes
@@ -147,12 +149,12 @@ pub record Begins (stream : List ℕ) (item : Shape) (follows : List ℕ → Typ
   pub later : follows rest
 
 -- nothing follows a bad item
-abbrev pub Follows : Bool → List Shape → Type 0 → Type 0
-Follows true items more = items ≡ []
-Follows false items more = more
+abbrev pub EndsAtBad : Bool → List Shape → Type 0 → Type 0
+EndsAtBad true items more = items ≡ []
+EndsAtBad false items more = more
 
 -- The items of a stream: their spellings in a row begin it, no spelling begins the rest, and nothing
 -- follows a bad item.
 abbrev pub AreItems : List ℕ → List Shape → Type 0
 AreItems stream [] = NoneBegins stream
-AreItems stream (item ∷ items) = Begins stream item (λ rest. Follows (is_bad item.kind) items (AreItems rest items))
+AreItems stream (item ∷ items) = Begins stream item (λ rest. EndsAtBad (is_bad item.kind) items (AreItems rest items))

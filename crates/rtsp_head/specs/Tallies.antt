@@ -3,6 +3,8 @@ use Rattle.std.specs.Prelude.{ℕ, ◌+◌, ◌==◌, nat_lt, codes, if◌then�
 use Rattle.std.specs.Option.{option_or}
 use Rattle.gate_bytes.specs.Tokens.{equal_fold}
 use Rattle.gate_bytes.specs.Numbers.{number_in}
+use Rattle.rtsp_head.specs.declared.facts.TheConstants.{LENGTH_DIGITS}
+use Rattle.rtsp_head.specs.declared.headers.TheConstants.{MOST_HEADERS}
 use Rattle.rtsp_head.specs.declared.header.Header.{Header}
 use Rattle.rtsp_head.specs.declared.facts.Length.{Length}
 use Rattle.rtsp_head.specs.declared.facts.Length.TheVariants as lengths
@@ -22,7 +24,7 @@ number_part (Some n) = parts.Number n
 
 -- what a text says, where it may be a part of a length's text
 abbrev pub part_of : List ℕ → Part
-part_of text = if length text == 0 then parts.Blank else number_part (number_in 10 text)
+part_of text = if length text == 0 then parts.Blank else number_part (number_in LENGTH_DIGITS text)
 
 -- what two texts say that are joined by a space: two that aren't empty are no number
 abbrev pub joined : Part → Part → Part
@@ -49,7 +51,7 @@ tally_more tally (lasts.Length part) more = Ok (record { count = tally.count; fo
 
 abbrev pub tally_header : Tally → Header → Result Tally HeadFault
 tally_header tally header =
-    if nat_lt tally.count 64 then Ok (record { count = tally.count + 1; found = option_or tally.found (last_part tally.last); last = last_of header.name header.value }) else Err Many
+    if nat_lt tally.count MOST_HEADERS then Ok (record { count = tally.count + 1; found = option_or tally.found (last_part tally.last); last = last_of header.name header.value }) else Err Many
 
 abbrev pub tally_with : Tally → Further → Result Tally HeadFault
 tally_with tally (More text) = tally_more tally tally.last (part_of text)

@@ -1,13 +1,16 @@
 //! What a framer needs of a head.
 ghost use Rattle.std.specs.Prelude.{◌≡◌, ◌≢◌, Err};
 ghost use Rattle.rtsp_head.specs.Lines.{result_map, head_lines};
-ghost use Rattle.rtsp_head.specs.Headers.{headers_of};
+ghost use Rattle.rtsp_head.specs.Headers.{header_limit, headers_of};
 ghost use Rattle.rtsp_head.specs.Heads.{facts_of, length_in_headers};
 
 use crate::HeadFault;
 use crate::line::next_line;
 use crate::start::{StartLine, start_line};
 use crate::tally::Tally;
+
+/// The most digits of the length of a body (this project's own).
+pub const LENGTH_DIGITS: u32 = 10;
 
 /// What a head says of its message.
 #[derive(Clone, Copy, Debug, PartialEq, Eq)]
@@ -23,7 +26,7 @@ pub struct Facts {
 pub enum Length {
     /// There is no such header.
     Absent,
-    /// A number of 1 to 10 digits, in bytes.
+    /// A number of 1 to [`LENGTH_DIGITS`] digits, in bytes.
     Bytes(u64),
     /// There is one, and its value is no such number.
     Bad,
@@ -45,7 +48,7 @@ pub fn check_head(bytes: &[u8]) -> Result<Facts, HeadFault>
 
 /// What the headers say of the length of the body, or their first fault.
 fn check_headers(bytes: &[u8]) -> Result<Length, HeadFault>
-    ensures { result ≡ result_map length_in_headers (headers_of (head_lines bytes.now)) }
+    ensures { result ≡ result_map length_in_headers (headers_of header_limit (head_lines bytes.now)) }
 {
     let mut tally = Tally::new();
     let mut rest = bytes;

@@ -1,7 +1,8 @@
 //! A head and its fields.
 ghost use Rattle.std.specs.Prelude.{◌≡◌, option_map, IsTrue, IfSome, IfOk};
-ghost use Rattle.rtsp_head.specs.Lines.{IsUnlessMemory, head_lines};
-ghost use Rattle.rtsp_head.specs.Headers.{field_of, headers_of};
+ghost use Rattle.gate_bytes.specs.Outcomes.{UnlessMemory};
+ghost use Rattle.rtsp_head.specs.Lines.{head_refusal, head_lines};
+ghost use Rattle.rtsp_head.specs.Headers.{header_limit, field_of, headers_of};
 ghost use Rattle.rtsp_head.specs.Heads.{head_of};
 ghost use Rattle.rtsp_head.specs.Written.{is_value, CanBeWritten};
 
@@ -33,7 +34,7 @@ impl Head {
 /// The head that the bytes spell, or its first fault. The bytes are a head with its empty line; what
 /// stands after that is not read.
 pub fn read_head(alloc: Global, bytes: &[u8]) -> Result<Head, HeadFault>
-    ensures head { IsUnlessMemory result (head_of bytes.now) }
+    ensures head { UnlessMemory head_refusal result (head_of bytes.now) }
     ensures writable { IfOk result (λ head. CanBeWritten head.start head.headers) }
 {
     let Some((line, rest)) = next_line(bytes) else {
@@ -46,7 +47,7 @@ pub fn read_head(alloc: Global, bytes: &[u8]) -> Result<Head, HeadFault>
 
 /// The headers of a head's further lines, or their first fault.
 fn read_headers(alloc: Global, bytes: &[u8]) -> Result<Headers, HeadFault>
-    ensures { IsUnlessMemory result (headers_of (head_lines bytes.now)) }
+    ensures { UnlessMemory head_refusal result (headers_of header_limit (head_lines bytes.now)) }
 {
     let mut reading = Reading::new(alloc);
     let mut rest = bytes;

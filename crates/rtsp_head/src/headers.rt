@@ -9,6 +9,9 @@ use gate_bytes::{Memory, Text, eq_fold};
 use std::alloc::Global;
 use std::marker::Model;
 
+/// The most headers of a head that is read (this project's own).
+pub const MOST_HEADERS: usize = 64;
+
 /// An owned list of headers. Contracts see it as that list.
 #[derive(Drop)]
 pub struct Headers {

@@ -4,10 +4,16 @@ ghost use Rattle.rtsp_head.specs.Items.{first_extent, is_bad};
 
 use gate_bytes::{Text, after, before};
 
+/// The bytes of the longest head that is read, its empty line among them (this project's own).
+pub const MOST_HEAD: usize = 8_192;
+
+/// The bytes of the longest body that is read (this project's own).
+pub const MOST_BODY: u64 = 65_536;
+
 /// Why an item is bad.
 #[derive(Clone, Copy, Debug, PartialEq, Eq)]
 pub enum BadKind {
-    /// 8,192 bytes of a head hold no empty line.
+    /// [`MOST_HEAD`] bytes of a head hold no empty line.
     Head,
     /// A line of the head holds a byte 0, or a CR that does not belong to its end.
     Control,
@@ -17,11 +23,11 @@ pub enum BadKind {
     Colon,
     /// What stands before a line's colon is not a token.
     Name,
-    /// The head has more than 64 headers.
+    /// The head has more than [`MOST_HEADERS`](crate::MOST_HEADERS) headers.
     Many,
-    /// Its Content-Length is not 1 to 10 digits.
+    /// Its Content-Length is not 1 to [`LENGTH_DIGITS`](crate::LENGTH_DIGITS) digits.
     Length,
-    /// Its Content-Length is above 65,536.
+    /// Its Content-Length is above [`MOST_BODY`].
     Body,
 }
 

@@ -18,12 +18,12 @@ mod tally;
 mod tests;
 mod write;
 
-pub use facts::{Facts, Length, check_head};
+pub use facts::{Facts, LENGTH_DIGITS, Length, check_head};
 pub use fault::HeadFault;
 pub use head::{Head, read_head};
 pub use header::Header;
-pub use headers::Headers;
-pub use item::{BadKind, Extent, Item, ItemKind, Span};
+pub use headers::{Headers, MOST_HEADERS};
+pub use item::{BadKind, Extent, Item, ItemKind, MOST_BODY, MOST_HEAD, Span};
 pub use message::{push_message, written_messages};
-pub use start::Start;
+pub use start::{GREATEST_CODE, LEAST_CODE, Start};
 pub use write::write_head;

@@ -4,7 +4,7 @@ ghost use Rattle.std.specs.List.{list_any};
 ghost use Rattle.std.specs.Str.Lines.{strip_carriage_return};
 ghost use Rattle.rtsp_head.specs.Lines.{first_line, head_lines, lines_with, has_control};
 
-use gate_bytes::{after, split_once};
+use gate_bytes::{after, holds_either, split_once};
 
 /// The line without the CR at its end, if it has one.
 fn without_return(line: &[u8]) -> &[u8]
@@ -44,5 +44,5 @@ pub(crate) fn next_line(bytes: &[u8]) -> Option<(&[u8], &[u8])>
 pub(crate) fn has_control(line: &[u8]) -> bool
     ensures { result ≡ has_control line.now }
 {
-    line.iter().any(|byte| *byte == b'\r' || *byte == 0)
+    holds_either(b'\r', 0, line)
 }

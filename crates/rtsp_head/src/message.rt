@@ -1,24 +1,46 @@
 //! Whole messages: what follows the first line.
-ghost use Rattle.std.specs.Prelude.{◌≡◌, ◌++◌, ℕ, List, [], Option, Some, OnOk, decimal};
+ghost use Rattle.std.specs.Prelude.{◌≡◌, ◌++◌, ℕ, List, [], ◌∷◌, length, take, Option, OnOk, OnErr, decimal};
+ghost use Rattle.std.specs.Option.{option_map};
 ghost use Rattle.std.specs.List.{flat_map};
 ghost use Rattle.rtsp_head.specs.declared.header.Header.{Header};
 ghost use Rattle.rtsp_head.specs.declared.start.Start.{Start};
-ghost use Rattle.rtsp_head.specs.Written.{ended, header_text, CanBeWritten};
-ghost use Rattle.rtsp_head.specs.Messages.{number_headers, length_headers, message_headers, message_text, message_of};
+ghost use Rattle.rtsp_head.specs.Written.{ended, header_text};
+ghost use Rattle.rtsp_head.specs.Messages.{number_headers, length_headers, message_headers, message_text, message, messages_of, IsReadable};
 
 use crate::Headers;
 use crate::write::push_headers;
 use gate_bytes::{Memory, Text, push_decimal};
 
 /// Appends what follows a message's first line: its number where it has one, the headers in their
-/// order, the length of the body where that has a byte, an empty line, and the body.
+/// order, the length of the body where that has a byte, an empty line, and the body. Where memory is
+/// wanting the text is as it was.
 pub fn push_message(
     text: &mut Text,
     number: Option<u64>,
     headers: &Headers,
     body: &[u8],
 ) -> Result<(), Memory>
-    ensures { OnOk result (text.new ≡ text.old ++ flat_map (λ header. ended (header_text header)) (message_headers number headers.now body.now) ++ ended [] ++ body.now) }
+    ensures ok { OnOk result (text.new ≡ text.old ++ flat_map (λ header. ended (header_text header)) (message_headers number headers.now body.now) ++ ended [] ++ body.now) }
+    ensures err { OnErr result (text.new ≡ text.old) }
+{
+    let before = text.len();
+    let pushed = push_parts(text, number, headers, body);
+    if pushed.is_err() {
+        text.truncate(before);
+    }
+    pushed
+}
+
+/// The same; where memory is wanting the text has a part of it at its end.
+#[tactic(auto, using(gate_bytes::proofs::FrontLemmas::front_kept))]
+fn push_parts(
+    text: &mut Text,
+    number: Option<u64>,
+    headers: &Headers,
+    body: &[u8],
+) -> Result<(), Memory>
+    ensures ok { OnOk result (text.new ≡ text.old ++ flat_map (λ header. ended (header_text header)) (message_headers number headers.now body.now) ++ ended [] ++ body.now) }
+    ensures err { OnErr result (take (length text.old) text.new ≡ text.old) }
 {
     push_number(text, number)?;
     push_headers(text, headers.as_slice())?;
@@ -29,7 +51,8 @@ pub fn push_message(
 
 /// Appends the header with a message's number, where it has one (RFC 2326, 12.17; RFC 7826, 18.20).
 fn push_number(text: &mut Text, number: Option<u64>) -> Result<(), Memory>
-    ensures { OnOk result (text.new ≡ text.old ++ flat_map (λ header. ended (header_text header)) (number_headers number)) }
+    ensures ok { OnOk result (text.new ≡ text.old ++ flat_map (λ header. ended (header_text header)) (number_headers number)) }
+    ensures err { OnErr result (take (length text.old) text.new ≡ text.old) }
 {
     match number {
         Some(number) => push_numeric(text, b"CSeq", number),
@@ -40,7 +63,8 @@ fn push_number(text: &mut Text, number: Option<u64>) -> Result<(), Memory>
 /// Appends the header with the length of a body, where that has a byte (RFC 2326, 12.14; RFC 7826,
 /// 18.17).
 fn push_length(text: &mut Text, body: &[u8]) -> Result<(), Memory>
-    ensures { OnOk result (text.new ≡ text.old ++ flat_map (λ header. ended (header_text header)) (length_headers body.now)) }
+    ensures ok { OnOk result (text.new ≡ text.old ++ flat_map (λ header. ended (header_text header)) (length_headers body.now)) }
+    ensures err { OnErr result (take (length text.old) text.new ≡ text.old) }
 {
     if body.is_empty() {
         return Ok(());
@@ -49,8 +73,10 @@ fn push_length(text: &mut Text, body: &[u8]) -> Result<(), Memory>
 }
 
 /// Appends a header whose value is a number.
+#[tactic(auto, using(gate_bytes::proofs::FrontLemmas::front_kept))]
 fn push_numeric(text: &mut Text, name: &[u8], number: u64) -> Result<(), Memory>
-    ensures { OnOk result (text.new ≡ text.old ++ ended (header_text (record { name = name.now; value = decimal number }))) }
+    ensures ok { OnOk result (text.new ≡ text.old ++ ended (header_text (record { name = name.now; value = decimal number }))) }
+    ensures err { OnErr result (take (length text.old) text.new ≡ text.old) }
 {
     text.push_slice(name)?;
     text.push_slice(b": ")?;
@@ -58,8 +84,10 @@ fn push_numeric(text: &mut Text, name: &[u8], number: u64) -> Result<(), Memory>
     text.push_slice(b"\r\n")
 }
 
-/// A message that was written is read back: its head with all that was written, and its body.
+/// A message that was written is read back from any bytes that it begins: it is the first of their
+/// messages, its head with all that was written and its body, and the others are those of the rest. So
+/// messages that are written in a row are read one by one.
 pub fn written_messages()
-    ensures { (start : Start) (number : Option ℕ) (headers : List Header) (body : List ℕ) → CanBeWritten start (message_headers number headers body)
-        → message_of (message_text start number headers body) ≡ Some (record { head = record { start = start; headers = message_headers number headers body }; body = body }) }
+    ensures { (start : Start) (number : Option ℕ) (headers : List Header) (body rest : List ℕ) → IsReadable start number headers body
+        → messages_of (message_text start number headers body ++ rest) ≡ option_map (λ more. message start number headers body ∷ more) (messages_of rest) }
 {}

@@ -1,17 +1,15 @@
 //! The headers of a head, line by line.
-ghost use Rattle.std.specs.Prelude.{◌≡◌, [], Option, Some, None, Ok, IfOk, IfErr, OnOk};
-ghost use Rattle.rtsp_head.specs.Lines.{FaultUnlessMemory, IsUnlessMemory};
-ghost use Rattle.rtsp_head.specs.Headers.{SoFar, closed, continued, with_header, with_line, headers_in, no_headers};
+ghost use Rattle.std.specs.Prelude.{◌≡◌, [], Option, Some, None, Ok, Err, IfOk, IfErr, IfSome, OnOk};
+ghost use Rattle.rtsp_head.specs.Lines.{head_refusal};
+ghost use Rattle.rtsp_head.specs.Headers.{header_limit, SoFar, closed, continued, with_header, with_line, headers_in, no_headers};
 ghost use Rattle.gate_bytes.specs.Tokens.{trimmed};
 ghost use Rattle.rtsp_head.specs.Views.{so_far};
 
 use crate::further::{FurtherLine, further_line};
+use crate::headers::MOST_HEADERS;
 use crate::{HeadFault, Header, Headers};
 use gate_bytes::{Memory, Text, trim};
 use std::alloc::Global;
-
-/// The most headers that a head may have.
-pub(crate) const MOST_HEADERS: usize = 64;
 
 /// The headers of the lines so far: the last one apart, since the next line may go on with it.
 #[derive(Drop)]
@@ -33,8 +31,8 @@ impl Reading {
 
     /// Reads one more line. After an error the headers are of no use.
     pub(crate) fn take_line(&mut self, alloc: Global, line: &[u8]) -> Result<(), HeadFault>
-        ensures ok { OnOk result (with_line (so_far self.old) line.now ≡ Ok (so_far self.new)) }
-        ensures err { IfErr result (λ fault. FaultUnlessMemory fault (with_line (so_far self.old) line.now)) }
+        ensures ok { OnOk result (with_line header_limit (so_far self.old) line.now ≡ Ok (so_far self.new)) }
+        ensures err { IfErr result (λ fault. IfSome (head_refusal fault) (λ refused. with_line header_limit (so_far self.old) line.now ≡ Err refused)) }
     {
         match further_line(line)? {
             FurtherLine::More(text) => self.go_on(text),
@@ -45,7 +43,7 @@ impl Reading {
     /// Joins a text to the value of the last header by one space.
     fn go_on(&mut self, text: &[u8]) -> Result<(), HeadFault>
         ensures ok { OnOk result (continued (so_far self.old) text.now self.old.last ≡ Ok (so_far self.new)) }
-        ensures err { IfErr result (λ fault. FaultUnlessMemory fault (continued (so_far self.old) text.now self.old.last)) }
+        ensures err { IfErr result (λ fault. IfSome (head_refusal fault) (λ refused. continued (so_far self.old) text.now self.old.last ≡ Err refused)) }
     {
         let Some(mut header) = self.last.take() else {
             return Err(HeadFault::Colon);
@@ -58,8 +56,8 @@ impl Reading {
 
     /// Begins a header.
     fn begin(&mut self, alloc: Global, name: &[u8], value: &[u8]) -> Result<(), HeadFault>
-        ensures ok { OnOk result (with_header (so_far self.old) (record { name = name.now; value = value.now }) ≡ Ok (so_far self.new)) }
-        ensures err { IfErr result (λ fault. FaultUnlessMemory fault (with_header (so_far self.old) (record { name = name.now; value = value.now }))) }
+        ensures ok { OnOk result (with_header header_limit (so_far self.old) (record { name = name.now; value = value.now }) ≡ Ok (so_far self.new)) }
+        ensures err { IfErr result (λ fault. IfSome (head_refusal fault) (λ refused. with_header header_limit (so_far self.old) (record { name = name.now; value = value.now }) ≡ Err refused)) }
     {
         self.close_last(alloc)?;
         if self.above.len() >= MOST_HEADERS {

@@ -9,6 +9,15 @@ use crate::line::has_control;
 use gate_bytes::{Memory, Text, read_decimal, split_once};
 use std::alloc::Global;
 
+/// The least code of a status line (RFC 2326, 7.1.1; RFC 7826, 8.1.1).
+pub const LEAST_CODE: u16 = 100;
+
+/// The greatest code of a status line: three digits.
+pub const GREATEST_CODE: u16 = 999;
+
+/// The digits of a code.
+const CODE_DIGITS: u32 = 3;
+
 /// What the first line of a head says.
 #[derive(Drop)]
 pub enum Start {
@@ -25,7 +34,7 @@ pub enum Start {
     Status {
         /// The version, which begins with `RTSP/`.
         version: Text,
-        /// The code, 100 to 999.
+        /// The code, [`LEAST_CODE`] to [`GREATEST_CODE`].
         code: u16,
         /// The reason, which may be empty.
         reason: Text,
@@ -125,12 +134,12 @@ fn status_line(line: &[u8]) -> Option<StartLine<'_>>
     })
 }
 
-/// A code of three digits, 100 to 999.
+/// A code of three digits that does not begin with 0.
 fn read_code(text: &[u8]) -> Option<u16>
     ensures { result ≡ code_of text.now }
 {
-    let code = read_decimal(text, 3)?;
-    if code < 100 {
+    let code = read_decimal(text, CODE_DIGITS)?;
+    if code < u64::from(LEAST_CODE) {
         return None;
     }
     Some(code as u16)

@@ -3,8 +3,8 @@ ghost use Rattle.std.specs.Prelude.{◌≡◌, None, Ok, Err, IfErr, OnOk};
 ghost use Rattle.rtsp_head.specs.Tallies.{empty_tally, part_of, joined, last_part, last_of, tally_more, tally_header, tally_line, tally_length};
 
 use crate::further::{FurtherLine, further_line};
-use crate::reading::MOST_HEADERS;
-use crate::{HeadFault, Length};
+use crate::headers::MOST_HEADERS;
+use crate::{HeadFault, LENGTH_DIGITS, Length};
 use gate_bytes::{eq_fold, read_decimal};
 
 /// What a text says, where it may be a part of a length's text.
@@ -12,7 +12,7 @@ use gate_bytes::{eq_fold, read_decimal};
 pub(crate) enum Part {
     /// Nothing.
     Blank,
-    /// A number of 1 to 10 digits.
+    /// A number of 1 to [`LENGTH_DIGITS`] digits.
     Number(u64),
     /// Anything else.
     Other,
@@ -46,7 +46,7 @@ impl Part {
         if text.is_empty() {
             return Part::Blank;
         }
-        match read_decimal(text, 10) {
+        match read_decimal(text, LENGTH_DIGITS) {
             Some(number) => Part::Number(number),
             None => Part::Other,
         }

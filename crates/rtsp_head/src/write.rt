@@ -1,5 +1,5 @@
 //! Writing heads.
-ghost use Rattle.std.specs.Prelude.{◌≡◌, ◌++◌, Ok, IfOk, OnOk};
+ghost use Rattle.std.specs.Prelude.{◌≡◌, ◌++◌, length, take, Ok, IfOk, OnOk, OnErr};
 ghost use Rattle.std.specs.List.{flat_map};
 ghost use Rattle.rtsp_head.specs.Heads.{head_of};
 ghost use Rattle.rtsp_head.specs.Written.{ended, start_text, header_text, head_text, CanBeWritten};
@@ -54,8 +54,10 @@ fn push_start(text: &mut Text, start: &Start) -> Result<(), Memory>
 }
 
 /// Appends the headers' lines.
+#[tactic(auto, using(gate_bytes::proofs::FrontLemmas::front_kept))]
 pub(crate) fn push_headers(text: &mut Text, headers: &[Header]) -> Result<(), Memory>
-    ensures { OnOk result (text.new ≡ text.old ++ flat_map (λ header. ended (header_text header)) headers.now) }
+    ensures ok { OnOk result (text.new ≡ text.old ++ flat_map (λ header. ended (header_text header)) headers.now) }
+    ensures err { OnErr result (take (length text.old) text.new ≡ text.old) }
 {
     for header in headers {
         push_header(text, header)?;
@@ -64,8 +66,10 @@ pub(crate) fn push_headers(text: &mut Text, headers: &[Header]) -> Result<(), Me
 }
 
 /// Appends a header's line.
+#[tactic(auto, using(gate_bytes::proofs::FrontLemmas::front_kept))]
 fn push_header(text: &mut Text, header: &Header) -> Result<(), Memory>
-    ensures { OnOk result (text.new ≡ text.old ++ ended (header_text header.now)) }
+    ensures ok { OnOk result (text.new ≡ text.old ++ ended (header_text header.now)) }
+    ensures err { OnErr result (take (length text.old) text.new ≡ text.old) }
 {
     text.push_slice(header.name.as_bytes())?;
     text.push_slice(b": ")?;
