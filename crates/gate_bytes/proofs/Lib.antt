@@ -3,3 +3,4 @@ pub mod EndLemmas
 pub mod FrontLemmas
 pub mod PartLemmas
 pub mod PlaceLemmas
+pub mod SeamLemmas

@@ -4,10 +4,11 @@ use Rattle.std.specs.Option.{option_or}
 use Rattle.std.specs.List.{list_all}
 use Rattle.std.specs.Char.{is_ascii_alphanumeric}
 use Rattle.std.specs.Str.{bytes_eq}
+use Rattle.gate_bytes.specs.Ascii.{dollar, plus_sign, hyphen, dot, semicolon, equals_sign, underscore}
 use Rattle.gate_bytes.specs.Tokens.{trimmed}
-use Rattle.gate_bytes.specs.Places.{cut_at}
 use Rattle.gate_bytes.specs.Numbers.{number_in}
-use Rattle.gate_bytes.specs.Places.{parts_at}
+use Rattle.gate_bytes.specs.Places.{cut_at, parts_at}
+use Rattle.rtsp_small.specs.declared.session.TheConstants.{LONGEST_SESSION_ID, TIMEOUT_DIGITS}
 
 -- what a Session field says: an id, and after how many seconds the server may close it
 pub record Session : Type 0 where
@@ -16,16 +17,16 @@ pub record Session : Type 0 where
 
 -- a letter, a digit, or one of $-_.+ (RFC 2326, 15.1; RFC 7826, 20.1)
 abbrev pub is_session_byte : ℕ → Bool
-is_session_byte b = is_ascii_alphanumeric b || (b == 36 || b == 45 || b == 95 || b == 46 || b == 43)
+is_session_byte b = is_ascii_alphanumeric b || (b == dollar || b == hyphen || b == underscore || b == dot || b == plus_sign)
 
--- a session id: 1 to 256 such bytes (RFC 7826, 20.2; RFC 2326, 3.4, asks for eight at least, which is not
--- asked here)
+-- a session id: one or more such bytes, up to the most (RFC 7826, 20.2; RFC 2326, 3.4, asks for eight at least,
+-- which is not asked here)
 abbrev pub is_session_id : List ℕ → Bool
-is_session_id text = not (length text == 0) && nat_le (length text) 256 && list_all is_session_byte text
+is_session_id text = not (length text == 0) && nat_le (length text) LONGEST_SESSION_ID && list_all is_session_byte text
 
--- the seconds of a parameter `timeout=` with 1 to 10 digits (RFC 2326, 12.37; the bound is this project's own)
+-- the seconds of a parameter `timeout=`, of one or more digits up to the most (RFC 2326, 12.37)
 abbrev pub timeout_in : List ℕ → Option ℕ
-timeout_in parameter = option_and_then (λ parts. if bytes_eq parts.0 (codes "timeout") then number_in 10 parts.1 else None) (cut_at 61 parameter)
+timeout_in parameter = option_and_then (λ parts. if bytes_eq parts.0 (codes "timeout") then number_in TIMEOUT_DIGITS parts.1 else None) (cut_at equals_sign parameter)
 
 -- The first parameter counts that is such a timeout, and all others are ignored.
 abbrev pub first_timeout : List (List ℕ) → Option ℕ
@@ -42,7 +43,7 @@ session_in (id ∷ parameters) = session_with id (first_timeout parameters)
 
 -- what a Session field with this value says (RFC 2326, 12.37; RFC 7826, 18.49)
 abbrev pub session_of : List ℕ → Option Session
-session_of value = session_in (parts_at 59 value)
+session_of value = session_in (parts_at semicolon value)
 
 abbrev pub timeout_text : Option ℕ → List ℕ
 timeout_text None = []

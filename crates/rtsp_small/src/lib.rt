@@ -1,8 +1,8 @@
-//! The short fields of RTSP messages, of both versions: methods, sequence numbers, sessions,
-//! reasons of notifications and scales.
+//! The short fields of RTSP messages, of both versions: CSeq, Notify-Reason, Public, Request-Status,
+//! Scale and Session, and the methods of requests.
 //!
-//! Each reader is a small grammar. It answers exactly by its definition in `specs/`, with `None`
-//! exactly outside of the grammar, and takes no memory.
+//! Each reader answers exactly as its definition in `specs/` says, with `None` exactly outside of the
+//! field's grammar, and takes no memory.
 #![tactic(auto)]
 
 mod cseq;
@@ -13,8 +13,8 @@ mod session;
 #[cfg(test)]
 mod tests;
 
-pub use cseq::{read_cseq_one, read_cseq_two};
-pub use method::{Method, PUBLIC, read_method};
+pub use cseq::{CSEQ_ONE_DIGITS, CSEQ_TWO_DIGITS, read_cseq_one, read_cseq_two};
+pub use method::{METHODS, Method, push_methods, read_method};
 pub use notify::{NotifyReason, read_reason, read_request_status};
-pub use scale::is_scale;
-pub use session::{SessionField, read_session, write_session};
+pub use scale::{SCALE_FRACTION_DIGITS, SCALE_WHOLE_DIGITS, is_scale};
+pub use session::{LONGEST_SESSION_ID, SessionField, TIMEOUT_DIGITS, read_session, write_session};

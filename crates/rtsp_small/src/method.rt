@@ -1,6 +1,8 @@
-//! The methods of requests.
-ghost use Rattle.std.specs.Prelude.{◌≡◌, Some};
-ghost use Rattle.rtsp_small.specs.Methods.{method_name, method_of};
+//! Methods by name, and the value of the field Public.
+ghost use Rattle.std.specs.Prelude.{◌≡◌, ◌++◌, Some, OnOk};
+ghost use Rattle.rtsp_small.specs.Methods.{method_name, method_of, methods_text};
+
+use gate_bytes::{Memory, Text};
 
 /// A method that the gateway translates (RFC 2326, 10; RFC 7826, 13).
 #[derive(Clone, Copy, Debug, PartialEq, Eq)]
@@ -42,12 +44,8 @@ impl Method {
     }
 }
 
-/// The names of all methods, as the field Public tells them (RFC 2326, 12.28; RFC 7826, 18.39).
-pub const PUBLIC: &[u8] =
-    b"OPTIONS, DESCRIBE, SETUP, PLAY, PAUSE, TEARDOWN, GET_PARAMETER, SET_PARAMETER";
-
-/// All methods.
-const METHODS: [Method; 8] = [
+/// All methods, in the order in which the field Public names them.
+pub const METHODS: [Method; 8] = [
     Method::Options,
     Method::Describe,
     Method::Setup,
@@ -68,4 +66,17 @@ pub fn read_method(text: &[u8]) -> Option<Method>
         }
     }
     None
+}
+
+/// Appends the value of the field Public: the names of all methods, with a comma and a space between
+/// two (RFC 2326, 12.28; RFC 7826, 18.39). Where memory is wanting, some of them may stand there.
+pub fn push_methods(text: &mut Text) -> Result<(), Memory>
+    ensures { OnOk result (text.new ≡ text.old ++ methods_text) }
+{
+    text.push_slice(METHODS[0].name())?;
+    for method in &METHODS[1..] {
+        text.push_slice(b", ")?;
+        text.push_slice(method.name())?;
+    }
+    Ok(())
 }

@@ -1,11 +1,11 @@
-//! The fields Notify-Reason and Request-Status of a notification.
+//! The fields of a notification: Notify-Reason and Request-Status.
 ghost use Rattle.std.specs.Prelude.{◌≡◌};
-ghost use Rattle.rtsp_small.specs.Notices.{reason_name, reason_of, request_status_of};
+ghost use Rattle.rtsp_small.specs.Notices.{notify_reason_name, notify_reason_of, request_status_of};
 
 use crate::read_cseq_two;
 use gate_bytes::{eq_fold, split_once, up_to};
 
-/// Why a server notifies (RFC 7826, 18.32).
+/// Why the server sends a notification (RFC 7826, 18.32).
 #[derive(Clone, Copy, Debug, PartialEq, Eq)]
 pub enum NotifyReason {
     /// `end-of-stream`: the range that was asked for was delivered.
@@ -19,7 +19,7 @@ pub enum NotifyReason {
 impl NotifyReason {
     /// The name in the field.
     fn name(self) -> &'static [u8]
-        ensures { result.now ≡ reason_name self }
+        ensures { result.now ≡ notify_reason_name self }
     {
         match self {
             NotifyReason::EndOfStream => b"end-of-stream",
@@ -30,7 +30,7 @@ impl NotifyReason {
 }
 
 /// All reasons.
-const REASONS: [NotifyReason; 3] = [
+const NOTIFY_REASONS: [NotifyReason; 3] = [
     NotifyReason::EndOfStream,
     NotifyReason::MediaProperties,
     NotifyReason::ScaleChange,
@@ -38,9 +38,9 @@ const REASONS: [NotifyReason; 3] = [
 
 /// The reason that a Notify-Reason field names, without ASCII case.
 pub fn read_reason(value: &[u8]) -> Option<NotifyReason>
-    ensures { result ≡ reason_of value.now }
+    ensures { result ≡ notify_reason_of value.now }
 {
-    for reason in &REASONS {
+    for reason in &NOTIFY_REASONS {
         if eq_fold(value, reason.name()) {
             return Some(*reason);
         }
@@ -48,8 +48,8 @@ pub fn read_reason(value: &[u8]) -> Option<NotifyReason>
     None
 }
 
-/// The number of the request that a Request-Status field tells of: `cseq=` without ASCII case, 1 to
-/// 9 digits, and then the end, or a space and any text (RFC 7826, 18.42).
+/// The number of the request whose outcome a Request-Status field tells: `cseq=` without ASCII case,
+/// the number by [`read_cseq_two`], and then the end, or a space and any text (RFC 7826, 18.42).
 pub fn read_request_status(value: &[u8]) -> Option<u32>
     ensures { result ≡ request_status_of value.now }
 {

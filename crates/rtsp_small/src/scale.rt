@@ -1,14 +1,19 @@
-//! The field Scale.
-ghost use Rattle.std.specs.Prelude.{◌≡◌, is_some};
+//! The field Scale: how many times as fast as recorded a stream plays.
+ghost use Rattle.std.specs.Prelude.{◌≡◌};
 ghost use Rattle.std.specs.List.{list_all};
 ghost use Rattle.std.specs.Char.{is_ascii_digit};
-ghost use Rattle.gate_bytes.specs.Numbers.{number_in};
 ghost use Rattle.rtsp_small.specs.Scales.{without_minus, is_whole, is_fraction, is_scale};
 
 use gate_bytes::{read_decimal, split_once};
 
-/// Whether a text is a scale: an optional `-`, 1 to 10 digits, and optionally `.` and 0 to 9 digits
-/// (RFC 2326, 12.34; RFC 7826, 18.46).
+/// The most digits before the point of a scale (this project's own).
+pub const SCALE_WHOLE_DIGITS: u32 = 10;
+
+/// The most digits behind the point of a scale (this project's own).
+pub const SCALE_FRACTION_DIGITS: usize = 9;
+
+/// Whether a text is a scale: an optional `-`, 1 to [`SCALE_WHOLE_DIGITS`] digits, and optionally `.`
+/// and up to [`SCALE_FRACTION_DIGITS`] digits (RFC 2326, 12.34; RFC 7826, 18.46).
 pub fn is_scale(value: &[u8]) -> bool
     ensures { result ≡ is_scale value.now }
 {
@@ -29,18 +34,18 @@ fn without_minus(text: &[u8]) -> &[u8]
     }
 }
 
-/// Whether a text is 1 to 10 digits.
+/// Whether a text can stand before the point.
 fn is_whole(text: &[u8]) -> bool
     ensures { result ≡ is_whole text.now }
 {
-    read_decimal(text, 10).is_some()
+    read_decimal(text, SCALE_WHOLE_DIGITS).is_some()
 }
 
-/// Whether a text is 0 to 9 digits.
+/// Whether a text can stand behind the point.
 fn is_fraction(text: &[u8]) -> bool
     ensures { result ≡ is_fraction text.now }
 {
-    text.len() <= 9 && has_digits_alone(text)
+    text.len() <= SCALE_FRACTION_DIGITS && has_digits_alone(text)
 }
 
 /// Whether each byte of a text is a digit.

@@ -1,27 +1,33 @@
-//! The field Session.
+//! The field Session: an id, and how long the server keeps the session.
 ghost use Rattle.std.specs.Prelude.{◌≡◌, ◌<◌, ◌^◌, true, Some, ◌++◌, IfSome, IfOk, OnOk, option_map};
-ghost use Rattle.std.specs.List.{list_all, slice_split};
+ghost use Rattle.std.specs.List.{list_all};
+ghost use Rattle.gate_bytes.specs.Ascii.{semicolon};
 ghost use Rattle.gate_bytes.specs.Places.{parts_at};
+ghost use Rattle.rtsp_small.specs.declared.session.TheConstants.{TIMEOUT_DIGITS};
 ghost use Rattle.rtsp_small.specs.Sessions.{is_session_byte, is_session_id, timeout_in, first_timeout, session_with, session_of, timeout_text, session_text};
 ghost use Rattle.rtsp_small.specs.Views.{session_seen};
 
 use gate_bytes::{Memory, Text, push_decimal, read_decimal, split_once, trim};
 use std::alloc::Global;
 
-/// The most bytes of a session id.
-const LONGEST_ID: usize = 256;
+/// The most bytes of a session's id (RFC 7826, 20.2).
+pub const LONGEST_SESSION_ID: usize = 256;
+
+/// The most digits of a timeout in seconds (this project's own).
+pub const TIMEOUT_DIGITS: u32 = 10;
 
 /// What a Session field says (RFC 2326, 12.37; RFC 7826, 18.49).
 #[derive(Clone, Copy, Debug)]
 pub struct SessionField<'a> {
-    /// The id: 1 to 256 letters, digits or bytes of `$-_.+`.
+    /// The id: 1 to [`LONGEST_SESSION_ID`] letters, digits or bytes of `$-_.+`.
     pub id: &'a [u8],
-    /// After so many seconds without a request the server may close the session; of at most ten digits.
+    /// After so many seconds without a request the server may close the session.
     pub timeout: Option<u64>,
 }
 
 /// What a Session field says: the id, which is not trimmed, and then parameters after semicolons,
-/// which are. The first `timeout=` with 1 to 10 digits counts, and other parameters are ignored.
+/// which are. The first `timeout=` with 1 to [`TIMEOUT_DIGITS`] digits counts, and other parameters
+/// are ignored.
 pub fn read_session(value: &[u8]) -> Option<SessionField<'_>>
     ensures { option_map session_seen result ≡ session_of value.now }
 {
@@ -45,7 +51,7 @@ fn session(id: &[u8], timeout: Option<u64>) -> Option<SessionField<'_>>
 fn is_session_id(text: &[u8]) -> bool
     ensures { result ≡ is_session_id text.now }
 {
-    !text.is_empty() && text.len() <= LONGEST_ID && has_session_bytes_alone(text)
+    !text.is_empty() && text.len() <= LONGEST_SESSION_ID && has_session_bytes_alone(text)
 }
 
 /// Whether each byte of a text may stand in a session id.
@@ -64,7 +70,7 @@ fn is_session_byte(byte: u8) -> bool
 
 /// The first timeout among parameters that semicolons part.
 fn first_timeout(parameters: &[u8]) -> Option<u64>
-    ensures { result ≡ first_timeout (parts_at 59 parameters.now) }
+    ensures { result ≡ first_timeout (parts_at semicolon parameters.now) }
 {
     let mut rest = parameters;
     while let Some((parameter, more)) = split_once(b';', rest) {
@@ -77,7 +83,7 @@ fn first_timeout(parameters: &[u8]) -> Option<u64>
     read_timeout(trim(rest))
 }
 
-/// The seconds of a parameter `timeout=` with 1 to 10 digits.
+/// The seconds of a parameter `timeout=`.
 fn read_timeout(parameter: &[u8]) -> Option<u64>
     ensures { result ≡ timeout_in parameter.now }
 {
@@ -85,14 +91,14 @@ fn read_timeout(parameter: &[u8]) -> Option<u64>
     if name != b"timeout".as_slice() {
         return None;
     }
-    read_decimal(seconds, 10)
+    read_decimal(seconds, TIMEOUT_DIGITS)
 }
 
 /// A Session field with this id, and this timeout in seconds where there is one. [`read_session`]
 /// gives both back.
 pub fn write_session(alloc: Global, id: &[u8], timeout: Option<u64>) -> Result<Text, Memory>
     requires id { is_session_id id.now ≡ true }
-    requires timeout { IfSome timeout (λ seconds. seconds < 10 ^ 10) }
+    requires timeout { IfSome timeout (λ seconds. seconds < 10 ^ TIMEOUT_DIGITS) }
     ensures text { IfOk result (λ text. text ≡ session_text (record { id = id.now; timeout = timeout })) }
     ensures read { IfOk result (λ text. session_of text ≡ Some (record { id = id.now; timeout = timeout })) }
 {

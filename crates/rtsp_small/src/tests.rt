@@ -1,6 +1,9 @@
 // Each reader and writer, once with a table of cases.
+mod sessions;
+
 use super::*;
-use gate_bytes::Text;
+use gate_bytes::{Text, read_decimal};
+use sessions::SESSIONS;
 use std::test::Fail;
 
 #[test]
@@ -22,6 +25,17 @@ fn methods_are_read_and_named(rt: HostRuntime) -> Result<(), Fail> {
     for name in [b"Play".as_slice(), b"RECORD", b"PLAY ", b"PLAY_NOTIFY", b""] {
         assert_eq!(rt; read_method(name), None, "{name:?}");
     }
+    Ok(())
+}
+
+#[test]
+fn all_methods_are_public(rt: HostRuntime) -> Result<(), Fail> {
+    let mut text = Text::copy(rt.alloc(), b"Public: ")?;
+    push_methods(&mut text)?;
+    assert_eq!(rt;
+        text.as_bytes(),
+        b"Public: OPTIONS, DESCRIBE, SETUP, PLAY, PAUSE, TEARDOWN, GET_PARAMETER, SET_PARAMETER".as_slice()
+    );
     Ok(())
 }
 
@@ -50,52 +64,33 @@ fn sequence_numbers_are_read(rt: HostRuntime) -> Result<(), Fail> {
     Ok(())
 }
 
+// The id and the timeout that a line of the table tells, where it tells some.
+fn told_session(text: &str) -> Option<(&[u8], Option<u64>)> {
+    match text.split_once(' ') {
+        Some((id, timeout)) => Some((
+            id.as_bytes(),
+            read_decimal(timeout.as_bytes(), TIMEOUT_DIGITS),
+        )),
+        None if text == "none" => None,
+        None => Some((text.as_bytes(), None)),
+    }
+}
+
+// The first three are those of RFC 2326, 12.37 and 14.1, and of RFC 7826, 18.49.
 #[test]
 fn sessions_are_read(rt: HostRuntime) -> Result<(), Fail> {
-    let rows = [
-        // RFC 2326, 12.37 and 14.1; RFC 7826, 18.49.
-        (b"12345678".as_slice(), Some((b"12345678".as_slice(), None))),
-        (
-            b"OccldOFFq23KwjYpAnBbUr;timeout=60",
-            Some((b"OccldOFFq23KwjYpAnBbUr", Some(60))),
-        ),
-        (b"4231", Some((b"4231", None))),
-        // Parameters.
-        (b"abcd1234;x=1;timeout=30", Some((b"abcd1234", Some(30)))),
-        (
-            b"abcd1234; timeout=0030 ;timeout=5",
-            Some((b"abcd1234", Some(30))),
-        ),
-        (
-            b"a;timeout=x;timeout=9999999999",
-            Some((b"a", Some(9_999_999_999))),
-        ),
-        (b"a;timeout=00000000001", Some((b"a", None))),
-        (
-            b"a;Timeout=1;timeout =2;timeout= 3;timeout",
-            Some((b"a", None)),
-        ),
-        (b"a;;", Some((b"a", None))),
-        (b"$-_.+Zz09", Some((b"$-_.+Zz09", None))),
-        // Outside.
-        (b"", None),
-        (b";timeout=30", None),
-        (b"a ;timeout=30", None),
-        (b" a", None),
-        (b"a,b", None),
-        (b"a%20", None),
-    ];
-    for (value, wanted) in rows {
-        let read = read_session(value).map(|field| (field.id, field.timeout));
-        assert_eq!(rt; read, wanted, "{value:?}");
+    for line in SESSIONS.lines() {
+        let (value, told) = line.split_once(" => ").expect(&rt, line);
+        let read = read_session(value.as_bytes()).map(|field| (field.id, field.timeout));
+        assert_eq!(rt; read, told_session(told), "{line}");
     }
     Ok(())
 }
 
 #[test]
-fn session_ids_have_256_bytes_at_most(rt: HostRuntime) -> Result<(), Fail> {
+fn a_session_id_of_the_greatest_length_is_read(rt: HostRuntime) -> Result<(), Fail> {
     let mut id = Text::new(rt.alloc());
-    for _ in 0..256 {
+    for _ in 0..LONGEST_SESSION_ID {
         id.push_slice(b"s")?;
     }
     assert!(rt; read_session(id.as_bytes()).is_some());

@@ -10,10 +10,10 @@ use Rattle.rtsp_transport.specs.declared.alternative.Wanted.{Wanted}
 use Rattle.rtsp_transport.specs.declared.alternative.Wanted.TheVariants.{Exact}
 use Rattle.rtsp_transport.specs.declared.fault.TransportFault.{TransportFault}
 use Rattle.rtsp_transport.specs.declared.fault.TransportFault.TheVariants as faults
-use Rattle.rtsp_transport.specs.Splits.{parts_at}
+use Rattle.rtsp_transport.specs.Splits.{unquoted_parts}
 use Rattle.rtsp_transport.specs.Parameters.{parameters_of, value_of, is_multicast}
 use Rattle.rtsp_transport.specs.Channels.{AreApart, channel_of, pair_with, pair_or_first}
-use Rattle.rtsp_transport.specs.Wants.{NamesApart, is_tcp, plays, wanted_channels, wanted_in, first_fit}
+use Rattle.rtsp_transport.specs.Wants.{NamesApart, is_tcp, mode_fits, wanted_channels, wanted_in, first_fit}
 
 pair_by : (a b : ℕ) (same : Bool) → (a == b) ≡ same → IfSome (cond same None (Some (record { rtp = a; rtcp = b }))) AreApart
 pair_by a b true e = tt
@@ -40,9 +40,10 @@ exact_by : (pair : Option Pair) → IfSome pair AreApart → IfSome (option_map 
 exact_by None h = tt
 exact_by (Some pair) h = h
 
-channels_apart : (value : Option (List ℕ)) → IfSome (wanted_channels value) NamesApart
+channels_apart : (value : Option (Option (List ℕ))) → IfSome (wanted_channels value) NamesApart
 channels_apart None = tt
-channels_apart (Some value) = exact_by (pair_or_first value) (asked_by value (cut_at 45 value))
+channels_apart (Some None) = tt
+channels_apart (Some (Some value)) = exact_by (pair_or_first value) (asked_by value (cut_at 45 value))
 
 wanted_by : (fits : Bool) (wanted : Option Wanted) → IfSome wanted NamesApart → IfSome (cond fits wanted None) NamesApart
 wanted_by true wanted h = h
@@ -51,8 +52,8 @@ wanted_by false wanted h = tt
 alternative_apart : (parts : List (List ℕ)) → IfSome (wanted_in parts) NamesApart
 alternative_apart [] = tt
 alternative_apart (protocol ∷ parameters) =
-    let value : Option (List ℕ) = value_of (codes "interleaved") parameters in
-    wanted_by ((is_tcp protocol && not (list_any is_multicast parameters)) && plays (value_of (codes "mode") parameters)) (wanted_channels value) (channels_apart value)
+    let value : Option (Option (List ℕ)) = value_of (codes "interleaved") parameters in
+    wanted_by ((is_tcp protocol && not (list_any is_multicast parameters)) && mode_fits (value_of (codes "mode") parameters)) (wanted_channels value) (channels_apart value)
 
 or_by : (first later : Option Wanted) → IfSome first NamesApart → IfSome later NamesApart → IfSome (option_or first later) NamesApart
 or_by None later h more = more
@@ -63,15 +64,15 @@ fit_apart [] = tt
 fit_apart (alternative ∷ more) = or_by (wanted_in (parameters_of alternative)) (first_fit more) (alternative_apart (parameters_of alternative)) (fit_apart more)
 
 -- the channels that a player names differ
-pub picked_apart : (value : List ℕ) → IfSome (first_fit (parts_at 44 value)) NamesApart
-picked_apart value = fit_apart (parts_at 44 value)
+pub picked_apart : (value : List ℕ) → IfSome (first_fit (unquoted_parts 44 value)) NamesApart
+picked_apart value = fit_apart (unquoted_parts 44 value)
 
 wanted_or : (wanted : Option Wanted) → IfSome wanted NamesApart → IfOk (ok_or wanted faults.NoneFits) NamesApart
 wanted_or None h = tt
 wanted_or (Some wanted) h = h
 
 -- What was picked names channels that differ.
-pub pick_apart : (value : List ℕ) (fit : Option Wanted) (answer : Result Wanted TransportFault) → fit ≡ first_fit (parts_at 44 value) → answer ≡ ok_or fit faults.NoneFits →
+pub pick_apart : (value : List ℕ) (fit : Option Wanted) (answer : Result Wanted TransportFault) → fit ≡ first_fit (unquoted_parts 44 value) → answer ≡ ok_or fit faults.NoneFits →
     IfOk answer NamesApart
 pick_apart value fit answer h told =
     subst (λ (w : Result Wanted TransportFault). IfOk w NamesApart) (sym told)

@@ -4,7 +4,8 @@ use Rattle.std.specs.List.{list_all}
 use Rattle.std.specs.Char.{is_ascii_digit, is_ascii_hexdigit, digit_value}
 use Rattle.std.specs.Str.Parse.{digits_value}
 use Rattle.std.proofs.lemmas.Bool.{and_parts, eqb-true, agree_below, agree_below_at}
-use Rattle.rtsp_transport.specs.Sources.{hex_digit, hex_places, source_digits, source_number}
+use Rattle.rtsp_transport.specs.declared.ssrc.TheConstants.{HEX_PLACES}
+use Rattle.rtsp_transport.specs.Sources.{hex_digit, source_digits, source_number}
 use Rattle.rtsp_transport.proofs.SourceLemmas.{hex_range}
 
 -- What holds of each hexadecimal digit below 128 holds of all bytes of a text of them.
@@ -51,7 +52,7 @@ places_hex n (p ∷ places) = ap (λ t. t && list_all is_ascii_hexdigit (map (λ
 -- the digits of a source are hexadecimal ones
 pub source_hex : (n : ℕ) → list_all is_ascii_hexdigit (source_digits n) ≡ true
 unfolding source_digits
-source_hex n = places_hex n hex_places
+source_hex n = places_hex n HEX_PLACES
 
 -- what each digit counts
 counts : (n p : ℕ) → digit_value (hex_digit (n / p % 16)) ≡ n / p % 16

@@ -2,7 +2,7 @@
 use Rattle.std.proofs.Common.{◌≡◌, ℕ, zero, suc, ◌+◌, ◌<◌, Bool, true, false, not, ◌==◌, ◌&&◌, cond, List, [], ◌∷◌, length, take, drop, get_or, Option, None, Some, refl, sym, ◌∙◌, ap, add-one, drop-cons, arith}
 use Rattle.std.specs.Option.{option_map}
 use Rattle.std.specs.List.{onto_first}
-use Rattle.rtsp_transport.specs.Splits.{quoted_after, split_from, parts_at, place_outside}
+use Rattle.rtsp_transport.specs.Splits.{quoted_after, split_from, unquoted_parts, place_outside}
 
 split_step : (byte b : ℕ) (text : List ℕ) (test : Bool) (later : Option ℕ) (parts : List (List ℕ)) (k : ℕ) →
     cond test (Some 0) (option_map (λ j. j + 1) later) ≡ Some k →
@@ -35,11 +35,11 @@ split_whole byte quoted (b ∷ text) h =
     whole_step byte b text (b == byte && not quoted) (place_outside byte (quoted_after quoted b) text) (split_from byte (quoted_after quoted b) text) h (split_whole byte (quoted_after quoted b) text)
 
 -- the parts, where the byte stands outside quotes
-pub parts_at_place : (byte : ℕ) (text : List ℕ) (k : ℕ) → Some k ≡ place_outside byte false text → parts_at byte text ≡ take k text ∷ parts_at byte (drop (k + 1) text)
+pub parts_at_place : (byte : ℕ) (text : List ℕ) (k : ℕ) → Some k ≡ place_outside byte false text → unquoted_parts byte text ≡ take k text ∷ unquoted_parts byte (drop (k + 1) text)
 parts_at_place byte text k h = split_at_place byte false text k (sym h)
 
 -- the one part, where it doesn't
-pub parts_whole : (byte : ℕ) (text : List ℕ) → None ≡ place_outside byte false text → parts_at byte text ≡ text ∷ []
+pub parts_whole : (byte : ℕ) (text : List ℕ) → None ≡ place_outside byte false text → unquoted_parts byte text ≡ text ∷ []
 parts_whole byte text h = split_whole byte false text (sym h)
 
 shifted : (i : ℕ) (later : Option ℕ) → option_map (λ k. (i + 1) + k) later ≡ option_map (λ k. i + k) (option_map (λ k. k + 1) later)
@@ -72,7 +72,7 @@ place_found byte i quoted text total within here h =
 
 -- the parts, once the first of them stands apart
 pub first_apart : (byte : ℕ) (text front rest : List ℕ) (k : ℕ) → Some k ≡ place_outside byte false text → front ≡ take k text → rest ≡ drop (k + 1) text →
-    parts_at byte text ≡ front ∷ parts_at byte rest
+    unquoted_parts byte text ≡ front ∷ unquoted_parts byte rest
 first_apart byte text front rest k h f r = rw (f, r) (parts_at_place byte text k h)
 
 onto_some : (b : ℕ) (parts : List (List ℕ)) → 0 < length (onto_first b parts)

@@ -12,14 +12,15 @@ use Rattle.std.proofs.lemmas.Str.Parse.{IsNumeralModel, numerals_by_value}
 use Rattle.std.proofs.lemmas.Fmt.{digits_decimal, digits_value-decimal, length-decimal-le, decimal_nonempty}
 use Rattle.gate_bytes.specs.Tokens.{is_blank, trimmed}
 use Rattle.gate_bytes.specs.Numbers.{number_in}
+use Rattle.gate_bytes.proofs.SeamLemmas.{cut_at_seam, up_to_whole}
 use Rattle.rtsp_transport.specs.declared.grant.Grant.{Grant}
 use Rattle.rtsp_transport.specs.declared.fault.TransportFault.TheVariants as faults
-use Rattle.rtsp_transport.specs.Splits.{parts_at, is_readable}
+use Rattle.rtsp_transport.specs.Splits.{unquoted_parts, is_readable}
 use Rattle.rtsp_transport.specs.Channels.{channel_of, two_channels, pair_of}
 use Rattle.rtsp_transport.specs.Sources.{source_digits, source_number, first_source}
 use Rattle.rtsp_transport.specs.Grants.{grant_in, grant_among, grant_of}
 use Rattle.rtsp_transport.specs.Written.{source_text, grant_text}
-use Rattle.rtsp_transport.proofs.CleanLemmas.{is_clean, whole_clean, first_clean, quotes_closed, cut_at_seam, up_to_whole, end_kept}
+use Rattle.rtsp_transport.proofs.CleanLemmas.{is_clean, whole_clean, first_clean, quotes_closed, end_kept}
 use Rattle.rtsp_transport.proofs.HexLemmas.{hex_all, digits_hex, source_hex, source_read}
 
 own : IsNumeralModel (λ ds. list_all is_ascii_digit ds ≡ true) (digits_value 10)
@@ -67,9 +68,9 @@ source_without q None h = refl
 source_without q (Some n) h = h n
 
 channels_split : (a b : ℕ) (source : Option ℕ) → a ≤ 255 → b ≤ 255 →
-    parts_at 59 ((decimal a ++ (45 ∷ decimal b)) ++ source_text source) ≡ (decimal a ++ (45 ∷ decimal b)) ∷ source_parameters source
+    unquoted_parts 59 ((decimal a ++ (45 ∷ decimal b)) ++ source_text source) ≡ (decimal a ++ (45 ∷ decimal b)) ∷ source_parameters source
 channels_split a b None ha hb =
-    ap (parts_at 59) (append-nil (decimal a ++ (45 ∷ decimal b)))
+    ap (unquoted_parts 59) (append-nil (decimal a ++ (45 ∷ decimal b)))
     ∙ whole_clean 59 (decimal a ++ (45 ∷ decimal b)) (pair_all (is_clean 59) a b ha hb (λ n h. hex_all (is_clean 59) (decimal n) refl (decimal_hex n h)) refl)
 channels_split a b (Some n) ha hb =
     first_clean 59 (decimal a ++ (45 ∷ decimal b)) (codes "ssrc=" ++ source_digits n) (pair_all (is_clean 59) a b ha hb (λ n h. hex_all (is_clean 59) (decimal n) refl (decimal_hex n h)) refl)
@@ -98,7 +99,7 @@ onto_interleaved : List (List ℕ) → List (List ℕ)
 onto_interleaved parts = codes "RTP/AVP/TCP" ∷ codes "unicast" ∷ onto_first 105 (onto_first 110 (onto_first 116 (onto_first 101 (onto_first 114 (onto_first 108 (onto_first 101 (onto_first 97 (onto_first 118 (onto_first 101 (onto_first 100 (onto_first 61 parts)))))))))))
 
 written_split : (a b : ℕ) (source : Option ℕ) → a ≤ 255 → b ≤ 255 →
-    parts_at 59 (codes "RTP/AVP/TCP;unicast;interleaved=" ++ ((decimal a ++ (45 ∷ decimal b)) ++ source_text source)) ≡ written_parameters a b source
+    unquoted_parts 59 (codes "RTP/AVP/TCP;unicast;interleaved=" ++ ((decimal a ++ (45 ∷ decimal b)) ++ source_text source)) ≡ written_parameters a b source
 unfolding onto_interleaved
 written_split a b source ha hb = ap onto_interleaved (channels_split a b source ha hb)
 
@@ -132,8 +133,8 @@ written_read a b source ha hb differ small =
     let text = codes "RTP/AVP/TCP;unicast;interleaved=" ++ ((decimal a ++ (45 ∷ decimal b)) ++ source_text source) in
     let readable : is_readable text ≡ true =
     both_true (not (length text == 0)) _ (grind arith) (quotes_closed text (written_all (λ c. not (c == 34)) a b source ha hb refl refl refl refl refl)) in
-    let sole : parts_at 44 text ≡ text ∷ [] = whole_clean 44 text (written_all (is_clean 44) a b source ha hb refl refl refl refl refl) in
-    ap (λ t. cond (not t) (Err faults.Grammar) (ok_or (grant_among (parts_at 44 text)) faults.NoneFits)) readable
+    let sole : unquoted_parts 44 text ≡ text ∷ [] = whole_clean 44 text (written_all (is_clean 44) a b source ha hb refl refl refl refl refl) in
+    ap (λ t. cond (not t) (Err faults.Grammar) (ok_or (grant_among (unquoted_parts 44 text)) faults.NoneFits)) readable
     ∙ ap (λ ps. ok_or (grant_among ps) faults.NoneFits) sole
     ∙ ap (λ ps. ok_or (grant_in ps) faults.NoneFits) (ap (map trimmed) (written_split a b source ha hb) ∙ written_trimmed a b source ha hb)
     ∙ ap (λ g. ok_or g faults.NoneFits) (written_grant a b source ha hb differ small)

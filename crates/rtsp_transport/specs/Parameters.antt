@@ -1,23 +1,29 @@
 -- The parameters of an alternative.
-use Rattle.std.specs.Prelude.{ℕ, Bool, codes, if◌then◌else◌, List, [], ◌∷◌, map, Option, Some, None, option_and_then}
+use Rattle.std.specs.Prelude.{ℕ, Bool, codes, if◌then◌else◌, List, [], ◌∷◌, map, Option, Some, None}
 use Rattle.std.specs.Option.{option_or}
+use Rattle.gate_bytes.specs.Ascii.{semicolon, equals_sign}
 use Rattle.gate_bytes.specs.Tokens.{trimmed, equal_fold}
 use Rattle.gate_bytes.specs.Places.{cut_at}
-use Rattle.rtsp_transport.specs.Splits.{parts_at, parts_left}
+use Rattle.rtsp_transport.specs.Splits.{unquoted_parts, unquoted_left}
 
 -- what semicolons part, without the blanks round each: the protocol, and then the parameters (RFC 2326, 12.39)
 abbrev pub parameters_of : List ℕ → List (List ℕ)
-parameters_of alternative = map trimmed (parts_at 59 alternative)
+parameters_of alternative = map trimmed (unquoted_parts semicolon alternative)
 
 abbrev pub parameters_left : Option (List ℕ) → List (List ℕ)
-parameters_left rest = map trimmed (parts_left 59 rest)
+parameters_left rest = map trimmed (unquoted_left semicolon rest)
 
--- the value of a parameter with this name, without ASCII case: what stands behind the first `=`, blanks and all
-abbrev pub value_in : List ℕ → List ℕ → Option (List ℕ)
-value_in name parameter = option_and_then (λ parts. if equal_fold parts.0 name then Some parts.1 else None) (cut_at 61 parameter)
+abbrev pub value_with : List ℕ → List ℕ → Option (List ℕ × List ℕ) → Option (Option (List ℕ))
+value_with name parameter None = if equal_fold parameter name then Some None else None
+value_with name parameter (Some parts) = if equal_fold parts.0 name then Some (Some parts.1) else None
+
+-- The value of a parameter, where it has this name, without ASCII case: what stands behind the first `=`, blanks and
+-- all, or none, where there is no `=` (that such a parameter counts is this project's own).
+abbrev pub value_in : List ℕ → List ℕ → Option (Option (List ℕ))
+value_in name parameter = value_with name parameter (cut_at equals_sign parameter)
 
 -- the value of the first parameter with this name
-abbrev pub value_of : List ℕ → List (List ℕ) → Option (List ℕ)
+abbrev pub value_of : List ℕ → List (List ℕ) → Option (Option (List ℕ))
 value_of name [] = None
 value_of name (parameter ∷ more) = option_or (value_in name parameter) (value_of name more)
 

@@ -1,11 +1,12 @@
 -- How a Transport field is written.
 use Rattle.std.specs.Prelude.{ℕ, codes, decimal, List, [], ◌∷◌, ◌++◌, Option, Some, None}
+use Rattle.gate_bytes.specs.Ascii.{hyphen}
 use Rattle.rtsp_transport.specs.Sources.{source_digits}
 use Rattle.rtsp_transport.specs.declared.channels.Pair.{Pair}
 use Rattle.rtsp_transport.specs.declared.grant.Grant.{Grant}
 
 abbrev pub pair_text : Pair → List ℕ
-pair_text pair = decimal pair.rtp ++ (45 ∷ decimal pair.rtcp)
+pair_text pair = decimal pair.rtp ++ (hyphen ∷ decimal pair.rtcp)
 
 abbrev pub source_text : Option ℕ → List ℕ
 source_text None = []

@@ -1,9 +1,10 @@
-//! What a player wants.
-ghost use Rattle.std.specs.Prelude.{◌≡◌, IfOk};
+//! Alternatives that a player offers, and the first that fits.
+ghost use Rattle.std.specs.Prelude.{◌≡◌, IfOk, option_map};
 ghost use Rattle.std.specs.Option.{option_copied};
-ghost use Rattle.rtsp_transport.specs.Splits.{parts_at};
+ghost use Rattle.gate_bytes.specs.Ascii.{comma};
+ghost use Rattle.rtsp_transport.specs.Splits.{unquoted_parts};
 ghost use Rattle.rtsp_transport.specs.Parameters.{parameters_of};
-ghost use Rattle.rtsp_transport.specs.Wants.{NamesApart, is_tcp, plays, wanted_channels, wanted_in, first_fit, wanted_of};
+ghost use Rattle.rtsp_transport.specs.Wants.{NamesApart, is_tcp, mode_fits, wanted_channels, wanted_in, first_fit, wanted_of};
 
 use crate::channels::{Pair, read_asked};
 use crate::fault::TransportFault;
@@ -34,7 +35,7 @@ pub fn pick(value: &[u8]) -> Result<Wanted, TransportFault>
 
 /// What the first alternative wants that fits.
 fn first_fit(value: &[u8]) -> Option<Wanted>
-    ensures { result ≡ first_fit (parts_at 44 value.now) }
+    ensures { result ≡ first_fit (unquoted_parts comma value.now) }
 {
     let mut left = Some(value);
     while let Some(text) = left {
@@ -56,7 +57,7 @@ fn wanted_in(alternative: &[u8]) -> Option<Wanted>
     if !is_tcp(trim(protocol)) || has_multicast(parameters) {
         return None;
     }
-    if !plays(value_of(b"mode", parameters)) {
+    if !mode_fits(value_of(b"mode", parameters)) {
         return None;
     }
     wanted_channels(value_of(b"interleaved", parameters))
@@ -69,22 +70,23 @@ pub(crate) fn is_tcp(protocol: &[u8]) -> bool
     eq_fold(protocol, b"RTP/AVP/TCP")
 }
 
-/// Whether a mode is missing, or is `PLAY`, in double quotes or not.
-fn plays(mode: Option<&[u8]>) -> bool
-    ensures { result ≡ plays (option_copied mode.entry) }
+/// Whether a mode is missing, or is `PLAY`, in double quotes or not. One without a value doesn't fit.
+fn mode_fits(mode: Option<Option<&[u8]>>) -> bool
+    ensures { result ≡ mode_fits (option_map option_copied mode.entry) }
 {
     match mode {
-        Some(mode) => eq_fold(mode, b"PLAY") || eq_fold(mode, b"\"PLAY\""),
+        Some(Some(mode)) => eq_fold(mode, b"PLAY") || eq_fold(mode, b"\"PLAY\""),
+        Some(None) => false,
         None => true,
     }
 }
 
-/// The channels that are wanted: any, where none are named.
-fn wanted_channels(interleaved: Option<&[u8]>) -> Option<Wanted>
-    ensures { result ≡ wanted_channels (option_copied interleaved.entry) }
+/// The channels that are wanted: any, where `interleaved` is missing. Without a value it doesn't fit.
+fn wanted_channels(interleaved: Option<Option<&[u8]>>) -> Option<Wanted>
+    ensures { result ≡ wanted_channels (option_map option_copied interleaved.entry) }
 {
     match interleaved {
-        Some(channels) => Some(Wanted::Exact(read_asked(channels)?)),
+        Some(channels) => Some(Wanted::Exact(read_asked(channels?)?)),
         None => Some(Wanted::Any),
     }
 }

@@ -1,8 +1,14 @@
-//! Pairs of channels, for frames of RTP and RTCP on the connection itself.
+//! Pairs of channels, for RTP and RTCP on the RTSP connection itself.
 ghost use Rattle.std.specs.Prelude.{◌≡◌};
 ghost use Rattle.rtsp_transport.specs.Channels.{channel_of, two_channels, pair_of, first_channel, pair_or_first};
 
 use gate_bytes::{read_decimal, split_once};
+
+/// The greatest channel: one byte of a frame holds it (RFC 2326, 10.12; RFC 7826, 14).
+pub const LAST_CHANNEL: u8 = 255;
+
+/// The most digits of a channel (RFC 7826, 20.2).
+pub const CHANNEL_DIGITS: u32 = 3;
 
 /// Two channels of one track (RFC 2326, 10.12; RFC 7826, 14).
 #[derive(Clone, Copy, Debug, PartialEq, Eq)]
@@ -13,8 +19,8 @@ pub struct Pair {
     pub rtcp: u8,
 }
 
-/// The channels that a player asks for: `a-b`, or `a` alone with `a` below 255, which means `a` and
-/// the next channel.
+/// The channels that a player asks for: `a-b`, or `a` alone with `a` below [`LAST_CHANNEL`], which
+/// means `a` and the next channel.
 pub(crate) fn read_asked(value: &[u8]) -> Option<Pair>
     ensures { result ≡ pair_or_first value.now }
 {
@@ -49,18 +55,18 @@ fn first_channel(text: &[u8]) -> Option<Pair>
     ensures { result ≡ first_channel text.now }
 {
     let rtp = read_channel(text)?;
-    if rtp == 255 {
+    if rtp == LAST_CHANNEL {
         return None;
     }
     Some(Pair { rtp, rtcp: rtp + 1 })
 }
 
-/// A channel: 1 to 3 digits, up to 255.
+/// A channel: 1 to [`CHANNEL_DIGITS`] digits, up to [`LAST_CHANNEL`].
 fn read_channel(text: &[u8]) -> Option<u8>
     ensures { result ≡ channel_of text.now }
 {
-    let channel = read_decimal(text, 3)?;
-    if channel > 255 {
+    let channel = read_decimal(text, CHANNEL_DIGITS)?;
+    if channel > u64::from(LAST_CHANNEL) {
         return None;
     }
     Some(channel as u8)

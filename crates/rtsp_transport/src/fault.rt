@@ -1,7 +1,7 @@
-//! Why a Transport field is of no use.
+//! The errors of reading a Transport field.
 use std::fmt;
 
-/// Why a Transport field is of no use.
+/// Why a Transport field offers or grants nothing that the gateway can use.
 #[derive(Clone, Copy, Debug, PartialEq, Eq)]
 pub enum TransportFault {
     /// The value is empty, or a double quote in it is not closed.

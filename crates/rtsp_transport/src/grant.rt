@@ -1,8 +1,9 @@
-//! What the server grants.
+//! The alternative that a server grants.
 ghost use Rattle.std.specs.Prelude.{◌≡◌, IfOk};
+ghost use Rattle.gate_bytes.specs.Ascii.{comma};
 ghost use Rattle.rtsp_transport.specs.Channels.{AreApart};
 ghost use Rattle.rtsp_transport.specs.Parameters.{parameters_of};
-ghost use Rattle.rtsp_transport.specs.Splits.{parts_at};
+ghost use Rattle.rtsp_transport.specs.Splits.{unquoted_parts};
 ghost use Rattle.rtsp_transport.specs.Grants.{grant_in, grant_among, grant_of};
 
 use crate::alternative::is_tcp;
@@ -36,7 +37,7 @@ pub fn read_grant(value: &[u8]) -> Result<Grant, TransportFault>
 
 /// The grant of a value that has one alternative.
 fn sole_grant(value: &[u8]) -> Option<Grant>
-    ensures { result ≡ grant_among (parts_at 44 value.now) }
+    ensures { result ≡ grant_among (unquoted_parts comma value.now) }
 {
     let (alternative, more) = first_part(b',', value);
     match more {
@@ -53,7 +54,7 @@ fn grant_in(alternative: &[u8]) -> Option<Grant>
     if !is_tcp(trim(protocol)) {
         return None;
     }
-    let pair = read_pair(value_of(b"interleaved", parameters)?)?;
+    let pair = read_pair(value_of(b"interleaved", parameters)??)?;
     Some(Grant {
         pair,
         ssrc: first_source(parameters),

@@ -1,7 +1,7 @@
-//! The field Transport, of both versions (RFC 2326, 12.39; RFC 7826, 18.54): what a player wants,
-//! what the server grants, and how either is written.
+//! The field Transport, of both versions (RFC 2326, 12.39; RFC 7826, 18.54): what a player offers,
+//! what the server grants, and how the gateway writes either.
 //!
-//! The readers take no memory. What they answer is defined in `specs/`.
+//! The readers take no memory. `specs/` defines what they answer.
 #![tactic(auto)]
 
 mod alternative;
@@ -16,7 +16,8 @@ mod tests;
 mod write;
 
 pub use alternative::{Wanted, pick};
-pub use channels::Pair;
+pub use channels::{CHANNEL_DIGITS, LAST_CHANNEL, Pair};
 pub use fault::TransportFault;
 pub use grant::{Grant, read_grant};
+pub use ssrc::SSRC_DIGITS;
 pub use write::{write_one, write_two};

@@ -1,5 +1,5 @@
-//! The parameters of an alternative.
-ghost use Rattle.std.specs.Prelude.{◌≡◌};
+//! The parameters of one alternative, by name.
+ghost use Rattle.std.specs.Prelude.{◌≡◌, option_map};
 ghost use Rattle.std.specs.List.{list_any};
 ghost use Rattle.std.specs.Option.{option_copied};
 ghost use Rattle.rtsp_transport.specs.Parameters.{parameters_left, value_in, value_of, is_multicast};
@@ -7,9 +7,10 @@ ghost use Rattle.rtsp_transport.specs.Parameters.{parameters_left, value_in, val
 use crate::split::first_part;
 use gate_bytes::{eq_fold, split_once, trim};
 
-/// The value of the first parameter with this name, without ASCII case.
-pub(crate) fn value_of<'a>(name: &[u8], parameters: Option<&'a [u8]>) -> Option<&'a [u8]>
-    ensures { option_copied result ≡ value_of name.now (parameters_left (option_copied parameters.entry)) }
+/// The value of the first parameter with this name, without ASCII case, where one has the name; the
+/// value is `None` where there is no `=` in that parameter.
+pub(crate) fn value_of<'a>(name: &[u8], parameters: Option<&'a [u8]>) -> Option<Option<&'a [u8]>>
+    ensures { option_map option_copied result ≡ value_of name.now (parameters_left (option_copied parameters.entry)) }
 {
     let mut left = parameters;
     while let Some(text) = left {
@@ -23,11 +24,15 @@ pub(crate) fn value_of<'a>(name: &[u8], parameters: Option<&'a [u8]>) -> Option<
     None
 }
 
-/// The value of a parameter with this name, without ASCII case: what stands behind the first `=`.
-pub(crate) fn value_in<'a>(name: &[u8], parameter: &'a [u8]) -> Option<&'a [u8]>
-    ensures { option_copied result ≡ value_in name.now parameter.now }
+/// The value of a parameter, where it has this name, without ASCII case: what stands behind the first
+/// `=`, or `None` where there is no `=`.
+pub(crate) fn value_in<'a>(name: &[u8], parameter: &'a [u8]) -> Option<Option<&'a [u8]>>
+    ensures { option_map option_copied result ≡ value_in name.now parameter.now }
 {
-    let (own_name, value) = split_once(b'=', parameter)?;
+    let (own_name, value) = match split_once(b'=', parameter) {
+        Some((front, value)) => (front, Some(value)),
+        None => (parameter, None),
+    };
     if !eq_fold(own_name, name) {
         return None;
     }

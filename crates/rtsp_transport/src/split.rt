@@ -1,7 +1,7 @@
-//! Splitting a value at a byte outside double quotes.
+//! Splitting a Transport field at a byte outside double quotes.
 ghost use Rattle.std.specs.Prelude.{◌≡◌, ◌<◌, ◌∷◌, false, length, IfSome};
 ghost use Rattle.std.specs.Option.{option_copied};
-ghost use Rattle.rtsp_transport.specs.Splits.{quoted_after, has_open_quote, is_readable, place_outside, parts_at, parts_left};
+ghost use Rattle.rtsp_transport.specs.Splits.{quoted_after, has_open_quote, is_readable, place_outside, unquoted_parts, unquoted_left};
 
 use gate_bytes::{after, before};
 
@@ -22,7 +22,7 @@ fn has_open_quote(value: &[u8]) -> bool
 /// The first part of a text that a byte splits outside double quotes, and what follows that byte;
 /// nothing follows the last part.
 pub(crate) fn first_part(byte: u8, text: &[u8]) -> (&[u8], Option<&[u8]>)
-    ensures parts { parts_at byte text.now ≡ result.0.now ∷ parts_left byte (option_copied result.1) }
+    ensures parts { unquoted_parts byte text.now ≡ result.0.now ∷ unquoted_left byte (option_copied result.1) }
     ensures less { IfSome result.1 (λ rest. length rest.now < length text.now) }
 {
     match find_outside(byte, text) {

@@ -1,4 +1,4 @@
-//! Sources of RTP packets, as eight hexadecimal digits.
+//! The source of RTP packets, as the parameter `ssrc` writes it.
 ghost use Rattle.std.specs.Prelude.{◌≡◌, ◌<◌, ◌++◌, true, OnOk};
 ghost use Rattle.std.specs.Char.{is_ascii_hexdigit, digit_value};
 ghost use Rattle.std.specs.Option.{option_copied};
@@ -8,6 +8,9 @@ ghost use Rattle.rtsp_transport.specs.Parameters.{parameters_left};
 use crate::parameters::value_in;
 use crate::split::first_part;
 use gate_bytes::{Memory, Text, trim, up_to};
+
+/// The number of hexadecimal digits that write a source (RFC 2326, 12.39; RFC 7826, 18.54).
+pub const SSRC_DIGITS: usize = 8;
 
 /// The first source among the parameters.
 pub(crate) fn first_source(parameters: Option<&[u8]>) -> Option<u32>
@@ -25,19 +28,19 @@ pub(crate) fn first_source(parameters: Option<&[u8]>) -> Option<u32>
     None
 }
 
-/// The source of a parameter `ssrc`: its first value, before a `/`, of eight hexadecimal digits.
+/// The source of a parameter `ssrc`: its first value, before a `/`.
 fn source_in(parameter: &[u8]) -> Option<u32>
     ensures { result ≡ source_in parameter.now }
 {
-    let value = value_in(b"ssrc", parameter)?;
+    let value = value_in(b"ssrc", parameter)??;
     read_source(up_to(b'/', value))
 }
 
-/// The number that eight hexadecimal digits write.
+/// The number that [`SSRC_DIGITS`] hexadecimal digits write.
 fn read_source(text: &[u8]) -> Option<u32>
     ensures { result ≡ source_number text.now }
 {
-    if text.len() != 8 {
+    if text.len() != SSRC_DIGITS {
         return None;
     }
     let mut number: u32 = 0;
@@ -62,8 +65,8 @@ fn hex_value(byte: u8) -> u32
     }
 }
 
-/// What the digits of a number count, the greatest first.
-const PLACES: [u32; 8] = [
+/// The value of each digit's place, the greatest first.
+const HEX_PLACES: [u32; SSRC_DIGITS] = [
     0x1000_0000,
     0x100_0000,
     0x10_0000,
@@ -74,12 +77,15 @@ const PLACES: [u32; 8] = [
     1,
 ];
 
-/// Appends a source as eight upper-case hexadecimal digits.
+/// The hexadecimal digits.
+const HEX_DIGITS: &[u8; 16] = b"0123456789ABCDEF";
+
+/// Appends a source in upper-case hexadecimal digits.
 #[tactic(auto, unfolding(crate::specs::Sources::source_digits))]
 pub(crate) fn push_source(text: &mut Text, source: u32) -> Result<(), Memory>
     ensures { OnOk result (text.new ≡ text.old ++ source_digits source) }
 {
-    for place in &PLACES {
+    for place in &HEX_PLACES {
         text.push_slice(&[hex_digit(source / *place % 16)])?;
     }
     Ok(())
@@ -90,9 +96,5 @@ fn hex_digit(number: u32) -> u8
     requires { number < 16 }
     ensures { result ≡ hex_digit number }
 {
-    if number < 10 {
-        b'0' + number as u8
-    } else {
-        b'A' + (number - 10) as u8
-    }
+    HEX_DIGITS[number as usize]
 }

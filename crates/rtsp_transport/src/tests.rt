@@ -1,131 +1,62 @@
-// Each reader and writer, once with a table of cases.
+// Each reader by a table of cases, and the writers once.
+mod grants;
+mod offers;
+
 use super::*;
+use grants::GRANTS;
+use offers::OFFERS;
 use std::test::Fail;
 
-const fn exact(rtp: u8, rtcp: u8) -> Result<Wanted, TransportFault> {
-    Ok(Wanted::Exact(Pair { rtp, rtcp }))
+// The two channels of `a-b`.
+fn told_pair(text: &str) -> Option<Pair> {
+    let (rtp, rtcp) = text.split_once('-')?;
+    Some(Pair {
+        rtp: rtp.parse().ok()?,
+        rtcp: rtcp.parse().ok()?,
+    })
 }
 
-const ANY: Result<Wanted, TransportFault> = Ok(Wanted::Any);
-
-const GRAMMAR: Result<Wanted, TransportFault> = Err(TransportFault::Grammar);
-
-const NONE: Result<Wanted, TransportFault> = Err(TransportFault::NoneFits);
-
-#[test]
-fn the_first_alternative_that_fits_is_picked(rt: HostRuntime) {
-    let rows = [
-        // RFC 2326, 12.39 and 10.12; RFC 7826, 18.54.
-        (
-            b"RTP/AVP;multicast;ttl=127;mode=\"PLAY\",RTP/AVP;unicast;client_port=3456-3457;mode=\"PLAY\"".as_slice(),
-            NONE,
-        ),
-        (b"RTP/AVP/TCP;interleaved=0-1", exact(0, 1)),
-        (
-            b"RTP/AVP/TCP;unicast;interleaved=0-1;mode=\"PLAY\"",
-            exact(0, 1),
-        ),
-        (
-            b"RTP/AVP/UDP;unicast;dest_addr=\":4588\"/\":4589\",RTP/AVP/TCP;unicast;interleaved=0-1",
-            exact(0, 1),
-        ),
-        // Channels.
-        (b"RTP/AVP/TCP", ANY),
-        (b"RTP/AVP/TCP;interleaved=7", exact(7, 8)),
-        (b"RTP/AVP/TCP;interleaved=254", exact(254, 255)),
-        (b"RTP/AVP/TCP;interleaved=255", NONE),
-        (b"RTP/AVP/TCP;interleaved=255-0", exact(255, 0)),
-        (b"RTP/AVP/TCP;interleaved=007-008", exact(7, 8)),
-        (b"RTP/AVP/TCP;interleaved=7-7", NONE),
-        (b"RTP/AVP/TCP;interleaved=0-256", NONE),
-        (b"RTP/AVP/TCP;interleaved=0000-1", NONE),
-        (b"RTP/AVP/TCP;interleaved=0-1-2", NONE),
-        (b"RTP/AVP/TCP;interleaved=", NONE),
-        (b"RTP/AVP/TCP;interleaved=\"0-1\"", NONE),
-        (b"RTP/AVP/TCP;interleaved=x;interleaved=0-1", NONE),
-        (b"RTP/AVP/TCP;interleaved=2-3;interleaved=0-1", exact(2, 3)),
-        (b"RTP/AVP/TCP;interleaved = 0-1", ANY),
-        // Names, blanks and case.
-        (b" rtp/avp/tcp ; Unicast ;; InterLeaved=4-5 ", exact(4, 5)),
-        (b"RTP/AVP/TCP/;interleaved=4-5", NONE),
-        (b"RTP/AVP/TCP;Multicast", NONE),
-        (b"RTP/AVP/TCP;multicast=no", ANY),
-        // Modes.
-        (b"RTP/AVP/TCP;mode=\"record\",RTP/AVP/TCP", ANY),
-        (b"RTP/AVP/TCP;mode=play", ANY),
-        (b"RTP/AVP/TCP;mode=\"\"PLAY\"\"", NONE),
-        (b"RTP/AVP/TCP;mode=\"PL\"AY", NONE),
-        (b"RTP/AVP/TCP;mode=\"PLAY,RECORD\"", NONE),
-        (b"RTP/AVP/TCP;mode=", NONE),
-        // Quotes and commas.
-        (b"RTP/AVP/TCP;mode=\"PLAY", GRAMMAR),
-        (b"", GRAMMAR),
-        (b"\"", GRAMMAR),
-        (b",", NONE),
-        (
-            b"x=\",RTP/AVP/TCP;interleaved=0-1,\",RTP/AVP/TCP;interleaved=2-3",
-            exact(2, 3),
-        ),
-        (
-            b"RTP/AVP/TCP;a=\";multicast;\";interleaved=2-3",
-            exact(2, 3),
-        ),
-        (
-            b"RTP/AVP/TCP;interleaved=2-3,RTP/AVP/TCP;interleaved=4-5",
-            exact(2, 3),
-        ),
-    ];
-    for (value, wanted) in rows {
-        assert_eq!(rt; pick(value), wanted, "{value:?}");
+// What a line of the offers tells.
+fn told_wanted(text: &str) -> Option<Result<Wanted, TransportFault>> {
+    match text {
+        "any" => Some(Ok(Wanted::Any)),
+        "none" => Some(Err(TransportFault::NoneFits)),
+        "grammar" => Some(Err(TransportFault::Grammar)),
+        _ => Some(Ok(Wanted::Exact(told_pair(text)?))),
     }
 }
 
-const fn granted(rtp: u8, rtcp: u8, ssrc: Option<u32>) -> Result<Grant, TransportFault> {
-    Ok(Grant {
-        pair: Pair { rtp, rtcp },
-        ssrc,
-    })
+#[test]
+fn the_first_alternative_that_fits_is_picked(rt: HostRuntime) {
+    for line in OFFERS.lines() {
+        let (value, told) = line.split_once(" => ").expect(&rt, line);
+        let wanted = told_wanted(told).expect(&rt, line);
+        assert_eq!(rt; pick(value.as_bytes()), wanted, "{line}");
+    }
+}
+
+// What a line of the grants tells.
+fn told_grant(text: &str) -> Option<Result<Grant, TransportFault>> {
+    let (pair, ssrc) = match text.split_once(' ') {
+        Some((pair, ssrc)) => (pair, Some(ssrc.parse().ok()?)),
+        None => (text, None),
+    };
+    match pair {
+        "none" => Some(Err(TransportFault::NoneFits)),
+        "grammar" => Some(Err(TransportFault::Grammar)),
+        _ => Some(Ok(Grant {
+            pair: told_pair(pair)?,
+            ssrc,
+        })),
+    }
 }
 
 #[test]
 fn grants_are_read(rt: HostRuntime) {
-    let none = Err(TransportFault::NoneFits);
-    let rows = [
-        // RFC 7826, 18.54.
-        (
-            b"RTP/AVP/TCP;unicast;interleaved=0-1;ssrc=0A0B0C0D".as_slice(),
-            granted(0, 1, Some(0x0A0B_0C0D)),
-        ),
-        (b"RTP/AVP/TCP;interleaved=254-255", granted(254, 255, None)),
-        (
-            b"rtp/avp/tcp; SSRC=deadBEEF/00000001 ;interleaved=3-2;mode=\"record\"",
-            granted(3, 2, Some(0xDEAD_BEEF)),
-        ),
-        (
-            b"RTP/AVP/TCP;ssrc=1;ssrc=0000000g;ssrc=00000002;ssrc=3;interleaved=0-1",
-            granted(0, 1, Some(2)),
-        ),
-        (
-            b"RTP/AVP/TCP;ssrc=000000001;interleaved=0-1",
-            granted(0, 1, None),
-        ),
-        (
-            b"RTP/AVP/TCP;ssrc=FFFFFFFF;interleaved=0-1",
-            granted(0, 1, Some(u32::MAX)),
-        ),
-        (b"RTP/AVP/TCP;interleaved=0", none),
-        (b"RTP/AVP/TCP;interleaved=0-0", none),
-        (b"RTP/AVP/TCP", none),
-        (b"RTP/AVP;interleaved=0-1", none),
-        (b"RTP/AVP/TCP;interleaved=0-1,", none),
-        (b"", Err(TransportFault::Grammar)),
-        (
-            b"RTP/AVP/TCP;interleaved=0-1;a=\"",
-            Err(TransportFault::Grammar),
-        ),
-    ];
-    for (value, wanted) in rows {
-        assert_eq!(rt; read_grant(value), wanted, "{value:?}");
+    for line in GRANTS.lines() {
+        let (value, told) = line.split_once(" => ").expect(&rt, line);
+        let granted = told_grant(told).expect(&rt, line);
+        assert_eq!(rt; read_grant(value.as_bytes()), granted, "{line}");
     }
 }
 

@@ -13,7 +13,7 @@ use gate_bytes::{Memory, Text};
 use head_one::{Reply1, write_reply};
 use head_two::Reply2;
 use rtsp_head::Headers;
-use rtsp_small::{Method, PUBLIC};
+use rtsp_small::{Method, push_methods};
 use rtsp_status::to_one;
 use session_one::{Asked, is_success};
 use std::alloc::Global;
@@ -145,7 +145,9 @@ fn public(alloc: Global, method: Method) -> Result<Option<Text>, Memory>
     ensures { IfOk result (λ value. value ≡ public_value method) }
 {
     if method == Method::Options {
-        Text::copied(alloc, Some(PUBLIC))
+        let mut methods = Text::new(alloc);
+        push_methods(&mut methods)?;
+        Ok(Some(methods))
     } else {
         Ok(None)
     }

@@ -13,7 +13,7 @@ use Rattle.rtsp_transport.specs.declared.alternative.Wanted.TheVariants.{Any, Ex
 use Rattle.rtsp_transport.specs.declared.fault.TransportFault.{TransportFault}
 use Rattle.rtsp_transport.specs.declared.fault.TransportFault.TheVariants.{Grammar, NoneFits}
 use Rattle.rtsp_transport.specs.Channels.{AreApart}
-use Rattle.rtsp_transport.specs.Splits.{parts_at, is_readable}
+use Rattle.rtsp_transport.specs.Splits.{unquoted_parts, is_readable}
 use Rattle.rtsp_transport.specs.Wants.{NamesApart, first_fit, wanted_of}
 use Rattle.rtsp_transport.proofs.ApartLemmas.{pick_apart}
 use Rattle.head_one.specs.declared.request.Request1.{Request1}
@@ -55,8 +55,8 @@ for_apart tracks (Ok Any) h = free_apart tracks
 for_apart tracks (Ok (Exact pair)) h = exact_apart (is_taken tracks pair) pair h
 for_apart tracks (Err fault) h = tt
 
-wanted_apart : (value : List ℕ) (readable : Bool) → IfOk (cond (not readable) (Err Grammar) (ok_or (first_fit (parts_at 44 value)) NoneFits)) NamesApart
-wanted_apart value true = pick_apart value (first_fit (parts_at 44 value)) (ok_or (first_fit (parts_at 44 value)) NoneFits) refl refl
+wanted_apart : (value : List ℕ) (readable : Bool) → IfOk (cond (not readable) (Err Grammar) (ok_or (first_fit (unquoted_parts 44 value)) NoneFits)) NamesApart
+wanted_apart value true = pick_apart value (first_fit (unquoted_parts 44 value)) (ok_or (first_fit (unquoted_parts 44 value)) NoneFits) refl refl
 wanted_apart value false = tt
 
 client_apart : (tracks : List Track) (value : Option (List ℕ)) → ArePairApart (client_pair tracks value)

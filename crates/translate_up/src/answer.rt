@@ -7,7 +7,7 @@ ghost use Rattle.translate_up.specs.Answers.{answer_text, refusal_text, options_
 use gate_bytes::{Memory, Text, push_decimal};
 use head_one::{Refusal, Reply1, write_reply};
 use rtsp_head::Headers;
-use rtsp_small::PUBLIC;
+use rtsp_small::push_methods;
 use std::alloc::Global;
 
 /// The answer with this code, with the number and these headers alone.
@@ -58,7 +58,7 @@ pub(crate) fn options_text(alloc: Global, cseq: u64) -> Result<Text, Memory>
     text.push_slice(b" OK\r\nCSeq: ")?;
     push_decimal(&mut text, cseq)?;
     text.push_slice(b"\r\nPublic: ")?;
-    text.push_slice(PUBLIC)?;
+    push_methods(&mut text)?;
     text.push_slice(b"\r\n\r\n")?;
     Ok(text)
 }

@@ -1,8 +1,8 @@
 use Rattle.std.proofs.Common.{◌≡◌, ℕ, ◌<◌, false, List, [], ◌∷◌, length, None, refl, sym, ◌∙◌, ap, arith}
 use Rattle.std.specs.Option.{option_copied}
-use Rattle.rtsp_transport.specs.Splits.{parts_at}
+use Rattle.rtsp_transport.specs.Splits.{unquoted_parts}
 use Rattle.rtsp_transport.specs.Grants.{grant_among}
-use Rattle.rtsp_transport.specs.Splits.{parts_left}
+use Rattle.rtsp_transport.specs.Splits.{unquoted_left}
 use Rattle.rtsp_transport.proofs.SplitLemmas.{some_part}
 use Rattle.rtsp_transport.proofs.grant.sole_grant.Goals as goal
 
@@ -13,6 +13,6 @@ among_two first (next ∷ others) h = refl
 
 pub returns-in-Some : goal.returns-in-Some
 returns-in-Some c =
-    let parts : parts_at 44 c.args.value.now ≡ c.first_part.result.0.now ∷ parts_at 44 c.in-Some.field-0.now =
-    c.first_part.ensures.parts ∙ ap (λ rest. c.first_part.result.0.now ∷ parts_left 44 (option_copied rest)) c.in-Some.is in
-    among_two c.first_part.result.0.now (parts_at 44 c.in-Some.field-0.now) (some_part 44 false c.in-Some.field-0.now) ∙ sym (ap grant_among parts)
+    let parts : unquoted_parts 44 c.args.value.now ≡ c.first_part.result.0.now ∷ unquoted_parts 44 c.in-Some.field-0.now =
+    c.first_part.ensures.parts ∙ ap (λ rest. c.first_part.result.0.now ∷ unquoted_left 44 (option_copied rest)) c.in-Some.is in
+    among_two c.first_part.result.0.now (unquoted_parts 44 c.in-Some.field-0.now) (some_part 44 false c.in-Some.field-0.now) ∙ sym (ap grant_among parts)
