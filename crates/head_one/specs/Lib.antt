@@ -1,3 +1,4 @@
 pub mod Refusals
 pub mod Replies
 pub mod Requests
+pub mod Views

@@ -1,31 +1,25 @@
 -- The rules by which a player's request is refused before its session is looked at. Their order is this project's own.
-use Rattle.std.specs.Prelude.{ℕ, Bool, true, false, ◌==◌, ◌&&◌, ◌||◌, not, is_some, is_none, codes, List, [], ◌∷◌, length, Option, Some, None, if◌then◌else◌}
+use Rattle.std.specs.Prelude.{ℕ, Bool, true, false, ◌==◌, ◌&&◌, ◌||◌, not, is_some, is_none, codes, List, [], ◌∷◌, length, Option, Some, None, Result, Ok, Err, if◌then◌else◌}
 use Rattle.std.specs.Option.{option_and_then, option_or}
 use Rattle.std.specs.Str.{bytes_eq}
 use Rattle.gate_bytes.specs.Tokens.{is_token}
 use Rattle.gate_bytes.specs.Numbers.{number_in}
 use Rattle.rtsp_head.specs.declared.header.Header.{Header}
 use Rattle.rtsp_head.specs.Headers.{field_of}
+use Rattle.rtsp_small.specs.declared.cseq.TheConstants.{CSEQ_ONE_DIGITS}
 use Rattle.rtsp_small.specs.declared.method.Method.{Method}
 use Rattle.rtsp_small.specs.declared.method.Method.TheVariants.{Options, Describe, Setup, Play, Pause, Teardown, GetParameter, SetParameter}
 use Rattle.rtsp_small.specs.Methods.{method_of}
 use Rattle.rtsp_uri.specs.Uris.{places_of}
 use Rattle.head_one.specs.declared.refusal.Refusal.{Refusal}
 
--- what the rules look at
-pub record Parts : Type 0 where
-  pub method : List ℕ
-  pub uri : List ℕ
-  pub version : List ℕ
-  pub headers : List Header
-
 -- the version that players speak (RFC 2326, 3.1)
 abbrev pub version_one : List ℕ
 version_one = codes "RTSP/1.0"
 
--- the number of a request: 1 to 19 digits (RFC 2326, 12.17)
-abbrev pub cseq_of : List Header → Option ℕ
-cseq_of headers = option_and_then (number_in 19) (field_of headers (codes "CSeq"))
+-- the number of a player's request (RFC 2326, 12.17)
+abbrev pub client_cseq : List Header → Option ℕ
+client_cseq headers = option_and_then (number_in CSEQ_ONE_DIGITS) (field_of headers (codes "CSeq"))
 
 -- a value with a byte
 abbrev pub said : Option (List ℕ) → Option (List ℕ)
@@ -35,6 +29,20 @@ said (Some value) = if length value == 0 then None else Some value
 -- what a request requires of the server, or else of a proxy (RFC 2326, 12.32 and 12.27): no option is supported
 abbrev pub required : List Header → Option (List ℕ)
 required headers = option_or (said (field_of headers (codes "Require"))) (said (field_of headers (codes "Proxy-Require")))
+
+-- What the rules look at. Each part is read once: the method, its name where it is known, the URI, the version, the
+-- number, and what is required.
+pub record Parts : Type 0 where
+  pub method : List ℕ
+  pub known : Option Method
+  pub uri : List ℕ
+  pub version : List ℕ
+  pub cseq : Option ℕ
+  pub required : Option (List ℕ)
+
+abbrev pub request_parts : List ℕ → List ℕ → List ℕ → List Header → Parts
+request_parts method uri version headers =
+    record { method = method; known = method_of method; uri = uri; version = version; cseq = client_cseq headers; required = required headers }
 
 -- whether a method may be asked of the server itself (RFC 2326, 10.1, 10.8 and 10.9)
 abbrev pub may_ask_server : Option Method → Bool
@@ -60,15 +68,15 @@ pub record Rule : Type 0 where
 abbrev pub rule : Bool → ℕ → Rule
 rule applies code = record { applies = applies; code = code }
 
--- the rules in their order
-abbrev pub rules : Parts → List Rule
-rules parts =
+-- the rules on a request's head, in their order
+abbrev pub head_rules : Parts → List Rule
+head_rules parts =
     rule (not (is_token parts.method)) 400
     ∷ rule (not (bytes_eq parts.version version_one)) 505
-    ∷ rule (is_none (cseq_of parts.headers)) 400
-    ∷ rule (is_none (method_of parts.method)) 501
-    ∷ rule (is_some (required parts.headers)) 551
-    ∷ rule (not (names_resource parts.uri (method_of parts.method))) 400
+    ∷ rule (is_none parts.cseq) 400
+    ∷ rule (is_none parts.known) 501
+    ∷ rule (is_some parts.required) 551
+    ∷ rule (not (names_resource parts.uri parts.known)) 400
     ∷ []
 
 -- the code of the first rule that applies
@@ -76,9 +84,23 @@ abbrev pub first_code : List Rule → Option ℕ
 first_code [] = None
 first_code (one ∷ more) = if one.applies then Some one.code else first_code more
 
+-- The method and the number of a request that no rule refuses. Where one of them could not be read, a rule applies.
+abbrev pub method_and_number : Option Method → Option ℕ → Result (Method × ℕ) ℕ
+method_and_number (Some method) (Some cseq) = Ok (method, cseq)
+method_and_number (Some method) None = Err 400
+method_and_number None cseq = Err 501
+
+abbrev pub unless_refused : Option ℕ → Parts → Result (Method × ℕ) ℕ
+unless_refused None parts = method_and_number parts.known parts.cseq
+unless_refused (Some code) parts = Err code
+
+-- the method and the number of a request, or the code of the first rule that applies
+abbrev pub parts_checked : Parts → Result (Method × ℕ) ℕ
+parts_checked parts = unless_refused (first_code (head_rules parts)) parts
+
 -- a refusal with this code: the number where it could be read, and with 551 what is not supported (RFC 2326, 12.41)
-abbrev pub refusal : List Header → ℕ → Refusal
-refusal headers code = record { code = code; cseq = cseq_of headers; unsupported = if code == 551 then required headers else None }
+abbrev pub refusal : Parts → ℕ → Refusal
+refusal parts code = record { code = code; cseq = parts.cseq; unsupported = if code == 551 then parts.required else None }
 
 -- what has no request line is no request
 abbrev pub no_request : Refusal

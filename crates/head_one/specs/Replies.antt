@@ -1,16 +1,17 @@
 -- Replies to players (RFC 2326, 7): how they are written, and what reply some bytes are.
-use Rattle.std.specs.Prelude.{◌≡◌, ℕ, ◌<◌, ◌^◌, true, not, List, [], Option, Some, None, IfSome, unwrap_or, if◌then◌else◌}
+use Rattle.std.specs.Prelude.{◌≡◌, ℕ, ◌<◌, ◌^◌, true, not, List, [], length, Option, Some, None, IfSome, unwrap_or, if◌then◌else◌}
 use Rattle.std.specs.Option.{option_and_then}
 use Rattle.std.specs.List.{list_all}
 use Rattle.std.specs.Str.{bytes_eq}
 use Rattle.rtsp_head.specs.declared.header.Header.{Header}
 use Rattle.rtsp_head.specs.declared.start.Start.{Start}
 use Rattle.rtsp_head.specs.declared.start.Start.TheVariants.{Request, Status}
-use Rattle.rtsp_head.specs.Messages.{message_headers, is_added, own_fields, message_text, message_of}
+use Rattle.rtsp_head.specs.Messages.{message_headers, is_added, own_fields, message_text, Message, message, message_of}
 use Rattle.rtsp_head.specs.Written.{CanBeWritten}
 use Rattle.rtsp_status.specs.Reasons.{reason_of}
 use Rattle.head_one.specs.declared.reply.Reply1.{Reply1}
-use Rattle.head_one.specs.Refusals.{version_one, cseq_of}
+use Rattle.rtsp_small.specs.declared.cseq.TheConstants.{CSEQ_ONE_DIGITS}
+use Rattle.head_one.specs.Refusals.{version_one, client_cseq}
 
 -- the status line of a reply (RFC 2326, 7.1)
 abbrev pub reply_start : Reply1 → Start
@@ -21,18 +22,27 @@ reply_start reply = Status version_one reply.code (unwrap_or (reason_of reply.co
 abbrev pub reply_text : Reply1 → List ℕ
 reply_text reply = message_text (reply_start reply) reply.cseq reply.headers reply.body
 
-abbrev pub reply_at : Start → List Header → List ℕ → Option Reply1
-reply_at (Status version code reason) headers body =
-    if bytes_eq version version_one then Some (record { code = code; cseq = cseq_of headers; headers = own_fields headers; body = body }) else None
-reply_at (Request method uri version) headers body = None
+abbrev pub client_reply_at : Start → List Header → List ℕ → Option Reply1
+client_reply_at (Status version code reason) headers body =
+    if bytes_eq version version_one then Some (record { code = code; cseq = client_cseq headers; headers = own_fields headers; body = body }) else None
+client_reply_at (Request method uri version) headers body = None
 
--- The reply that these bytes are: its own headers are all but the number and the body's length.
-abbrev pub reply_in : List ℕ → Option Reply1
-reply_in bytes = option_and_then (λ message. reply_at message.head.start message.head.headers message.body) (message_of bytes)
+-- the reply that a message is: its own headers are all but the number and the body's length
+abbrev pub client_reply : Message → Option Reply1
+client_reply message = client_reply_at message.head.start message.head.headers message.body
 
--- A reply that can be written and read back: its number has 19 digits at most, each of its parts fits into one line,
--- and it brings neither a number nor a length of its own.
+-- the one reply that these bytes are
+abbrev pub client_reply_in : List ℕ → Option Reply1
+client_reply_in bytes = option_and_then client_reply (message_of bytes)
+
+-- the message that is written of a reply
+abbrev pub reply_message : Reply1 → Message
+reply_message reply = message (reply_start reply) reply.cseq reply.headers reply.body
+
+-- A reply that can be written and read back: its number has as many digits as that of a request, each of its parts fits
+-- into one line, it brings neither a number nor a length of its own, and memory can hold its body.
 pub record IsReply (reply : Reply1) : Type 0 where
-  pub short : IfSome reply.cseq (λ cseq. cseq < 10 ^ 19)
+  pub short : IfSome reply.cseq (λ cseq. cseq < 10 ^ CSEQ_ONE_DIGITS)
   pub writable : CanBeWritten (reply_start reply) (message_headers reply.cseq reply.headers reply.body)
   pub own : list_all (λ header. not (is_added header)) reply.headers ≡ true
+  pub held : length reply.body < 2 ^ 64

@@ -8,7 +8,7 @@ mod reply;
 mod request;
 mod rule;
 
-pub use law::written_replies;
+pub use law::{replies_in_a_row, written_replies};
 pub use refusal::{Refusal, RequestFault};
 pub use reply::{Reply1, write_reply};
 pub use request::{Request1, read_request};

@@ -1,14 +1,16 @@
 //! Requests of players.
 ghost use Rattle.std.specs.Prelude.{◌≡◌, IfOk};
+ghost use Rattle.gate_bytes.specs.Outcomes.{UnlessMemory};
 ghost use Rattle.rtsp_head.specs.Shapes.{shape_of};
 ghost use Rattle.head_one.specs.Refusals.{refusal, no_request};
-ghost use Rattle.head_one.specs.Requests.{request_in, IsUnlessMemory};
+ghost use Rattle.head_one.specs.Requests.{request_of_item, request_refusal};
+ghost use Rattle.head_one.specs.Views.{parts_seen};
 
-use crate::rule::{cseq_of, first_code, required};
+use crate::rule::{RequestParts, check_parts};
 use crate::{Refusal, RequestFault};
 use gate_bytes::{Memory, Text};
 use rtsp_head::{Head, HeadFault, Item, Start, read_head};
-use rtsp_small::{Method, read_method};
+use rtsp_small::Method;
 use std::alloc::Global;
 
 /// A request that is not refused by the rules on its head (RFC 2326, 6).
@@ -31,7 +33,7 @@ pub struct Request1 {
 /// unknown method, 551 where an option is required, 400 where no resource is named. An item without
 /// a request line is refused with 400.
 pub fn read_request(alloc: Global, item: &Item) -> Result<Request1, RequestFault>
-    ensures { IsUnlessMemory result (request_in (shape_of item.now)) }
+    ensures { UnlessMemory request_refusal result (request_of_item (shape_of item.now)) }
 {
     let head = match read_head(alloc, item.head_bytes()) {
         Ok(head) => head,
@@ -46,11 +48,10 @@ pub fn read_request(alloc: Global, item: &Item) -> Result<Request1, RequestFault
     else {
         return Err(RequestFault::Refused(no_request()));
     };
-    if let Some(code) = first_code(method.as_bytes(), uri.as_bytes(), version.as_bytes(), &head) {
-        return Err(RequestFault::Refused(refusal(alloc, &head, code)?));
-    }
-    let (Some(method), Some(cseq)) = (read_method(method.as_bytes()), cseq_of(&head)) else {
-        return Err(RequestFault::Refused(no_request()));
+    let parts = RequestParts::read(method.as_bytes(), uri.as_bytes(), version.as_bytes(), &head);
+    let (method, cseq) = match check_parts(&parts) {
+        Ok(known) => known,
+        Err(code) => return Err(RequestFault::Refused(refusal(alloc, &parts, code)?)),
     };
     let uri = Text::copy(alloc, uri.as_bytes())?;
     let body = Text::copy(alloc, item.body_bytes())?;
@@ -64,17 +65,14 @@ pub fn read_request(alloc: Global, item: &Item) -> Result<Request1, RequestFault
 }
 
 /// A refusal with this code: the number where it could be read, and with 551 what is not supported.
-fn refusal(alloc: Global, head: &Head, code: u16) -> Result<Refusal, Memory>
-    ensures { IfOk result (λ refused. refused ≡ refusal head.now.headers code) }
+fn refusal(alloc: Global, parts: &RequestParts<'_>, code: u16) -> Result<Refusal, Memory>
+    ensures { IfOk result (λ refused. refused ≡ refusal (parts_seen parts.now) code) }
 {
-    let unsupported = match required(head) {
-        Some(value) if code == 551 => Some(Text::copy(alloc, value)?),
-        _ => None,
-    };
+    let unsupported = if code == 551 { parts.required } else { None };
     Ok(Refusal {
         code,
-        cseq: cseq_of(head),
-        unsupported,
+        cseq: parts.cseq,
+        unsupported: Text::copied(alloc, unsupported)?,
     })
 }
 

@@ -1,7 +1,7 @@
 //! The rules by which a request is refused, and what they look at.
 ghost use Rattle.std.specs.Prelude.{◌≡◌, option_map};
-ghost use Rattle.rtsp_small.specs.Methods.{method_of};
-ghost use Rattle.head_one.specs.Refusals.{rules, first_code, cseq_of, said, required, may_ask_server, names_resource};
+ghost use Rattle.head_one.specs.Refusals.{request_parts, parts_checked, client_cseq, said, required, may_ask_server, names_resource};
+ghost use Rattle.head_one.specs.Views.{parts_seen};
 
 use gate_bytes::is_token;
 use rtsp_head::Head;
@@ -11,37 +11,78 @@ use rtsp_uri::cut;
 /// The version that players speak.
 const VERSION: &[u8] = b"RTSP/1.0";
 
-/// The code of the first rule that applies to a request, where one does.
-pub(crate) fn first_code(method: &[u8], uri: &[u8], version: &[u8], head: &Head) -> Option<u16>
-    ensures { result ≡ first_code (rules (record { method = method.now; uri = uri.now; version = version.now; headers = head.now.headers })) }
-{
-    let known = read_method(method);
-    if !is_token(method) {
-        Some(400)
-    } else if version != VERSION {
-        Some(505)
-    } else if cseq_of(head).is_none() {
-        Some(400)
-    } else if known.is_none() {
-        Some(501)
-    } else if required(head).is_some() {
-        Some(551)
-    } else if !names_resource(uri, known) {
-        Some(400)
-    } else {
-        None
+/// What the rules look at. Each part is read once.
+#[derive(Clone, Copy)]
+pub(crate) struct RequestParts<'a> {
+    /// The method, as it was written.
+    pub(crate) method: &'a [u8],
+    /// The method, where it is a known one.
+    pub(crate) known: Option<Method>,
+    /// The URI, as it was written.
+    pub(crate) uri: &'a [u8],
+    /// The version.
+    pub(crate) version: &'a [u8],
+    /// The number, where it could be read.
+    pub(crate) cseq: Option<u64>,
+    /// What is required of the server or a proxy.
+    pub(crate) required: Option<&'a [u8]>,
+}
+
+impl<'a> RequestParts<'a> {
+    /// The parts of a request line and the headers below it.
+    pub(crate) fn read(
+        method: &'a [u8],
+        uri: &'a [u8],
+        version: &'a [u8],
+        head: &'a Head,
+    ) -> RequestParts<'a>
+        ensures { parts_seen result ≡ request_parts method.now uri.now version.now head.now.headers }
+    {
+        RequestParts {
+            method,
+            known: read_method(method),
+            uri,
+            version,
+            cseq: client_cseq(head),
+            required: required(head),
+        }
     }
 }
 
-/// The number of a request: its CSeq, of 1 to 19 digits (RFC 2326, 12.17).
-pub(crate) fn cseq_of(head: &Head) -> Option<u64>
-    ensures { result ≡ cseq_of head.now.headers }
+/// The method and the number of a request, or the code of the first rule that applies.
+pub(crate) fn check_parts(parts: &RequestParts<'_>) -> Result<(Method, u64), u16>
+    ensures { result ≡ parts_checked (parts_seen parts.now) }
+{
+    if !is_token(parts.method) {
+        return Err(400);
+    }
+    if parts.version != VERSION {
+        return Err(505);
+    }
+    let Some(cseq) = parts.cseq else {
+        return Err(400);
+    };
+    let Some(method) = parts.known else {
+        return Err(501);
+    };
+    if parts.required.is_some() {
+        return Err(551);
+    }
+    if !names_resource(parts.uri, method) {
+        return Err(400);
+    }
+    Ok((method, cseq))
+}
+
+/// The number of a request: its CSeq (RFC 2326, 12.17).
+fn client_cseq(head: &Head) -> Option<u64>
+    ensures { result ≡ client_cseq head.now.headers }
 {
     read_cseq_one(head.field(b"CSeq")?)
 }
 
 /// What a request requires of the server, or else of a proxy (RFC 2326, 12.32 and 12.27).
-pub(crate) fn required(head: &Head) -> Option<&[u8]>
+fn required(head: &Head) -> Option<&[u8]>
     ensures { option_map (λ value. value.now) result ≡ required head.now.headers }
 {
     match said(head.field(b"Require")) {
@@ -59,18 +100,18 @@ fn said(value: Option<&[u8]>) -> Option<&[u8]>
 }
 
 /// Whether a request names a URI, or `*` for the server itself.
-fn names_resource(uri: &[u8], method: Option<Method>) -> bool
-    ensures { result ≡ names_resource uri.now method }
+fn names_resource(uri: &[u8], method: Method) -> bool
+    ensures { result ≡ names_resource uri.now (Some method) }
 {
     cut(uri).is_some() || (uri == b"*".as_slice() && may_ask_server(method))
 }
 
 /// Whether a method may be asked of the server itself (RFC 2326, 10.1, 10.8 and 10.9).
-fn may_ask_server(method: Option<Method>) -> bool
-    ensures { result ≡ may_ask_server method }
+fn may_ask_server(method: Method) -> bool
+    ensures { result ≡ may_ask_server (Some method) }
 {
     matches!(
         method,
-        Some(Method::Options | Method::GetParameter | Method::SetParameter)
+        Method::Options | Method::GetParameter | Method::SetParameter
     )
 }

@@ -1,17 +1,19 @@
 -- An answer that was written is read back.
-use Rattle.std.proofs.Common.{◌≡◌, ℕ, ◌<◌, ◌≤◌, ◌^◌, Bool, true, false, ◌&&◌, ◌==◌, not, nat_le, cond, List, [], ◌∷◌, length, Option, None, Some, IfSome, refl, ◌∙◌, ap, arith}
+use Rattle.std.proofs.Common.{◌≡◌, ℕ, ◌<◌, ◌≤◌, ◌^◌, Bool, true, false, ◌&&◌, ◌==◌, not, nat_le, cond, List, [], ◌∷◌, ◌++◌, length, Option, None, Some, IfSome, refl, ◌∙◌, ap, arith}
 use Rattle.std.specs.Prelude.{unwrap_or, is_some}
 use Rattle.std.specs.Option.{option_and_then, option_map}
 use Rattle.std.specs.List.{list_all}
 use Rattle.std.proofs.lemmas.Bool.{and_parts, eqb-true}
 use Rattle.rtsp_status.specs.Reasons.{Reason, reasons, reason_in, reason_of, has_reason}
 use Rattle.rtsp_head.specs.declared.start.Start.TheVariants.{Status}
-use Rattle.rtsp_head.specs.Messages.{message_headers, Message, is_added}
-use Rattle.rtsp_head.specs.Written.{is_line_text, is_value, is_start, is_header, CanBeWritten}
-use Rattle.rtsp_head.proofs.MessageLemmas.{message_read, message_sound, fields_read}
-use Rattle.head_two.specs.Messages.{version_two, cseq_of}
-use Rattle.head_two.specs.Requests.{request_at, request_in}
-use Rattle.head_two.specs.Answers.{session_header, session_headers, answer_text, answer_at, answer_in}
+use Rattle.rtsp_head.specs.Messages.{message_headers, messages_of, is_added, IsReadable}
+use Rattle.rtsp_head.specs.Written.{is_line_text, is_value, is_start, is_header}
+use Rattle.rtsp_small.specs.declared.cseq.TheConstants.{CSEQ_TWO_DIGITS}
+use Rattle.rtsp_head.proofs.MessageLemmas.{message_sound, fields_read}
+use Rattle.rtsp_head.proofs.StreamLemmas.{message_read, messages_read}
+use Rattle.head_two.specs.Messages.{version_two, server_cseq}
+use Rattle.head_two.specs.Requests.{server_request, request_in}
+use Rattle.head_two.specs.Answers.{answer_session, answer_headers, answer_text, answer_message, server_answer, answer_in}
 use Rattle.head_two.proofs.ReadLemmas.{number_read}
 
 -- a code and a reason of a status line
@@ -38,45 +40,61 @@ reason_told code h =
     let parts = and_parts (nat_le 100 code && nat_le code 999) (is_line_text (unwrap_or (reason_of code) [])) told in
     ap (λ t. t && is_line_text (unwrap_or (reason_of code) [])) parts.0 ∙ parts.1
 
-session_sound : (session : Option (List ℕ)) → IfSome session (λ id. is_value id ≡ true) → list_all is_header (session_header session) ≡ true
+session_sound : (session : Option (List ℕ)) → IfSome session (λ id. is_value id ≡ true) → list_all is_header (answer_session session) ≡ true
 session_sound None h = refl
 session_sound (Some id) h = ap (λ t. t && true) h
 
-sessions_sound : (success : Bool) (session : Option (List ℕ)) → IfSome session (λ id. is_value id ≡ true) → list_all is_header (cond success (session_header session) []) ≡ true
+sessions_sound : (success : Bool) (session : Option (List ℕ)) → IfSome session (λ id. is_value id ≡ true) → list_all is_header (cond success (answer_session session) []) ≡ true
 sessions_sound true session h = session_sound session h
 sessions_sound false session h = refl
 
-sessions_few : (success : Bool) (session : Option (List ℕ)) → length (cond success (session_header session) []) ≤ 1
+sessions_few : (success : Bool) (session : Option (List ℕ)) → length (cond success (answer_session session) []) ≤ 1
 sessions_few true None = omega arith
 sessions_few true (Some id) = omega arith
 sessions_few false session = omega arith
 
-sessions_own : (success : Bool) (session : Option (List ℕ)) → list_all (λ header. not (is_added header)) (cond success (session_header session) []) ≡ true
+sessions_own : (success : Bool) (session : Option (List ℕ)) → list_all (λ header. not (is_added header)) (cond success (answer_session session) []) ≡ true
 sessions_own true None = refl
 sessions_own true (Some id) = refl
 sessions_own false session = refl
 
--- An answer that was written is read back.
-pub answer_read : (code cseq : ℕ) (session : Option (List ℕ)) → has_reason code ≡ true → cseq < 10 ^ 9 → IfSome session (λ id. is_value id ≡ true) →
-    answer_in (answer_text code cseq session) ≡ Some (record { code = code; cseq = cseq; fields = session_headers code session })
-answer_read code cseq session known short value =
-    let first = Status version_two code (unwrap_or (reason_of code) []) in
-    let fields = session_headers code session in
+-- the message of an answer says what the answer says
+pub answer_told : (code cseq : ℕ) (session : Option (List ℕ)) → cseq < 10 ^ CSEQ_TWO_DIGITS →
+    server_answer (answer_message code cseq session) ≡ Some (record { code = code; cseq = cseq; fields = answer_headers code session })
+answer_told code cseq session short =
+    let fields = answer_headers code session in
     let headers = message_headers (Some cseq) fields [] in
-    let few : length fields ≤ 1 = sessions_few (code == 200) session in
-    let can : CanBeWritten first headers =
-    message_sound first (Some cseq) fields [] (reason_told code known) (omega arith) (omega arith) (omega arith) (sessions_sound (code == 200) session value) in
-    ap (option_and_then (λ (message : Message). answer_at message.head.start message.head.headers)) (message_read first (Some cseq) fields [] can)
-    ∙ ap (λ fs. option_map (λ n. record { code = code; cseq = n; fields = fs }) (cseq_of headers)) (fields_read (Some cseq) fields [] (sessions_own (code == 200) session))
+    ap (λ fs. option_map (λ n. record { code = code; cseq = n; fields = fs }) (server_cseq headers)) (fields_read (Some cseq) fields [] (sessions_own (code == 200) session))
     ∙ ap (option_map (λ n. record { code = code; cseq = n; fields = fields })) (number_read cseq fields [] short)
 
+answer_readable : (code cseq : ℕ) (session : Option (List ℕ)) → has_reason code ≡ true → cseq < 10 ^ CSEQ_TWO_DIGITS → IfSome session (λ id. is_value id ≡ true) →
+    IsReadable (Status version_two code (unwrap_or (reason_of code) [])) (Some cseq) (answer_headers code session) []
+answer_readable code cseq session known short value =
+    let first = Status version_two code (unwrap_or (reason_of code) []) in
+    let fields = answer_headers code session in
+    let few : length fields ≤ 1 = sessions_few (code == 200) session in
+    record {
+      writable = message_sound first (Some cseq) fields [] (reason_told code known) (omega arith) (omega arith) (omega arith) (sessions_sound (code == 200) session value);
+      no_frame = refl;
+      own = sessions_own (code == 200) session;
+      short = omega arith;
+    }
+
+-- An answer that was written is read back.
+pub answer_read : (code cseq : ℕ) (session : Option (List ℕ)) → has_reason code ≡ true → cseq < 10 ^ CSEQ_TWO_DIGITS → IfSome session (λ id. is_value id ≡ true) →
+    answer_in (answer_text code cseq session) ≡ Some (record { code = code; cseq = cseq; fields = answer_headers code session })
+answer_read code cseq session known short value =
+    ap (option_and_then server_answer) (message_read (Status version_two code (unwrap_or (reason_of code) [])) (Some cseq) (answer_headers code session) [] (answer_readable code cseq session known short value))
+    ∙ answer_told code cseq session short
+
+-- So are an answer and what is behind it.
+pub answers_read : (code cseq : ℕ) (session : Option (List ℕ)) (rest : List ℕ) → has_reason code ≡ true → cseq < 10 ^ CSEQ_TWO_DIGITS → IfSome session (λ id. is_value id ≡ true) →
+    messages_of (answer_text code cseq session ++ rest) ≡ option_map (λ more. answer_message code cseq session ∷ more) (messages_of rest)
+answers_read code cseq session rest known short value =
+    messages_read (Status version_two code (unwrap_or (reason_of code) [])) (Some cseq) (answer_headers code session) [] rest (answer_readable code cseq session known short value)
+
 -- An answer is no request.
-pub answer_no_request : (code cseq : ℕ) (session : Option (List ℕ)) → has_reason code ≡ true → cseq < 10 ^ 9 → IfSome session (λ id. is_value id ≡ true) →
+pub answer_no_request : (code cseq : ℕ) (session : Option (List ℕ)) → has_reason code ≡ true → cseq < 10 ^ CSEQ_TWO_DIGITS → IfSome session (λ id. is_value id ≡ true) →
     request_in (answer_text code cseq session) ≡ None
 answer_no_request code cseq session known short value =
-    let first = Status version_two code (unwrap_or (reason_of code) []) in
-    let fields = session_headers code session in
-    let few : length fields ≤ 1 = sessions_few (code == 200) session in
-    let can : CanBeWritten first (message_headers (Some cseq) fields []) =
-    message_sound first (Some cseq) fields [] (reason_told code known) (omega arith) (omega arith) (omega arith) (sessions_sound (code == 200) session value) in
-    ap (option_and_then (λ (message : Message). request_at message.head.start message.head.headers message.body)) (message_read first (Some cseq) fields [] can)
+    ap (option_and_then server_request) (message_read (Status version_two code (unwrap_or (reason_of code) [])) (Some cseq) (answer_headers code session) [] (answer_readable code cseq session known short value))

@@ -2,7 +2,7 @@
 ghost use Rattle.std.specs.Prelude.{◌≡◌, true, IfOk};
 ghost use Rattle.std.specs.Option.{option_copied};
 ghost use Rattle.rtsp_status.specs.Reasons.{has_reason};
-ghost use Rattle.head_two.specs.Answers.{answer_text, session_headers, session_header};
+ghost use Rattle.head_two.specs.Answers.{answer_text, answer_headers, answer_session};
 
 use gate_bytes::{Memory, Text, push_decimal};
 use rtsp_head::{Header, Headers, push_message};
@@ -20,7 +20,7 @@ pub fn write_answer(
     requires { has_reason code ≡ true }
     ensures { IfOk result (λ text. text ≡ answer_text code cseq (option_copied session.entry)) }
 {
-    let headers = session_headers(alloc, code, session)?;
+    let headers = answer_headers(alloc, code, session)?;
     let mut text = Text::with_room(alloc, 128)?;
     text.push_slice(b"RTSP/2.0 ")?;
     push_decimal(&mut text, u64::from(code))?;
@@ -32,19 +32,19 @@ pub fn write_answer(
 }
 
 /// The header with the session, where the answer is a success and a session is given.
-fn session_headers(alloc: Global, code: u16, session: Option<&[u8]>) -> Result<Headers, Memory>
-    ensures { IfOk result (λ headers. headers ≡ session_headers code (option_copied session.entry)) }
+fn answer_headers(alloc: Global, code: u16, session: Option<&[u8]>) -> Result<Headers, Memory>
+    ensures { IfOk result (λ headers. headers ≡ answer_headers code (option_copied session.entry)) }
 {
     if code == 200 {
-        session_header(alloc, session)
+        answer_session(alloc, session)
     } else {
         Ok(Headers::new(alloc))
     }
 }
 
 /// The header with a session, where there is one (RFC 7826, 18.49).
-fn session_header(alloc: Global, session: Option<&[u8]>) -> Result<Headers, Memory>
-    ensures { IfOk result (λ headers. headers ≡ session_header (option_copied session.entry)) }
+fn answer_session(alloc: Global, session: Option<&[u8]>) -> Result<Headers, Memory>
+    ensures { IfOk result (λ headers. headers ≡ answer_session (option_copied session.entry)) }
 {
     let mut headers = Headers::new(alloc);
     if let Some(id) = session {

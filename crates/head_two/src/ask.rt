@@ -1,10 +1,11 @@
 //! Requests of the server.
+ghost use Rattle.gate_bytes.specs.Outcomes.{UnlessMemory};
 ghost use Rattle.rtsp_head.specs.Shapes.{shape_of};
-ghost use Rattle.head_two.specs.Messages.{IsUnlessMemory};
-ghost use Rattle.head_two.specs.Replies.{ask_in};
+ghost use Rattle.head_two.specs.Messages.{two_refusal};
+ghost use Rattle.head_two.specs.Replies.{ask_of_item};
 
 use crate::TwoFault;
-use crate::reply::numbered;
+use crate::reply::checked_cseq;
 use gate_bytes::Text;
 use rtsp_head::{Head, HeadFault, Item, Start, read_head};
 use std::alloc::Global;
@@ -23,7 +24,7 @@ pub struct Ask2 {
 /// The request that an item is. Refused with [`TwoFault::Version`] where it has no request line of
 /// RTSP/2.0, and then with [`TwoFault::Cseq`] where its number can't be read.
 pub fn read_ask(alloc: Global, item: &Item) -> Result<Ask2, TwoFault>
-    ensures { IsUnlessMemory result (ask_in (shape_of item.now)) }
+    ensures { UnlessMemory two_refusal result (ask_of_item (shape_of item.now)) }
 {
     let head = match read_head(alloc, item.head_bytes()) {
         Ok(head) => head,
@@ -38,7 +39,7 @@ pub fn read_ask(alloc: Global, item: &Item) -> Result<Ask2, TwoFault>
     else {
         return Err(TwoFault::Version);
     };
-    let cseq = numbered(version.as_bytes(), &head)?;
+    let cseq = checked_cseq(version.as_bytes(), &head)?;
     let method = Text::copy(alloc, method.as_bytes())?;
     Ok(Ask2 { method, cseq, head })
 }

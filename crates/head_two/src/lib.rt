@@ -12,7 +12,7 @@ mod request;
 pub use answer::write_answer;
 pub use ask::{Ask2, read_ask};
 pub use fault::TwoFault;
-pub use law::{written_answers, written_requests};
+pub use law::{answers_in_a_row, requests_in_a_row, written_answers, written_requests};
 pub use reply::{Reply2, read_reply};
 pub use request::{Request2, write_request};
 

@@ -1,8 +1,9 @@
 //! Replies of the server.
 ghost use Rattle.std.specs.Prelude.{◌≡◌};
+ghost use Rattle.gate_bytes.specs.Outcomes.{UnlessMemory};
 ghost use Rattle.rtsp_head.specs.Shapes.{shape_of};
-ghost use Rattle.head_two.specs.Messages.{numbered, IsUnlessMemory};
-ghost use Rattle.head_two.specs.Replies.{reply_in};
+ghost use Rattle.head_two.specs.Messages.{checked_cseq, two_refusal};
+ghost use Rattle.head_two.specs.Replies.{reply_of_item};
 
 use crate::TwoFault;
 use gate_bytes::Text;
@@ -29,7 +30,7 @@ const VERSION: &[u8] = b"RTSP/2.0";
 /// The reply that an item is. Refused with [`TwoFault::Version`] where it has no status line of
 /// RTSP/2.0, and then with [`TwoFault::Cseq`] where its number can't be read.
 pub fn read_reply(alloc: Global, item: &Item) -> Result<Reply2, TwoFault>
-    ensures { IsUnlessMemory result (reply_in (shape_of item.now)) }
+    ensures { UnlessMemory two_refusal result (reply_of_item (shape_of item.now)) }
 {
     let head = match read_head(alloc, item.head_bytes()) {
         Ok(head) => head,
@@ -40,7 +41,7 @@ pub fn read_reply(alloc: Global, item: &Item) -> Result<Reply2, TwoFault>
         return Err(TwoFault::Version);
     };
     let code = *code;
-    let cseq = numbered(version.as_bytes(), &head)?;
+    let cseq = checked_cseq(version.as_bytes(), &head)?;
     Ok(Reply2 {
         code,
         cseq,
@@ -50,8 +51,8 @@ pub fn read_reply(alloc: Global, item: &Item) -> Result<Reply2, TwoFault>
 }
 
 /// The number of a message with this version.
-pub(crate) fn numbered(version: &[u8], head: &Head) -> Result<u32, TwoFault>
-    ensures { result ≡ numbered version.now head.now.headers }
+pub(crate) fn checked_cseq(version: &[u8], head: &Head) -> Result<u32, TwoFault>
+    ensures { result ≡ checked_cseq version.now head.now.headers }
 {
     if version != VERSION {
         return Err(TwoFault::Version);
