@@ -3,7 +3,7 @@ use Rattle.std.proofs.Common.{ℕ, ◌+◌, List, ◌++◌, length, Option, None
 use Rattle.std.specs.Option.{option_map, option_or}
 use Rattle.gate_bytes.specs.Tokens.{trimmed}
 use Rattle.rtp_info.specs.declared.entry.InfoEntry.{InfoEntry}
-use Rattle.rtp_info.specs.Parts.{parts_left, each_read}
+use Rattle.rtp_info.specs.Parts.{remaining_parts, each_read}
 use Rattle.rtp_info.specs.Parameters.{Says, Notes, first_seq, first_time, parameter_of}
 use Rattle.rtp_info.specs.Groups.{first_note}
 use Rattle.rtp_info.specs.Specs.{spec_of}
@@ -15,7 +15,7 @@ left_size (Some text) = length text + 1
 
 -- what the parameters say that are left
 abbrev pub parameters_left : Option (List ℕ) → Option (List Says)
-parameters_left left = each_read (λ part. parameter_of (trimmed part)) (parts_left 59 left)
+parameters_left left = each_read (λ part. parameter_of (trimmed part)) (remaining_parts 59 left)
 
 -- what was noted, and then these parameters
 abbrev pub joined : Notes → List Says → Notes
@@ -27,4 +27,4 @@ first_among first groups = option_or first (first_note groups)
 
 -- the entries so far, and then those of the specs that are left
 abbrev pub entries_with : List InfoEntry → Option (List ℕ) → Option (List InfoEntry)
-entries_with entries left = option_map (λ more. entries ++ more) (each_read (λ part. spec_of (trimmed part)) (parts_left 44 left))
+entries_with entries left = option_map (λ more. entries ++ more) (each_read (λ part. spec_of (trimmed part)) (remaining_parts 44 left))

@@ -3,9 +3,9 @@ use Rattle.std.specs.Prelude.{ℕ, Bool, true, false, List, [], ◌∷◌, Optio
 use Rattle.gate_bytes.specs.Places.{parts_at}
 
 -- the parts of what is left, if anything is
-abbrev pub parts_left : ℕ → Option (List ℕ) → List (List ℕ)
-parts_left byte None = []
-parts_left byte (Some text) = parts_at byte text
+abbrev pub remaining_parts : ℕ → Option (List ℕ) → List (List ℕ)
+remaining_parts byte None = []
+remaining_parts byte (Some text) = parts_at byte text
 
 -- whether no part follows
 abbrev pub is_last : List (List ℕ) → Bool

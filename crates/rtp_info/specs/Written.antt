@@ -1,6 +1,7 @@
 -- How an RTP-Info field is written (RFC 2326, 12.33).
 use Rattle.std.specs.Prelude.{ℕ, codes, decimal, List, [], ◌∷◌, ◌++◌, Option, Some, None}
 use Rattle.std.specs.List.{flat_map}
+use Rattle.gate_bytes.specs.Ascii.{comma}
 use Rattle.rtp_info.specs.declared.entry.InfoEntry.{InfoEntry}
 
 abbrev pub seq_text : Option ℕ → List ℕ
@@ -17,7 +18,7 @@ entry_text entry = codes "url=" ++ entry.url ++ seq_text entry.seq ++ time_text 
 
 -- an entry behind a comma
 abbrev pub further_text : InfoEntry → List ℕ
-further_text entry = 44 ∷ entry_text entry
+further_text entry = comma ∷ entry_text entry
 
 -- all entries, in order, with a comma between two
 abbrev pub info_text : List InfoEntry → List ℕ

@@ -1,4 +1,4 @@
-//! What an RTP-Info field says of one stream.
+//! One entry of an RTP-Info field.
 
 use gate_bytes::Text;
 

@@ -3,16 +3,23 @@ ghost use Rattle.std.specs.Prelude.{◌≡◌, Some, option_map};
 ghost use Rattle.std.specs.Option.{option_copied, option_or};
 ghost use Rattle.std.specs.List.{list_all};
 ghost use Rattle.std.specs.Char.{is_ascii_hexdigit};
+ghost use Rattle.gate_bytes.specs.Ascii.{colon};
 ghost use Rattle.gate_bytes.specs.Places.{parts_at};
-ghost use Rattle.rtp_info.specs.Groups.{begins_blank, is_label, before_label, group_of, first_group, groups_of};
+ghost use Rattle.rtp_info.specs.Groups.{has_leading_blank, is_label, before_label, group_of, first_group, groups_of};
 ghost use Rattle.rtp_info.specs.Views.{noted_seen};
 
 use crate::parameter::{Noted, read_parameters};
 use crate::part::first_part;
 use gate_bytes::{after, before, split_once, trim};
 
-/// The length of a label: `ssrc=` and eight digits.
-const LABEL: usize = 13;
+/// What a label begins with.
+const LABEL_NAME: &[u8] = b"ssrc=";
+
+/// The number of hexadecimal digits of a label: those of the source of a stream (RFC 7826, 18.45).
+pub const LABEL_DIGITS: usize = 8;
+
+/// The length of a label in bytes.
+const LABEL_BYTES: usize = LABEL_NAME.len() + LABEL_DIGITS;
 
 /// What the first group says, where all groups are in the grammar. The text stands behind a URI: a
 /// blank, a label and a colon, and then what [`read_pieces`] reads.
@@ -20,7 +27,7 @@ pub(crate) fn read_groups(text: &[u8]) -> Option<Noted>
     ensures { option_map noted_seen result ≡ groups_of text.now }
 {
     let (label, pieces) = split_once(b':', text)?;
-    if !begins_blank(label) || !is_label(trim(label)) {
+    if !has_leading_blank(label) || !is_label(trim(label)) {
         return None;
     }
     read_pieces(pieces)
@@ -29,7 +36,7 @@ pub(crate) fn read_groups(text: &[u8]) -> Option<Noted>
 /// What the first group says. Colons part the text into pieces, one for each group, and each piece
 /// but the last ends with the label of the next group.
 fn read_pieces(text: &[u8]) -> Option<Noted>
-    ensures { option_map noted_seen result ≡ first_group (parts_at 58 text.now) }
+    ensures { option_map noted_seen result ≡ first_group (parts_at colon text.now) }
 {
     let mut first = None;
     let mut left = Some(text);
@@ -69,12 +76,12 @@ fn read_group(piece: &[u8], last: bool) -> Option<Noted>
 fn before_label(text: &[u8]) -> Option<&[u8]>
     ensures { option_copied result ≡ before_label text.now }
 {
-    if text.len() < LABEL + 1 {
+    if text.len() < LABEL_BYTES + 1 {
         return None;
     }
-    let at = text.len() - (LABEL + 1);
+    let at = text.len() - (LABEL_BYTES + 1);
     let end = after(text, at);
-    if begins_blank(end) && is_label(after(end, 1)) {
+    if has_leading_blank(end) && is_label(after(end, 1)) {
         Some(before(text, at))
     } else {
         None
@@ -82,8 +89,8 @@ fn before_label(text: &[u8]) -> Option<&[u8]>
 }
 
 /// Whether a text begins with a space or a tab.
-fn begins_blank(text: &[u8]) -> bool
-    ensures { result ≡ begins_blank text.now }
+fn has_leading_blank(text: &[u8]) -> bool
+    ensures { result ≡ has_leading_blank text.now }
 {
     match text {
         [first, ..] => *first == b' ' || *first == b'\t',
@@ -91,11 +98,13 @@ fn begins_blank(text: &[u8]) -> bool
     }
 }
 
-/// Whether a text is a label: `ssrc=` and eight hexadecimal digits.
+/// Whether a text is a label: `ssrc=` and [`LABEL_DIGITS`] hexadecimal digits.
 fn is_label(text: &[u8]) -> bool
     ensures { result ≡ is_label text.now }
 {
-    text.len() == LABEL && text.starts_with(b"ssrc=") && has_hex_digits_alone(after(text, 5))
+    text.len() == LABEL_BYTES
+        && text.starts_with(LABEL_NAME)
+        && has_hex_digits_alone(after(text, LABEL_NAME.len()))
 }
 
 /// Whether each byte of a text is a hexadecimal digit.

@@ -1,4 +1,4 @@
-//! The list of what an RTP-Info field says.
+//! The entries of an RTP-Info field.
 ghost use Rattle.std.specs.Prelude.{◌≡◌, ◌<◌, [], ◌∷◌, ◌++◌, length, slice_get, Some, IfOk, IfErr, OnOk, OnErr};
 
 use crate::InfoEntry;
@@ -65,7 +65,8 @@ impl Info {
 
     /// The entries, in their order.
     pub(crate) fn as_slice(&self) -> &[InfoEntry]
-        ensures { result.now ≡ self.now }
+        ensures value { result.now ≡ self.now }
+        ensures some { 0 < length result.now }
     {
         self.entries.as_slice()
     }

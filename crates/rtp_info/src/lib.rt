@@ -1,5 +1,5 @@
-//! The field RTP-Info, of both versions: read as RTSP 2.0 spells it (RFC 7826, 18.45), and written as
-//! RTSP 1.0 does (RFC 2326, 12.33).
+//! The field RTP-Info: read as RTSP 2.0 spells it (RFC 7826, 18.45), and written as RTSP 1.0 does
+//! (RFC 2326, 12.33).
 #![tactic(auto)]
 
 mod entry;
@@ -16,6 +16,8 @@ mod write;
 
 pub use entry::InfoEntry;
 pub use fault::InfoFault;
+pub use group::LABEL_DIGITS;
 pub use info::Info;
+pub use parameter::{LAST_RTPTIME, LAST_SEQ, RTPTIME_DIGITS, SEQ_DIGITS};
 pub use reading::read_two;
 pub use write::write_one;

@@ -1,10 +1,22 @@
-//! The parameters of a group.
+//! The parameters of a group: a sequence number, an RTP time, and others.
 ghost use Rattle.std.specs.Prelude.{◌≡◌, option_map};
-ghost use Rattle.rtp_info.specs.Parameters.{named, with_value, seq_of, time_of, parameter_of, nothing_noted, noted_with, read_parameters};
+ghost use Rattle.rtp_info.specs.Parameters.{lone_parameter, valued_parameter, seq_of, time_of, parameter_of, no_notes, notes_with, read_parameters};
 ghost use Rattle.rtp_info.specs.Views.{parameter_seen, noted_seen};
 
 use crate::part::first_part;
 use gate_bytes::{is_token, read_decimal, split_once, trim};
+
+/// The most digits of a sequence number.
+pub const SEQ_DIGITS: u32 = 5;
+
+/// The greatest sequence number: RTP has 16 bits for it (RFC 3550, 5.1).
+pub const LAST_SEQ: u16 = 65_535;
+
+/// The most digits of an RTP time.
+pub const RTPTIME_DIGITS: u32 = 10;
+
+/// The greatest RTP time: RTP has 32 bits for it (RFC 3550, 5.1).
+pub const LAST_RTPTIME: u32 = 4_294_967_295;
 
 /// What a parameter says.
 #[derive(Clone, Copy)]
@@ -27,7 +39,7 @@ pub(crate) struct Noted {
 impl Noted {
     /// Nothing yet.
     fn new() -> Noted
-        ensures { noted_seen result ≡ nothing_noted }
+        ensures { noted_seen result ≡ no_notes }
     {
         Noted {
             seq: None,
@@ -37,7 +49,7 @@ impl Noted {
 
     /// The same with one more parameter, which counts where it is the first of its name.
     fn with(self, parameter: Parameter) -> Noted
-        ensures { noted_seen result ≡ noted_with (noted_seen self) (parameter_seen parameter) }
+        ensures { noted_seen result ≡ notes_with (noted_seen self) (parameter_seen parameter) }
     {
         match parameter {
             Parameter::Seq(seq) => Noted {
@@ -75,14 +87,14 @@ fn read_parameter(text: &[u8]) -> Option<Parameter>
     ensures { option_map parameter_seen result ≡ parameter_of text.now }
 {
     match split_once(b'=', text) {
-        Some((name, value)) => with_value(name, value),
-        None => named(text),
+        Some((name, value)) => valued_parameter(name, value),
+        None => lone_parameter(text),
     }
 }
 
 /// A parameter with a value.
-fn with_value(name: &[u8], value: &[u8]) -> Option<Parameter>
-    ensures { option_map parameter_seen result ≡ with_value name.now value.now }
+fn valued_parameter(name: &[u8], value: &[u8]) -> Option<Parameter>
+    ensures { option_map parameter_seen result ≡ valued_parameter name.now value.now }
 {
     if name == b"seq".as_slice() {
         return read_seq(value);
@@ -97,31 +109,31 @@ fn with_value(name: &[u8], value: &[u8]) -> Option<Parameter>
     }
 }
 
-/// A sequence number: 1 to 5 digits, up to 65,535.
+/// A sequence number: 1 to [`SEQ_DIGITS`] digits, up to [`LAST_SEQ`].
 fn read_seq(value: &[u8]) -> Option<Parameter>
     ensures { option_map parameter_seen result ≡ seq_of value.now }
 {
-    let seq = read_decimal(value, 5)?;
-    if seq > 65535 {
+    let seq = read_decimal(value, SEQ_DIGITS)?;
+    if seq > u64::from(LAST_SEQ) {
         return None;
     }
     Some(Parameter::Seq(seq as u16))
 }
 
-/// An RTP time: 1 to 10 digits, up to 4,294,967,295.
+/// An RTP time: 1 to [`RTPTIME_DIGITS`] digits, up to [`LAST_RTPTIME`].
 fn read_time(value: &[u8]) -> Option<Parameter>
     ensures { option_map parameter_seen result ≡ time_of value.now }
 {
-    let time = read_decimal(value, 10)?;
-    if time > 4_294_967_295 {
+    let time = read_decimal(value, RTPTIME_DIGITS)?;
+    if time > u64::from(LAST_RTPTIME) {
         return None;
     }
     Some(Parameter::Time(time as u32))
 }
 
 /// A parameter without a value, which can't be `seq` or `rtptime`.
-fn named(name: &[u8]) -> Option<Parameter>
-    ensures { option_map parameter_seen result ≡ named name.now }
+fn lone_parameter(name: &[u8]) -> Option<Parameter>
+    ensures { option_map parameter_seen result ≡ lone_parameter name.now }
 {
     if is_token(name) && name != b"seq".as_slice() && name != b"rtptime".as_slice() {
         Some(Parameter::Other)

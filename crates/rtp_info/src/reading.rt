@@ -1,7 +1,9 @@
 //! Reading an RTP-Info field of RTSP 2.0.
-ghost use Rattle.std.specs.Prelude.{◌≡◌, [], ◌∷◌, option_map};
+ghost use Rattle.std.specs.Prelude.{[], ◌∷◌, option_map};
+ghost use Rattle.std.specs.Option.{ok_or};
+ghost use Rattle.gate_bytes.specs.Outcomes.{UnlessMemory};
 ghost use Rattle.rtp_info.specs.Specs.{spec_of};
-ghost use Rattle.rtp_info.specs.Infos.{info_of, IsUnlessMemory};
+ghost use Rattle.rtp_info.specs.Infos.{info_of, info_refusal};
 
 use crate::part::first_part;
 use crate::spec::read_spec;
@@ -12,7 +14,7 @@ use std::alloc::Global;
 /// What an RTP-Info field says of each stream, in its order: specs with commas between them. Of each
 /// spec the first group counts, and in it the first `seq` and the first `rtptime` (RFC 7826, 18.45).
 pub fn read_two(alloc: Global, value: &[u8]) -> Result<Info, InfoFault>
-    ensures { IsUnlessMemory result (info_of value.now) }
+    ensures { UnlessMemory info_refusal result (ok_or (info_of value.now) InfoFault.Grammar) }
 {
     let (first, more) = first_part(b',', value);
     let mut info = match read_first(alloc, trim(first)) {
@@ -36,7 +38,7 @@ pub fn read_two(alloc: Global, value: &[u8]) -> Result<Info, InfoFault>
 
 /// The list of the one entry that a spec says.
 fn read_first(alloc: Global, spec: &[u8]) -> Result<Info, InfoFault>
-    ensures { IsUnlessMemory result (option_map (λ entry. entry ∷ []) (spec_of spec.now)) }
+    ensures { UnlessMemory info_refusal result (ok_or (option_map (λ entry. entry ∷ []) (spec_of spec.now)) InfoFault.Grammar) }
 {
     match Info::of(alloc, read_entry(alloc, spec)?) {
         Ok(info) => Ok(info),
@@ -46,7 +48,7 @@ fn read_first(alloc: Global, spec: &[u8]) -> Result<Info, InfoFault>
 
 /// The entry that a spec says.
 fn read_entry(alloc: Global, spec: &[u8]) -> Result<InfoEntry, InfoFault>
-    ensures { IsUnlessMemory result (spec_of spec.now) }
+    ensures { UnlessMemory info_refusal result (ok_or (spec_of spec.now) InfoFault.Grammar) }
 {
     match read_spec(spec) {
         Some(spec) => Ok(InfoEntry {

@@ -1,4 +1,4 @@
-//! What an RTP-Info field says of one stream, as it is spelled.
+//! A spec: how an RTP-Info field of RTSP 2.0 spells one entry.
 ghost use Rattle.std.specs.Prelude.{◌≡◌, option_map};
 ghost use Rattle.std.specs.List.{list_all};
 ghost use Rattle.rtp_info.specs.Specs.{is_url_byte, is_url, spec_of};

@@ -12,11 +12,10 @@ use std::alloc::Global;
 pub fn write_one(alloc: Global, info: &Info) -> Result<Text, Memory>
     ensures { IfOk result (λ text. text ≡ info_text info.now) }
 {
+    let entries = info.as_slice();
     let mut text = Text::new(alloc);
-    if let [first, more @ ..] = info.as_slice() {
-        push_entry(&mut text, first)?;
-        push_further(&mut text, more)?;
-    }
+    push_entry(&mut text, &entries[0])?;
+    push_further(&mut text, &entries[1..])?;
     Ok(text)
 }
 

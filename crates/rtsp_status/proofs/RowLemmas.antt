@@ -2,7 +2,7 @@
 use Rattle.std.proofs.Common.{◌≡◌, ℕ, zero, suc, ◌+◌, ◌-◌, ◌<◌, ◌≤◌, ◌&&◌, Bool, true, false, cond, List, [], ◌∷◌, Option, None, Some, refl, subst, arith}
 use Rattle.std.specs.Prelude.{nat_le, unwrap_or}
 use Rattle.std.proofs.lemmas.Bool.{leb-true, leb-false}
-use Rattle.rtsp_status.specs.Codes.{Row, rows, holds, code_in, code_one}
+use Rattle.rtsp_status.specs.Codes.{CodeRow, code_rows, holds, code_in, code_one}
 use Rattle.rtsp_status.specs.Reasons.{has_reason}
 
 -- the test holds of so many codes, of which the first is this one
@@ -46,11 +46,11 @@ told_with test first last None code other true e h rest =
     let high : code ≤ last = leb-true code last (right_of (nat_le first code) (nat_le code last) e) in
     one_from test (last + 1 - first) first code h low (omega (arith, low, high))
 
-abbrev rows_test : (ℕ → Bool) → List Row → Bool
+abbrev rows_test : (ℕ → Bool) → List CodeRow → Bool
 rows_test test [] = test 502
 rows_test test (row ∷ more) = row_test test row.first row.last row.told && rows_test test more
 
-told_in : (test : ℕ → Bool) (table : List Row) (code : ℕ) → rows_test test table ≡ true → test (code_in table code) ≡ true
+told_in : (test : ℕ → Bool) (table : List CodeRow) (code : ℕ) → rows_test test table ≡ true → test (code_in table code) ≡ true
 told_in test [] code h = h
 told_in test (row ∷ more) code h =
     let this = row_test test row.first row.last row.told in
@@ -59,4 +59,4 @@ told_in test (row ∷ more) code h =
 
 -- what a code becomes has a reason
 pub told_has_reason : (code : ℕ) → has_reason (code_one code) ≡ true
-told_has_reason code = told_in has_reason rows code refl
+told_has_reason code = told_in has_reason code_rows code refl

@@ -1,6 +1,8 @@
 -- The reasons of the codes that a player or the server is told.
 use Rattle.std.specs.Prelude.{ℕ, Bool, ◌==◌, ◌&&◌, nat_le, length, List, [], ◌∷◌, Option, Some, None, is_some, codes, if◌then◌else◌}
 use Rattle.std.specs.List.{list_all}
+use Rattle.gate_bytes.specs.Ascii.{space, tilde}
+use Rattle.rtsp_status.specs.declared.text.TheConstants.{LONGEST_REASON}
 
 -- a code with its reason
 pub record Reason : Type 0 where
@@ -63,8 +65,8 @@ has_reason code = is_some (reason_of code)
 
 -- a space or a visible byte of ASCII
 abbrev pub is_reason_byte : ℕ → Bool
-is_reason_byte b = nat_le 32 b && nat_le b 126
+is_reason_byte b = nat_le space b && nat_le b tilde
 
--- what stands in a status line: a code of three digits, and a reason of 40 such bytes at most
+-- what stands in a status line: a code of three digits, and a reason of such bytes, no more than the most
 abbrev pub fits_line : ℕ → List ℕ → Bool
-fits_line code text = (nat_le 100 code && nat_le code 999) && (nat_le (length text) 40 && list_all is_reason_byte text)
+fits_line code text = (nat_le 100 code && nat_le code 999) && (nat_le (length text) LONGEST_REASON && list_all is_reason_byte text)

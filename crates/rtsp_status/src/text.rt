@@ -1,18 +1,21 @@
-//! The reason of each code of RTSP 1.0.
+//! Reasons: the text behind a code in a status line.
 ghost use Rattle.std.specs.Prelude.{◌≡◌, ℕ, List, Some, true};
 ghost use Rattle.std.specs.Option.{option_map};
 ghost use Rattle.rtsp_status.specs.Reasons.{fits_line, has_reason, reason_of};
 
-/// The reason of a code that has one, as it is written in a status line (RFC 2326, 7.1.1).
+/// The most bytes of a reason.
+pub const LONGEST_REASON: usize = 40;
+
+/// The reason of a code that has one, as it stands in a status line (RFC 2326, 7.1.1).
 pub fn reason(code: u16) -> &'static str
     requires { has_reason code ≡ true }
     ensures { Some (result.now) ≡ reason_of code }
 {
-    known(code).unwrap_or("")
+    find_reason(code).unwrap()
 }
 
 /// The reason of a code, where it has one.
-fn known(code: u16) -> Option<&'static str>
+fn find_reason(code: u16) -> Option<&'static str>
     ensures { option_map (λ text. text.now) result ≡ reason_of code }
 {
     let text = match code {
@@ -54,8 +57,8 @@ fn known(code: u16) -> Option<&'static str>
     Some(text)
 }
 
-/// A code with a reason has three digits, and its reason has 40 bytes at most, spaces and visible
-/// bytes of ASCII alone: both stand in one status line.
+/// A code with a reason has three digits, and its reason has [`LONGEST_REASON`] bytes at most, spaces
+/// and visible bytes of ASCII alone: both stand in one status line.
 pub fn reasons_fit_a_status_line()
     ensures { (code : ℕ) (text : List ℕ) → reason_of code ≡ Some text → fits_line code text ≡ true }
 {}

@@ -1,36 +1,37 @@
 -- The table of a session's states, after that of a server in RFC 2326, A.2. It is this project's own profile of that
--- table: a session is left by TEARDOWN alone, and only replies of success move it.
+-- table: TEARDOWN alone ends a session, and only replies of success move it.
 use Rattle.std.specs.Prelude.{ℕ, Bool, true, false, ◌&&◌, nat_le, List, [], ◌∷◌, Option, Some, None, is_some, unwrap_or, if◌then◌else◌}
 use Rattle.std.specs.Str.{bytes_eq}
 use Rattle.rtsp_small.specs.declared.method.Method.{Method}
 use Rattle.rtsp_small.specs.declared.method.Method.TheVariants.{Options, Describe, Setup, Play, Pause, Teardown, GetParameter, SetParameter}
 use Rattle.rtsp_small.specs.Methods.{method_name}
+use Rattle.rtsp_status.specs.declared.code.TheConstants.{FIRST_SUCCESS, LAST_SUCCESS}
 use Rattle.session_one.specs.declared.table.State.{State}
 use Rattle.session_one.specs.declared.table.State.TheVariants.{Init, Ready, Playing}
 
--- A row: in this state this method may be asked for, and its success leads to the next state.
-pub record Row : Type 0 where
+-- A row of the table: in this state a player may ask for this method, and its success leads to the next state.
+pub record Transition : Type 0 where
   pub state : State
   pub method : Method
   pub next : State
 
-abbrev pub row : State → Method → State → Row
-row state method next = record { state = state; method = method; next = next }
+abbrev pub transition : State → Method → State → Transition
+transition state method next = record { state = state; method = method; next = next }
 
--- the rows that move a session, and those that leave it as it is
-abbrev pub rows : List Row
-rows =
-    row Init Setup Ready
-    ∷ row Ready Setup Ready
-    ∷ row Ready Play Playing
-    ∷ row Playing Play Playing
-    ∷ row Playing Pause Ready
-    ∷ row Ready Teardown Init
-    ∷ row Playing Teardown Init
-    ∷ row Init Options Init ∷ row Ready Options Ready ∷ row Playing Options Playing
-    ∷ row Init Describe Init ∷ row Ready Describe Ready ∷ row Playing Describe Playing
-    ∷ row Init GetParameter Init ∷ row Ready GetParameter Ready ∷ row Playing GetParameter Playing
-    ∷ row Init SetParameter Init ∷ row Ready SetParameter Ready ∷ row Playing SetParameter Playing
+-- the transitions that move a session, and those that leave it as it is
+abbrev pub transitions : List Transition
+transitions =
+    transition Init Setup Ready
+    ∷ transition Ready Setup Ready
+    ∷ transition Ready Play Playing
+    ∷ transition Playing Play Playing
+    ∷ transition Playing Pause Ready
+    ∷ transition Ready Teardown Init
+    ∷ transition Playing Teardown Init
+    ∷ transition Init Options Init ∷ transition Ready Options Ready ∷ transition Playing Options Playing
+    ∷ transition Init Describe Init ∷ transition Ready Describe Ready ∷ transition Playing Describe Playing
+    ∷ transition Init GetParameter Init ∷ transition Ready GetParameter Ready ∷ transition Playing GetParameter Playing
+    ∷ transition Init SetParameter Init ∷ transition Ready SetParameter Ready ∷ transition Playing SetParameter Playing
     ∷ []
 
 abbrev pub same_state : State → State → Bool
@@ -49,12 +50,12 @@ abbrev pub same_method : Method → Method → Bool
 same_method one other = bytes_eq (method_name one) (method_name other)
 
 -- the next state of the first row in a list for a state and a method
-abbrev pub next_in : List Row → State → Method → Option State
+abbrev pub next_in : List Transition → State → Method → Option State
 next_in [] state method = None
 next_in (one ∷ more) state method = if same_state one.state state && same_method one.method method then Some one.next else next_in more state method
 
 abbrev pub next_of : State → Method → Option State
-next_of state method = next_in rows state method
+next_of state method = next_in transitions state method
 
 -- whether the table has a row
 abbrev pub is_allowed : State → Method → Bool
@@ -62,7 +63,7 @@ is_allowed state method = is_some (next_of state method)
 
 -- whether a code is one of success (RFC 2326, 7.1.1; RFC 7826, 17)
 abbrev pub is_success : ℕ → Bool
-is_success code = nat_le 200 code && nat_le code 299
+is_success code = nat_le FIRST_SUCCESS code && nat_le code LAST_SUCCESS
 
 -- The state after a reply with this code. A success goes by the table, and every other code leaves the state.
 abbrev pub state_after : State → Method → ℕ → State

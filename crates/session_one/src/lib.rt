@@ -1,5 +1,5 @@
-//! The session that a player has with the gateway: what it is made of, and the table of its states
-//! (RFC 2326, A.2).
+//! The session that a player has with the gateway: its parts, and the table of its states (RFC 2326,
+//! A.2).
 //!
 //! The table takes no memory.
 #![tactic(auto)]

@@ -1,4 +1,4 @@
-//! What a session is made of.
+//! Streams that are set up, PLAYs that wait, and requests whose reply is awaited.
 
 use gate_bytes::Text;
 use rtsp_range::Range;
@@ -16,18 +16,18 @@ pub struct Track {
     pub pair: u8,
 }
 
-/// A PLAY that waits until what plays has ended (RFC 2326, 10.5).
+/// A PLAY that waits until the PLAY before it has ended (RFC 2326, 10.5).
 #[derive(Drop)]
 pub struct Play {
     /// Its URI, as it will be sent up.
     pub uri: Text,
-    /// What is to be played.
+    /// The range that the player asks for.
     pub range: Range,
-    /// How fast, where the player said so.
+    /// The scale, where the player asks for one.
     pub scale: Option<Text>,
 }
 
-/// What is kept of a player's request until the server's reply comes.
+/// What the gateway keeps of a player's request until the server's reply comes.
 #[derive(Drop)]
 pub struct Asked {
     /// The method of the player's request.

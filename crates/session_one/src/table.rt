@@ -1,8 +1,9 @@
-//! The table of states.
+//! The states of a session, and which method leads from one to which.
 ghost use Rattle.std.specs.Prelude.{◌≡◌};
 ghost use Rattle.session_one.specs.Table.{next_of, is_allowed, state_after, is_success};
 
 use rtsp_small::Method;
+use rtsp_status::{FIRST_SUCCESS, LAST_SUCCESS};
 
 /// The state of a session (RFC 2326, A.2).
 #[derive(Clone, Copy, Debug, PartialEq, Eq)]
@@ -15,7 +16,7 @@ pub enum State {
     Playing,
 }
 
-/// Whether the table has a row for a method in a state.
+/// Whether a player may ask for a method in a state: the table has a row for both.
 pub fn allowed(state: State, method: Method) -> bool
     ensures { result ≡ is_allowed state method }
 {
@@ -38,7 +39,7 @@ pub fn after(state: State, method: Method, code: u16) -> State
 pub fn is_success(code: u16) -> bool
     ensures { result ≡ is_success code }
 {
-    (200..=299).contains(&code)
+    (FIRST_SUCCESS..=LAST_SUCCESS).contains(&code)
 }
 
 /// The state that the table's row for a state and a method has, where there is such a row.

@@ -9,8 +9,8 @@ use Rattle.gate_bytes.specs.Places.{cut_at, parts_at}
 use Rattle.gate_bytes.specs.Numbers.{number_in}
 use Rattle.rtp_info.specs.declared.entry.InfoEntry.{InfoEntry}
 use Rattle.rtp_info.specs.Parts.{is_last, with_first, each_read}
-use Rattle.rtp_info.specs.Parameters.{Says, Seq, Time, Other, seq_of, time_of, parameter_with, parameter_of, Notes, first_seq, first_time, noted, read_parameters}
-use Rattle.rtp_info.specs.Groups.{begins_blank, is_label, before_label, group_of, each_group, first_note, first_group, groups_of}
+use Rattle.rtp_info.specs.Parameters.{Says, Seq, Time, Other, seq_of, time_of, parameter_with, parameter_of, Notes, first_seq, first_time, notes_of, read_parameters}
+use Rattle.rtp_info.specs.Groups.{has_leading_blank, is_label, before_label, group_of, each_group, first_note, first_group, groups_of}
 use Rattle.rtp_info.specs.Specs.{is_url_byte, is_url, spec_with, spec_of}
 use Rattle.rtp_info.specs.Infos.{info_of}
 use Rattle.rtp_info.specs.Written.{seq_text, time_text, entry_text, further_text, info_text}
@@ -90,7 +90,7 @@ time_small (Seq n ∷ more) h = time_small more h.1
 time_small (Time n ∷ more) h = h.0
 time_small (Other ∷ more) h = time_small more h.1
 
-noted_small : (read : Option (List Says)) → IfSome read (Each SmallSays) → IfSome (option_map noted read) SmallNotes
+noted_small : (read : Option (List Says)) → IfSome read (Each SmallSays) → IfSome (option_map notes_of read) SmallNotes
 noted_small None h = tt
 noted_small (Some parameters) h = (seq_small parameters h, time_small parameters h)
 
@@ -114,8 +114,8 @@ note_small (Some (notes ∷ more)) h = h.0
 
 groups_small : (text : List ℕ) → IfSome (groups_of text) SmallNotes
 groups_small text =
-    then_holds SmallNotes (λ parts. cond (begins_blank parts.0 && is_label (trimmed parts.0)) (first_group (parts_at 58 parts.1)) None) (cut_at 58 text)
-    (λ parts. where_holds SmallNotes (begins_blank parts.0 && is_label (trimmed parts.0)) (first_group (parts_at 58 parts.1)) (note_small (each_group (parts_at 58 parts.1)) (pieces_small (parts_at 58 parts.1))))
+    then_holds SmallNotes (λ parts. cond (has_leading_blank parts.0 && is_label (trimmed parts.0)) (first_group (parts_at 58 parts.1)) None) (cut_at 58 text)
+    (λ parts. where_holds SmallNotes (has_leading_blank parts.0 && is_label (trimmed parts.0)) (first_group (parts_at 58 parts.1)) (note_small (each_group (parts_at 58 parts.1)) (pieces_small (parts_at 58 parts.1))))
 
 -- an entry whose URI is visible and whose numbers are small
 abbrev SeenEntry : InfoEntry → Type 0
