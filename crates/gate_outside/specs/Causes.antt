@@ -1,9 +1,13 @@
 -- When a call may answer a fault: only where a count of faults tells of one. This project's own.
 use Rattle.std.specs.Prelude.{ℕ, ◌+◌, ◌-◌, ◌^◌, ◌≤◌, min, Result, OnErr}
 
--- The count rose, or stands at the last value of its counter of 64 bits.
+-- one more, in a counter of 64 bits that stays at its last value
+abbrev pub counted_on : ℕ → ℕ
+counted_on count = min (count + 1) (2 ^ 64 - 1)
+
+-- The count rose, or stands at the last value of its counter.
 abbrev pub Rose : ℕ → ℕ → Type 0
-Rose before now = min (before + 1) (2 ^ 64 - 1) ≤ now
+Rose before now = counted_on before ≤ now
 
 -- The count has not fallen, and where the call failed it rose.
 pub record HasCause {T E : Type 0} (before now : ℕ) (result : Result T E) : Type 0 where

@@ -1,11 +1,19 @@
--- What a source and a sink in memory hold. This project's own.
+-- What a source and a sink in memory hold, and the calls that each has had. This project's own.
 use Rattle.std.specs.Prelude.{ℕ, ◌+◌, List, drop}
 use Rattle.gate_outside.specs.declared.memory.MemorySource.{MemorySource}
 use Rattle.gate_outside.specs.declared.memory.MemorySink.{MemorySink}
+use Rattle.gate_outside.specs.declared.script.Script.{Script}
 
 -- the bytes that a source has still to give
 abbrev pub bytes_left : MemorySource → List ℕ
 bytes_left source = drop source.at source.bytes
+
+-- the script of a source, and how often it was read: the number of its next call
+abbrev pub read_script : MemorySource → Script
+read_script source = source.calls.script
+
+abbrev pub reads_made : MemorySource → ℕ
+reads_made source = source.calls.made
 
 -- how often a source has failed
 abbrev pub read_faults : MemorySource → ℕ
@@ -14,6 +22,17 @@ read_faults source = source.calls.failed
 -- the bytes that a sink has taken
 abbrev pub bytes_written : MemorySink → List ℕ
 bytes_written sink = sink.bytes
+
+-- the script of a sink, and how often it was written to: the number of its next call
+abbrev pub write_script : MemorySink → Script
+write_script sink = sink.calls.script
+
+abbrev pub writes_made : MemorySink → ℕ
+writes_made sink = sink.calls.made
+
+-- how often memory has refused a sink room
+abbrev pub growths_refused : MemorySink → ℕ
+growths_refused sink = sink.refused
 
 -- how often a sink has failed
 abbrev pub write_faults : MemorySink → ℕ

@@ -1,4 +1,4 @@
-// An owned list of numbers.
+//! An owned list of numbers.
 ghost use Rattle.std.specs.Prelude.{◌≡◌, ◌<◌, ◌+◌, ◌↔◌, List, [], ◌∷◌, ◌++◌, length, slice_get, IsTrue, IfErr, OnErr, OnOk, Contains, Some};
 
 use gate_bytes::Memory;

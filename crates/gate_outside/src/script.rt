@@ -1,10 +1,10 @@
-// Which calls of a source or a sink in memory fail, and the count of those that did.
+//! Which calls of a source or a sink in memory fail, and the count of those that did.
 ghost use Rattle.std.specs.Prelude.{◌≡◌, ℕ, ◌<◌, ◌≤◌, List, [], Contains, OnOk, IsErr, ◌↔◌, ◌+◌, ◌-◌, ◌^◌, min};
-ghost use Rattle.gate_outside.specs.Causes.{HasCause};
+ghost use Rattle.gate_outside.specs.Causes.{HasCause, counted_on};
 
 use crate::{Failed, Numbers};
 
-/// How a source or a sink in memory behaves.
+/// How a source or a sink in memory behaves: which of its calls fail, and how many bytes a call moves.
 #[derive(Drop)]
 pub struct Script {
     /// The numbers of the calls that fail, counted from 0.
@@ -14,7 +14,7 @@ pub struct Script {
     ghost some: { 0 < piece },
 }
 
-/// The calls that were made under a script, and how many of them failed.
+/// The number of calls that were made under a script, and of those that failed. Each count stays at its last value.
 #[derive(Drop)]
 pub struct Calls {
     script: Script,
@@ -24,9 +24,10 @@ pub struct Calls {
 }
 
 impl Calls {
-    /// No call yet.
+    /// The state before the first call, which has the number 0.
     pub fn new(script: Script) -> Self
         ensures script { result.script ≡ script }
+        ensures first { result.made ≡ 0 }
         ensures none { result.failed ≡ 0 }
     {
         Calls {
@@ -36,10 +37,10 @@ impl Calls {
         }
     }
 
-    /// Counts a call, and fails where the script names its number.
+    /// Counts a call, and fails exactly where the script names its number.
     pub fn enter(&mut self) -> Result<(), Failed>
         ensures script { self.new.script ≡ self.old.script }
-        ensures made { self.new.made ≡ min (self.old.made + 1) (2 ^ 64 - 1) }
+        ensures made { self.new.made ≡ counted_on self.old.made }
         ensures fails { IsErr result ↔ Contains self.old.script.fails self.old.made }
         ensures ok { OnOk result (self.new.failed ≡ self.old.failed) }
         ensures cause { HasCause self.old.failed self.new.failed result }

@@ -1,4 +1,4 @@
-// The forms in memory, under a script.
+//! A source and a sink in memory, under a script.
 use super::*;
 use gate_bytes::Text;
 use std::alloc::Global;

@@ -14,8 +14,8 @@ record_byte Closed = 67
 record_byte Fault = 70
 
 -- what stands before a body of this length
-abbrev pub head_text : ℕ → ℕ → ℕ → List ℕ
-head_text kind conn size = kind ∷ (to_be_bytes w32 conn ++ to_be_bytes w32 size)
+abbrev pub record_head : ℕ → ℕ → ℕ → List ℕ
+record_head kind conn size = kind ∷ (to_be_bytes w32 conn ++ to_be_bytes w32 size)
 
 abbrev pub record_text : ℕ → ℕ → List ℕ → List ℕ
-record_text kind conn body = head_text kind conn (length body) ++ body
+record_text kind conn body = record_head kind conn (length body) ++ body

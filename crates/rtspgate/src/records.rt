@@ -2,7 +2,7 @@
 ghost use Rattle.std.specs.Prelude.{◌≡◌, ◌+◌, ◌++◌, ◌<◌, ◌^◌, length};
 ghost use Rattle.gate_outside.specs.Causes.{HasCause};
 ghost use Rattle.gate_outside.specs.Contents.{WritesAll};
-ghost use Rattle.rtspgate.specs.Records.{record_byte, head_text, record_text};
+ghost use Rattle.rtspgate.specs.Records.{record_byte, record_head, record_text};
 
 use gate_outside::{Failed, Sink, write_all};
 
@@ -45,7 +45,7 @@ pub fn write_record<K: Sink>(
     ensures bytes { WritesAll (K.written sink.old) (K.written sink.new) (record_text (record_byte kind) conn body.now) result }
     ensures cause { HasCause (K.faults sink.old) (K.faults sink.new) result }
 {
-    let head = head_of(kind, conn, body.len() as u32);
+    let head = record_head(kind, conn, body.len() as u32);
     let Ok(()) = write_all(sink, &head) else {
         return Err(Failed);
     };
@@ -65,7 +65,7 @@ pub fn write_parted_record<K: Sink>(
     ensures cause { HasCause (K.faults sink.old) (K.faults sink.new) result }
 {
     let size = first.len() + second.len();
-    let head = head_of(kind, conn, size as u32);
+    let head = record_head(kind, conn, size as u32);
     let Ok(()) = write_all(sink, &head) else {
         return Err(Failed);
     };
@@ -76,8 +76,8 @@ pub fn write_parted_record<K: Sink>(
 }
 
 /// The nine bytes before a body of this length.
-fn head_of(kind: RecordKind, conn: u32, size: u32) -> [u8; 9]
-    ensures { result ≡ head_text (record_byte kind) conn size }
+fn record_head(kind: RecordKind, conn: u32, size: u32) -> [u8; 9]
+    ensures { result ≡ record_head (record_byte kind) conn size }
 {
     let [c0, c1, c2, c3] = conn.to_be_bytes();
     let [s0, s1, s2, s3] = size.to_be_bytes();
