@@ -1,4 +1,4 @@
-//! Why a range could not be read.
+//! The faults of a Range header.
 
 use std::fmt;
 
@@ -9,7 +9,7 @@ pub enum RangeFault {
     Unit,
     /// A `;` is followed by `time=`. Only RTSP 1.0 has that parameter (RFC 2326, 12.29).
     TimeParameter,
-    /// The begin or the end is a normal play time above 9,999,999,999 seconds.
+    /// The begin or the end is a normal play time above [`LATEST_SECONDS`](crate::LATEST_SECONDS) seconds.
     TooLarge,
     /// Anything else that is not in the grammar.
     Time,
