@@ -5,12 +5,13 @@ use Rattle.std.specs.List.{list_all}
 use Rattle.std.specs.Char.{is_ascii_digit}
 use Rattle.std.proofs.lemmas.List.{length-append}
 use Rattle.gate_bytes.specs.Places.{cut_at}
+use Rattle.gate_bytes.proofs.SeamLemmas.{lacks, lacks_append, digits_lack, cut_at_seam}
 use Rattle.rtsp_range.specs.declared.clock.Moment.{Moment}
 use Rattle.rtsp_range.specs.declared.range.Range.TheVariants as ranges
 use Rattle.rtsp_range.specs.Parts.{front_number, fraction_of}
 use Rattle.rtsp_range.specs.Clock.{moment_of, clock_end, clock_range}
 use Rattle.rtsp_range.specs.Spellings.{IsMoment, IsOptional}
-use Rattle.rtsp_range.proofs.CutLemmas.{lacks, lacks_append, digits_lack, cut_at_seam, part_lacks, bind_some}
+use Rattle.rtsp_range.proofs.CutLemmas.{part_lacks, bind_some}
 use Rattle.rtsp_range.proofs.NumberMeans.{front_means, fraction_means, fraction_lacks}
 
 -- the text from the hour on

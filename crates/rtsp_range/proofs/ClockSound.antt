@@ -7,7 +7,7 @@ use Rattle.gate_bytes.specs.Places.{cut_at}
 use Rattle.rtsp_range.specs.declared.clock.Moment.{Moment}
 use Rattle.rtsp_range.specs.declared.range.Range.{Range}
 use Rattle.rtsp_range.specs.declared.range.Range.TheVariants as ranges
-use Rattle.rtsp_range.specs.Parts.{front_number, behind, fraction_of}
+use Rattle.rtsp_range.specs.Parts.{front_number, rest_after, fraction_of}
 use Rattle.rtsp_range.specs.Clock.{moment_of, clock_end, clock_range}
 use Rattle.rtsp_range.specs.Writable.{if_there, is_moment, can_be_written}
 use Rattle.rtsp_range.proofs.SoundLemmas.{front_bound, fraction_bound}
@@ -24,7 +24,7 @@ moment_sound text moment h =
     option_and_then_some _ (front_number 4 0 9999 text) moment h (λ (year : ℕ × List ℕ) year_is h1.
     option_and_then_some _ (front_number 2 1 12 year.1) moment h1 (λ (month : ℕ × List ℕ) month_is h2.
     option_and_then_some _ (front_number 2 1 31 month.1) moment h2 (λ (day : ℕ × List ℕ) day_is h3.
-    option_and_then_some _ (behind 84 day.1) moment h3 (λ time time_is h4.
+    option_and_then_some _ (rest_after 84 day.1) moment h3 (λ time time_is h4.
     option_and_then_some _ (front_number 2 0 23 time) moment h4 (λ (hour : ℕ × List ℕ) hour_is h5.
     option_and_then_some _ (front_number 2 0 59 hour.1) moment h5 (λ (minute : ℕ × List ℕ) minute_is h6.
     option_and_then_some _ (front_number 2 0 60 minute.1) moment h6 (λ (second : ℕ × List ℕ) second_is h7.

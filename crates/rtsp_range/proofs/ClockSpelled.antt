@@ -3,13 +3,13 @@ use Rattle.std.proofs.Common.{◌≡◌, ℕ, Bool, true, false, ◌==◌, cond,
 use Rattle.std.specs.Prelude.{option_map}
 use Rattle.std.proofs.lemmas.Option.{option_and_then_some, cond_some, same_Some}
 use Rattle.gate_bytes.specs.Places.{cut_at}
+use Rattle.gate_bytes.proofs.SeamLemmas.{cut_joined}
 use Rattle.rtsp_range.specs.declared.clock.Moment.{Moment}
 use Rattle.rtsp_range.specs.declared.unit.TimeUnit.TheVariants as units
 use Rattle.rtsp_range.specs.declared.range.Range.{Range}
-use Rattle.rtsp_range.specs.Parts.{front_number, behind, fraction_of}
+use Rattle.rtsp_range.specs.Parts.{front_number, rest_after, fraction_of}
 use Rattle.rtsp_range.specs.Clock.{moment_of, clock_end, clock_range}
 use Rattle.rtsp_range.specs.Spellings.{IsMoment, IsOptional, AreTimes}
-use Rattle.rtsp_range.proofs.JoinLemmas.{cut_joined}
 use Rattle.rtsp_range.proofs.NumberSpelled.{front_spelled, fraction_spelled}
 use Rattle.rtsp_range.proofs.NptSpelled.{Dashed}
 
@@ -17,7 +17,7 @@ behind_with : (byte b : ℕ) (text rest : List ℕ) (same : Bool) → (b == byte
 behind_with byte b text rest true e h = let equal : b ≡ byte = grind (arith, e) in ap (λ c. c ∷ text) equal ∙ ap (λ t. byte ∷ t) (same_Some _ _ h)
 behind_with byte b text rest false e h = cc
 
-behind_joined : (byte : ℕ) (text rest : List ℕ) → behind byte text ≡ Some rest → text ≡ byte ∷ rest
+behind_joined : (byte : ℕ) (text rest : List ℕ) → rest_after byte text ≡ Some rest → text ≡ byte ∷ rest
 behind_joined byte [] rest h = cc
 behind_joined byte (b ∷ text) rest h = behind_with byte b text rest (b == byte) refl h
 
@@ -42,7 +42,7 @@ moment_spelled text moment h =
     option_and_then_some _ (front_number 4 0 9999 text) moment h (λ (year : ℕ × List ℕ) year_is h1.
     option_and_then_some _ (front_number 2 1 12 year.1) moment h1 (λ (month : ℕ × List ℕ) month_is h2.
     option_and_then_some _ (front_number 2 1 31 month.1) moment h2 (λ (day : ℕ × List ℕ) day_is h3.
-    option_and_then_some _ (behind 84 day.1) moment h3 (λ time time_is h4.
+    option_and_then_some _ (rest_after 84 day.1) moment h3 (λ time time_is h4.
     option_and_then_some _ (front_number 2 0 23 time) moment h4 (λ (hour : ℕ × List ℕ) hour_is h5.
     option_and_then_some _ (front_number 2 0 59 hour.1) moment h5 (λ (minute : ℕ × List ℕ) minute_is h6.
     option_and_then_some _ (front_number 2 0 60 minute.1) moment h6 (λ (second : ℕ × List ℕ) second_is h7.

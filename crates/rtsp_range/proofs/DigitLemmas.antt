@@ -10,8 +10,8 @@ use Rattle.std.proofs.lemmas.List.Folds.{list_all-append, list_all_more}
 use Rattle.std.proofs.lemmas.Int.Digits.{digits_value_more}
 use Rattle.std.proofs.lemmas.Str.{digit_value_digit}
 use Rattle.std.proofs.lemmas.Str.Parse.{IsDigitsTest, IsNumeralModel, numerals_by_value, digits_value_short}
-use Rattle.rtsp_range.specs.Parts.{nine_digits}
-use Rattle.rtsp_range.specs.Judged.{most_seconds}
+use Rattle.rtsp_range.specs.Parts.{counted_digits}
+use Rattle.rtsp_range.specs.CappedTimes.{most_seconds}
 
 digits_test : IsDigitsTest (λ ds. list_all is_ascii_digit ds ≡ true)
 digits_test = search rules
@@ -75,20 +75,20 @@ digit_with digits i false t h =
     get_or-append_right digits (codes "000000000") (length digits) i 48 refl past ∙ zero_at (i - length digits) (omega arith)
     ∙ sym (get_or_past digits i 48 past)
 
-pub nine_long : (digits : List ℕ) → length (nine_digits digits) ≡ 9
+pub nine_long : (digits : List ℕ) → length (counted_digits digits) ≡ 9
 nine_long digits = omega (arith, length-take 9 (digits ++ codes "000000000"), length-append digits (codes "000000000"))
 
-pub nine_all : (digits : List ℕ) → list_all is_ascii_digit digits ≡ true → list_all is_ascii_digit (nine_digits digits) ≡ true
+pub nine_all : (digits : List ℕ) → list_all is_ascii_digit digits ≡ true → list_all is_ascii_digit (counted_digits digits) ≡ true
 nine_all digits h = all_take 9 (digits ++ codes "000000000") (list_all-append is_ascii_digit digits (codes "000000000") ∙ ap (λ t. t && true) h)
 
 -- After one of the nine digits more the value is theirs, and small.
 pub record ReadsNine (digits : List ℕ) (i : ℕ) : Type 0 where
-  pub value : digits_value 10 (take (i + 1) (nine_digits digits)) ≡ digits_value 10 (take i (nine_digits digits)) * 10 + digit_value (get_or digits i 48)
-  pub small : digits_value 10 (take (i + 1) (nine_digits digits)) < 10 ^ 9
+  pub value : digits_value 10 (take (i + 1) (counted_digits digits)) ≡ digits_value 10 (take i (counted_digits digits)) * 10 + digit_value (get_or digits i 48)
+  pub small : digits_value 10 (take (i + 1) (counted_digits digits)) < 10 ^ 9
 
 pub nine_step : (digits : List ℕ) (i : ℕ) → list_all is_ascii_digit digits ≡ true → i < 9 → ReadsNine digits i
 nine_step digits i h below =
-    let nine = nine_digits digits in
+    let nine = counted_digits digits in
     let within : i < length nine = omega (arith, nine_long digits) in
     let same : get_or nine i 48 ≡ get_or digits i 48 = get_or-take 9 (digits ++ codes "000000000") i 48 below ∙ digit_with digits i _ refl below in
     record {
@@ -97,5 +97,5 @@ nine_step digits i h below =
     }
 
 -- nine are all
-pub nine_whole : (digits : List ℕ) (n : ℕ) → 9 ≤ n → take n (nine_digits digits) ≡ nine_digits digits
-nine_whole digits n h = take_all n (nine_digits digits) (omega (arith, nine_long digits))
+pub nine_whole : (digits : List ℕ) (n : ℕ) → 9 ≤ n → take n (counted_digits digits) ≡ counted_digits digits
+nine_whole digits n h = take_all n (counted_digits digits) (omega (arith, nine_long digits))

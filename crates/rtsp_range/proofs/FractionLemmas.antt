@@ -5,7 +5,7 @@ use Rattle.std.specs.List.{list_all}
 use Rattle.std.specs.Char.{is_ascii_digit}
 use Rattle.std.specs.Str.Parse.{digits_value}
 use Rattle.std.proofs.lemmas.Bool.{and_parts}
-use Rattle.rtsp_range.specs.Parts.{nine_digits}
+use Rattle.rtsp_range.specs.Parts.{counted_digits}
 use Rattle.rtsp_range.specs.Written.{padded, is_zero_digit, without_zeros}
 use Rattle.rtsp_range.proofs.PaddedLemmas.{padded_digits, padded_long, padded_value}
 
@@ -43,9 +43,9 @@ pub nanos_digits : (nanos : ℕ) → list_all is_ascii_digit (without_zeros (pad
 nanos_digits nanos = digits_left (padded 9 nanos) (padded_digits 9 nanos)
 
 -- The nine digits are those of the number.
-pub nanos_again : (nanos : ℕ) → nanos < 10 ^ 9 → digits_value 10 (nine_digits (without_zeros (padded 9 nanos))) ≡ nanos
+pub nanos_again : (nanos : ℕ) → nanos < 10 ^ 9 → digits_value 10 (counted_digits (without_zeros (padded 9 nanos))) ≡ nanos
 nanos_again nanos small =
     let long : length (padded 9 nanos) ≡ 9 = padded_long 9 nanos in
-    let nine : nine_digits (without_zeros (padded 9 nanos)) ≡ padded 9 nanos =
+    let nine : counted_digits (without_zeros (padded 9 nanos)) ≡ padded 9 nanos =
     ap (λ n. take n (without_zeros (padded 9 nanos) ++ codes "000000000")) (sym long) ∙ all_again (padded 9 nanos) (codes "000000000") refl (omega (arith, long)) in
     ap (digits_value 10) nine ∙ padded_value 9 nanos small

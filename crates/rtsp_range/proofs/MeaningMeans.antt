@@ -6,6 +6,7 @@ use Rattle.std.specs.Char.{to_ascii_lowercase}
 use Rattle.std.proofs.lemmas.Bool.{and_parts}
 use Rattle.gate_bytes.specs.Tokens.{equal_fold}
 use Rattle.gate_bytes.specs.Places.{cut_at}
+use Rattle.gate_bytes.proofs.SeamLemmas.{lacks, lacks_append, cut_at_seam}
 use Rattle.rtsp_range.specs.declared.smpte.Rate.TheVariants as rates
 use Rattle.rtsp_range.specs.declared.unit.TimeUnit.{TimeUnit}
 use Rattle.rtsp_range.specs.declared.unit.TimeUnit.TheVariants as units
@@ -13,8 +14,8 @@ use Rattle.rtsp_range.specs.declared.range.Range.{Range}
 use Rattle.rtsp_range.specs.declared.range.Range.TheVariants as ranges
 use Rattle.rtsp_range.specs.declared.fault.RangeFault.TheVariants as faults
 use Rattle.rtsp_range.specs.Meaning.{Version, One, Two, unit_of, names_parameter, range_in, unit_and_times, range_behind, meaning}
-use Rattle.rtsp_range.specs.Spellings.{AreTimes, Spells}
-use Rattle.rtsp_range.proofs.CutLemmas.{lacks, lacks_append, part_lacks, cut_at_seam, no_parameter, bind_some}
+use Rattle.rtsp_range.specs.Spellings.{AreTimes, SpellsRange}
+use Rattle.rtsp_range.proofs.CutLemmas.{part_lacks, no_parameter, bind_some}
 use Rattle.rtsp_range.proofs.NptMeans.{npt_means, npt_lacks}
 use Rattle.rtsp_range.proofs.SmpteMeans as smpte
 use Rattle.rtsp_range.proofs.ClockMeans as clock
@@ -93,7 +94,7 @@ unnamed : (version : Version) (text : List ℕ) → lacks 59 text ≡ true → n
 unnamed One text h = no_parameter text h
 unnamed Two text h = refl
 
-pub spelled_means : (version : Version) (value : List ℕ) (range : Range) → Spells value range → meaning version value ≡ Ok range
+pub spelled_means : (version : Version) (value : List ℕ) (range : Range) → SpellsRange value range → meaning version value ≡ Ok range
 spelled_means version value range s =
     let text = s.begin ++ (45 ∷ s.end) in
     ap (meaning version) s.spelled ∙ ap (range_behind version) (unit_means s.name text s.unit s.named)

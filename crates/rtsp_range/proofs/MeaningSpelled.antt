@@ -2,6 +2,7 @@
 use Rattle.std.proofs.Common.{◌≡◌, ℕ, Bool, true, false, cond, List, ◌∷◌, ◌++◌, Option, None, Some, Ok, Err, refl, ◌∙◌, ap}
 use Rattle.std.proofs.lemmas.Option.{option_and_then_some, same_Some}
 use Rattle.gate_bytes.specs.Places.{cut_at}
+use Rattle.gate_bytes.proofs.SeamLemmas.{cut_joined}
 use Rattle.rtsp_range.specs.declared.unit.TimeUnit.{TimeUnit}
 use Rattle.rtsp_range.specs.declared.unit.TimeUnit.TheVariants as units
 use Rattle.rtsp_range.specs.declared.range.Range.{Range}
@@ -9,8 +10,7 @@ use Rattle.rtsp_range.specs.declared.fault.RangeFault.TheVariants as faults
 use Rattle.rtsp_range.specs.Smpte.{smpte_range}
 use Rattle.rtsp_range.specs.Clock.{clock_range}
 use Rattle.rtsp_range.specs.Meaning.{Version, unit_of, names_parameter, range_in, unit_and_times, range_behind, meaning}
-use Rattle.rtsp_range.specs.Spellings.{Spells}
-use Rattle.rtsp_range.proofs.JoinLemmas.{cut_joined}
+use Rattle.rtsp_range.specs.Spellings.{SpellsRange}
 use Rattle.rtsp_range.proofs.SoundLemmas.{found_ok}
 use Rattle.rtsp_range.proofs.NptSpelled.{Dashed, npt_spelled}
 use Rattle.rtsp_range.proofs.SmpteSpelled.{smpte_spelled}
@@ -43,7 +43,7 @@ unit_spelled value found h =
       named = unit_is ∙ ap (λ (p : TimeUnit × List ℕ). Some p.0) same;
     }))
 
-with_unit : (version : Version) (value : List ℕ) (found : Option (TimeUnit × List ℕ)) (range : Range) → unit_and_times value ≡ found → range_behind version found ≡ Ok range → Spells value range
+with_unit : (version : Version) (value : List ℕ) (found : Option (TimeUnit × List ℕ)) (range : Range) → unit_and_times value ≡ found → range_behind version found ≡ Ok range → SpellsRange value range
 with_unit version value None range e h = cc
 with_unit version value (Some found) range e h =
     let dashed = unless (names_parameter version found.1) found.0 found.1 range h in
@@ -58,5 +58,5 @@ with_unit version value (Some found) range e h =
       times = dashed.times;
     }
 
-pub meaning_spelled : (version : Version) (value : List ℕ) (range : Range) → meaning version value ≡ Ok range → Spells value range
+pub meaning_spelled : (version : Version) (value : List ℕ) (range : Range) → meaning version value ≡ Ok range → SpellsRange value range
 meaning_spelled version value range h = with_unit version value (unit_and_times value) range refl h

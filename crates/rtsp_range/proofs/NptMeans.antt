@@ -8,6 +8,7 @@ use Rattle.std.specs.Str.{bytes_eq}
 use Rattle.std.proofs.lemmas.Bool.{and_parts}
 use Rattle.std.proofs.lemmas.List.{length-append}
 use Rattle.gate_bytes.specs.Places.{cut_at}
+use Rattle.gate_bytes.proofs.SeamLemmas.{lacks, lacks_append, digits_lack, cut_at_seam, cut_nowhere}
 use Rattle.rtsp_range.specs.declared.npt.NptTime.{NptTime}
 use Rattle.rtsp_range.specs.declared.npt.NptTime.TheVariants.{Now, At}
 use Rattle.rtsp_range.specs.declared.range.Range.TheVariants as ranges
@@ -15,7 +16,7 @@ use Rattle.rtsp_range.specs.declared.fault.RangeFault.TheVariants as faults
 use Rattle.rtsp_range.specs.Parts.{part_at, whole_number, short_number, fraction_of}
 use Rattle.rtsp_range.specs.Npt.{clocked_seconds, seconds_with, seconds_of, nanoseconds_of, npt_time, npt_part, is_too_large, npt_pair, npt_between, npt_with, npt_range}
 use Rattle.rtsp_range.specs.Spellings.{WritesClock, WritesSeconds, WritesNanoseconds, IsNptTime, IsOptional, HasOne}
-use Rattle.rtsp_range.proofs.CutLemmas.{lacks, lacks_append, digits_lack, cut_at_seam, uncut, bind_some, part_lacks}
+use Rattle.rtsp_range.proofs.CutLemmas.{bind_some, part_lacks}
 use Rattle.rtsp_range.proofs.NumberMeans.{whole_means, short_means, fraction_means, fraction_lacks, fraction_begins, part_means}
 
 -- digits at the front
@@ -70,7 +71,7 @@ clock_means text number c =
 
 seconds_mean : (text : List ℕ) (number : ℕ) → WritesSeconds text number → seconds_of text ≡ Some number
 unfolding seconds_of
-seconds_mean text number (inl w) = ap (seconds_with text) (uncut 58 text (digits_lack 58 text refl w.digits)) ∙ whole_means text number w
+seconds_mean text number (inl w) = ap (seconds_with text) (cut_nowhere 58 text (digits_lack 58 text refl w.digits)) ∙ whole_means text number w
 seconds_mean text number (inr c) =
     ap (λ t. seconds_with t (cut_at 58 t)) c.spelled
     ∙ ap (seconds_with (c.hours ++ (58 ∷ (c.minutes ++ (58 ∷ c.seconds))))) (cut_at_seam 58 c.hours (c.minutes ++ (58 ∷ c.seconds)) (digits_lack 58 c.hours refl c.writes_hour.digits))

@@ -6,6 +6,7 @@ use Rattle.std.specs.Str.{bytes_eq}
 use Rattle.std.proofs.lemmas.Option.{option_and_then_some, same_Some}
 use Rattle.std.proofs.lemmas.Slice.Eq.{bytes_eq-Decides}
 use Rattle.gate_bytes.specs.Places.{cut_at}
+use Rattle.gate_bytes.proofs.SeamLemmas.{cut_joined}
 use Rattle.rtsp_range.specs.declared.npt.NptTime.{NptTime}
 use Rattle.rtsp_range.specs.declared.npt.NptTime.TheVariants.{Now, At}
 use Rattle.rtsp_range.specs.declared.unit.TimeUnit.{TimeUnit}
@@ -15,7 +16,7 @@ use Rattle.rtsp_range.specs.declared.fault.RangeFault.TheVariants as faults
 use Rattle.rtsp_range.specs.Parts.{part_at, whole_number, short_number, fraction_of}
 use Rattle.rtsp_range.specs.Npt.{clocked_seconds, seconds_with, seconds_of, nanoseconds_of, npt_time, latest, npt_part, is_too_large, npt_pair, npt_with, npt_range}
 use Rattle.rtsp_range.specs.Spellings.{WritesClock, WritesSeconds, WritesNanoseconds, IsNptTime, IsOptional, AreTimes}
-use Rattle.rtsp_range.proofs.JoinLemmas.{cut_joined, part_joined}
+use Rattle.rtsp_range.proofs.JoinLemmas.{part_joined}
 use Rattle.rtsp_range.proofs.NumberSpelled.{whole_spelled, short_spelled, fraction_spelled}
 use Rattle.rtsp_range.proofs.SoundLemmas.{found_ok}
 

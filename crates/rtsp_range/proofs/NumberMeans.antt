@@ -7,10 +7,11 @@ use Rattle.std.specs.Str.Parse.{digits_value}
 use Rattle.std.proofs.lemmas.List.{length-append, append-nil}
 use Rattle.std.proofs.Math.Seq.{take-append_seam, drop-append_seam}
 use Rattle.gate_bytes.specs.Numbers.{number_in}
-use Rattle.rtsp_range.specs.Parts.{within, part_at, whole_number, short_number, front_number, nine_digits, nanos_of, fraction_of}
+use Rattle.gate_bytes.proofs.SeamLemmas.{lacks, digits_lack}
+use Rattle.rtsp_range.specs.Parts.{within, part_at, whole_number, short_number, front_number, counted_digits, nanos_of, fraction_of}
 use Rattle.rtsp_range.specs.Smpte.{marked_number}
 use Rattle.rtsp_range.specs.Spellings.{WritesWhole, WritesShort, WritesFixed, WritesFraction, WritesMarked}
-use Rattle.rtsp_range.proofs.CutLemmas.{lacks, digits_lack, no_part, part_at_seam}
+use Rattle.rtsp_range.proofs.CutLemmas.{no_part, part_at_seam}
 
 pub whole_means : (text : List ℕ) (number : ℕ) → WritesWhole text number → whole_number text ≡ Some number
 whole_means text number w = grind (arith, w.digits, w.some, w.value)
@@ -32,12 +33,12 @@ front_means width least most front rest number some w =
     let long : length front ≡ width = omega (arith, w.long, w.short) in
     let enough : nat_le width (length text) ≡ true = grind (arith, length-append front rest, long) in
     let first : take width text ≡ front = ap (λ n. take n text) (sym long) ∙ take-append_seam front rest in
-    let behind : drop width text ≡ rest = ap (λ n. drop n text) (sym long) ∙ drop-append_seam front rest in
+    let rest_after : drop width text ≡ rest = ap (λ n. drop n text) (sym long) ∙ drop-append_seam front rest in
     ap (λ t. cond t (option_map (λ n. (n, drop width text)) (option_and_then (within least most) (number_in width (take width text)))) None) enough
     ∙ ap (λ t. option_map (λ n. (n, drop width text)) (option_and_then (within least most) (number_in width t))) first
     ∙ ap (λ o. option_map (λ n. (n, drop width text)) (option_and_then (within least most) o)) (number_with width front number (omega (arith, long, some)) w.short w.digits w.value)
     ∙ ap (λ o. option_map (λ n. (n, drop width text)) o) (in_bounds least most number w.low w.high)
-    ∙ ap (λ (t : List ℕ). Some (number, t)) behind
+    ∙ ap (λ (t : List ℕ). Some (number, t)) rest_after
 
 same_byte : (b c : ℕ) → b ≡ c → (b == c) ≡ true
 same_byte b c h = grind (arith, h)
@@ -49,7 +50,7 @@ pub fraction_means : (text : List ℕ) (nanos : ℕ) → WritesFraction text nan
 fraction_means [] nanos h = ap Some (sym h)
 fraction_means (b ∷ digits) nanos h =
     ap (λ t. cond t (nanos_of digits) None) (same_byte b 46 h.0)
-    ∙ ap (λ t. cond t (Some (digits_value 10 (nine_digits digits))) None) h.1.digits ∙ ap Some h.1.value
+    ∙ ap (λ t. cond t (Some (digits_value 10 (counted_digits digits))) None) h.1.digits ∙ ap Some h.1.value
 
 pub marked_means : (mark : ℕ) (text : List ℕ) (number : ℕ) → WritesMarked mark text number → marked_number mark text ≡ Some number
 marked_means mark [] number h = ap Some (sym h)

@@ -8,7 +8,7 @@ use Rattle.std.proofs.lemmas.Bool.{and_parts}
 use Rattle.std.proofs.lemmas.List.{length-take, take-append-drop}
 use Rattle.std.proofs.lemmas.Option.{option_and_then_some, cond_some, same_Some}
 use Rattle.gate_bytes.specs.Numbers.{number_in}
-use Rattle.rtsp_range.specs.Parts.{within, whole_number, short_number, front_number, nine_digits, nanos_of, fraction_of}
+use Rattle.rtsp_range.specs.Parts.{within, whole_number, short_number, front_number, counted_digits, nanos_of, fraction_of}
 use Rattle.rtsp_range.specs.Spellings.{WritesNumber, WritesWhole, WritesShort, WritesFixed, WritesNanos, WritesFraction}
 
 some_long : (n : ℕ) → not (n == 0) ≡ true → 1 ≤ n
@@ -78,7 +78,7 @@ front_spelled width least most text found h =
 
 fraction_with : (b : ℕ) (digits : List ℕ) (point : Bool) (nanos : ℕ) → (b == 46) ≡ point → cond point (nanos_of digits) None ≡ Some nanos → (b ≡ 46) × WritesNanos digits nanos
 fraction_with b digits true nanos e h =
-    let read = cond_some (list_all is_ascii_digit digits) (digits_value 10 (nine_digits digits)) nanos h in
+    let read = cond_some (list_all is_ascii_digit digits) (digits_value 10 (counted_digits digits)) nanos h in
     (grind (arith, e), record { digits = read.0; value = read.1 })
 fraction_with b digits false nanos e h = cc
 

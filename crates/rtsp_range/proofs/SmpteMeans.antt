@@ -4,13 +4,14 @@ use Rattle.std.specs.Prelude.{option_map}
 use Rattle.std.specs.Char.{is_ascii_digit}
 use Rattle.std.proofs.lemmas.List.{length-append}
 use Rattle.gate_bytes.specs.Places.{cut_at}
+use Rattle.gate_bytes.proofs.SeamLemmas.{lacks, lacks_append, digits_lack, cut_at_seam}
 use Rattle.rtsp_range.specs.declared.smpte.Smpte.{Smpte}
 use Rattle.rtsp_range.specs.declared.smpte.Rate.{Rate}
 use Rattle.rtsp_range.specs.declared.range.Range.TheVariants as ranges
 use Rattle.rtsp_range.specs.Parts.{part_at, short_number}
 use Rattle.rtsp_range.specs.Smpte.{marked_number, smpte_time, smpte_end, smpte_range}
 use Rattle.rtsp_range.specs.Spellings.{IsSmpteTime, IsOptional}
-use Rattle.rtsp_range.proofs.CutLemmas.{lacks, lacks_append, digits_lack, cut_at_seam, part_lacks, bind_some}
+use Rattle.rtsp_range.proofs.CutLemmas.{part_lacks, bind_some}
 use Rattle.rtsp_range.proofs.NumberMeans.{short_means, marked_means, marked_lacks, marked_begins, part_means}
 
 -- a timestamp without its parts of a frame

@@ -3,6 +3,7 @@ use Rattle.std.proofs.Common.{◌≡◌, ℕ, Bool, true, false, ◌==◌, cond,
 use Rattle.std.specs.Prelude.{option_map}
 use Rattle.std.proofs.lemmas.Option.{option_and_then_some, same_Some}
 use Rattle.gate_bytes.specs.Places.{cut_at}
+use Rattle.gate_bytes.proofs.SeamLemmas.{cut_joined}
 use Rattle.rtsp_range.specs.declared.smpte.Smpte.{Smpte}
 use Rattle.rtsp_range.specs.declared.smpte.Rate.{Rate}
 use Rattle.rtsp_range.specs.declared.unit.TimeUnit.TheVariants as units
@@ -10,7 +11,7 @@ use Rattle.rtsp_range.specs.declared.range.Range.{Range}
 use Rattle.rtsp_range.specs.Parts.{part_at, short_number}
 use Rattle.rtsp_range.specs.Smpte.{marked_number, smpte_time, smpte_end, smpte_range}
 use Rattle.rtsp_range.specs.Spellings.{WritesShort, WritesMarked, IsSmpteTime, IsOptional, AreTimes}
-use Rattle.rtsp_range.proofs.JoinLemmas.{cut_joined, part_joined}
+use Rattle.rtsp_range.proofs.JoinLemmas.{part_joined}
 use Rattle.rtsp_range.proofs.NumberSpelled.{short_spelled}
 use Rattle.rtsp_range.proofs.NptSpelled.{Dashed}
 

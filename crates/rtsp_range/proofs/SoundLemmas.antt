@@ -8,7 +8,7 @@ use Rattle.std.specs.Str.Parse.{digits_value}
 use Rattle.std.proofs.lemmas.Bool.{and_parts}
 use Rattle.std.proofs.lemmas.Option.{cond_some, same_Some}
 use Rattle.gate_bytes.specs.Numbers.{number_in}
-use Rattle.rtsp_range.specs.Parts.{within, short_number, front_number, nine_digits, nanos_of, fraction_of}
+use Rattle.rtsp_range.specs.Parts.{within, short_number, front_number, counted_digits, nanos_of, fraction_of}
 use Rattle.rtsp_range.proofs.DigitLemmas.{own, nine_all, nine_long}
 use Rattle.std.proofs.lemmas.Str.Parse.{digits_value_short}
 
@@ -37,11 +37,11 @@ front_bound width least most text p h =
     (within_bounds least most (number_in width (take width text))) h
 
 -- a fraction is below one
-nanos_with : (digits : List ℕ) (all : Bool) (n : ℕ) → list_all is_ascii_digit digits ≡ all → cond all (Some (digits_value 10 (nine_digits digits))) None ≡ Some n → nat_le n 999999999 ≡ true
+nanos_with : (digits : List ℕ) (all : Bool) (n : ℕ) → list_all is_ascii_digit digits ≡ all → cond all (Some (digits_value 10 (counted_digits digits))) None ≡ Some n → nat_le n 999999999 ≡ true
 nanos_with digits false n t h = cc
 nanos_with digits true n t h =
-    let small : digits_value 10 (nine_digits digits) < 10 ^ 9 = digits_value_short own (nine_digits digits) 9 (nine_all digits t) (omega (arith, nine_long digits)) in
-    let same : digits_value 10 (nine_digits digits) ≡ n = same_Some _ _ h in
+    let small : digits_value 10 (counted_digits digits) < 10 ^ 9 = digits_value_short own (counted_digits digits) 9 (nine_all digits t) (omega (arith, nine_long digits)) in
+    let same : digits_value 10 (counted_digits digits) ≡ n = same_Some _ _ h in
     let below : n ≤ 999999999 = omega (arith, same, small) in
     grind (arith, below)
 

@@ -14,7 +14,7 @@ use Rattle.rtsp_range.specs.declared.unit.TimeUnit.TheVariants as units
 use Rattle.rtsp_range.specs.declared.range.Range.{Range}
 use Rattle.rtsp_range.specs.declared.range.Range.TheVariants as ranges
 use Rattle.rtsp_range.specs.Npt.{latest}
-use Rattle.rtsp_range.specs.Spellings.{WritesWhole, WritesShort, WritesFixed, WritesFraction, WritesMarked, IsNptTime, IsSmpteTime, IsMoment, IsOptional, HasOne, AreTimes, Spells}
+use Rattle.rtsp_range.specs.Spellings.{WritesWhole, WritesShort, WritesFixed, WritesFraction, WritesMarked, IsNptTime, IsSmpteTime, IsMoment, IsOptional, HasOne, AreTimes, SpellsRange}
 use Rattle.rtsp_range.specs.Writable.{if_there, is_npt_time, is_smpte_time, is_moment, can_be_written}
 use Rattle.rtsp_range.specs.Written.{padded, without_zeros, fraction_text, npt_text, frames_text, parts_text, smpte_text, moment_text, text_if, range_text}
 use Rattle.rtsp_range.proofs.DigitLemmas.{own}
@@ -155,7 +155,7 @@ clock_end : (to : Option Moment) → if_there is_moment to ≡ true → IsOption
 clock_end None h = refl
 clock_end (Some moment) h = moment_is moment h
 
-smpte_spells : (rate : Rate) (from : Smpte) (to : Option Smpte) → AreTimes (units.Smpte rate) (smpte_text from) (text_if smpte_text to) (ranges.Smpte rate from to) → Spells (range_text (ranges.Smpte rate from to)) (ranges.Smpte rate from to)
+smpte_spells : (rate : Rate) (from : Smpte) (to : Option Smpte) → AreTimes (units.Smpte rate) (smpte_text from) (text_if smpte_text to) (ranges.Smpte rate from to) → SpellsRange (range_text (ranges.Smpte rate from to)) (ranges.Smpte rate from to)
 smpte_spells rates.Thirty from to h =
     record { name = codes "smpte"; unit = units.Smpte rates.Thirty; begin = smpte_text from; end = text_if smpte_text to; spelled = refl; named = refl; times = h }
 smpte_spells rates.ThirtyDrop from to h =
@@ -163,7 +163,7 @@ smpte_spells rates.ThirtyDrop from to h =
 smpte_spells rates.TwentyFive from to h =
     record { name = codes "smpte-25"; unit = units.Smpte rates.TwentyFive; begin = smpte_text from; end = text_if smpte_text to; spelled = refl; named = refl; times = h }
 
-pub written_spells : (range : Range) → can_be_written range ≡ true → Spells (range_text range) range
+pub written_spells : (range : Range) → can_be_written range ≡ true → SpellsRange (range_text range) range
 written_spells (ranges.Npt from to) h =
     let all = and_parts (is_some from || is_some to) (if_there is_npt_time from && if_there is_npt_time to) h in
     let times = and_parts (if_there is_npt_time from) (if_there is_npt_time to) all.1 in

@@ -1,6 +1,6 @@
 pub mod Parts
 pub mod Npt
-pub mod Judged
+pub mod CappedTimes
 pub mod Smpte
 pub mod Clock
 pub mod Meaning

@@ -1,6 +1,7 @@
 -- What the value of a Range header means (RFC 2326, 12.29; RFC 7826, 18.40), or its first fault.
-use Rattle.std.specs.Prelude.{◌≡◌, ℕ, Bool, false, ◌==◌, ◌&&◌, ◌||◌, codes, if◌then◌else◌, List, [], ◌∷◌, take, Option, Some, None, Result, Ok, Err}
+use Rattle.std.specs.Prelude.{◌≡◌, ℕ, Bool, false, ◌==◌, ◌&&◌, ◌||◌, codes, if◌then◌else◌, List, [], ◌∷◌, length, take, Option, Some, None, Result, Ok, Err}
 use Rattle.std.specs.Option.{ok_or}
+use Rattle.gate_bytes.specs.Ascii.{space, semicolon, equals_sign}
 use Rattle.gate_bytes.specs.Places.{cut_at}
 use Rattle.gate_bytes.specs.Tokens.{equal_fold}
 use Rattle.rtsp_range.specs.declared.smpte.Rate.TheVariants as rates
@@ -32,16 +33,20 @@ unit_of name =
 -- a text without the spaces at its front
 abbrev pub without_spaces : List ℕ → List ℕ
 without_spaces [] = []
-without_spaces (b ∷ text) = if b == 32 then without_spaces text else b ∷ text
+without_spaces (b ∷ text) = if b == space then without_spaces text else b ∷ text
 
--- whether `time=` stands behind spaces, without ASCII case
+-- how the time parameter begins
+abbrev pub time_parameter : List ℕ
+time_parameter = codes "time="
+
+-- whether it stands behind spaces, without ASCII case
 abbrev pub names_time : List ℕ → Bool
-names_time text = equal_fold (take 5 (without_spaces text)) (codes "time=")
+names_time text = equal_fold (take (length time_parameter) (without_spaces text)) time_parameter
 
 -- Whether a `;` stands anywhere with `time=` behind it (RFC 2326, 12.29). RTSP 2.0 has no such parameter.
 abbrev pub has_time_parameter : List ℕ → Bool
 has_time_parameter [] = false
-has_time_parameter (b ∷ text) = (b == 59 && names_time text) || has_time_parameter text
+has_time_parameter (b ∷ text) = (b == semicolon && names_time text) || has_time_parameter text
 
 -- whether this version has the parameter, and the text names it
 abbrev pub names_parameter : Version → List ℕ → Bool
@@ -56,7 +61,7 @@ range_in units.Clock text = ok_or (clock_range text) faults.Time
 -- The unit, and the text behind the first `=`.
 unfoldable pub unit_and_times : List ℕ → Option (TimeUnit × List ℕ)
 unit_and_times value = do
-  parts ← cut_at 61 value
+  parts ← cut_at equals_sign value
   unit ← unit_of parts.0
   Some (unit, parts.1)
 

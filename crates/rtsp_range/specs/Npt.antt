@@ -2,7 +2,10 @@
 use Rattle.std.specs.Prelude.{ℕ, Bool, false, ◌+◌, ◌*◌, ◌^◌, ◌||◌, nat_lt, codes, if◌then◌else◌, List, [], ◌∷◌, Option, Some, None, Result, Err, option_map}
 use Rattle.std.specs.Option.{ok_or}
 use Rattle.std.specs.Str.{bytes_eq}
+use Rattle.gate_bytes.specs.Ascii.{hyphen, dot, colon}
 use Rattle.gate_bytes.specs.Places.{cut_at}
+use Rattle.rtsp_range.specs.declared.part.TheConstants.{LAST_MINUTE, LAST_SECOND, FRACTION_DIGITS}
+use Rattle.rtsp_range.specs.declared.npt.TheConstants.{LATEST_SECONDS}
 use Rattle.rtsp_range.specs.declared.npt.NptTime.{NptTime}
 use Rattle.rtsp_range.specs.declared.npt.NptTime.TheVariants.{Now, At}
 use Rattle.rtsp_range.specs.declared.range.Range.{Range}
@@ -11,13 +14,13 @@ use Rattle.rtsp_range.specs.declared.fault.RangeFault.{RangeFault}
 use Rattle.rtsp_range.specs.declared.fault.RangeFault.TheVariants as faults
 use Rattle.rtsp_range.specs.Parts.{◌>>=◌, part_at, whole_number, short_number, fraction_of}
 
--- Hours, however many digits, then minutes and seconds of one or two digits, up to 59.
+-- Hours, however many digits, then minutes and seconds.
 unfoldable pub clocked_seconds : List ℕ → List ℕ → Option ℕ
 clocked_seconds hours rest = do
-  parts ← cut_at 58 rest
+  parts ← cut_at colon rest
   hour ← whole_number hours
-  minute ← short_number 59 parts.0
-  second ← short_number 59 parts.1
+  minute ← short_number LAST_MINUTE parts.0
+  second ← short_number LAST_SECOND parts.1
   Some (hour * 3600 + minute * 60 + second)
 
 -- The whole seconds: `h:mm:ss`, or the seconds alone.
@@ -26,22 +29,22 @@ seconds_with text None = whole_number text
 seconds_with text (Some parts) = clocked_seconds parts.0 parts.1
 
 unfoldable pub seconds_of : List ℕ → Option ℕ
-seconds_of text = seconds_with text (cut_at 58 text)
+seconds_of text = seconds_with text (cut_at colon text)
 
 -- Whole seconds and an optional fraction, in nanoseconds.
 unfoldable pub nanoseconds_of : List ℕ → Option ℕ
 nanoseconds_of text = do
-  seconds ← seconds_of (part_at 46 text).0
-  nanos ← fraction_of (part_at 46 text).1
-  Some (seconds * 10 ^ 9 + nanos)
+  seconds ← seconds_of (part_at dot text).0
+  nanos ← fraction_of (part_at dot text).1
+  Some (seconds * 10 ^ FRACTION_DIGITS + nanos)
 
 -- `now`, or a number of nanoseconds.
 abbrev pub npt_time : List ℕ → Option NptTime
 npt_time text = if bytes_eq text (codes "now") then Some Now else option_map At (nanoseconds_of text)
 
--- the latest time, 9,999,999,999 seconds (this project's own)
+-- the latest time in nanoseconds (this project's own)
 abbrev pub latest : ℕ
-latest = 9999999999 * 10 ^ 9
+latest = LATEST_SECONDS * 10 ^ FRACTION_DIGITS
 
 -- A begin or an end: nothing, or a time.
 abbrev pub npt_part : List ℕ → Option (Option NptTime)
@@ -73,4 +76,4 @@ npt_with (Some parts) = npt_between (npt_part parts.0) (npt_part parts.1)
 
 -- The range that the text behind `npt=` means: its parts stand round the first `-`.
 abbrev pub npt_range : List ℕ → Result Range RangeFault
-npt_range text = npt_with (cut_at 45 text)
+npt_range text = npt_with (cut_at hyphen text)

@@ -1,10 +1,12 @@
--- Parts of a time: what a mark cuts off, numbers of so many digits, and fractions.
-use Rattle.std.specs.Prelude.{ℕ, ◌==◌, ◌&&◌, not, nat_le, codes, if◌then◌else◌, List, [], ◌∷◌, ◌++◌, length, take, drop, Option, Some, None, unwrap_or, option_and_then, option_map}
+-- What times are made of: parts that a mark begins, numbers of few digits, and fractions.
+use Rattle.std.specs.Prelude.{ℕ, ◌==◌, ◌&&◌, not, nat_le, replicate, if◌then◌else◌, List, [], ◌∷◌, ◌++◌, length, take, drop, Option, Some, None, unwrap_or, option_and_then, option_map}
 use Rattle.std.specs.List.{list_all}
 use Rattle.std.specs.Char.{is_ascii_digit}
 use Rattle.std.specs.Str.Parse.{digits_value}
+use Rattle.gate_bytes.specs.Ascii.{dot, digit_zero}
 use Rattle.gate_bytes.specs.Numbers.{number_in}
 use Rattle.gate_bytes.specs.Places.{place_of}
+use Rattle.rtsp_range.specs.declared.part.TheConstants.{SHORT_DIGITS, FRACTION_DIGITS}
 
 -- what comes next, where there is something
 infixl 10 ◌>>=◌
@@ -26,9 +28,9 @@ within least most number = if nat_le least number && nat_le number most then Som
 abbrev pub whole_number : List ℕ → Option ℕ
 whole_number text = if not (length text == 0) && list_all is_ascii_digit text then Some (digits_value 10 text) else None
 
--- One or two digits, up to a number.
+-- one or more digits, up to the most of a short number, that write no more than this
 abbrev pub short_number : ℕ → List ℕ → Option ℕ
-short_number most text = number_in 2 text >>= within 0 most
+short_number most text = number_in SHORT_DIGITS text >>= within 0 most
 
 -- The number that just so many digits at the front write, and what follows them.
 abbrev pub front_number : ℕ → ℕ → ℕ → List ℕ → Option (ℕ × List ℕ)
@@ -38,19 +40,19 @@ front_number width least most text =
     else None
 
 -- What follows this byte.
-abbrev pub behind : ℕ → List ℕ → Option (List ℕ)
-behind byte [] = None
-behind byte (b ∷ text) = if b == byte then Some text else None
+abbrev pub rest_after : ℕ → List ℕ → Option (List ℕ)
+rest_after byte [] = None
+rest_after byte (b ∷ text) = if b == byte then Some text else None
 
--- the first nine digits, and zeros for those that are missing
-abbrev pub nine_digits : List ℕ → List ℕ
-nine_digits digits = take 9 (digits ++ codes "000000000")
+-- the digits that count, and zeros for those that are missing
+abbrev pub counted_digits : List ℕ → List ℕ
+counted_digits digits = take FRACTION_DIGITS (digits ++ replicate FRACTION_DIGITS digit_zero)
 
--- Billionths by the digits behind a point: the first nine count (this project's own).
+-- Billionths by the digits behind a point.
 abbrev pub nanos_of : List ℕ → Option ℕ
-nanos_of digits = if list_all is_ascii_digit digits then Some (digits_value 10 (nine_digits digits)) else None
+nanos_of digits = if list_all is_ascii_digit digits then Some (digits_value 10 (counted_digits digits)) else None
 
 -- An optional fraction in billionths: nothing, or a point and no or more digits.
 abbrev pub fraction_of : List ℕ → Option ℕ
 fraction_of [] = Some 0
-fraction_of (b ∷ digits) = if b == 46 then nanos_of digits else None
+fraction_of (b ∷ digits) = if b == dot then nanos_of digits else None

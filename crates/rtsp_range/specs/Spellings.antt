@@ -4,6 +4,10 @@ use Rattle.std.specs.Prelude.{◌≡◌, ℕ, ◌+◌, ◌*◌, ◌^◌, ◌<◌
 use Rattle.std.specs.List.{list_all}
 use Rattle.std.specs.Char.{is_ascii_digit}
 use Rattle.std.specs.Str.Parse.{digits_value}
+use Rattle.gate_bytes.specs.Ascii.{hyphen, dot, colon, equals_sign, upper_t, upper_z}
+use Rattle.rtsp_range.specs.declared.part.TheConstants.{SHORT_DIGITS, LAST_MINUTE, LAST_SECOND, FRACTION_DIGITS}
+use Rattle.rtsp_range.specs.declared.smpte.TheConstants.{LAST_SHORT}
+use Rattle.rtsp_range.specs.declared.clock.TheConstants.{YEAR_DIGITS, LAST_YEAR, LAST_MONTH, LAST_DAY, LAST_HOUR, LEAP_SECOND}
 use Rattle.rtsp_range.specs.declared.npt.NptTime.{NptTime}
 use Rattle.rtsp_range.specs.declared.npt.NptTime.TheVariants.{Now, At}
 use Rattle.rtsp_range.specs.declared.smpte.Smpte.{Smpte}
@@ -12,7 +16,7 @@ use Rattle.rtsp_range.specs.declared.unit.TimeUnit.{TimeUnit}
 use Rattle.rtsp_range.specs.declared.unit.TimeUnit.TheVariants as units
 use Rattle.rtsp_range.specs.declared.range.Range.{Range}
 use Rattle.rtsp_range.specs.declared.range.Range.TheVariants as ranges
-use Rattle.rtsp_range.specs.Parts.{nine_digits}
+use Rattle.rtsp_range.specs.Parts.{counted_digits}
 use Rattle.rtsp_range.specs.Npt.{latest}
 use Rattle.rtsp_range.specs.Meaning.{unit_of}
 
@@ -31,23 +35,23 @@ pub record WritesWhole (text : List ℕ) (number : ℕ) : Type 0 where
   pub some : 0 < length text
   pub value : digits_value 10 text ≡ number
 
--- one or two digits
+-- one or more digits, up to the most of a short number
 abbrev pub WritesShort : ℕ → List ℕ → ℕ → Type 0
-WritesShort most = WritesNumber 1 2 0 most
+WritesShort most = WritesNumber 1 SHORT_DIGITS 0 most
 
 -- just so many digits
 abbrev pub WritesFixed : ℕ → ℕ → ℕ → List ℕ → ℕ → Type 0
 WritesFixed width least most = WritesNumber width width least most
 
--- the digits of a fraction; the first nine count
+-- the digits of a fraction, of which the first count
 pub record WritesNanos (text : List ℕ) (nanos : ℕ) : Type 0 where
   pub digits : list_all is_ascii_digit text ≡ true
-  pub value : digits_value 10 (nine_digits text) ≡ nanos
+  pub value : digits_value 10 (counted_digits text) ≡ nanos
 
 -- nothing for 0, or a point and digits
 abbrev pub WritesFraction : List ℕ → ℕ → Type 0
 WritesFraction [] nanos = nanos ≡ 0
-WritesFraction (b ∷ digits) nanos = (b ≡ 46) × WritesNanos digits nanos
+WritesFraction (b ∷ digits) nanos = (b ≡ dot) × WritesNanos digits nanos
 
 -- `h:mm:ss`
 pub record WritesClock (text : List ℕ) (number : ℕ) : Type 0 where
@@ -57,10 +61,10 @@ pub record WritesClock (text : List ℕ) (number : ℕ) : Type 0 where
   pub hour : ℕ
   pub minute : ℕ
   pub second : ℕ
-  pub spelled : text ≡ hours ++ (58 ∷ (minutes ++ (58 ∷ seconds)))
+  pub spelled : text ≡ hours ++ (colon ∷ (minutes ++ (colon ∷ seconds)))
   pub writes_hour : WritesWhole hours hour
-  pub writes_minute : WritesShort 59 minutes minute
-  pub writes_second : WritesShort 59 seconds second
+  pub writes_minute : WritesShort LAST_MINUTE minutes minute
+  pub writes_second : WritesShort LAST_SECOND seconds second
   pub total : hour * 3600 + minute * 60 + second ≡ number
 
 abbrev pub WritesSeconds : List ℕ → ℕ → Type 0
@@ -75,17 +79,17 @@ pub record WritesNanoseconds (text : List ℕ) (number : ℕ) : Type 0 where
   pub spelled : text ≡ whole ++ fraction
   pub writes_seconds : WritesSeconds whole seconds
   pub writes_fraction : WritesFraction fraction nanos
-  pub total : seconds * 10 ^ 9 + nanos ≡ number
+  pub total : seconds * 10 ^ FRACTION_DIGITS + nanos ≡ number
 
 -- A normal play time (RFC 2326, 3.6; RFC 7826, 4.4.2).
 abbrev pub IsNptTime : List ℕ → NptTime → Type 0
 IsNptTime text Now = text ≡ codes "now"
 IsNptTime text (At nanoseconds) = WritesNanoseconds text nanoseconds × (nanoseconds ≤ latest)
 
--- nothing for 0, or the mark and one or two digits
+-- nothing for 0, or the mark and a short number
 abbrev pub WritesMarked : ℕ → List ℕ → ℕ → Type 0
 WritesMarked mark [] number = number ≡ 0
-WritesMarked mark (b ∷ digits) number = (b ≡ mark) × WritesShort 99 digits number
+WritesMarked mark (b ∷ digits) number = (b ≡ mark) × WritesShort LAST_SHORT digits number
 
 -- A SMPTE timestamp (RFC 2326, 3.5; RFC 7826, 4.4.1): `hh:mm:ss`, `:ff` and `.pp`.
 pub record IsSmpteTime (text : List ℕ) (time : Smpte) : Type 0 where
@@ -94,12 +98,12 @@ pub record IsSmpteTime (text : List ℕ) (time : Smpte) : Type 0 where
   pub seconds : List ℕ
   pub frames : List ℕ
   pub parts : List ℕ
-  pub spelled : text ≡ (hours ++ (58 ∷ (minutes ++ (58 ∷ (seconds ++ frames))))) ++ parts
-  pub writes_hours : WritesShort 99 hours time.hours
-  pub writes_minutes : WritesShort 59 minutes time.minutes
-  pub writes_seconds : WritesShort 59 seconds time.seconds
-  pub writes_frames : WritesMarked 58 frames time.frames
-  pub writes_parts : WritesMarked 46 parts time.parts
+  pub spelled : text ≡ (hours ++ (colon ∷ (minutes ++ (colon ∷ (seconds ++ frames))))) ++ parts
+  pub writes_hours : WritesShort LAST_SHORT hours time.hours
+  pub writes_minutes : WritesShort LAST_MINUTE minutes time.minutes
+  pub writes_seconds : WritesShort LAST_SECOND seconds time.seconds
+  pub writes_frames : WritesMarked colon frames time.frames
+  pub writes_parts : WritesMarked dot parts time.parts
 
 -- An absolute time (RFC 2326, 3.7; RFC 7826, 4.4.3): `YYYYMMDDThhmmss`, a fraction and `Z`.
 pub record IsMoment (text : List ℕ) (moment : Moment) : Type 0 where
@@ -110,13 +114,13 @@ pub record IsMoment (text : List ℕ) (moment : Moment) : Type 0 where
   pub minute : List ℕ
   pub second : List ℕ
   pub fraction : List ℕ
-  pub spelled : text ≡ year ++ (month ++ (day ++ (84 ∷ (hour ++ (minute ++ (second ++ (fraction ++ (90 ∷ []))))))))
-  pub writes_year : WritesFixed 4 0 9999 year moment.year
-  pub writes_month : WritesFixed 2 1 12 month moment.month
-  pub writes_day : WritesFixed 2 1 31 day moment.day
-  pub writes_hour : WritesFixed 2 0 23 hour moment.hour
-  pub writes_minute : WritesFixed 2 0 59 minute moment.minute
-  pub writes_second : WritesFixed 2 0 60 second moment.second
+  pub spelled : text ≡ year ++ (month ++ (day ++ (upper_t ∷ (hour ++ (minute ++ (second ++ (fraction ++ (upper_z ∷ []))))))))
+  pub writes_year : WritesFixed YEAR_DIGITS 0 LAST_YEAR year moment.year
+  pub writes_month : WritesFixed SHORT_DIGITS 1 LAST_MONTH month moment.month
+  pub writes_day : WritesFixed SHORT_DIGITS 1 LAST_DAY day moment.day
+  pub writes_hour : WritesFixed SHORT_DIGITS 0 LAST_HOUR hour moment.hour
+  pub writes_minute : WritesFixed SHORT_DIGITS 0 LAST_MINUTE minute moment.minute
+  pub writes_second : WritesFixed SHORT_DIGITS 0 LEAP_SECOND second moment.second
   pub writes_fraction : WritesFraction fraction moment.nanos
 
 -- nothing where there is no time
@@ -138,11 +142,11 @@ AreTimes units.Clock begin end (ranges.Clock from to) = IsMoment begin from × I
 AreTimes unit begin end range = ⊥
 
 -- The value of a Range header (RFC 2326, 12.29; RFC 7826, 18.40) that means a range: a unit, `=`, a begin, `-` and an end.
-pub record Spells (value : List ℕ) (range : Range) : Type 0 where
+pub record SpellsRange (value : List ℕ) (range : Range) : Type 0 where
   pub name : List ℕ
   pub unit : TimeUnit
   pub begin : List ℕ
   pub end : List ℕ
-  pub spelled : value ≡ name ++ (61 ∷ (begin ++ (45 ∷ end)))
+  pub spelled : value ≡ name ++ (equals_sign ∷ (begin ++ (hyphen ∷ end)))
   pub named : unit_of name ≡ Some unit
   pub times : AreTimes unit begin end range

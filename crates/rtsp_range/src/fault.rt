@@ -1,5 +1,6 @@
-//! Why a range could not be read.
+//! The faults of a Range header.
 
+use crate::LATEST_SECONDS;
 use std::fmt;
 
 /// The first fault of a range, in this order.
@@ -9,7 +10,7 @@ pub enum RangeFault {
     Unit,
     /// A `;` is followed by `time=`. Only RTSP 1.0 has that parameter (RFC 2326, 12.29).
     TimeParameter,
-    /// The begin or the end is a normal play time above 9,999,999,999 seconds.
+    /// The begin or the end is a normal play time above [`LATEST_SECONDS`] seconds.
     TooLarge,
     /// Anything else that is not in the grammar.
     Time,
@@ -17,13 +18,12 @@ pub enum RangeFault {
 
 impl fmt::Display for RangeFault {
     fn fmt<W: fmt::Write>(&self, f: &mut fmt::Formatter<W>) -> fmt::Result {
-        let text = match self {
-            RangeFault::Unit => "the range has no known unit",
-            RangeFault::TimeParameter => "the range has a time parameter",
-            RangeFault::TooLarge => "a time is above 9999999999 seconds",
-            RangeFault::Time => "a time is outside the grammar",
-        };
-        write!(f, "{text}")
+        match self {
+            RangeFault::Unit => write!(f, "the range has no known unit"),
+            RangeFault::TimeParameter => write!(f, "the range has a time parameter"),
+            RangeFault::TooLarge => write!(f, "a time is above {LATEST_SECONDS} seconds"),
+            RangeFault::Time => write!(f, "a time is outside the grammar"),
+        }
     }
 }
 

@@ -2,7 +2,7 @@
 ghost use Rattle.std.specs.Prelude.{◌≡◌, ◌↔◌, ℕ, List, IsTrue};
 ghost use Rattle.rtsp_range.specs.declared.range.Range.{Range};
 ghost use Rattle.rtsp_range.specs.Meaning.{Version, Means};
-ghost use Rattle.rtsp_range.specs.Spellings.{Spells};
+ghost use Rattle.rtsp_range.specs.Spellings.{SpellsRange};
 ghost use Rattle.rtsp_range.specs.Writable.{can_be_written};
 ghost use Rattle.rtsp_range.specs.Written.{range_text};
 
@@ -10,7 +10,7 @@ ghost use Rattle.rtsp_range.specs.Written.{range_text};
 /// versions.
 pub fn spelled_so()
     ensures { (version : Version) (value : List ℕ) (range : Range)
-        → Means version value range ↔ Spells value range }
+        → Means version value range ↔ SpellsRange value range }
 {}
 
 /// What a value means can be written.

@@ -18,11 +18,14 @@ mod tests;
 mod unit;
 mod writing;
 
-pub use clock::Moment;
+pub use clock::{
+    LAST_DAY, LAST_HOUR, LAST_MONTH, LAST_NANO, LAST_YEAR, LEAP_SECOND, Moment, YEAR_DIGITS,
+};
 pub use fault::RangeFault;
 pub use laws::{one_form, reads_back, spelled_so, stays_writable};
-pub use npt::NptTime;
+pub use npt::{LATEST_SECONDS, NptTime};
+pub use part::FRACTION_DIGITS;
 pub use range::Range;
 pub use reading::{read_one, read_two};
-pub use smpte::{Rate, Smpte};
+pub use smpte::{LAST_SHORT, Rate, Smpte};
 pub use writing::write;

@@ -1,10 +1,10 @@
-//! Normal play time.
+//! The unit `npt`: normal play time.
 ghost use Rattle.std.specs.Prelude.{◌≡◌, min, option_map};
 ghost use Rattle.rtsp_range.specs.Parts.{whole_number};
 ghost use Rattle.rtsp_range.specs.Npt.{clocked_seconds, seconds_of, nanoseconds_of, npt_time, npt_part, npt_range};
-ghost use Rattle.rtsp_range.specs.Judged.{most_seconds, too_late, judged_time, judged_part};
+ghost use Rattle.rtsp_range.specs.CappedTimes.{most_seconds, too_late, time_or_fault, part_or_fault};
 
-use crate::part::{fraction, part, short_number};
+use crate::part::{LAST_MINUTE, LAST_SECOND, fraction, part, short_number};
 use crate::{Range, RangeFault};
 use gate_bytes::split_once;
 
@@ -13,21 +13,24 @@ use gate_bytes::split_once;
 pub enum NptTime {
     /// The present moment of a live stream.
     Now,
-    /// So many nanoseconds from the start, 9,999,999,999 seconds at most.
+    /// So many nanoseconds from the start, [`LATEST_SECONDS`] seconds at most.
     At(u64),
 }
 
 /// The nanoseconds of a second.
 pub(crate) const SECOND: u64 = 1_000_000_000;
 
+/// The latest time, in seconds (this project's own).
+pub const LATEST_SECONDS: u64 = 9_999_999_999;
+
 /// The latest time, in nanoseconds.
-const LATEST: u64 = 9_999_999_999 * SECOND;
+const LATEST: u64 = LATEST_SECONDS * SECOND;
 
 /// A time that is too late, so that later ones need not be told apart.
 const TOO_LATE: u64 = LATEST + 1;
 
 /// Seconds that are too large all the same, so that larger ones need not be told apart.
-const MOST_SECONDS: u64 = 10_000_000_000;
+const MOST_SECONDS: u64 = LATEST_SECONDS + 1;
 
 /// The range that the text behind `npt=` means.
 pub(crate) fn npt_range(text: &[u8]) -> Result<Range, RangeFault>
@@ -48,7 +51,7 @@ pub(crate) fn npt_range(text: &[u8]) -> Result<Range, RangeFault>
 
 /// A begin or an end: nothing, or a time.
 fn npt_part(text: &[u8]) -> Result<Option<NptTime>, RangeFault>
-    ensures { result ≡ judged_part (npt_part text.now) }
+    ensures { result ≡ part_or_fault (npt_part text.now) }
 {
     if text.is_empty() {
         return Ok(None);
@@ -59,7 +62,7 @@ fn npt_part(text: &[u8]) -> Result<Option<NptTime>, RangeFault>
 
 /// `now`, or a number of seconds.
 fn npt_time(text: &[u8]) -> Result<NptTime, RangeFault>
-    ensures { result ≡ judged_time (npt_time text.now) }
+    ensures { result ≡ time_or_fault (npt_time text.now) }
 {
     if text == b"now".as_slice() {
         return Ok(NptTime::Now);
@@ -96,15 +99,15 @@ fn seconds(text: &[u8]) -> Option<u64>
     }
 }
 
-/// Hours, and then minutes and seconds up to 59.
+/// Hours, and then minutes and seconds.
 #[tactic(auto, unfolding(crate::specs::Npt::clocked_seconds))]
 fn clocked_seconds(hours: &[u8], rest: &[u8]) -> Option<u64>
     ensures { result ≡ option_map (min most_seconds) (clocked_seconds hours.now rest.now) }
 {
     let (minutes, seconds) = split_once(b':', rest)?;
     let hour = whole_number(hours)?;
-    let minute = short_number(minutes, 59)?;
-    let second = short_number(seconds, 59)?;
+    let minute = short_number(minutes, LAST_MINUTE)?;
+    let second = short_number(seconds, LAST_SECOND)?;
     let all = hour * 3600 + u64::from(minute) * 60 + u64::from(second);
     Some(all.min(MOST_SECONDS))
 }

@@ -1,11 +1,25 @@
-//! Parts of a time: what a mark cuts off, numbers of so many digits, and fractions.
+//! What times are made of: parts that a mark begins, numbers of few digits, and fractions.
 ghost use Rattle.std.specs.Prelude.{◌≡◌, ◌≤◌, IsTrue, slice_index_or, IfSome, option_map};
 ghost use Rattle.std.specs.List.{list_all};
 ghost use Rattle.std.specs.Char.{is_ascii_digit, digit_value};
 ghost use Rattle.std.specs.Str.Parse.{digits_value};
-ghost use Rattle.rtsp_range.specs.Parts.{part_at, short_number, front_number, behind, nine_digits, nanos_of, fraction_of};
+ghost use Rattle.gate_bytes.specs.Ascii.{digit_zero};
+ghost use Rattle.gate_bytes.specs.declared.decimal.TheConstants.{MOST_DIGITS};
+ghost use Rattle.rtsp_range.specs.Parts.{part_at, short_number, front_number, rest_after, counted_digits, nanos_of, fraction_of};
 
 use gate_bytes::{after, before, find, read_decimal};
+
+/// The most digits of an hour, a minute, a second and the like, but for the hours of npt.
+pub(crate) const SHORT_DIGITS: u32 = 2;
+
+/// The last minute of an hour.
+pub(crate) const LAST_MINUTE: u8 = 59;
+
+/// The last second of a minute, but for leap seconds.
+pub(crate) const LAST_SECOND: u8 = 59;
+
+/// The digits of a fraction that count: those of billionths (this project's own).
+pub const FRACTION_DIGITS: usize = 9;
 
 /// A text without the part that a mark begins, and that part, which is empty where there is no mark.
 pub(crate) fn part(mark: u8, text: &[u8]) -> (&[u8], &[u8])
@@ -15,12 +29,12 @@ pub(crate) fn part(mark: u8, text: &[u8]) -> (&[u8], &[u8])
     (before(text, place), after(text, place))
 }
 
-/// The number that one or two digits write, where it is not above `most`.
+/// The number that one or more digits write, up to [`SHORT_DIGITS`], where it is not above `most`.
 pub(crate) fn short_number(text: &[u8], most: u8) -> Option<u8>
     ensures value { result ≡ short_number most text.now }
     ensures bound { IfSome result (λ number. number ≤ most) }
 {
-    let number = read_decimal(text, 2)?;
+    let number = read_decimal(text, SHORT_DIGITS)?;
     if number > u64::from(most) {
         return None;
     }
@@ -30,7 +44,7 @@ pub(crate) fn short_number(text: &[u8], most: u8) -> Option<u8>
 /// The number that just `width` digits at the front write, where it is in bounds, and what follows
 /// them.
 pub(crate) fn front_number(text: &[u8], width: u32, least: u16, most: u16) -> Option<(u16, &[u8])>
-    requires { width ≤ 19 }
+    requires { width ≤ MOST_DIGITS }
     ensures value { option_map (λ found. (found.0, found.1.now)) result ≡ front_number width least most text.now }
     ensures bound { IfSome result (λ found. found.0 ≤ most) }
 {
@@ -46,8 +60,8 @@ pub(crate) fn front_number(text: &[u8], width: u32, least: u16, most: u16) -> Op
 }
 
 /// What follows a byte at the front.
-pub(crate) fn behind(byte: u8, text: &[u8]) -> Option<&[u8]>
-    ensures { option_map (λ rest. rest.now) result ≡ behind byte text.now }
+pub(crate) fn rest_after(byte: u8, text: &[u8]) -> Option<&[u8]>
+    ensures { option_map (λ rest. rest.now) result ≡ rest_after byte text.now }
 {
     match text {
         [first, rest @ ..] if *first == byte => Some(rest),
@@ -55,8 +69,8 @@ pub(crate) fn behind(byte: u8, text: &[u8]) -> Option<&[u8]>
     }
 }
 
-/// An optional fraction in billionths: nothing, or a point and no or more digits. Digits after the
-/// ninth are cut off.
+/// An optional fraction in billionths: nothing, or a point and no or more digits, of which the first
+/// [`FRACTION_DIGITS`] count.
 pub(crate) fn fraction(text: &[u8]) -> Option<u32>
     ensures { result ≡ fraction_of text.now }
 {
@@ -73,7 +87,7 @@ fn nanos(digits: &[u8]) -> Option<u32>
     if !are_digits(digits) {
         return None;
     }
-    Some(nine_digits(digits))
+    Some(counted_digits(digits))
 }
 
 /// Whether each byte is a digit.
@@ -83,13 +97,13 @@ fn are_digits(text: &[u8]) -> bool
     text.iter().all(|byte| byte.is_ascii_digit())
 }
 
-/// The number that the first nine digits write, with zeros for those that are missing.
-fn nine_digits(digits: &[u8]) -> u32
+/// The number that the digits write that count, with zeros for those that are missing.
+fn counted_digits(digits: &[u8]) -> u32
     requires { IsTrue (list_all is_ascii_digit digits.now) }
-    ensures { result ≡ digits_value 10 (nine_digits digits.now) }
+    ensures { result ≡ digits_value 10 (counted_digits digits.now) }
 {
     let mut number: u32 = 0;
-    for place in 0..9 {
+    for place in 0..FRACTION_DIGITS {
         number = number * 10 + digit_or_zero(digits, place);
     }
     number
@@ -98,7 +112,7 @@ fn nine_digits(digits: &[u8]) -> u32
 /// The value of the digit at a place, 0 where there is none.
 fn digit_or_zero(digits: &[u8], place: usize) -> u32
     requires { IsTrue (list_all is_ascii_digit digits.now) }
-    ensures { result ≡ digit_value (slice_index_or digits.now place 48) }
+    ensures { result ≡ digit_value (slice_index_or digits.now place digit_zero) }
 {
     match digits.get(place) {
         Some(byte) => u32::from(*byte - b'0'),

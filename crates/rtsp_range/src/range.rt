@@ -1,4 +1,4 @@
-//! The three kinds of ranges.
+//! A range, in any of the three units of time.
 
 use crate::{Moment, NptTime, Rate, Smpte};
 

@@ -1,4 +1,4 @@
-//! Reading ranges of both versions.
+//! Reading a Range header of either version.
 ghost use Rattle.std.specs.Prelude.{◌≡◌, IsTrue, IfOk, option_map};
 ghost use Rattle.rtsp_range.specs.Meaning.{One, Two, meaning, unit_and_times, range_in};
 ghost use Rattle.rtsp_range.specs.Writable.{can_be_written};

@@ -1,10 +1,13 @@
-//! SMPTE relative timestamps.
+//! The units `smpte`: SMPTE relative timestamps.
 ghost use Rattle.std.specs.Prelude.{◌≡◌};
 ghost use Rattle.rtsp_range.specs.Smpte.{marked_number, smpte_time, smpte_end, smpte_range};
 
 use crate::Range;
-use crate::part::{part, short_number};
+use crate::part::{LAST_MINUTE, LAST_SECOND, part, short_number};
 use gate_bytes::split_once;
+
+/// The greatest hour, frame and hundredth of a frame: whatever two digits write.
+pub const LAST_SHORT: u8 = 99;
 
 /// How many frames a second has (RFC 2326, 3.5; RFC 7826, 4.4.1).
 #[derive(Clone, Copy, Debug, PartialEq, Eq)]
@@ -20,15 +23,15 @@ pub enum Rate {
 /// A SMPTE relative timestamp (RFC 2326, 3.5; RFC 7826, 4.4.1).
 #[derive(Clone, Copy, Debug, PartialEq, Eq)]
 pub struct Smpte {
-    /// 0 to 99.
+    /// 0 to [`LAST_SHORT`].
     pub hours: u8,
     /// 0 to 59.
     pub minutes: u8,
     /// 0 to 59.
     pub seconds: u8,
-    /// 0 to 99.
+    /// 0 to [`LAST_SHORT`].
     pub frames: u8,
-    /// Hundredths of a frame, 0 to 99.
+    /// Hundredths of a frame, 0 to [`LAST_SHORT`].
     pub parts: u8,
 }
 
@@ -64,9 +67,9 @@ fn smpte_time(text: &[u8]) -> Option<Smpte>
     let (hours, rest) = split_once(b':', main)?;
     let (minutes, rest) = split_once(b':', rest)?;
     let (seconds, frames) = part(b':', rest);
-    let hours = short_number(hours, 99)?;
-    let minutes = short_number(minutes, 59)?;
-    let seconds = short_number(seconds, 59)?;
+    let hours = short_number(hours, LAST_SHORT)?;
+    let minutes = short_number(minutes, LAST_MINUTE)?;
+    let seconds = short_number(seconds, LAST_SECOND)?;
     let frames = marked_number(b':', frames)?;
     Some(Smpte {
         hours,
@@ -85,7 +88,7 @@ fn marked_number(mark: u8, text: &[u8]) -> Option<u8>
         [] => Some(0),
         [first, digits @ ..] => {
             if *first == mark {
-                short_number(digits, 99)
+                short_number(digits, LAST_SHORT)
             } else {
                 None
             }

@@ -5,6 +5,9 @@ ghost use Rattle.rtsp_range.specs.Meaning.{unit_of, without_spaces, names_time, 
 use crate::Rate;
 use gate_bytes::{before, eq_fold};
 
+/// How the time parameter of RTSP 1.0 begins (RFC 2326, 12.29).
+const TIME_PARAMETER: &[u8] = b"time=";
+
 /// The unit that a range begins with.
 #[derive(Clone, Copy, PartialEq, Eq)]
 pub(crate) enum TimeUnit {
@@ -53,7 +56,10 @@ fn names_time(text: &[u8]) -> bool
     ensures { result ≡ names_time text.now }
 {
     let name = without_spaces(text);
-    eq_fold(before(name, name.len().min(5)), b"time=")
+    eq_fold(
+        before(name, name.len().min(TIME_PARAMETER.len())),
+        TIME_PARAMETER,
+    )
 }
 
 /// The text without the spaces at its front.

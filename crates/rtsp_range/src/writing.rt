@@ -1,10 +1,13 @@
-//! Writing ranges.
+//! Writing a range, in one form for both versions.
 ghost use Rattle.std.specs.Prelude.{◌≡◌, ◌++◌, IsTrue, IfOk, OnOk};
+ghost use Rattle.rtsp_range.specs.declared.part.TheConstants.{FRACTION_DIGITS};
 ghost use Rattle.rtsp_range.specs.Meaning.{One, Two, Means};
 ghost use Rattle.rtsp_range.specs.Writable.{can_be_written};
 ghost use Rattle.rtsp_range.specs.Written.{padded, without_zeros, fraction_text, npt_text, smpte_main, smpte_text, clock_text, moment_text, text_if, rate_text, range_text};
 
+use crate::clock::YEAR_DIGITS;
 use crate::npt::SECOND;
+use crate::part::{FRACTION_DIGITS, SHORT_DIGITS};
 use crate::{Moment, NptTime, Range, Rate, Smpte};
 use gate_bytes::{Memory, Text, push_decimal};
 use std::alloc::Global;
@@ -88,32 +91,32 @@ fn push_smpte(text: &mut Text, time: &Smpte) -> Result<(), Memory>
         return Ok(());
     }
     text.push_slice(b".")?;
-    push_padded(text, 2, u32::from(time.parts))
+    push_padded(text, SHORT_DIGITS, u32::from(time.parts))
 }
 
 /// Appends a SMPTE timestamp without its parts of a frame.
 fn push_smpte_main(text: &mut Text, time: &Smpte) -> Result<(), Memory>
     ensures { OnOk result (text.new ≡ text.old ++ smpte_main time.now) }
 {
-    push_padded(text, 2, u32::from(time.hours))?;
+    push_padded(text, SHORT_DIGITS, u32::from(time.hours))?;
     text.push_slice(b":")?;
-    push_padded(text, 2, u32::from(time.minutes))?;
+    push_padded(text, SHORT_DIGITS, u32::from(time.minutes))?;
     text.push_slice(b":")?;
-    push_padded(text, 2, u32::from(time.seconds))?;
+    push_padded(text, SHORT_DIGITS, u32::from(time.seconds))?;
     if time.frames == 0 && time.parts == 0 {
         return Ok(());
     }
     text.push_slice(b":")?;
-    push_padded(text, 2, u32::from(time.frames))
+    push_padded(text, SHORT_DIGITS, u32::from(time.frames))
 }
 
 /// Appends an absolute time.
 fn push_moment(text: &mut Text, time: &Moment) -> Result<(), Memory>
     ensures { OnOk result (text.new ≡ text.old ++ moment_text time.now) }
 {
-    push_padded(text, 4, u32::from(time.year))?;
-    push_padded(text, 2, u32::from(time.month))?;
-    push_padded(text, 2, u32::from(time.day))?;
+    push_padded(text, YEAR_DIGITS, u32::from(time.year))?;
+    push_padded(text, SHORT_DIGITS, u32::from(time.month))?;
+    push_padded(text, SHORT_DIGITS, u32::from(time.day))?;
     text.push_slice(b"T")?;
     push_clock(text, time)
 }
@@ -122,9 +125,9 @@ fn push_moment(text: &mut Text, time: &Moment) -> Result<(), Memory>
 fn push_clock(text: &mut Text, time: &Moment) -> Result<(), Memory>
     ensures { OnOk result (text.new ≡ text.old ++ clock_text time.now) }
 {
-    push_padded(text, 2, u32::from(time.hour))?;
-    push_padded(text, 2, u32::from(time.minute))?;
-    push_padded(text, 2, u32::from(time.second))?;
+    push_padded(text, SHORT_DIGITS, u32::from(time.hour))?;
+    push_padded(text, SHORT_DIGITS, u32::from(time.minute))?;
+    push_padded(text, SHORT_DIGITS, u32::from(time.second))?;
     push_fraction(text, time.nanos)?;
     text.push_slice(b"Z")
 }
@@ -144,9 +147,9 @@ fn push_fraction(text: &mut Text, nanos: u32) -> Result<(), Memory>
 /// The digits of a fraction by its billionths without the zeros at the end: how many they are, and
 /// the number that they write.
 fn without_zeros(nanos: u32) -> (u32, u32)
-    ensures { padded result.0 result.1 ≡ without_zeros (padded 9 nanos) }
+    ensures { padded result.0 result.1 ≡ without_zeros (padded FRACTION_DIGITS nanos) }
 {
-    let mut width = 9;
+    let mut width = FRACTION_DIGITS as u32;
     let mut number = nanos;
     while width > 0 && number % 10 == 0 {
         width -= 1;

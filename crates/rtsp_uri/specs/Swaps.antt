@@ -1,16 +1,18 @@
 -- The change of one authority for another. Bases stand here by their texts.
 use Rattle.std.specs.Prelude.{ℕ, Bool, false, ◌==◌, ◌&&◌, List, ◌++◌, take, drop, Option, Some, None, unwrap_or, option_map, if◌then◌else◌}
 use Rattle.gate_bytes.specs.Tokens.{equal_fold}
+use Rattle.rtsp_uri.specs.declared.grammar.TheConstants.{SCHEME_BYTES}
+use Rattle.rtsp_uri.specs.declared.swap.TheConstants.{DEFAULT_PORT}
 use Rattle.rtsp_uri.specs.declared.grammar.UriPlaces.{UriPlaces}
 use Rattle.rtsp_uri.specs.Uris.{scheme, places_of}
 
--- the port that an address means: the one that it names, or 554 (RFC 2326, 3.2)
+-- the port that an address means: the one that it names, or the default (RFC 2326, 3.2)
 abbrev pub port_named : Option ℕ → ℕ
-port_named port = unwrap_or port 554
+port_named port = unwrap_or port DEFAULT_PORT
 
 -- the host of a URI with these places
 abbrev pub host_at : List ℕ → UriPlaces → List ℕ
-host_at uri places = drop 7 (take places.host_end uri)
+host_at uri places = drop SCHEME_BYTES (take places.host_end uri)
 
 -- the authority of a URI: its host and the port that it means
 abbrev pub authority_of : List ℕ → Option (List ℕ × ℕ)

@@ -1,12 +1,12 @@
-//! The two addresses that the gateway stands between.
+//! Bases: the addresses of the gateway and of the server behind it.
 ghost use Rattle.rtsp_uri.specs.BaseTexts.{IsBase};
 
 use gate_bytes::Text;
 
 /// A base: the address of one side of the gateway.
 ///
-/// `rtsp://` followed by its text is a URI of at most 255 bytes without a rest, and its host and
-/// port are those of that URI.
+/// `rtsp://` followed by its text is a URI without a rest, of [`LONGEST_BASE`](crate::LONGEST_BASE)
+/// bytes at most, and its host and port are those of that URI.
 #[derive(Drop)]
 pub struct Base {
     /// The host and, where there is one, `:` and the port.

@@ -1,5 +1,6 @@
-//! The addresses in a session description.
+//! Session descriptions, and the addresses of streams in them.
 ghost use Rattle.std.specs.Prelude.{◌≡◌, [], ◌∷◌, ◌++◌, IfOk, OnOk};
+ghost use Rattle.gate_bytes.specs.Ascii.{lf};
 ghost use Rattle.rtsp_uri.specs.Descriptions.{swapped_control, swapped_ended, rewritten};
 
 use crate::base::Base;
@@ -37,7 +38,7 @@ fn push_ended(
     line: &[u8],
     text: &mut Text,
 ) -> Result<(), Memory>
-    ensures { OnOk result (text.new ≡ text.old ++ (swapped_ended from.now.text to.now.text line.now ++ (10 ∷ []))) }
+    ensures { OnOk result (text.new ≡ text.old ++ (swapped_ended from.now.text to.now.text line.now ++ (lf ∷ []))) }
 {
     match line {
         [line @ .., b'\r'] => {

@@ -1,18 +1,28 @@
-//! The grammar of URIs.
+//! URIs, and the places of their parts.
 ghost use Rattle.std.specs.Prelude.{◌≡◌, ◌≤◌, true, length, IfSome, option_map};
 ghost use Rattle.std.specs.List.{prefix_len, list_all};
 ghost use Rattle.std.specs.Char.{is_ascii_digit};
+ghost use Rattle.rtsp_uri.specs.declared.grammar.TheConstants.{SCHEME_BYTES};
 ghost use Rattle.rtsp_uri.specs.Uris.{has_scheme, is_name_byte, is_address_byte, is_rest_byte, host_len, port_of, port_part, is_rest, places_of, Stand};
 
 use gate_bytes::{after, before, eq_fold, read_decimal};
 
-/// The bytes of `rtsp://`.
-pub(crate) const SCHEME: usize = 7;
+/// What each URI begins with, in any case.
+pub(crate) const SCHEME: &[u8] = b"rtsp://";
+
+/// The number of bytes of that.
+pub(crate) const SCHEME_BYTES: usize = SCHEME.len();
+
+/// The most digits of a port.
+pub const PORT_DIGITS: u32 = 5;
+
+/// The greatest port.
+pub const LAST_PORT: u16 = 65_535;
 
 /// Where the parts of a URI end. Places are counted in bytes from its front.
 #[derive(Clone, Copy, Debug, PartialEq, Eq)]
 pub struct UriPlaces {
-    /// Where the host ends; it begins behind `rtsp://`, at 7.
+    /// Where the host ends; it begins behind `rtsp://`.
     pub host_end: usize,
     /// The port, where one is named.
     pub port: Option<u16>,
@@ -31,8 +41,8 @@ struct PortPart {
 ///
 /// A URI is `rtsp://` without case, a host, optionally `:` and a port, and a rest that is empty or
 /// begins with `/` or `?` (RFC 2326, 3.2; RFC 3986, 3). A host is one or more letters, digits, `.`,
-/// `-`, `_` or `~`, or an address of hexadecimal digits, `:` and `.` in brackets. A port has 1 to 5
-/// digits, and is 65,535 at most. The rest has visible bytes of ASCII alone.
+/// `-`, `_` or `~`, or an address of hexadecimal digits, `:` and `.` in brackets. A port has 1
+/// to [`PORT_DIGITS`] digits, and is [`LAST_PORT`] at most. The rest has visible bytes of ASCII alone.
 pub fn cut(uri: &[u8]) -> Option<UriPlaces>
     ensures places { result ≡ places_of uri.now }
     ensures within { IfSome result (λ places. Stand places (length uri.now)) }
@@ -40,15 +50,15 @@ pub fn cut(uri: &[u8]) -> Option<UriPlaces>
     if !has_scheme(uri) {
         return None;
     }
-    let body = after(uri, SCHEME);
+    let body = after(uri, SCHEME_BYTES);
     let host = host_len(body)?;
     let port = port_part(after(body, host))?;
     let authority = host + port.len;
     if is_rest(after(body, authority)) {
         Some(UriPlaces {
-            host_end: SCHEME + host,
+            host_end: SCHEME_BYTES + host,
             port: port.number,
-            rest: SCHEME + authority,
+            rest: SCHEME_BYTES + authority,
         })
     } else {
         None
@@ -58,9 +68,9 @@ pub fn cut(uri: &[u8]) -> Option<UriPlaces>
 /// Whether a text begins with `rtsp://`, without case.
 fn has_scheme(uri: &[u8]) -> bool
     ensures scheme { result ≡ has_scheme uri.now }
-    ensures within { result ≡ true → 7 ≤ length uri.now }
+    ensures within { result ≡ true → SCHEME_BYTES ≤ length uri.now }
 {
-    uri.len() >= SCHEME && eq_fold(before(uri, SCHEME), b"rtsp://")
+    uri.len() >= SCHEME_BYTES && eq_fold(before(uri, SCHEME_BYTES), SCHEME)
 }
 
 /// The bytes of the host at the front of a text, where there is one.
@@ -131,12 +141,12 @@ fn port_part(text: &[u8]) -> Option<PortPart>
     }
 }
 
-/// A port of 1 to 5 digits, 65,535 at most.
+/// A port of 1 to [`PORT_DIGITS`] digits, [`LAST_PORT`] at most.
 fn read_port(text: &[u8]) -> Option<u16>
     ensures { result ≡ port_of text.now }
 {
-    let number = read_decimal(text, 5)?;
-    if number <= 65535 {
+    let number = read_decimal(text, PORT_DIGITS)?;
+    if number <= u64::from(LAST_PORT) {
         Some(number as u16)
     } else {
         None

@@ -1,7 +1,10 @@
 //! Laws over the definitions of addresses. Each holds by its contract alone: no call is made.
 ghost use Rattle.std.specs.Prelude.{◌≡◌, ◌<◌, ◌≤◌, ◌^◌, length, true, false, not, List, ◌++◌, ℕ, Some};
 ghost use Rattle.std.specs.List.{list_all};
+ghost use Rattle.gate_bytes.specs.Ascii.{lf};
 ghost use Rattle.gate_bytes.specs.Places.{parts_at};
+ghost use Rattle.rtsp_uri.specs.declared.grammar.TheConstants.{LAST_PORT};
+ghost use Rattle.rtsp_uri.specs.declared.word.TheConstants.{LONGEST_BASE_TEXT};
 ghost use Rattle.rtsp_uri.specs.Descriptions.{is_control, rewritten};
 ghost use Rattle.rtsp_uri.specs.declared.grammar.UriPlaces.{UriPlaces};
 ghost use Rattle.rtsp_uri.specs.declared.base.Base.{Base};
@@ -37,13 +40,13 @@ pub fn other_texts_stay()
 
 /// A description in which no line begins with `a=control:` stays as it is, byte by byte.
 pub fn other_descriptions_stay()
-    ensures { (from to body : List ℕ) → list_all (λ line. not (is_control line)) (parts_at 10 body) ≡ true → rewritten from to body ≡ body }
+    ensures { (from to body : List ℕ) → list_all (λ line. not (is_control line)) (parts_at lf body) ≡ true → rewritten from to body ≡ body }
 {}
 
-/// A word of `rtsp://`, a name, and a port or none is accepted as it stands, where it has 255 bytes
-/// at most.
+/// A word of `rtsp://`, a name, and a port or none is accepted as it stands, unless it is too
+/// long.
 pub fn plain_words_are_accepted()
-    ensures name { (name : List ℕ) → SomeOf is_name_byte name → length name ≤ 248 → base_in (scheme ++ name) ≡ Some name }
-    ensures port { (name : List ℕ) (port : ℕ) → SomeOf is_name_byte name → port < 2 ^ 16 → length (name ++ port_text (Some port)) ≤ 248
+    ensures name { (name : List ℕ) → SomeOf is_name_byte name → length name ≤ LONGEST_BASE_TEXT → base_in (scheme ++ name) ≡ Some name }
+    ensures port { (name : List ℕ) (port : ℕ) → SomeOf is_name_byte name → port ≤ LAST_PORT → length (name ++ port_text (Some port)) ≤ LONGEST_BASE_TEXT
         → base_in (scheme ++ (name ++ port_text (Some port))) ≡ Some (name ++ port_text (Some port)) }
 {}

@@ -1,8 +1,8 @@
-//! Addresses: the URIs that players name, the bases of a run, and the change of one authority for
-//! another.
+//! Addresses: the URIs that players name, the bases of a run, and swapping the authority of one base
+//! for that of the other.
 //!
 //! A base is the address of one side: what players call the gateway, or what the gateway calls the
-//! server behind it. A URI with the authority of one base is swapped to the other; every other text
+//! server behind it. A URI with the authority of one base gets that of the other; every other text
 //! stays as it is.
 #![tactic(auto)]
 
@@ -15,13 +15,13 @@ mod word;
 
 pub use base::{Base, Bases};
 pub use description::rewrite_sdp;
-pub use grammar::{UriPlaces, cut};
+pub use grammar::{LAST_PORT, PORT_DIGITS, UriPlaces, cut};
 pub use laws::{
     other_descriptions_stay, other_texts_stay, plain_words_are_accepted, swapped_uris_come_back,
     swapped_uris_have_the_authority, uris_are_spelled,
 };
-pub use swap::swap_authority;
-pub use word::{BaseFault, read_base};
+pub use swap::{DEFAULT_PORT, swap_authority};
+pub use word::{BaseFault, LONGEST_BASE, LONGEST_BASE_TEXT, read_base};
 
 #[cfg(test)]
 mod tests;

@@ -1,21 +1,21 @@
-//! The change of one authority for another.
+//! Changing the authority of a URI.
 ghost use Rattle.std.specs.Prelude.{◌≡◌, ◌++◌, Some, IfOk};
 ghost use Rattle.std.specs.Option.{option_copied};
 ghost use Rattle.rtsp_uri.specs.Swaps.{rest_behind, swapped, port_named, are_one, authority_of};
 ghost use Rattle.rtsp_uri.specs.Uris.{scheme};
 
 use crate::base::Base;
-use crate::grammar::{SCHEME, cut};
+use crate::grammar::{SCHEME, SCHEME_BYTES, cut};
 use gate_bytes::{Memory, Text, after, before, eq_fold};
 use std::alloc::Global;
 
 /// The port of an address that names none (RFC 2326, 3.2).
-const DEFAULT_PORT: u16 = 554;
+pub const DEFAULT_PORT: u16 = 554;
 
 /// The text with the authority of `to` in the place of that of `from`, where it is a URI that has
 /// it; else the text as it is.
 ///
-/// Hosts are compared without case, and a URI or base without a port has the port 554. The scheme
+/// Hosts are compared without case, and a URI or base without a port has the [`DEFAULT_PORT`]. The scheme
 /// is then written `rtsp://`, and what follows the authority stays as it is.
 pub fn swap_authority(alloc: Global, from: &Base, to: &Base, uri: &[u8]) -> Result<Text, Memory>
     ensures { IfOk result (λ text. text ≡ swapped from.now.text to.now.text uri.now) }
@@ -23,11 +23,11 @@ pub fn swap_authority(alloc: Global, from: &Base, to: &Base, uri: &[u8]) -> Resu
     let Some(rest) = rest_behind(from, uri) else {
         return Text::copy(alloc, uri);
     };
-    let room = SCHEME
+    let room = SCHEME_BYTES
         .saturating_add(to.text.len())
         .saturating_add(rest.len());
     let mut text = Text::with_room(alloc, room)?;
-    text.push_slice(b"rtsp://")?;
+    text.push_slice(SCHEME)?;
     text.push_slice(to.text.as_bytes())?;
     text.push_slice(rest)?;
     Ok(text)
@@ -38,7 +38,7 @@ fn rest_behind<'a>(base: &Base, uri: &'a [u8]) -> Option<&'a [u8]>
     ensures { option_copied result ≡ rest_behind base.now.text uri.now }
 {
     let places = cut(uri)?;
-    let host = after(before(uri, places.host_end), SCHEME);
+    let host = after(before(uri, places.host_end), SCHEME_BYTES);
     if is_authority(base, host, places.port) {
         Some(after(uri, places.rest))
     } else {
@@ -53,7 +53,7 @@ fn is_authority(base: &Base, host: &[u8], port: Option<u16>) -> bool
     eq_fold(base.host.as_bytes(), host) && port_named(base.port) == port_named(port)
 }
 
-/// The port that an address means: the one that it names, or 554.
+/// The port that an address means: the one that it names, or [`DEFAULT_PORT`].
 fn port_named(port: Option<u16>) -> u16
     ensures { result ≡ port_named port }
 {

@@ -1,10 +1,10 @@
-//! The words that name a base.
+//! Words of the command line that name a base.
 ghost use Rattle.std.specs.Prelude.{◌≡◌, None, Some, IfOk, IsErrOf};
 ghost use Rattle.rtsp_uri.specs.Bases.{MadeOf};
 ghost use Rattle.rtsp_uri.specs.Words.{base_in, names_base};
 
 use crate::base::Base;
-use crate::grammar::{SCHEME, cut};
+use crate::grammar::{SCHEME, SCHEME_BYTES, cut};
 use gate_bytes::{Memory, Text, after, before};
 use std::alloc::Global;
 use std::fmt;
@@ -41,17 +41,17 @@ impl From<Memory> for BaseFault {
     }
 }
 
-/// The most bytes of a word.
-const LONGEST: usize = 255;
+/// The most bytes of a word that names a base, and of the URI that the base then is.
+pub const LONGEST_BASE: usize = 255;
 
-/// The most bytes of a base's text, so that there are 255 with `rtsp://`.
-const MOST: usize = 248;
+/// The most bytes of a base's text, which `rtsp://` is not part of.
+pub const LONGEST_BASE_TEXT: usize = LONGEST_BASE - SCHEME_BYTES;
 
 /// The base that a word names, as `url` reads the word.
 ///
 /// The word has the scheme `rtsp`, a host, a port or none, and nothing else but a single `/`: no
 /// user name, password, query or fragment. Its host and port, behind `rtsp://`, are a URI of this
-/// crate's grammar of at most 255 bytes. A word of more than 255 bytes is refused before it is read.
+/// crate's grammar of at most [`LONGEST_BASE`] bytes. A longer word is refused before it is read.
 ///
 /// # Errors
 ///
@@ -61,7 +61,7 @@ pub fn read_base(alloc: Global, word: &str) -> Result<Base, BaseFault>
     ensures ok { IfOk result (λ base. base_in word.now ≡ Some base.text) }
     ensures refused { IsErrOf result BaseFault.Refused → base_in word.now ≡ None }
 {
-    if word.len() > LONGEST {
+    if word.len() > LONGEST_BASE {
         return Err(BaseFault::Refused);
     }
     let url = match Url::parse(alloc, word) {
@@ -94,11 +94,11 @@ fn names_base(url: &Url) -> bool
 fn base_with(alloc: Global, text: &[u8]) -> Result<Option<Base>, Memory>
     ensures { IfOk result (λ made. MadeOf text.now made) }
 {
-    if text.len() > MOST {
+    if text.len() > LONGEST_BASE_TEXT {
         return Ok(None);
     }
-    let mut uri = Text::with_room(alloc, SCHEME + text.len())?;
-    uri.push_slice(b"rtsp://")?;
+    let mut uri = Text::with_room(alloc, SCHEME_BYTES + text.len())?;
+    uri.push_slice(SCHEME)?;
     uri.push_slice(text)?;
     let Some(places) = cut(uri.as_bytes()) else {
         return Ok(None);
@@ -106,7 +106,7 @@ fn base_with(alloc: Global, text: &[u8]) -> Result<Option<Base>, Memory>
     if places.rest < uri.len() {
         return Ok(None);
     }
-    let host = after(before(uri.as_bytes(), places.host_end), SCHEME);
+    let host = after(before(uri.as_bytes(), places.host_end), SCHEME_BYTES);
     Ok(Some(Base {
         text: Text::copy(alloc, text)?,
         host: Text::copy(alloc, host)?,

@@ -1,5 +1,5 @@
 use Rattle.std.proofs.Common.{◌+◌, ◌*◌, min, sym, ◌∙◌, ap}
-use Rattle.rtsp_range.specs.Judged.{most_seconds}
+use Rattle.rtsp_range.specs.CappedTimes.{most_seconds}
 use Rattle.rtsp_range.proofs.DigitLemmas.{digit_step}
 use Rattle.rtsp_range.proofs.npt.whole_number.Goals as goal
 

@@ -1,7 +1,7 @@
 use Rattle.std.proofs.Common.{◌∙◌, ap, arith}
 use Rattle.std.specs.Str.Parse.{digits_value}
 use Rattle.rtsp_range.proofs.DigitLemmas.{nine_step, nine_whole}
-use Rattle.rtsp_range.proofs.part.nine_digits.Goals as goal
+use Rattle.rtsp_range.proofs.part.counted_digits.Goals as goal
 
 pub overflow_mul-number : goal.overflow_mul-number
 overflow_mul-number c =
