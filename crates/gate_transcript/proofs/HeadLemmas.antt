@@ -7,10 +7,10 @@ use Rattle.gate_transcript.specs.declared.entry.Entry.{Entry}
 use Rattle.gate_transcript.specs.declared.fault.BadEntryKind.{BadEntryKind}
 use Rattle.gate_transcript.specs.declared.fault.BadEntryKind.TheVariants.{Magic, Cut}
 use Rattle.gate_transcript.specs.declared.head.Head.{Head}
-use Rattle.gate_transcript.specs.Transcript.{head_of, judged, with_room, first_head, entry_of}
+use Rattle.gate_transcript.specs.Transcript.{entry_head, sound_head, with_room, first_head, entry_with}
 
 -- a head is in the first eight bytes
-pub head_more : (b : ℕ) (xs ys : List ℕ) → 8 ≤ length xs → head_of b (xs ++ ys) ≡ head_of b xs
+pub head_more : (b : ℕ) (xs ys : List ℕ) → 8 ≤ length xs → entry_head b (xs ++ ys) ≡ entry_head b xs
 head_more b xs ys long =
     let near : take 4 (xs ++ ys) ≡ take 4 xs = take-append-le 4 xs ys (omega arith) in
     let far : drop 4 (xs ++ ys) ≡ drop 4 xs ++ ys = drop-append-le 4 xs ys (omega arith) in
@@ -21,7 +21,7 @@ head_more b xs ys long =
 -- what it says that a head stands first
 pub record IsFirst (has : ℕ → Bool) (b : ℕ) (bytes : List ℕ) (head : Head) : Type 0 where
   pub long : 8 ≤ length bytes
-  pub right : judged has (head_of b bytes) ≡ Ok head
+  pub right : sound_head has (entry_head b bytes) ≡ Ok head
   pub room : head.size ≤ length bytes - 8
 
 room_parts : (room : ℕ) (r : Result Head BadEntryKind) (head : Head) → with_room room r ≡ Ok (Some head) → (r ≡ Ok head) × (head.size ≤ room)
@@ -37,7 +37,7 @@ first_parts has b bytes head e =
     elim (cases_Bool (nat_lt (length bytes) 8)) [
       | inl short ↦ (let f = rw short at e in absurd (cc))
       | inr enough ↦ (let f = rw enough at e in
-          let parts = room_parts (length bytes - 8) (judged has (head_of b bytes)) head f in
+          let parts = room_parts (length bytes - 8) (sound_head has (entry_head b bytes)) head f in
           record { long = ltb-false (length bytes) 8 enough; right = parts.0; room = parts.1 })
     ]
 
@@ -74,7 +74,7 @@ first_more has (b ∷ bytes) more head e =
     rw n (first_whole has b (take (8 + head.size) bytes ++ more) head (first_front has b (take (8 + head.size) bytes) (drop (8 + head.size) bytes) more head size all))
 
 -- and it is the same entry
-pub entry_more : (bytes more : List ℕ) (head : Head) → 9 + head.size ≤ length bytes → entry_of head (take (9 + head.size) bytes ++ more) ≡ entry_of head bytes
+pub entry_more : (bytes more : List ℕ) (head : Head) → 9 + head.size ≤ length bytes → entry_with head (take (9 + head.size) bytes ++ more) ≡ entry_with head bytes
 entry_more bytes more head enough =
     let front = take (9 + head.size) bytes in
     let size : length front ≡ 9 + head.size = length-take-le (9 + head.size) bytes enough in
@@ -111,12 +111,12 @@ bad_more has (b ∷ bytes) more bad final e =
       | inr enough ↦ (let f = rw enough at e in
           let long : 8 ≤ length bytes = ltb-false (length bytes) 8 enough in
           let still : nat_lt (length (bytes ++ more)) 8 ≡ false = le-ltb (length (bytes ++ more)) 8 (rw (length-append bytes more) (omega arith)) in
-          rw (still, head_more b bytes more long) (room_bad (length bytes - 8) (length (bytes ++ more) - 8) (judged has (head_of b bytes)) bad final f))
+          rw (still, head_more b bytes more long) (room_bad (length bytes - 8) (length (bytes ++ more) - 8) (sound_head has (entry_head b bytes)) bad final f))
     ]
 
-judged_not_magic : (has : ℕ → Bool) (o : Option Head) → judged has o ≡ Err Magic → ⊥
-judged_not_magic has None e = cc
-judged_not_magic has (Some h) e = grind arith
+sound_not_magic : (has : ℕ → Bool) (o : Option Head) → sound_head has o ≡ Err Magic → ⊥
+sound_not_magic has None e = cc
+sound_not_magic has (Some h) e = grind arith
 
 room_not_magic : (room : ℕ) (r : Result Head BadEntryKind) → (r ≡ Err Magic → ⊥) → with_room room r ≡ Err Magic → ⊥
 room_not_magic room (Err k) never e = let same : k ≡ Magic = cc in never (ap (λ (x : BadEntryKind). let r : Result Head BadEntryKind = Err x in r) same)
@@ -127,7 +127,7 @@ first_not_magic has [] e = cc
 first_not_magic has (b ∷ bytes) e =
     elim (cases_Bool (nat_lt (length bytes) 8)) [
       | inl short ↦ (let f = rw short at e in cc)
-      | inr enough ↦ (let f = rw enough at e in room_not_magic (length bytes - 8) (judged has (head_of b bytes)) (judged_not_magic has (head_of b bytes)) f)
+      | inr enough ↦ (let f = rw enough at e in room_not_magic (length bytes - 8) (sound_head has (entry_head b bytes)) (sound_not_magic has (entry_head b bytes)) f)
     ]
 
 room_not_none : (room : ℕ) (r : Result Head BadEntryKind) → with_room room r ≡ Ok None → ⊥
@@ -144,5 +144,5 @@ first_not_none has [] some e = omega arith
 first_not_none has (b ∷ bytes) some e =
     elim (cases_Bool (nat_lt (length bytes) 8)) [
       | inl short ↦ (let f = rw short at e in cc)
-      | inr enough ↦ (let f = rw enough at e in room_not_none (length bytes - 8) (judged has (head_of b bytes)) f)
+      | inr enough ↦ (let f = rw enough at e in room_not_none (length bytes - 8) (sound_head has (entry_head b bytes)) f)
     ]

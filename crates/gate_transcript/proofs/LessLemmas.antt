@@ -8,11 +8,11 @@ use Rattle.gate_transcript.specs.declared.head.Head.{Head}
 use Rattle.gate_transcript.specs.declared.reader.EntryReader.{EntryReader}
 use Rattle.gate_transcript.specs.Connections.{has}
 use Rattle.gate_transcript.specs.Transcript.{first_head}
-use Rattle.gate_transcript.specs.Reads.{TakesBytes, bytes_held}
-use Rattle.gate_transcript.specs.Steps.{Steps, StopsBy, TakesEntry}
+use Rattle.gate_transcript.specs.Reads.{HoldsFewer, bytes_held}
+use Rattle.gate_transcript.specs.Steps.{Steps, StopsBy, RemovesEntry}
 use Rattle.gate_transcript.proofs.HeadLemmas.{front_len}
 
-taken_less : (old new : EntryReader) (head : Head) (e : Entry) → first_head (has old.entered) old.left ≡ Ok (Some head) → TakesEntry head old new e → length new.left < length old.left
+taken_less : (old new : EntryReader) (head : Head) (e : Entry) → first_head (has old.entered) old.left ≡ Ok (Some head) → RemovesEntry head old new e → length new.left < length old.left
 taken_less old new head e first t =
     let enough : 9 + head.size ≤ length old.left = front_len (has old.entered) old.left head first in
     let left : length new.left ≡ length old.left - (9 + head.size) = ap length t.left ∙ length-drop (9 + head.size) old.left in
@@ -32,7 +32,7 @@ found_less (Ok (Some head)) old new e first h = taken_less old new head e first 
 found_less (Err kind) old new e first h = absurd (stopped_none kind old new e h)
 
 pub next_less : (old new : EntryReader) (result : Result (Option Entry) EntryFault)
-    → Steps (first_head (has old.entered) old.left) old new result → TakesBytes (bytes_held old) (bytes_held new) result
+    → Steps (first_head (has old.entered) old.left) old new result → HoldsFewer (bytes_held old) (bytes_held new) result
 next_less old new (Ok None) h = tt
 next_less old new (Ok (Some e)) h = found_less (first_head (has old.entered) old.left) old new e refl h
 next_less old new (Err fault) h = tt

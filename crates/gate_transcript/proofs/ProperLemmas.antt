@@ -7,25 +7,25 @@ use Rattle.gate_transcript.specs.declared.head.Head.{Head}
 use Rattle.gate_transcript.specs.declared.reader.Stage.{Stage}
 use Rattle.gate_transcript.specs.declared.reader.Stage.TheVariants.{Front, Entries, Stopped}
 use Rattle.gate_transcript.specs.declared.reader.EntryReader.{EntryReader}
-use Rattle.gate_transcript.specs.Transcript.{magic, entered, may_come, most_body, judged, bad_entry, head_of, first_head, entry_of, Reading, reading_with, reading_by, reading_on, reading}
+use Rattle.gate_transcript.specs.Transcript.{magic, has_entered, may_come, longest_body, sound_head, bad_entry, entry_head, first_head, entry_with, Reading, reading_with, reading_by, reading_on, reading}
 use Rattle.gate_transcript.specs.Reads.{ReadsBy, ReadsSo}
 use Rattle.gate_transcript.proofs.HeadLemmas.{first_parts}
 
 abbrev pub AreProper : List Entry → Type 0
 AreProper [] = Unit {0}
-AreProper (e ∷ entries) = (may_come (λ conn. entered conn entries) e.kind e.conn ≡ true) × AreProper entries
+AreProper (e ∷ entries) = (may_come (λ conn. has_entered conn entries) e.kind e.conn ≡ true) × AreProper entries
 
-judged_may : (has : ℕ → Bool) (found : Option Head) (head : Head) → judged has found ≡ Ok head → may_come has head.kind head.conn ≡ true
-judged_may has None head e = absurd (cc)
-judged_may has (Some h) head e = at (may_come has h.kind h.conn) refl e
+sound_may : (has : ℕ → Bool) (found : Option Head) (head : Head) → sound_head has found ≡ Ok head → may_come has head.kind head.conn ≡ true
+sound_may has None head e = absurd (cc)
+sound_may has (Some h) head e = at (may_come has h.kind h.conn) refl e
   where
     sized : Bool → Result Head BadEntryKind
     sized long = cond long (Err BadEntryKind.Length) (Ok h)
 
-    at : (may : Bool) → may_come has h.kind h.conn ≡ may → cond may (sized (nat_lt (most_body h.kind) h.size)) (Err BadEntryKind.Conn) ≡ Ok head
+    at : (may : Bool) → may_come has h.kind h.conn ≡ may → cond may (sized (nat_lt (longest_body h.kind) h.size)) (Err BadEntryKind.Conn) ≡ Ok head
         → may_come has head.kind head.conn ≡ true
     at false same f = absurd (cc)
-    at true same f = long (nat_lt (most_body h.kind) h.size) f
+    at true same f = long (nat_lt (longest_body h.kind) h.size) f
       where
         long : (b : Bool) → sized b ≡ Ok head → may_come has head.kind head.conn ≡ true
         long true g = absurd (cc)
@@ -33,21 +33,21 @@ judged_may has (Some h) head e = at (may_come has h.kind h.conn) refl e
 
 first_may : (has : ℕ → Bool) (bytes : List ℕ) (head : Head) → first_head has bytes ≡ Ok (Some head) → may_come has head.kind head.conn ≡ true
 first_may has [] head e = absurd (cc)
-first_may has (b ∷ bytes) head e = judged_may has (head_of b bytes) head (first_parts has b bytes head e).right
+first_may has (b ∷ bytes) head e = sound_may has (entry_head b bytes) head (first_parts has b bytes head e).right
 
 proper_with : (n place : ℕ) (entries : List Entry) (bytes : List ℕ) (first : Result (Option Head) BadEntryKind)
-    → first_head (λ conn. entered conn entries) bytes ≡ first → AreProper entries
+    → first_head (λ conn. has_entered conn entries) bytes ≡ first → AreProper entries
     → ((p : ℕ) (es : List Entry) (bs : List ℕ) → AreProper es → AreProper (reading_by n p es bs).entries)
     → AreProper (reading_with first place entries bytes (reading_by n)).entries
 proper_with n place entries bytes (Ok None) e proper again = proper
 proper_with n place entries bytes (Ok (Some head)) e proper again =
-    again (place + 9 + head.size) (entry_of head bytes ∷ entries) (drop (9 + head.size) bytes) (first_may (λ conn. entered conn entries) bytes head e, proper)
+    again (place + 9 + head.size) (entry_with head bytes ∷ entries) (drop (9 + head.size) bytes) (first_may (λ conn. has_entered conn entries) bytes head e, proper)
 proper_with n place entries bytes (Err fault) e proper again = proper
 
 proper_by : (n place : ℕ) (entries : List Entry) (bytes : List ℕ) → AreProper entries → AreProper (reading_by n place entries bytes).entries
 proper_by zero place entries bytes proper = proper
 proper_by (suc n) place entries bytes proper =
-    proper_with n place entries bytes (first_head (λ conn. entered conn entries) bytes) refl proper (proper_by n)
+    proper_with n place entries bytes (first_head (λ conn. has_entered conn entries) bytes) refl proper (proper_by n)
 
 pub reading_proper : (bytes : List ℕ) → AreProper (reading bytes).entries
 reading_proper bytes = at (starts_with nat_eq bytes magic)

@@ -18,10 +18,10 @@ use Rattle.gate_transcript.specs.declared.reader.Stage.{Stage}
 use Rattle.gate_transcript.specs.declared.reader.Stage.TheVariants.{Front, Entries, Stopped}
 use Rattle.gate_transcript.specs.declared.reader.EntryReader.{EntryReader}
 use Rattle.gate_transcript.specs.Connections.{has}
-use Rattle.gate_transcript.specs.Transcript.{magic, is_enter, entered, first_head, entry_of, bad_entry, Reading, reading_on, reading}
-use Rattle.gate_transcript.specs.Reads.{AtFront, InEntries, IsLasting, StopsAt, ReadsBy, ReadsSo, MayGoOn, GivenWhole, GivenFront, NextSays}
-use Rattle.gate_transcript.specs.Steps.{PassesMagic, IsSame, TakesEntry, Steps}
-use Rattle.gate_transcript.proofs.HeadLemmas.{IsFinal, front_len, bad_more, first_not_magic, first_not_none}
+use Rattle.gate_transcript.specs.Transcript.{magic, is_enter, has_entered, first_head, entry_with, bad_entry, Reading, reading_on, reading}
+use Rattle.gate_transcript.specs.Reads.{AtFront, InEntries, IsLasting, StopsAt, ReadsBy, ReadsSo, MayGoOn, GivenWhole, GivenFront, IsCutAfter, EndsBy, EndsSo, NextSays}
+use Rattle.gate_transcript.specs.Steps.{PassesMagic, IsSame, RemovesEntry, Steps, ending}
+use Rattle.gate_transcript.proofs.HeadLemmas.{IsFinal, front_len, bad_more, first_not_magic}
 use Rattle.gate_transcript.proofs.ReadingLemmas.{among, onward_more, step_bad, step_none, more_entries, after_magic}
 
 -- the test that a reader keeps is the one that the entries make
@@ -40,13 +40,13 @@ onward_here : (reader : EntryReader) (stream : List ℕ) (given : List Entry) (a
 onward_here reader stream given at = ap reading at.whole ∙ at.onward reader.left
 
 -- an entry is taken
-who_more : (head : Head) (old new : EntryReader) (e : Entry) (given : List Entry) → TakesEntry head old new e → ((conn : ℕ) → has old.entered conn ≡ entered conn given) → (conn : ℕ) → has new.entered conn ≡ entered conn (e ∷ given)
+who_more : (head : Head) (old new : EntryReader) (e : Entry) (given : List Entry) → RemovesEntry head old new e → ((conn : ℕ) → has old.entered conn ≡ has_entered conn given) → (conn : ℕ) → has new.entered conn ≡ has_entered conn (e ∷ given)
 who_more head old new e given takes who conn =
     takes.who conn ∙ (ap (λ (b : Bool). (is_enter head.kind && head.conn == conn) || b) (who conn)
-    ∙ ap (λ (x : Entry). (is_enter x.kind && x.conn == conn) || entered conn given) (sym takes.entry))
+    ∙ ap (λ (x : Entry). (is_enter x.kind && x.conn == conn) || has_entered conn given) (sym takes.entry))
 
 pub entry_taken : (head : Head) (old new : EntryReader) (e : Entry) (stream : List ℕ) (given : List Entry) →
-    first_head (has old.entered) old.left ≡ Ok (Some head) → TakesEntry head old new e → InEntries old stream given → InEntries new stream (e ∷ given)
+    first_head (has old.entered) old.left ≡ Ok (Some head) → RemovesEntry head old new e → InEntries old stream given → InEntries new stream (e ∷ given)
 entry_taken head old new e stream given first takes at =
     let here = first_at old stream given (Ok (Some head)) at first in
     let k : ℕ = 9 + head.size in
@@ -65,7 +65,7 @@ entry_taken head old new e stream given first takes at =
           ap reading (append_assoc at.taken front more)
           ∙ (at.onward (front ++ more)
           ∙ (onward_more (length at.taken) given old.left more head here
-          ∙ (ap (λ (n : ℕ). reading_on n (entry_of head old.left ∷ given) more) (sym far)
+          ∙ (ap (λ (n : ℕ). reading_on n (entry_with head old.left ∷ given) more) (sym far)
           ∙ ap (λ (x : Entry). reading_on (length (at.taken ++ front)) (x ∷ given) more) (sym takes.entry))));
       who = who_more head old new e given takes at.who;
     }
@@ -106,16 +106,11 @@ cut_next reader stream given first at =
     record { entries = ap (λ (x : Reading). x.entries) r; unfinished = subst (λ (o : Option BadEntry). MayGoOn o stream) (sym (ap (λ (x : Reading). x.fault) r)) tt }
 
 -- the end of the stream
-pub stopped_fault : (reader : EntryReader) (bad : BadEntry) (stream : List ℕ) (given : List Entry) → reader.stage ≡ Stopped bad → ReadsSo reader stream given → (reading stream).fault ≡ Some bad
-stopped_fault reader bad stream given stage reads =
-    let stops : StopsAt bad stream given = subst (λ (s : Stage). ReadsBy s reader stream given) stage reads in
-    ap (λ (l : List ℕ). (reading l).fault) (sym (append-nil stream)) ∙ ap (λ (x : Reading). x.fault) (stops.always [])
-
-whole_contradiction : (reader : EntryReader) (stream : List ℕ) (given : List Entry) (head : Head) → first_head (has reader.entered) reader.left ≡ Ok (Some head) → InEntries reader stream given → (reading stream).entries ≡ given → ⊥
-whole_contradiction reader stream given head first at same =
+still_to_come : (reader : EntryReader) (stream : List ℕ) (given : List Entry) (head : Head) → first_head (has reader.entered) reader.left ≡ Ok (Some head) → InEntries reader stream given → (reading stream).entries ≡ given → ⊥
+still_to_come reader stream given head first at same =
     let here = first_at reader stream given (Ok (Some head)) at first in
     let rest : List ℕ = drop (9 + head.size) reader.left in
-    let next : List Entry = entry_of head reader.left ∷ given in
+    let next : List Entry = entry_with head reader.left ∷ given in
     let go : reading_on (length at.taken) given reader.left ≡ reading_on (length at.taken + 9 + head.size) next rest =
     ap (λ (l : List ℕ). reading_on (length at.taken) given l) (sym (take-append-drop (9 + head.size) reader.left)) ∙ onward_more (length at.taken) given reader.left rest head here in
     let all = ap (λ (x : Reading). length x.entries) (onward_here reader stream given at ∙ go) in
@@ -123,22 +118,58 @@ whole_contradiction reader stream given head first at same =
     let size = ap (λ (l : List Entry). length l) same in
     omega arith
 
-fault_by : (reader : EntryReader) (stream : List ℕ) (given : List Entry) (r : Result (Option Head) BadEntryKind) → first_head (has reader.entered) reader.left ≡ r → 0 < length reader.left →
-    InEntries reader stream given → GivenWhole stream given → (reading stream).fault ≡ Some (record { place = reader.place; kind = Cut })
-fault_by reader stream given (Ok None) first some at whole = absurd (first_not_none (has reader.entered) reader.left some first)
-fault_by reader stream given (Ok (Some head)) first some at whole = absurd (whole_contradiction reader stream given head first at whole.entries)
-fault_by reader stream given (Err Cut) first some at whole =
-    ap (λ (x : Reading). x.fault) (cut_here reader stream given Cut first at)
-    ∙ ap (λ (n : ℕ). let o : Option BadEntry = Some (record { place = n; kind = Cut }) in o) (sym at.place)
-fault_by reader stream given (Err Magic) first some at whole = absurd (first_not_magic (has reader.entered) reader.left first)
-fault_by reader stream given (Err Kind) first some at whole = absurd (subst (λ (o : Option BadEntry). MayGoOn o stream) (ap (λ (x : Reading). x.fault) (cut_here reader stream given Kind first at)) whole.unfinished)
-fault_by reader stream given (Err Conn) first some at whole = absurd (subst (λ (o : Option BadEntry). MayGoOn o stream) (ap (λ (x : Reading). x.fault) (cut_here reader stream given Conn first at)) whole.unfinished)
-fault_by reader stream given (Err Length) first some at whole = absurd (subst (λ (o : Option BadEntry). MayGoOn o stream) (ap (λ (x : Reading). x.fault) (cut_here reader stream given Length first at)) whole.unfinished)
+cut_after : (reader : EntryReader) (stream : List ℕ) (given : List Entry) (head : Head) → first_head (has reader.entered) reader.left ≡ Ok (Some head) → InEntries reader stream given → IsCutAfter (record { place = reader.place; kind = Cut }) stream given
+cut_after reader stream given head first at =
+    let enough : 9 + head.size ≤ length reader.left = front_len (has reader.entered) reader.left head first in record {
+      front = at.taken;
+      rest = reader.left;
+      whole = sym at.whole;
+      some = omega arith;
+      entries = ap reading (sym (append-nil at.taken)) ∙ (at.onward [] ∙ step_none (length at.taken) given [] refl);
+      cut = ap (λ (n : ℕ). let bad : BadEntry = record { place = n; kind = Cut } in bad) at.place;
+    }
 
-pub cut_fault : (reader : EntryReader) (stream : List ℕ) (given : List Entry) → reader.stage ≡ Entries → 0 < length reader.left → ReadsSo reader stream given → GivenWhole stream given →
-    (reading stream).fault ≡ Some (record { place = reader.place; kind = Cut })
-cut_fault reader stream given stage some reads whole =
-    fault_by reader stream given (first_head (has reader.entered) reader.left) refl some (subst (λ (s : Stage). ReadsBy s reader stream given) stage reads) whole
+ends_by : (reader : EntryReader) (stream : List ℕ) (given : List Entry) (r : Result (Option Head) BadEntryKind) → first_head (has reader.entered) reader.left ≡ r → InEntries reader stream given → EndsSo stream given (ending r reader.place)
+ends_by reader stream given (Ok None) first at = onward_here reader stream given at ∙ step_none (length at.taken) given reader.left (first_at reader stream given (Ok None) at first)
+ends_by reader stream given (Ok (Some head)) first at = record {
+  all = λ same. absurd (still_to_come reader stream given head first at same);
+  part = λ more. cut_after reader stream given head first at;
+}
+ends_by reader stream given (Err kind) first at =
+    let r = cut_here reader stream given kind first at in record {
+      all = λ same. ap (λ (x : Reading). x.fault) r ∙ ap (λ (n : ℕ). let o : Option BadEntry = Some (record { place = n; kind = kind }) in o) (sym at.place);
+      part = λ more. absurd (more (ap (λ (x : Reading). x.entries) r));
+    }
+
+pub entries_end : (reader : EntryReader) (stream : List ℕ) (given : List Entry) (result : Result (Unit {0}) BadEntry) → reader.stage ≡ Entries → result ≡ ending (first_head (has reader.entered) reader.left) reader.place → ReadsSo reader stream given → EndsSo stream given result
+entries_end reader stream given result stage answer reads =
+    subst (λ (x : Result (Unit {0}) BadEntry). EndsSo stream given x) (sym answer)
+    (ends_by reader stream given (first_head (has reader.entered) reader.left) refl (subst (λ (s : Stage). ReadsBy s reader stream given) stage reads))
+
+pub stopped_ends : (reader : EntryReader) (bad : BadEntry) (stream : List ℕ) (given : List Entry) → reader.stage ≡ Stopped bad → ReadsSo reader stream given → EndsBy bad stream given
+stopped_ends reader bad stream given stage reads =
+    let stops : StopsAt bad stream given = subst (λ (s : Stage). ReadsBy s reader stream given) stage reads in
+    let r : reading stream ≡ record { entries = given; fault = Some bad } = ap reading (sym (append-nil stream)) ∙ stops.always [] in record {
+      all = λ same. ap (λ (x : Reading). x.fault) r;
+      part = λ more. absurd (more (ap (λ (x : Reading). x.entries) r));
+    }
+
+short_not_magic : (bytes : List ℕ) → length bytes < 8 → starts_with nat_eq bytes magic ≡ false
+short_not_magic bytes short =
+    elim (cases_Bool (starts_with nat_eq bytes magic)) [
+      | inl right ↦ (let begins : bytes ≡ magic ++ drop 8 bytes = (starts_is Decides-eqb bytes magic (starts_with nat_eq bytes magic) refl).0 right in
+          let size = ap length begins ∙ length-append magic (drop 8 bytes) in absurd (omega arith))
+      | inr wrong ↦ wrong
+    ]
+
+pub front_ends : (reader : EntryReader) (stream : List ℕ) (given : List Entry) → reader.stage ≡ Front → ReadsSo reader stream given → EndsBy (bad_entry 0 Magic) stream given
+front_ends reader stream given stage reads =
+    let at : AtFront reader stream given = subst (λ (s : Stage). ReadsBy s reader stream given) stage reads in
+    let wrong : starts_with nat_eq stream magic ≡ false = short_not_magic stream (subst (λ (l : List ℕ). length l < 8) (sym at.all_left) at.short) in
+    let r : reading stream ≡ record { entries = []; fault = Some (bad_entry 0 Magic) } = rw wrong refl in record {
+      all = λ same. ap (λ (x : Reading). x.fault) r;
+      part = λ more. absurd (more (ap (λ (x : Reading). x.entries) r ∙ sym at.none));
+    }
 
 -- an answer of `next`
 in_entries : (reader : EntryReader) (stream : List ℕ) (given : List Entry) → reader.stage ≡ Entries → ReadsSo reader stream given → InEntries reader stream given
@@ -253,13 +284,6 @@ front_by (Stopped bad) reader stream given stops = record {
 pub given_front : (reader : EntryReader) (stream : List ℕ) (given : List Entry) → ReadsSo reader stream given → GivenFront stream given
 given_front reader stream given reads = front_by reader.stage reader stream given reads
 
--- at the end, after `next` answered nothing: the whole reading
-pub reading_whole : (stream : List ℕ) (given : List Entry) → GivenWhole stream given → (reading stream).fault ≡ None → reading stream ≡ record { entries = given; fault = None }
-reading_whole stream given whole fault =
-    ap (λ (es : List Entry). let r : Reading = record { entries = es; fault = (reading stream).fault } in r) whole.entries
-    ∙ ap (λ (o : Option BadEntry). let r : Reading = record { entries = given; fault = o } in r) fault
-
-pub reading_bad : (stream : List ℕ) (given : List Entry) (bad : BadEntry) → GivenWhole stream given → (reading stream).fault ≡ Some bad → reading stream ≡ record { entries = given; fault = Some bad }
-reading_bad stream given bad whole fault =
-    ap (λ (es : List Entry). let r : Reading = record { entries = es; fault = (reading stream).fault } in r) whole.entries
-    ∙ ap (λ (o : Option BadEntry). let r : Reading = record { entries = given; fault = o } in r) fault
+-- at the end, after `next` answered nothing: the fault is the transcript's own
+pub first_fault : (stream : List ℕ) (given : List Entry) (bad : BadEntry) → GivenWhole stream given → EndsBy bad stream given → (reading stream).fault ≡ Some bad
+first_fault stream given bad whole ends = ends.all whole.entries

@@ -9,13 +9,14 @@ use Rattle.gate_transcript.specs.declared.fault.EntryFault.TheVariants.{Bad, Mem
 use Rattle.gate_transcript.specs.declared.reader.Stage.{Stage}
 use Rattle.gate_transcript.specs.declared.reader.Stage.TheVariants.{Front, Entries, Stopped}
 use Rattle.gate_transcript.specs.declared.reader.EntryReader.{EntryReader}
+use Rattle.gate_transcript.specs.declared.reader.TheConstants.{MAGIC_LENGTH}
 use Rattle.gate_transcript.specs.Connections.{has}
-use Rattle.gate_transcript.specs.Transcript.{entered, reading, reading_on}
+use Rattle.gate_transcript.specs.Transcript.{has_entered, bad_entry, reading, reading_on}
 
--- fewer than eight bytes were fed, and no entry was given
+-- fewer bytes than the magic has were fed, and no entry was given
 pub record AtFront (reader : EntryReader) (stream : List ℕ) (given : List Entry) : Type 0 where
   pub all_left : stream ≡ reader.left
-  pub short : length reader.left < 8
+  pub short : length reader.left < MAGIC_LENGTH
   pub none : given ≡ []
   pub nobody : (conn : ℕ) → has reader.entered conn ≡ false
 
@@ -25,7 +26,7 @@ pub record InEntries (reader : EntryReader) (stream : List ℕ) (given : List En
   pub whole : stream ≡ taken ++ reader.left
   pub place : reader.place ≡ min (length taken) (2 ^ 64 - 1)
   pub onward : (more : List ℕ) → reading (taken ++ more) ≡ reading_on (length taken) given more
-  pub who : (conn : ℕ) → has reader.entered conn ≡ entered conn given
+  pub who : (conn : ℕ) → has reader.entered conn ≡ has_entered conn given
 
 -- a fault that no more bytes can mend
 abbrev pub IsLasting : BadEntryKind → Type 0
@@ -55,7 +56,7 @@ KeepsGiven old new = (stream : List ℕ) (given : List Entry) → ReadsSo old st
 
 -- a fault that more bytes may mend: an entry, or a magic, that is not whole
 abbrev pub IsUnfinished : BadEntryKind → List ℕ → Type 0
-IsUnfinished Magic stream = length stream < 8
+IsUnfinished Magic stream = length stream < MAGIC_LENGTH
 IsUnfinished Cut stream = Unit {0}
 IsUnfinished Kind stream = ⊥
 IsUnfinished Conn stream = ⊥
@@ -84,16 +85,30 @@ NextSays old new (Ok None) = (stream : List ℕ) (given : List Entry) → ReadsS
 NextSays old new (Err (Bad bad)) = (stream : List ℕ) (given : List Entry) → ReadsSo old stream given → ReadsSo new stream given × StopsAt bad stream given
 NextSays old new (Err Memory) = KeepsGiven old new
 
--- the first fault of the stream as a result: none, or this one
-abbrev pub HasFault : List ℕ → Result Unit BadEntry → Type 0
-HasFault stream (Ok u) = (reading stream).fault ≡ None
-HasFault stream (Err bad) = (reading stream).fault ≡ Some bad
+-- Entries are still to be given: the transcript seems cut off behind those that were.
+pub record IsCutAfter (bad : BadEntry) (stream : List ℕ) (given : List Entry) : Type 0 where
+  pub front : List ℕ
+  pub rest : List ℕ
+  pub whole : front ++ rest ≡ stream
+  pub some : 0 < length rest
+  pub entries : reading front ≡ record { entries = given; fault = None }
+  pub cut : bad ≡ bad_entry (length front) Cut
+
+-- The fault of a transcript that ends here: its first one where all its whole entries were given.
+pub record EndsBy (bad : BadEntry) (stream : List ℕ) (given : List Entry) : Type 0 where
+  pub all : (reading stream).entries ≡ given → (reading stream).fault ≡ Some bad
+  pub part : ((reading stream).entries ≡ given → ⊥) → IsCutAfter bad stream given
+
+-- How a transcript ends, of which these entries were given: without a fault exactly where they are all of it.
+abbrev pub EndsSo : List ℕ → List Entry → Result (Unit {0}) BadEntry → Type 0
+EndsSo stream given (Ok u) = reading stream ≡ record { entries = given; fault = None }
+EndsSo stream given (Err bad) = EndsBy bad stream given
 
 -- how many bytes a reader holds, and that giving an entry takes some of them
 abbrev pub bytes_held : EntryReader → ℕ
 bytes_held reader = length reader.left
 
-abbrev pub TakesBytes : ℕ → ℕ → Result (Option Entry) EntryFault → Type 0
-TakesBytes before now (Ok (Some e)) = now < before
-TakesBytes before now (Ok None) = Unit {0}
-TakesBytes before now (Err fault) = Unit {0}
+abbrev pub HoldsFewer : ℕ → ℕ → Result (Option Entry) EntryFault → Type 0
+HoldsFewer before now (Ok (Some e)) = now < before
+HoldsFewer before now (Ok None) = Unit {0}
+HoldsFewer before now (Err fault) = Unit {0}

@@ -7,16 +7,19 @@ use Rattle.gate_transcript.specs.declared.fault.BadEntryKind.TheVariants.{Magic,
 use Rattle.gate_transcript.specs.declared.fault.EntryFault.{EntryFault}
 use Rattle.gate_transcript.specs.declared.fault.EntryFault.TheVariants.{Bad, Memory}
 use Rattle.gate_transcript.specs.declared.head.Head.{Head}
+use Rattle.gate_transcript.specs.declared.head.TheConstants.{HEAD_LENGTH}
+use Rattle.gate_transcript.specs.declared.reader.TheConstants.{MAGIC_LENGTH}
+use Rattle.gate_transcript.specs.declared.fault.BadEntry.{BadEntry}
 use Rattle.gate_transcript.specs.declared.reader.Stage.TheVariants.{Entries, Stopped}
 use Rattle.gate_transcript.specs.declared.reader.EntryReader.{EntryReader}
 use Rattle.gate_transcript.specs.Connections.{has}
-use Rattle.gate_transcript.specs.Transcript.{magic, is_enter, entry_of, bad_entry}
+use Rattle.gate_transcript.specs.Transcript.{magic, is_enter, entry_with, bad_entry}
 
--- a reader with eight bytes or more goes on after the magic, or stops where other bytes stand; with fewer it waits
+-- a reader with as many bytes as the magic or more goes on after it, or stops where other bytes stand; with fewer it waits
 pub record PassesMagic (old new : EntryReader) : Type 0 where
-  pub short : length old.left < 8 → new ≡ old
-  pub right : 8 ≤ length old.left → starts_with nat_eq old.left magic ≡ true → new ≡ record old { stage = Entries; place = 8; left = drop 8 old.left }
-  pub wrong : 8 ≤ length old.left → starts_with nat_eq old.left magic ≡ false → new ≡ record old { stage = Stopped (bad_entry 0 Magic) }
+  pub short : length old.left < MAGIC_LENGTH → new ≡ old
+  pub right : MAGIC_LENGTH ≤ length old.left → starts_with nat_eq old.left magic ≡ true → new ≡ record old { stage = Entries; place = MAGIC_LENGTH; left = drop MAGIC_LENGTH old.left }
+  pub wrong : MAGIC_LENGTH ≤ length old.left → starts_with nat_eq old.left magic ≡ false → new ≡ record old { stage = Stopped (bad_entry 0 Magic) }
 
 -- the same stage, place and bytes, and the same connections
 pub record IsSame (old new : EntryReader) : Type 0 where
@@ -26,11 +29,11 @@ pub record IsSame (old new : EntryReader) : Type 0 where
   pub who : (conn : ℕ) → has new.entered conn ≡ has old.entered conn
 
 -- the entry with this head was taken off the front of the bytes
-pub record TakesEntry (head : Head) (old new : EntryReader) (e : Entry) : Type 0 where
-  pub entry : e ≡ entry_of head old.left
+pub record RemovesEntry (head : Head) (old new : EntryReader) (e : Entry) : Type 0 where
+  pub entry : e ≡ entry_with head old.left
   pub stage : new.stage ≡ old.stage
-  pub place : new.place ≡ min (old.place + (9 + head.size)) (2 ^ 64 - 1)
-  pub left : new.left ≡ drop (9 + head.size) old.left
+  pub place : new.place ≡ min (old.place + (HEAD_LENGTH + head.size)) (2 ^ 64 - 1)
+  pub left : new.left ≡ drop (HEAD_LENGTH + head.size) old.left
   pub who : (conn : ℕ) → has new.entered conn ≡ ((is_enter head.kind && head.conn == conn) || has old.entered conn)
 
 -- the fault of an entry that is whole as far as its head says: the reader stops there
@@ -41,8 +44,14 @@ StopsBy kind old new result = (result ≡ Err (Bad (record { place = old.place; 
 -- an answer of `next` after the magic, where this stands first in the bytes
 abbrev pub Steps : Result (Option Head) BadEntryKind → EntryReader → EntryReader → Result (Option Entry) EntryFault → Type 0
 Steps (Ok None) old new result = (result ≡ Ok None) × (new ≡ old)
-Steps (Ok (Some head)) old new (Ok (Some e)) = TakesEntry head old new e
+Steps (Ok (Some head)) old new (Ok (Some e)) = RemovesEntry head old new e
 Steps (Ok (Some head)) old new (Ok None) = ⊥
 Steps (Ok (Some head)) old new (Err Memory) = IsSame old new
 Steps (Ok (Some head)) old new (Err (Bad bad)) = ⊥
 Steps (Err kind) old new result = StopsBy kind old new result
+
+-- how a transcript ends before this, at the place where the given entries end
+abbrev pub ending : Result (Option Head) BadEntryKind → ℕ → Result (Unit {0}) BadEntry
+ending (Ok None) place = Ok tt
+ending (Ok (Some head)) place = Err (record { place = place; kind = Cut })
+ending (Err kind) place = Err (record { place = place; kind = kind })

@@ -1,6 +1,6 @@
--- A transcript: eight bytes of magic and then entries, each a kind byte, a connection and a length of four bytes
+-- A transcript: the magic and then entries, each a kind byte, a connection and a length of four bytes
 -- each, the greatest byte first, and a body. This project's own format.
-use Rattle.std.specs.Prelude.{ℕ, zero, suc, ◌+◌, ◌-◌, ◌^◌, ◌==◌, ◌&&◌, ◌||◌, min, not, nat_eq, nat_lt, Bool, true, false, List, [], ◌∷◌, length, take, drop, Option, Some, None, Result, Ok, Err, if◌then◌else◌}
+use Rattle.std.specs.Prelude.{ℕ, zero, suc, ◌+◌, ◌-◌, ◌^◌, ◌++◌, codes, ◌==◌, ◌&&◌, ◌||◌, min, not, nat_eq, nat_lt, Bool, true, false, List, [], ◌∷◌, length, take, drop, Option, Some, None, Result, Ok, Err, if◌then◌else◌}
 use Rattle.std.specs.List.{starts_with}
 use Rattle.std.specs.Option.{option_map}
 use Rattle.std.specs.Int.{w32, from_be_bytes}
@@ -10,17 +10,23 @@ use Rattle.gate_transcript.specs.declared.entry.Entry.{Entry}
 use Rattle.gate_transcript.specs.declared.fault.BadEntryKind.{BadEntryKind}
 use Rattle.gate_transcript.specs.declared.fault.BadEntryKind.TheVariants.{Magic, Kind, Conn, Length, Cut}
 use Rattle.gate_transcript.specs.declared.fault.BadEntry.{BadEntry}
+use Rattle.gate_transcript.specs.declared.entry.TheConstants.{ENTER_BYTE, CLIENT_BYTE, UPSTREAM_BYTE, END_BYTE}
 use Rattle.gate_transcript.specs.declared.head.Head.{Head}
+use Rattle.gate_transcript.specs.declared.head.TheConstants.{HEAD_LENGTH, LONGEST_BODY}
+use Rattle.gate_transcript.specs.declared.reader.TheConstants.{MAGIC_LENGTH}
+use Rattle.gate_bytes.specs.Ascii.{lf}
 
--- "RTSPGW1" and a line feed
+-- the bytes that a transcript begins with
 abbrev pub magic : List ℕ
-magic = 82 ∷ 84 ∷ 83 ∷ 80 ∷ 71 ∷ 87 ∷ 49 ∷ 10 ∷ []
+magic = codes "RTSPGW1" ++ lf ∷ []
 
--- the kind that a byte names: O where a connection enters, A for bytes of its client, U for bytes of the server, E for
--- a connection's end
+-- the kind that a byte names
 abbrev pub kind_of : ℕ → Option EntryKind
 kind_of b =
-    if b == 79 then Some Enter else (if b == 65 then Some Client else (if b == 85 then Some Upstream else (if b == 69 then Some End else None)))
+    if b == ENTER_BYTE then Some Enter
+    else (if b == CLIENT_BYTE then Some Client
+    else (if b == UPSTREAM_BYTE then Some Upstream
+    else (if b == END_BYTE then Some End else None)))
 
 abbrev pub is_enter : EntryKind → Bool
 is_enter Enter = true
@@ -29,9 +35,9 @@ is_enter Upstream = false
 is_enter End = false
 
 -- whether a connection has entered by one of these entries
-abbrev pub entered : ℕ → List Entry → Bool
-entered conn [] = false
-entered conn (e ∷ entries) = (is_enter e.kind && e.conn == conn) || entered conn entries
+abbrev pub has_entered : ℕ → List Entry → Bool
+has_entered conn [] = false
+has_entered conn (e ∷ entries) = (is_enter e.kind && e.conn == conn) || has_entered conn entries
 
 -- whether an entry of this kind may come for a connection: it enters once, and all else comes after that; the server has
 -- the number 0
@@ -42,21 +48,21 @@ may_come has Upstream conn = conn == 0
 may_come has End conn = has conn
 
 -- the longest body of each kind
-abbrev pub most_body : EntryKind → ℕ
-most_body Enter = 0
-most_body Client = 131072
-most_body Upstream = 131072
-most_body End = 0
+abbrev pub longest_body : EntryKind → ℕ
+longest_body Enter = 0
+longest_body Client = LONGEST_BODY
+longest_body Upstream = LONGEST_BODY
+longest_body End = 0
 
 -- the head that a kind byte and the eight bytes after it spell, where the byte names a kind
-abbrev pub head_of : ℕ → List ℕ → Option Head
-head_of b bytes =
+abbrev pub entry_head : ℕ → List ℕ → Option Head
+entry_head b bytes =
     option_map (λ kind. record { kind = kind; conn = from_be_bytes w32 (take 4 bytes); size = from_be_bytes w32 (take 4 (drop 4 bytes)) }) (kind_of b)
 
 -- the head, or its fault: first of the kind, then of the connection, then of the length
-abbrev pub judged : (ℕ → Bool) → Option Head → Result Head BadEntryKind
-judged has None = Err Kind
-judged has (Some head) = if may_come has head.kind head.conn then (if nat_lt (most_body head.kind) head.size then Err Length else Ok head) else Err Conn
+abbrev pub sound_head : (ℕ → Bool) → Option Head → Result Head BadEntryKind
+sound_head has None = Err Kind
+sound_head has (Some head) = if may_come has head.kind head.conn then (if nat_lt (longest_body head.kind) head.size then Err Length else Ok head) else Err Conn
 
 -- the head, where there is room for its body
 abbrev pub with_room : ℕ → Result Head BadEntryKind → Result (Option Head) BadEntryKind
@@ -66,11 +72,11 @@ with_room room (Err bad) = Err bad
 -- the head of the entry that the bytes begin with, nothing where there is no byte, or the entry's fault
 abbrev pub first_head : (ℕ → Bool) → List ℕ → Result (Option Head) BadEntryKind
 first_head has [] = Ok None
-first_head has (b ∷ bytes) = if nat_lt (length bytes) 8 then Err Cut else with_room (length bytes - 8) (judged has (head_of b bytes))
+first_head has (b ∷ bytes) = if nat_lt (length bytes) (HEAD_LENGTH - 1) then Err Cut else with_room (length bytes - (HEAD_LENGTH - 1)) (sound_head has (entry_head b bytes))
 
 -- the entry with this head, at the front of the bytes
-abbrev pub entry_of : Head → List ℕ → Entry
-entry_of head bytes = record { kind = head.kind; conn = head.conn; body = take head.size (drop 9 bytes) }
+abbrev pub entry_with : Head → List ℕ → Entry
+entry_with head bytes = record { kind = head.kind; conn = head.conn; body = take head.size (drop HEAD_LENGTH bytes) }
 
 -- what a transcript holds: its whole entries before the first fault, the newest first, and that fault
 pub record Reading : Type 0 where
@@ -84,13 +90,13 @@ bad_entry place fault = record { place = min place (2 ^ 64 - 1); kind = fault }
 -- the reading where this stands first in the bytes from a place on, with the entries before it
 abbrev pub reading_with : Result (Option Head) BadEntryKind → ℕ → List Entry → List ℕ → (ℕ → List Entry → List ℕ → Reading) → Reading
 reading_with (Ok None) place entries bytes more = record { entries = entries; fault = None }
-reading_with (Ok (Some head)) place entries bytes more = more (place + 9 + head.size) (entry_of head bytes ∷ entries) (drop (9 + head.size) bytes)
+reading_with (Ok (Some head)) place entries bytes more = more (place + HEAD_LENGTH + head.size) (entry_with head bytes ∷ entries) (drop (HEAD_LENGTH + head.size) bytes)
 reading_with (Err fault) place entries bytes more = record { entries = entries; fault = Some (bad_entry place fault) }
 
 -- the reading of so many entries at most
 abbrev pub reading_by : ℕ → ℕ → List Entry → List ℕ → Reading
 reading_by zero place entries bytes = record { entries = entries; fault = None }
-reading_by (suc n) place entries bytes = reading_with (first_head (λ conn. entered conn entries) bytes) place entries bytes (reading_by n)
+reading_by (suc n) place entries bytes = reading_with (first_head (λ conn. has_entered conn entries) bytes) place entries bytes (reading_by n)
 
 -- the reading of the bytes from a place on, with the entries before it; an entry has a byte, so that as many turns as bytes are enough
 abbrev pub reading_on : ℕ → List Entry → List ℕ → Reading
@@ -98,4 +104,4 @@ reading_on place entries bytes = reading_by (length bytes) place entries bytes
 
 -- the reading of a whole transcript
 abbrev pub reading : List ℕ → Reading
-reading bytes = if starts_with nat_eq bytes magic then reading_on 8 [] (drop 8 bytes) else record { entries = []; fault = Some (bad_entry 0 Magic) }
+reading bytes = if starts_with nat_eq bytes magic then reading_on MAGIC_LENGTH [] (drop MAGIC_LENGTH bytes) else record { entries = []; fault = Some (bad_entry 0 Magic) }

@@ -1,6 +1,18 @@
-//! Entries: what a transcript tells, one thing after the other.
+//! An entry of a transcript: its kind, its connection and its body.
 
 use gate_bytes::Text;
+
+/// The kind byte of an entry at which a connection enters.
+pub const ENTER_BYTE: u8 = b'O';
+
+/// The kind byte of an entry with bytes of a client.
+pub const CLIENT_BYTE: u8 = b'A';
+
+/// The kind byte of an entry with bytes of the server.
+pub const UPSTREAM_BYTE: u8 = b'U';
+
+/// The kind byte of an entry at which a connection ends.
+pub const END_BYTE: u8 = b'E';
 
 /// What an entry tells.
 #[derive(Clone, Copy, Debug, PartialEq, Eq)]

@@ -1,19 +1,19 @@
-//! The head of an entry: its first nine bytes.
-ghost use Rattle.std.specs.Prelude.{◌≡◌, ◌≤◌, length, take, drop};
+//! The head of an entry, and what may be wrong with it.
+ghost use Rattle.std.specs.Prelude.{◌≡◌, ◌≤◌, ◌-◌, length, take, drop};
 ghost use Rattle.std.specs.Int.{w32, from_be_bytes};
 ghost use Rattle.gate_transcript.specs.Connections.{has};
-ghost use Rattle.gate_transcript.specs.Transcript.{kind_of, most_body, may_come, head_of, judged, first_head};
+ghost use Rattle.gate_transcript.specs.Transcript.{kind_of, longest_body, may_come, entry_head, sound_head, first_head};
 
 use crate::connections::Connections;
-use crate::entry::EntryKind;
+use crate::entry::{CLIENT_BYTE, END_BYTE, ENTER_BYTE, EntryKind, UPSTREAM_BYTE};
 use crate::fault::BadEntryKind;
 use gate_bytes::after;
 
-/// The length of a head.
-pub const HEAD: usize = 9;
+/// The length of an entry's head in bytes: a kind byte, and four bytes each for the connection and the body's length.
+pub const HEAD_LENGTH: usize = 9;
 
-/// The longest body of an entry with bytes of a client or of the server.
-const MOST: u32 = 131_072;
+/// The longest body of an entry with bytes of a client or of the server, in bytes.
+pub const LONGEST_BODY: u32 = 131_072;
 
 /// What the head of an entry says.
 #[derive(Clone, Copy, Debug, PartialEq, Eq)]
@@ -33,19 +33,19 @@ pub fn first_head(entered: &Connections, bytes: &[u8]) -> Result<Option<Head>, B
     let [kind, rest @ ..] = bytes else {
         return Ok(None);
     };
-    if rest.len() < HEAD - 1 {
+    if rest.len() < HEAD_LENGTH - 1 {
         return Err(BadEntryKind::Cut);
     }
-    let head = judge(entered, head_of(*kind, rest))?;
-    if rest.len() - (HEAD - 1) < head.size as usize {
+    let head = sound_head(entered, entry_head(*kind, rest))?;
+    if rest.len() - (HEAD_LENGTH - 1) < head.size as usize {
         return Err(BadEntryKind::Cut);
     }
     Ok(Some(head))
 }
 
-/// The head, or its fault.
-fn judge(entered: &Connections, head: Option<Head>) -> Result<Head, BadEntryKind>
-    ensures { result ≡ judged (has entered.now) head }
+/// The head, or its first fault: an unknown kind, a wrong connection, or a body that is too long.
+fn sound_head(entered: &Connections, head: Option<Head>) -> Result<Head, BadEntryKind>
+    ensures { result ≡ sound_head (has entered.now) head }
 {
     let Some(head) = head else {
         return Err(BadEntryKind::Kind);
@@ -53,7 +53,7 @@ fn judge(entered: &Connections, head: Option<Head>) -> Result<Head, BadEntryKind
     if !may_come(entered, head.kind, head.conn) {
         return Err(BadEntryKind::Conn);
     }
-    if head.size > most_body(head.kind) {
+    if head.size > longest_body(head.kind) {
         return Err(BadEntryKind::Length);
     }
     Ok(head)
@@ -72,21 +72,21 @@ fn may_come(entered: &Connections, kind: EntryKind, conn: u32) -> bool
 }
 
 /// The longest body of an entry of this kind.
-fn most_body(kind: EntryKind) -> u32
-    ensures { result ≡ most_body kind }
+fn longest_body(kind: EntryKind) -> u32
+    ensures { result ≡ longest_body kind }
 {
     match kind {
         EntryKind::Enter => 0,
-        EntryKind::Client => MOST,
-        EntryKind::Upstream => MOST,
+        EntryKind::Client => LONGEST_BODY,
+        EntryKind::Upstream => LONGEST_BODY,
         EntryKind::End => 0,
     }
 }
 
 /// What a kind byte and the eight bytes after it say.
-fn head_of(kind: u8, bytes: &[u8]) -> Option<Head>
-    requires { 8 ≤ length bytes.now }
-    ensures { result ≡ head_of kind bytes.now }
+fn entry_head(kind: u8, bytes: &[u8]) -> Option<Head>
+    requires { HEAD_LENGTH - 1 ≤ length bytes.now }
+    ensures { result ≡ entry_head kind bytes.now }
 {
     let kind = kind_of(kind)?;
     Some(Head {
@@ -101,10 +101,10 @@ fn kind_of(byte: u8) -> Option<EntryKind>
     ensures { result ≡ kind_of byte }
 {
     match byte {
-        b'O' => Some(EntryKind::Enter),
-        b'A' => Some(EntryKind::Client),
-        b'U' => Some(EntryKind::Upstream),
-        b'E' => Some(EntryKind::End),
+        ENTER_BYTE => Some(EntryKind::Enter),
+        CLIENT_BYTE => Some(EntryKind::Client),
+        UPSTREAM_BYTE => Some(EntryKind::Upstream),
+        END_BYTE => Some(EntryKind::End),
         _ => None,
     }
 }

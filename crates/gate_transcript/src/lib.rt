@@ -14,9 +14,10 @@ mod head;
 mod pending;
 mod reader;
 
-pub use entry::{Entry, EntryKind};
+pub use entry::{CLIENT_BYTE, END_BYTE, ENTER_BYTE, Entry, EntryKind, UPSTREAM_BYTE};
 pub use fault::{BadEntry, BadEntryKind, EntryFault};
-pub use reader::EntryReader;
+pub use head::{HEAD_LENGTH, LONGEST_BODY};
+pub use reader::{EntryReader, MAGIC, MAGIC_LENGTH};
 
 #[cfg(test)]
 mod tests;

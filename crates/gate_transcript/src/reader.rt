@@ -4,18 +4,21 @@ ghost use Rattle.std.specs.Prelude.{◌≡◌, ℕ, ◌≤◌, ◌+◌, List, []
 use crate::connections::Connections;
 use crate::entry::{Entry, EntryKind};
 use crate::fault::{BadEntry, BadEntryKind, EntryFault};
-use crate::head::{HEAD, Head, first_head};
+use crate::head::{HEAD_LENGTH, Head, first_head};
 use crate::pending::Pending;
 use gate_bytes::{Memory, Text, after, before};
 use std::alloc::Global;
 
-/// The eight bytes that a transcript begins with.
-const MAGIC: [u8; 8] = *b"RTSPGW1\n";
+/// The number of bytes that a transcript begins with.
+pub const MAGIC_LENGTH: usize = 8;
+
+/// The bytes that a transcript begins with.
+pub const MAGIC: [u8; MAGIC_LENGTH] = *b"RTSPGW1\n";
 
 /// How far a reader has come.
 #[derive(Clone, Copy)]
 pub enum Stage {
-    /// Fewer than eight bytes were fed.
+    /// Fewer bytes than the magic has were fed.
     Front,
     /// The magic was right.
     Entries,
@@ -37,10 +40,10 @@ impl EntryReader {
     ghost use Rattle.gate_transcript.specs.declared.entry.Entry.{Entry};
     ghost use Rattle.gate_transcript.specs.Connections.{has};
     ghost use Rattle.gate_transcript.specs.Transcript.{first_head};
-    ghost use Rattle.gate_transcript.specs.Reads.{ReadsSo, KeepsGiven, NextSays, GivenWhole, HasFault, TakesBytes, bytes_held};
-    ghost use Rattle.gate_transcript.specs.Steps.{PassesMagic, Steps, TakesEntry, IsSame};
+    ghost use Rattle.gate_transcript.specs.Reads.{ReadsSo, KeepsGiven, NextSays, EndsSo, HoldsFewer, bytes_held};
+    ghost use Rattle.gate_transcript.specs.Steps.{PassesMagic, Steps, RemovesEntry, IsSame, ending};
 
-    /// A reader that was fed nothing. It takes no memory.
+    /// A reader that was fed nothing. It needs no memory.
     pub fn new(alloc: Global) -> EntryReader
         ensures { ReadsSo result [] [] }
     {
@@ -72,12 +75,12 @@ impl EntryReader {
     {
         self.left.push(piece)?;
         let bytes = self.left.as_bytes();
-        if bytes.len() < MAGIC.len() {
+        if bytes.len() < MAGIC_LENGTH {
             return Ok(());
         }
         if bytes.starts_with(&MAGIC) {
-            self.left.skip(MAGIC.len());
-            self.place = 8;
+            self.left.skip(MAGIC_LENGTH);
+            self.place = MAGIC_LENGTH as u64;
             self.stage = Stage::Entries;
         } else {
             self.stage = Stage::Stopped(BadEntry {
@@ -100,7 +103,7 @@ impl EntryReader {
     /// transcript is answered from then on. Where memory runs out, the entry is still to come.
     pub fn next(&mut self, alloc: Global) -> Result<Option<Entry>, EntryFault>
         ensures says { NextSays self.old self.new result }
-        ensures less { TakesBytes (bytes_held self.old) (bytes_held self.new) result }
+        ensures less { HoldsFewer (bytes_held self.old) (bytes_held self.new) result }
     {
         match self.stage {
             Stage::Front => Ok(None),
@@ -124,12 +127,12 @@ impl EntryReader {
 
     /// Takes the entry with this head off the front.
     fn take_entry(&mut self, alloc: Global, head: Head) -> Result<Entry, Memory>
-        requires { 9 + head.size ≤ length self.old.left }
-        ensures ok { IfOk result (λ e. TakesEntry head self.old self.new e) }
+        requires { HEAD_LENGTH + head.size ≤ length self.old.left }
+        ensures ok { IfOk result (λ e. RemovesEntry head self.old self.new e) }
         ensures err { OnErr result (IsSame self.old self.new) }
     {
-        let end = HEAD + head.size as usize;
-        let body = Text::copy(alloc, after(before(self.left.as_bytes(), end), HEAD))?;
+        let end = HEAD_LENGTH + head.size as usize;
+        let body = Text::copy(alloc, after(before(self.left.as_bytes(), end), HEAD_LENGTH))?;
         if head.kind == EntryKind::Enter {
             self.entered.insert(head.conn)?;
         }
@@ -155,22 +158,35 @@ impl EntryReader {
         bad
     }
 
-    /// Whether the transcript may end where it was fed to: at the end of an entry. Meant for the time after `next`
-    /// answered nothing.
+    /// Whether the transcript may end after what was fed: exactly where all of it was given as entries. Else the
+    /// answer is the transcript's first fault, or, while whole entries are still to be given, Cut at the next of them.
+    #[tactic(auto, using(crate::proofs::ReaderLemmas::stopped_ends))]
     pub fn finish(&self) -> Result<(), BadEntry>
-        ensures { (stream : List ℕ) (given : List Entry) → ReadsSo self.now stream given → GivenWhole stream given → HasFault stream result }
+        ensures { (stream : List ℕ) (given : List Entry) → ReadsSo self.now stream given → EndsSo stream given result }
     {
         match self.stage {
             Stage::Front => Err(BadEntry {
                 place: 0,
                 kind: BadEntryKind::Magic,
             }),
-            Stage::Entries if self.left.as_bytes().is_empty() => Ok(()),
-            Stage::Entries => Err(BadEntry {
-                place: self.place,
-                kind: BadEntryKind::Cut,
-            }),
+            Stage::Entries => self.finish_entries(),
             Stage::Stopped(bad) => Err(bad),
         }
+    }
+
+    /// The same after the magic.
+    fn finish_entries(&self) -> Result<(), BadEntry>
+        requires { self.now.stage ≡ Stage.Entries }
+        ensures { result ≡ ending (first_head (has self.now.entered) self.now.left) self.now.place }
+    {
+        let kind = match first_head(&self.entered, self.left.as_bytes()) {
+            Ok(None) => return Ok(()),
+            Ok(Some(_)) => BadEntryKind::Cut,
+            Err(kind) => kind,
+        };
+        Err(BadEntry {
+            place: self.place,
+            kind,
+        })
     }
 }

@@ -1,4 +1,4 @@
-// Transcripts by hand, in pieces of each size.
+//! A transcript in pieces of each size, and the ends of a reader.
 ghost use Rattle.std.specs.Prelude.{◌<◌};
 
 use super::*;
@@ -6,130 +6,93 @@ use gate_bytes::Memory;
 use std::alloc::Global;
 use std::test::Fail;
 
-// What a transcript came to: its entries, spelled again, and its first fault.
-#[derive(Drop)]
-struct Told {
-    entries: Vec<u8>,
-    fault: Option<BadEntry>,
+// Two connections enter; bytes of the first, an entry of its without bytes, and its end; bytes of the server and of the
+// second connection.
+const ENTRIES: &[u8] =
+    b"O\0\0\0\x01\0\0\0\0O\0\0\0\x07\0\0\0\0A\0\0\0\x01\0\0\0\x02hiA\0\0\0\x01\0\0\0\0E\0\0\0\x01\0\0\0\0U\0\0\0\0\0\0\0\x03allA\0\0\0\x07\0\0\0\x05there";
+
+// The kind byte of an entry.
+fn byte_of(kind: EntryKind) -> u8 {
+    match kind {
+        EntryKind::Enter => ENTER_BYTE,
+        EntryKind::Client => CLIENT_BYTE,
+        EntryKind::Upstream => UPSTREAM_BYTE,
+        EntryKind::End => END_BYTE,
+    }
 }
 
 // Appends one entry as it stands in a transcript.
-fn spell(entries: &mut Vec<u8>, entry: &Entry) -> Result<(), Fail> {
-    entries.push(match entry.kind {
-        EntryKind::Enter => b'O',
-        EntryKind::Client => b'A',
-        EntryKind::Upstream => b'U',
-        EntryKind::End => b'E',
-    })?;
+fn push_entry(entries: &mut Vec<u8>, entry: &Entry) -> Result<(), Fail> {
+    entries.push(byte_of(entry.kind))?;
     entries.extend_from_slice(&entry.conn.to_be_bytes())?;
-    entries.push(0)?;
-    entries.push(0)?;
-    entries.push(0)?;
-    entries.push(u8::try_from(entry.body.len())?)?;
+    entries.extend_from_slice(&u32::try_from(entry.body.len())?.to_be_bytes())?;
     entries.extend_from_slice(entry.body.as_bytes())?;
     Ok(())
 }
 
-// Reads what is there, and answers whether the reader stopped at a fault.
-fn read_on(alloc: Global, reader: &mut EntryReader, told: &mut Told) -> Result<bool, Fail> {
+// Appends the entries that the reader can give, and answers its fault, where it has one.
+fn read_on(
+    alloc: Global,
+    reader: &mut EntryReader,
+    entries: &mut Vec<u8>,
+) -> Result<Option<BadEntry>, Fail> {
     for _ in 0..1000 {
         match reader.next(alloc) {
-            Ok(Some(entry)) => spell(&mut told.entries, &entry)?,
-            Ok(None) => return Ok(false),
-            Err(EntryFault::Bad(bad)) => {
-                told.fault = Some(bad);
-                return Ok(true);
-            }
+            Ok(Some(entry)) => push_entry(entries, &entry)?,
+            Ok(None) => return Ok(None),
+            Err(EntryFault::Bad(bad)) => return Ok(Some(bad)),
             Err(EntryFault::Memory) => break,
         }
     }
     Err(Memory)?
 }
 
-// Reads the transcript in pieces of this size.
-fn read(alloc: Global, bytes: &[u8], size: usize) -> Result<Told, Fail>
+// The entries of a transcript in pieces of this size, and how it ends.
+fn read(alloc: Global, bytes: &[u8], size: usize) -> Result<(Vec<u8>, Result<(), BadEntry>), Fail>
     requires { 0 < size }
 {
     let mut reader = EntryReader::new(alloc);
-    let mut told = Told {
-        entries: Vec::new(alloc),
-        fault: None,
-    };
+    let mut entries = Vec::new(alloc);
     for piece in bytes.chunks(size) {
         reader.feed(piece)?;
-        if read_on(alloc, &mut reader, &mut told)? {
-            return Ok(told);
-        }
+        read_on(alloc, &mut reader, &mut entries)?;
     }
-    told.fault = reader.finish().err();
-    Ok(told)
+    let end = reader.finish();
+    Ok((entries, end))
 }
 
 #[test]
 fn entries_come_however_they_are_cut(rt: HostRuntime) -> Result<(), Fail> {
-    let entries =
-        b"O\0\0\0\x01\0\0\0\0O\0\0\0\x07\0\0\0\0A\0\0\0\x01\0\0\0\x02hiA\0\0\0\x01\0\0\0\0E\0\0\0\x01\0\0\0\0U\0\0\0\0\0\0\0\x03allA\0\0\0\x07\0\0\0\x05there";
-    let mut bytes = b"RTSPGW1\n".to_vec(rt.alloc())?;
-    bytes.extend_from_slice(entries)?;
+    let mut bytes = MAGIC.to_vec(rt.alloc())?;
+    bytes.extend_from_slice(ENTRIES)?;
     for size in [1, 2, 7, 9, 100] {
-        let told = read(rt.alloc(), &bytes, size)?;
-        assert_eq!(rt; told.entries.as_slice(), entries.as_slice());
-        assert_eq!(rt; told.fault, None);
+        let (entries, end) = read(rt.alloc(), &bytes, size)?;
+        assert_eq!(rt; entries.as_slice(), ENTRIES);
+        assert_eq!(rt; end, Ok(()));
     }
     Ok(())
 }
 
 #[test]
-fn the_first_fault_has_its_place(rt: HostRuntime) -> Result<(), Fail> {
-    let rows: [(&[u8], u64, BadEntryKind); 18] = [
-        (b"", 0, BadEntryKind::Magic),
-        (b"RTSPGW1", 0, BadEntryKind::Magic),
-        (b"RTSPGW2\n", 0, BadEntryKind::Magic),
-        (b"RTSPGW1\nO\0\0\0\x01\0\0\0", 8, BadEntryKind::Cut),
-        (b"RTSPGW1\nX\0\0\0\x01\0\0\0\0", 8, BadEntryKind::Kind),
-        (b"RTSPGW1\nS\0\0\0\0\0\0\0\0", 8, BadEntryKind::Kind),
-        (b"RTSPGW1\nZ\0\0\0\0\0\0\0\x01E", 8, BadEntryKind::Kind),
-        (b"RTSPGW1\nU\0\0\0\x01\0\0\0\0", 8, BadEntryKind::Conn),
-        (b"RTSPGW1\nU\0\0\0\0\0\x02\0\x01", 8, BadEntryKind::Length),
-        (b"RTSPGW1\nU\0\0\0\0\0\x02\0\0", 8, BadEntryKind::Cut),
-        (
-            b"RTSPGW1\nU\0\0\0\0\0\0\0\x02hiA\0\0\0\0\0\0\0\0",
-            19,
-            BadEntryKind::Conn,
-        ),
-        (b"RTSPGW1\nA\0\0\0\x01\0\0\0\0", 8, BadEntryKind::Conn),
-        (
-            b"RTSPGW1\nO\0\0\0\x01\0\0\0\0E\0\0\0\x02\0\0\0\0",
-            17,
-            BadEntryKind::Conn,
-        ),
-        (
-            b"RTSPGW1\nO\0\0\0\x01\0\0\0\0O\0\0\0\x01\0\0\0\0",
-            17,
-            BadEntryKind::Conn,
-        ),
-        (b"RTSPGW1\nO\0\0\0\x01\0\0\0\x01", 8, BadEntryKind::Length),
-        (
-            b"RTSPGW1\nO\0\0\0\x01\0\0\0\0A\0\0\0\x01\0\x02\0\x01",
-            17,
-            BadEntryKind::Length,
-        ),
-        (
-            b"RTSPGW1\nO\0\0\0\x01\0\0\0\0A\0\0\0\x01\0\x02\0\0",
-            17,
-            BadEntryKind::Cut,
-        ),
-        (
-            b"RTSPGW1\nO\0\0\0\x01\0\0\0\0A\0\0\0\x01\0\0\0\x1fOPTIONS * RTSP/1.0\r\nCSeq: 1\r\n\r\nA\0\0",
-            57,
-            BadEntryKind::Cut,
-        ),
-    ];
-    for (bytes, place, kind) in rows {
-        for size in [1, 100] {
-            let told = read(rt.alloc(), bytes, size)?;
-            assert_eq!(rt; told.fault, Some(BadEntry { place, kind }), "at {place}");
-        }
-    }
+fn a_reader_ends_by_what_it_gave(rt: HostRuntime) -> Result<(), Fail> {
+    let alloc = rt.alloc();
+    let cut = Err(BadEntry {
+        place: 8,
+        kind: BadEntryKind::Cut,
+    });
+    let unknown = Err(BadEntry {
+        place: 17,
+        kind: BadEntryKind::Kind,
+    });
+    let mut reader = EntryReader::new(alloc);
+    reader.feed(b"RTSPGW1\nO\0\0\0\x01\0\0\0\0X\0\0\0\x01\0\0\0\0")?;
+    assert_eq!(rt; reader.finish(), cut);
+    assert!(rt; matches!(reader.next(alloc), Ok(Some(_))));
+    assert_eq!(rt; reader.finish(), unknown);
+    assert_eq!(rt;
+        reader.next(alloc).err(),
+        unknown.err().map(EntryFault::Bad)
+    );
+    assert_eq!(rt; reader.finish(), unknown);
     Ok(())
 }
