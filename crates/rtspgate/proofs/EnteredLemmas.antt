@@ -1,15 +1,15 @@
--- Who entered is told by what happened.
+-- Who has_entered is told by what happened.
 use Rattle.std.proofs.Common.{◌≡◌, ℕ, Bool, true, false, ◌==◌, ◌&&◌, ◌||◌, List, [], ◌∷◌, ◌++◌, refl, sym, ◌∙◌, ap, map}
 use Rattle.std.specs.Prelude.{is_none}
 use Rattle.rtsp_head.specs.Items.{Shape}
-use Rattle.gate_history.specs.History.{Happening, History, fault_in, enters_here, happened, entered as has_entered}
+use Rattle.gate_history.specs.History.{Happening, History, fault_in, enters_here, happened, entered as history_entered}
 use Rattle.gate_transcript.specs.declared.entry.Entry.{Entry}
 use Rattle.gate_transcript.specs.declared.entry.EntryKind.{EntryKind}
 use Rattle.gate_transcript.specs.declared.entry.EntryKind.TheVariants.{Enter, Client, Upstream, End}
-use Rattle.gate_transcript.specs.Transcript.{is_enter, entered}
+use Rattle.gate_transcript.specs.Transcript.{is_enter, has_entered}
 use Rattle.rtspgate.specs.declared.streams.Speaker.{Speaker}
 use Rattle.rtspgate.specs.declared.streams.Speaker.TheVariants as speaker
-use Rattle.rtspgate.specs.Events.{new_items, stream_of, said_by, told_by, events_of}
+use Rattle.rtspgate.specs.Events.{new_items, stream_of, said_by, events_by, events_of}
 
 abbrev any_enters : ℕ → List Happening → Bool
 any_enters i [] = false
@@ -31,15 +31,15 @@ or_end : (a b : Bool) → (a || b) ≡ false → b ≡ false
 or_end true b e = cc
 or_end false b e = e
 
-neither : (here open_still entered : Bool) → here ≡ false → entered ≡ false → ((here && open_still) || entered) ≡ false
-neither true open_still entered e f = cc
-neither false open_still entered e f = f
+neither : (here open_still has_entered : Bool) → here ≡ false → has_entered ≡ false → ((here && open_still) || has_entered) ≡ false
+neither true open_still has_entered e f = cc
+neither false open_still has_entered e f = f
 
-never_entered : (i : ℕ) (T : History) → any_enters i (happened T) ≡ false → has_entered i T ≡ false
+never_entered : (i : ℕ) (T : History) → any_enters i (happened T) ≡ false → history_entered i T ≡ false
 never_entered i [] none = refl
 never_entered i (e ∷ T) none =
     let parts = sym (any-append i (happened T) (e.happening ∷ [])) ∙ none in
-    neither (enters_here i e.happening) (is_none (fault_in T)) (has_entered i T)
+    neither (enters_here i e.happening) (is_none (fault_in T)) (history_entered i T)
     (or_front (enters_here i e.happening) false (or_end (any_enters i (happened T)) (enters_here i e.happening || false) parts))
     (never_entered i T (or_front (any_enters i (happened T)) (enters_here i e.happening || false) parts))
 
@@ -51,7 +51,7 @@ none_enters : (i : ℕ) (who : Speaker) (shapes : List Shape) → any_enters i (
 none_enters i who [] = refl
 none_enters i who (s ∷ shapes) = ap (λ b. b || any_enters i (map (said_by who) shapes)) (item_enters i who s) ∙ none_enters i who shapes
 
-told_enters : (i : ℕ) (kind : EntryKind) (entry : Entry) (earlier : List Entry) → any_enters i (told_by kind entry earlier) ≡ (is_enter kind && entry.conn == i)
+told_enters : (i : ℕ) (kind : EntryKind) (entry : Entry) (earlier : List Entry) → any_enters i (events_by kind entry earlier) ≡ (is_enter kind && entry.conn == i)
 told_enters i Enter entry earlier = at (entry.conn == i)
   where
     at : (b : Bool) → (b || false) ≡ b
@@ -67,14 +67,14 @@ swap_or true false = refl
 swap_or false true = refl
 swap_or false false = refl
 
-entered_events : (i : ℕ) (entries : List Entry) → any_enters i (events_of entries) ≡ entered i entries
+entered_events : (i : ℕ) (entries : List Entry) → any_enters i (events_of entries) ≡ has_entered i entries
 entered_events i [] = refl
 entered_events i (e ∷ entries) =
-    any-append i (events_of entries) (told_by e.kind e entries)
-    ∙ ap (λ b. b || any_enters i (told_by e.kind e entries)) (entered_events i entries)
-    ∙ ap (λ b. entered i entries || b) (told_enters i e.kind e entries)
-    ∙ swap_or (entered i entries) (is_enter e.kind && e.conn == i)
+    any-append i (events_of entries) (events_by e.kind e entries)
+    ∙ ap (λ b. b || any_enters i (events_by e.kind e entries)) (entered_events i entries)
+    ∙ ap (λ b. has_entered i entries || b) (told_enters i e.kind e entries)
+    ∙ swap_or (has_entered i entries) (is_enter e.kind && e.conn == i)
 
--- a connection that never entered by an entry never entered in their history
-pub entered_never : (i : ℕ) (T : History) (entries : List Entry) → happened T ≡ events_of entries → entered i entries ≡ false → has_entered i T ≡ false
+-- a connection that never has_entered by an entry never has_entered in their history
+pub entered_never : (i : ℕ) (T : History) (entries : List Entry) → happened T ≡ events_of entries → has_entered i entries ≡ false → history_entered i T ≡ false
 entered_never i T entries same none = never_entered i T (ap (any_enters i) same ∙ entered_events i entries ∙ none)

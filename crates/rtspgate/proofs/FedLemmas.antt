@@ -7,20 +7,20 @@ use Rattle.rtsp_frame.specs.Framing.{Held, Framed}
 use Rattle.rtspgate.specs.declared.streams.Streams.{Streams}
 use Rattle.rtspgate.specs.declared.streams.Speaker.{Speaker}
 use Rattle.rtspgate.specs.declared.streams.Speaker.TheVariants.{Server}
-use Rattle.rtspgate.specs.Fed.{Fed}
+use Rattle.rtspgate.specs.Framers.{FramerFed}
 use Rattle.rtspgate.specs.Streams.{framer_at}
 
-fed_framed : (f : Option Held) (held : Held) → Some held ≡ f → (stream : List ℕ) (given : List Shape) → Fed f stream given → Framed held stream given
-fed_framed f held e stream given h = subst (λ (x : Option Held). Fed x stream given) (sym e) h
+fed_framed : (f : Option Held) (held : Held) → Some held ≡ f → (stream : List ℕ) (given : List Shape) → FramerFed f stream given → Framed held stream given
+fed_framed f held e stream given h = subst (λ (x : Option Held). FramerFed x stream given) (sym e) h
 
 pub all_given : (result : Option Item) (f : Option Held) (old new : Held) → Some old ≡ f
     → IfNone result ((stream : List ℕ) (given : List Shape) → Framed old stream given → Framed new stream given × (given ≡ items_of stream))
-    → IfNone result ((stream : List ℕ) (given : List Shape) → Fed f stream given → given ≡ items_of stream)
+    → IfNone result ((stream : List ℕ) (given : List Shape) → FramerFed f stream given → given ≡ items_of stream)
 all_given None f old new e h = λ stream given fed. (h stream given (fed_framed f old e stream given fed)).1
 all_given (Some item) f old new e h = tt
 
 -- the server's framer is always there
 pub server_given : (streams : Streams) (speaker : Speaker) (result : Option Item) (new : Held) → speaker ≡ Server
     → IfNone result ((stream : List ℕ) (given : List Shape) → Framed streams.server stream given → Framed new stream given × (given ≡ items_of stream))
-    → IfNone result ((stream : List ℕ) (given : List Shape) → Fed (framer_at streams speaker) stream given → given ≡ items_of stream)
+    → IfNone result ((stream : List ℕ) (given : List Shape) → FramerFed (framer_at streams speaker) stream given → given ≡ items_of stream)
 server_given streams speaker result new server h = all_given result (framer_at streams speaker) streams.server new (sym (ap (framer_at streams) server)) h

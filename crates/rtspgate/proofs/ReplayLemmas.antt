@@ -12,25 +12,25 @@ use Rattle.gate_transcript.specs.declared.fault.EntryFault.{EntryFault}
 use Rattle.gate_transcript.specs.declared.fault.EntryFault.TheVariants as entry_fault
 use Rattle.gate_transcript.specs.declared.fault.BadEntry.{BadEntry}
 use Rattle.gate_transcript.specs.declared.reader.EntryReader.{EntryReader}
-use Rattle.gate_transcript.specs.Transcript.{entered, may_come}
+use Rattle.gate_transcript.specs.Transcript.{has_entered, may_come}
 use Rattle.gate_transcript.specs.Reads.{ReadsSo, NextSays}
 use Rattle.gate_transcript.proofs.ReaderLemmas.{given_front}
 use Rattle.gate_transcript.proofs.ProperLemmas.{reads_proper}
 use Rattle.rtspgate.specs.declared.streams.Streams.{Streams}
-use Rattle.rtspgate.specs.declared.run.TreatFault.{TreatFault}
-use Rattle.rtspgate.specs.declared.run.TreatFault.TheVariants.{Sink, Memory}
-use Rattle.rtspgate.specs.Events.{told_by, events_of}
+use Rattle.rtspgate.specs.declared.run.ProcessFault.{ProcessFault}
+use Rattle.rtspgate.specs.declared.run.ProcessFault.TheVariants.{Sink, Memory}
+use Rattle.rtspgate.specs.Events.{events_by, events_of}
 use Rattle.rtspgate.specs.Runs.{TakesEntry, ToldInPart, EntersFresh}
-use Rattle.rtspgate.specs.Stops.{stop_at, stop_of}
-use Rattle.rtspgate.specs.Replays.{SoFar, TellsFront, Interrupted, TreatedWhole, TreatedToFault, Treated}
+use Rattle.rtspgate.specs.Stops.{stop_of_reader, stop_of_event}
+use Rattle.rtspgate.specs.Replays.{ReplayedSoFar, TellsFront, IsInterrupted, ProcessedAll, ProcessedToFault, Processed}
 use Rattle.rtspgate.proofs.EnteredLemmas.{entered_never}
 use Rattle.rtspgate.proofs.RunLemmas.{happened-append, grows_on, grows_on_in_part}
 use Rattle.rtspgate.proofs.StandingLemmas.{not_entered_fresh, stood}
 
 fresh_by : (kind : EntryKind) (mux : Mux) (history : History) (entries : List Entry) (conn : ℕ) → Stands mux history → happened history ≡ events_of entries
-    → may_come (λ c. entered c entries) kind conn ≡ true → EntersFresh kind mux conn
+    → may_come (λ c. has_entered c entries) kind conn ≡ true → EntersFresh kind mux conn
 fresh_by Enter mux history entries conn stands told may =
-    not_entered_fresh mux history stands conn (entered_never conn history entries told (not_true (entered conn entries) may))
+    not_entered_fresh mux history stands conn (entered_never conn history entries told (not_true (has_entered conn entries) may))
   where
     not_true : (b : Bool) → not b ≡ true → b ≡ false
     not_true true e = cc
@@ -41,15 +41,15 @@ fresh_by End mux history entries conn stands told may = tt
 
 -- a connection that enters by the next entry is new
 pub enters_fresh : (bases : Bases) (reader next : EntryReader) (streams : Streams) (mux : Mux) (bytes : List ℕ) (before now : Option (List ℕ)) (e : Entry)
-    → SoFar bases reader streams mux bytes before now → NextSays reader next (Ok (Some e)) → EntersFresh e.kind mux e.conn
+    → ReplayedSoFar bases reader streams mux bytes before now → NextSays reader next (Ok (Some e)) → EntersFresh e.kind mux e.conn
 enters_fresh bases reader next streams mux bytes before now e s says =
     let proper = reads_proper next bytes (e ∷ s.entries) (says bytes s.entries s.reads) in
     fresh_by e.kind mux s.history s.entries e.conn s.stands s.told proper.0
 
 -- one entry more
 pub so_far_more : (bases : Bases) (reader next : EntryReader) (streams streams_now : Streams) (mux mux_now : Mux) (bytes : List ℕ) (before mid now : Option (List ℕ)) (e : Entry)
-    → SoFar bases reader streams mux bytes before mid → NextSays reader next (Ok (Some e)) → TakesEntry streams streams_now mux mux_now e mid now (Ok tt)
-    → SoFar bases next streams_now mux_now bytes before now
+    → ReplayedSoFar bases reader streams mux bytes before mid → NextSays reader next (Ok (Some e)) → TakesEntry streams streams_now mux mux_now e mid now (Ok tt)
+    → ReplayedSoFar bases next streams_now mux_now bytes before now
 so_far_more bases reader next streams streams_now mux mux_now bytes before mid now e s says t = record {
   entries = e ∷ s.entries;
   history = t.more ++ s.history;
@@ -66,7 +66,7 @@ so_far_more bases reader next streams streams_now mux mux_now bytes before mid n
 
 -- no entry more
 pub so_far_whole : (bases : Bases) (reader next : EntryReader) (streams : Streams) (mux : Mux) (bytes : List ℕ) (before now : Option (List ℕ))
-    → SoFar bases reader streams mux bytes before now → NextSays reader next (Ok None) → TreatedWhole bases next streams mux bytes before now
+    → ReplayedSoFar bases reader streams mux bytes before now → NextSays reader next (Ok None) → ProcessedAll bases next streams mux bytes before now
 so_far_whole bases reader next streams mux bytes before now s says =
     let after = says bytes s.entries s.reads in record {
       so_far = record { entries = s.entries; history = s.history; reads = after.0; fit = s.fit; stands = s.stands; based = s.based; told = s.told; grown = s.grown };
@@ -74,7 +74,7 @@ so_far_whole bases reader next streams mux bytes before now s says =
     }
 
 pub so_far_bad : (bases : Bases) (reader next : EntryReader) (streams : Streams) (mux : Mux) (bytes : List ℕ) (before now : Option (List ℕ)) (bad : BadEntry)
-    → SoFar bases reader streams mux bytes before now → NextSays reader next (Err (entry_fault.Bad bad)) → TreatedToFault bases bad next streams mux bytes before now
+    → ReplayedSoFar bases reader streams mux bytes before now → NextSays reader next (Err (entry_fault.Bad bad)) → ProcessedToFault bases bad next streams mux bytes before now
 so_far_bad bases reader next streams mux bytes before now bad s says =
     let after = says bytes s.entries s.reads in record {
       so_far = record { entries = s.entries; history = s.history; reads = after.0; fit = s.fit; stands = s.stands; based = s.based; told = s.told; grown = s.grown };
@@ -83,7 +83,7 @@ so_far_bad bases reader next streams mux bytes before now bad s says =
 
 -- an interruption between two entries
 pub so_far_interrupted : (bases : Bases) (reader : EntryReader) (streams : Streams) (mux : Mux) (bytes : List ℕ) (before now : Option (List ℕ))
-    → SoFar bases reader streams mux bytes before now → Interrupted bases bytes before now
+    → ReplayedSoFar bases reader streams mux bytes before now → IsInterrupted bases bytes before now
 so_far_interrupted bases reader streams mux bytes before now s =
     let given = given_front reader bytes s.entries s.reads in record {
       history = s.history;
@@ -99,13 +99,13 @@ so_far_interrupted bases reader streams mux bytes before now s =
 
 -- a fault of the reader
 pub so_far_faulted : (bases : Bases) (reader next : EntryReader) (streams : Streams) (mux : Mux) (bytes : List ℕ) (before now : Option (List ℕ)) (fault : EntryFault)
-    → SoFar bases reader streams mux bytes before now → NextSays reader next (Err fault) → Treated bases (Err (stop_at fault)) next streams mux bytes before now
+    → ReplayedSoFar bases reader streams mux bytes before now → NextSays reader next (Err fault) → Processed bases (Err (stop_of_reader fault)) next streams mux bytes before now
 so_far_faulted bases reader next streams mux bytes before now (entry_fault.Bad bad) s says = so_far_bad bases reader next streams mux bytes before now bad s says
 so_far_faulted bases reader next streams mux bytes before now entry_fault.Memory s says = so_far_interrupted bases reader streams mux bytes before now s
 
 -- an interruption within an entry
 tells_part : (next : EntryReader) (bytes : List ℕ) (entries : List Entry) (e : Entry) (history more : History)
-    → ReadsSo next bytes (e ∷ entries) → happened history ≡ events_of entries → ToldInPart (happened more) (told_by e.kind e entries)
+    → ReadsSo next bytes (e ∷ entries) → happened history ≡ events_of entries → ToldInPart (happened more) (events_by e.kind e entries)
     → TellsFront bytes (more ++ history)
 tells_part next bytes entries e history more reads told part =
     let given = given_front next bytes (e ∷ entries) reads in record {
@@ -122,9 +122,9 @@ tells_part next bytes entries e history more reads told part =
       };
     }
 
-pub so_far_stopped : (bases : Bases) (reader next : EntryReader) (streams streams_now : Streams) (mux mux_now : Mux) (bytes : List ℕ) (before mid now : Option (List ℕ)) (e : Entry) (fault : TreatFault)
-    → SoFar bases reader streams mux bytes before mid → NextSays reader next (Ok (Some e)) → TakesEntry streams streams_now mux mux_now e mid now (Err fault)
-    → Treated bases (Err (stop_of fault)) next streams_now mux_now bytes before now
+pub so_far_stopped : (bases : Bases) (reader next : EntryReader) (streams streams_now : Streams) (mux mux_now : Mux) (bytes : List ℕ) (before mid now : Option (List ℕ)) (e : Entry) (fault : ProcessFault)
+    → ReplayedSoFar bases reader streams mux bytes before mid → NextSays reader next (Ok (Some e)) → TakesEntry streams streams_now mux mux_now e mid now (Err fault)
+    → Processed bases (Err (stop_of_event fault)) next streams_now mux_now bytes before now
 so_far_stopped bases reader next streams streams_now mux mux_now bytes before mid now e Sink s says t = record {
   history = t.more ++ s.history;
   is_history = stood bases mux_now (t.more ++ s.history) (t.advances.stands s.history s.stands) (t.advances.bases ∙ s.based);

@@ -16,10 +16,10 @@ use Rattle.gate_transcript.specs.declared.entry.EntryKind.TheVariants.{Enter, Cl
 use Rattle.rtspgate.specs.declared.streams.Streams.{Streams}
 use Rattle.rtspgate.specs.declared.streams.Speaker.{Speaker}
 use Rattle.rtspgate.specs.declared.streams.Speaker.TheVariants as speaker
-use Rattle.rtspgate.specs.declared.run.TreatFault.{TreatFault}
-use Rattle.rtspgate.specs.declared.run.TreatFault.TheVariants.{Sink, Memory}
-use Rattle.rtspgate.specs.Events.{speaks, stream_of, said_by, told_by}
-use Rattle.rtspgate.specs.Fed.{Fed}
+use Rattle.rtspgate.specs.declared.run.ProcessFault.{ProcessFault}
+use Rattle.rtspgate.specs.declared.run.ProcessFault.TheVariants.{Sink, Memory}
+use Rattle.rtspgate.specs.Events.{speaks, stream_of, said_by, events_by}
+use Rattle.rtspgate.specs.Framers.{FramerFed}
 use Rattle.rtspgate.specs.Streams.{framer_at}
 use Rattle.rtspgate.specs.Written.{records, records_after, records_of}
 use Rattle.rtspgate.specs.Runs.{Advances, WritesAfter, EventTaken, TakesEvent, TakesItems, TakesSome, TakesBytes, IsFront, StreamsFit, ToldBy, TakesEntry}
@@ -56,7 +56,7 @@ advances_twice before between now one other first next =
       bases = next.bases ∙ first.bases;
     }
 
-writes_twice : (T : History) (before between now : Option (List ℕ)) (one other : History) (r : Result (Unit {0}) TreatFault)
+writes_twice : (T : History) (before between now : Option (List ℕ)) (one other : History) (r : Result (Unit {0}) ProcessFault)
     → Grows before between (records_after T one) → WritesAfter between now (one ++ T) other r → WritesAfter before now T (other ++ one) r
 writes_twice T before between now one other (Ok u) first next =
     subst (λ (l : List ℕ). Grows before now l) (sym (records_after-append T one other))
@@ -111,7 +111,7 @@ taken_in_part before now event outcome written_before written_now steps based gr
 }
 
 -- the items of one connection
-pub fed_front : (framer : Option Held) (stream : List ℕ) (given : List Shape) → Fed framer stream given → IsFront given (items_of stream)
+pub fed_front : (framer : Option Held) (stream : List ℕ) (given : List Shape) → FramerFed framer stream given → IsFront given (items_of stream)
 fed_front None stream given fed = record {
   more = [];
   whole = append-nil given ∙ fed.1 ∙ sym (ap items_of fed.0);
@@ -125,13 +125,13 @@ takes_none streams mux who written = record {
   told = refl;
   advances = record { stands = λ T s. s; bases = refl };
   grown = λ T s. grows_nothing written;
-  fed = λ stream given fed. subst (λ (l : List Shape). Fed (framer_at streams who) stream l) (sym (append-nil given)) fed;
+  fed = λ stream given fed. subst (λ (l : List Shape). FramerFed (framer_at streams who) stream l) (sym (append-nil given)) fed;
   others = λ other apart. refl;
 }
 
 -- what `next` says of a framer that gave an item
 abbrev pub GivesItem : Streams → Streams → Speaker → Shape → Type 0
-GivesItem before now who shape = (stream : List ℕ) (given : List Shape) → Fed (framer_at before who) stream given → Fed (framer_at now who) stream (given ++ shape ∷ [])
+GivesItem before now who shape = (stream : List ℕ) (given : List Shape) → FramerFed (framer_at before who) stream given → FramerFed (framer_at now who) stream (given ++ shape ∷ [])
 
 pub takes_one_more : (streams between streams_now : Streams) (mux mid now : Mux) (who : Speaker) (shape : Shape) (written written_mid written_now : Option (List ℕ))
     → TakesSome streams between mux mid who written written_mid → GivesItem between streams_now who shape
@@ -150,7 +150,7 @@ takes_one_more streams between streams_now mux mid now who shape written written
   grown = λ T s.
       writes_twice T written written_mid written_now so_far.more event.more (Ok tt) (so_far.grown T s) (event.written (so_far.more ++ T) (so_far.advances.stands T s));
   fed = λ stream given fed.
-      subst (λ (l : List Shape). Fed (framer_at streams_now who) stream l) (append_assoc given so_far.shapes (shape ∷ []))
+      subst (λ (l : List Shape). FramerFed (framer_at streams_now who) stream l) (append_assoc given so_far.shapes (shape ∷ []))
       (gives stream (given ++ so_far.shapes) (so_far.fed stream given fed));
   others = λ other apart. others other apart ∙ so_far.others other apart;
 }
@@ -158,8 +158,8 @@ takes_one_more streams between streams_now mux mid now who shape written written
 -- what `next` says of a framer that gave none
 pub takes_all : (streams between streams_now : Streams) (mux now : Mux) (who : Speaker) (written written_now : Option (List ℕ))
     → TakesSome streams between mux now who written written_now
-    → ((stream : List ℕ) (given : List Shape) → Fed (framer_at between who) stream given → Fed (framer_at streams_now who) stream given)
-    → ((stream : List ℕ) (given : List Shape) → Fed (framer_at between who) stream given → given ≡ items_of stream)
+    → ((stream : List ℕ) (given : List Shape) → FramerFed (framer_at between who) stream given → FramerFed (framer_at streams_now who) stream given)
+    → ((stream : List ℕ) (given : List Shape) → FramerFed (framer_at between who) stream given → given ≡ items_of stream)
     → ((other : Speaker) → other ≢ who → framer_at streams_now other ≡ framer_at between other)
     → TakesItems streams streams_now mux now who written written_now (Ok tt)
 takes_all streams between streams_now mux now who written written_now so_far kept all others = record {
@@ -174,7 +174,7 @@ takes_all streams between streams_now mux now who written written_now so_far kep
 }
 
 -- an event that failed ends the taking
-pub takes_to_fault : (streams between streams_now : Streams) (mux mid now : Mux) (who : Speaker) (shape : Shape) (written written_mid written_now : Option (List ℕ)) (fault : TreatFault)
+pub takes_to_fault : (streams between streams_now : Streams) (mux mid now : Mux) (who : Speaker) (shape : Shape) (written written_mid written_now : Option (List ℕ)) (fault : ProcessFault)
     → TakesSome streams between mux mid who written written_mid → GivesItem between streams_now who shape
     → ((other : Speaker) → other ≢ who → framer_at streams_now other ≡ framer_at between other)
     → TakesEvent mid now (said_by who shape) written_mid written_now (Err fault)
@@ -192,7 +192,7 @@ takes_to_fault streams between streams_now mux mid now who shape written written
       writes_twice T written written_mid written_now so_far.more event.more (Err Sink) (so_far.grown T s) (event.written (so_far.more ++ T) (so_far.advances.stands T s));
   fed = λ stream given fed.
       fed_front (framer_at streams_now who) stream (given ++ (so_far.shapes ++ shape ∷ []))
-      (subst (λ (l : List Shape). Fed (framer_at streams_now who) stream l) (append_assoc given so_far.shapes (shape ∷ []))
+      (subst (λ (l : List Shape). FramerFed (framer_at streams_now who) stream l) (append_assoc given so_far.shapes (shape ∷ []))
       (gives stream (given ++ so_far.shapes) (so_far.fed stream given fed)));
   others = λ other apart. others other apart ∙ so_far.others other apart;
 }
@@ -212,8 +212,8 @@ takes_to_fault streams between streams_now mux mid now who shape written written
 }
 
 -- the bytes of one speaker
-pub takes_bytes : (streams fed now : Streams) (mux mux_now : Mux) (who : Speaker) (piece : List ℕ) (written written_now : Option (List ℕ)) (result : Result (Unit {0}) TreatFault)
-    → ((stream : List ℕ) (given : List Shape) → Fed (framer_at streams who) stream given → Fed (framer_at fed who) (stream ++ piece) given)
+pub takes_bytes : (streams fed now : Streams) (mux mux_now : Mux) (who : Speaker) (piece : List ℕ) (written written_now : Option (List ℕ)) (result : Result (Unit {0}) ProcessFault)
+    → ((stream : List ℕ) (given : List Shape) → FramerFed (framer_at streams who) stream given → FramerFed (framer_at fed who) (stream ++ piece) given)
     → ((other : Speaker) → other ≢ who → framer_at fed other ≡ framer_at streams other)
     → TakesItems fed now mux mux_now who written written_now result
     → TakesBytes streams now mux mux_now who piece written written_now result
@@ -234,7 +234,7 @@ takes_no_bytes streams now mux who piece written = record {
 }
 
 -- entries
-pub takes_client : (streams now : Streams) (mux mux_now : Mux) (entry : Entry) (written written_now : Option (List ℕ)) (result : Result (Unit {0}) TreatFault) → entry.kind ≡ Client
+pub takes_client : (streams now : Streams) (mux mux_now : Mux) (entry : Entry) (written written_now : Option (List ℕ)) (result : Result (Unit {0}) ProcessFault) → entry.kind ≡ Client
     → TakesBytes streams now mux mux_now (speaker.Client entry.conn) entry.body written written_now result → TakesEntry streams now mux mux_now entry written written_now result
 takes_client streams now mux mux_now entry written written_now result kind t = record {
   more = t.more;
@@ -243,7 +243,7 @@ takes_client streams now mux mux_now entry written written_now result kind t = r
   told = λ earlier fit. told_client result now entry earlier (happened t.more) kind (t.told earlier fit);
 }
 
-pub takes_server : (streams now : Streams) (mux mux_now : Mux) (entry : Entry) (written written_now : Option (List ℕ)) (result : Result (Unit {0}) TreatFault) → entry.kind ≡ Upstream
+pub takes_server : (streams now : Streams) (mux mux_now : Mux) (entry : Entry) (written written_now : Option (List ℕ)) (result : Result (Unit {0}) ProcessFault) → entry.kind ≡ Upstream
     → TakesBytes streams now mux mux_now speaker.Server entry.body written written_now result → TakesEntry streams now mux mux_now entry written written_now result
 takes_server streams now mux mux_now entry written written_now result kind t = record {
   more = t.more;
@@ -256,7 +256,7 @@ no_bytes : (streams : Streams) (entry : Entry) (earlier : List Entry) → ((who 
 no_bytes streams entry earlier none fit =
     λ who.
     let same : stream_of who (entry ∷ earlier) ≡ stream_of who earlier = ap (λ (l : List ℕ). stream_of who earlier ++ l) (silent who entry (none who)) ∙ append-nil (stream_of who earlier) in
-    subst (λ (l : List ℕ). Fed (framer_at streams who) l (items_of l)) (sym same) (fit who)
+    subst (λ (l : List ℕ). FramerFed (framer_at streams who) l (items_of l)) (sym same) (fit who)
 
 enter_silent : (who : Speaker) (conn : ℕ) → speaks who Enter conn ≡ false
 enter_silent (speaker.Client i) conn = refl
@@ -275,7 +275,7 @@ takes_enter streams before now entry written kind steps based = record {
   written = λ T s. grows_nothing written;
   told = λ earlier fit. (
     no_bytes streams entry earlier (λ who. ap (λ (k : EntryKind). speaks who k entry.conn) kind ∙ enter_silent who entry.conn) fit,
-    ap (λ (k : EntryKind). told_by k entry earlier) (sym kind),
+    ap (λ (k : EntryKind). events_by k entry earlier) (sym kind),
   );
 }
 
@@ -286,25 +286,25 @@ takes_no_enter streams before now entry written kept based = record {
   more = [];
   advances = record { stands = kept; bases = based };
   written = λ T s. grows_nothing written;
-  told = λ earlier fit. record { more = told_by entry.kind entry earlier; whole = refl };
+  told = λ earlier fit. record { more = events_by entry.kind entry earlier; whole = refl };
 }
 
-told_end : (streams : Streams) (entry : Entry) (earlier : List Entry) (told : List Happening) (result : Result (Unit {0}) TreatFault) → entry.kind ≡ End
+told_end : (streams : Streams) (entry : Entry) (earlier : List Entry) (told : List Happening) (result : Result (Unit {0}) ProcessFault) → entry.kind ≡ End
     → StreamsFit streams earlier → EventTaken (ends entry.conn) told result → ToldBy result streams entry earlier told
 told_end streams entry earlier told (Ok u) kind fit event = (
   no_bytes streams entry earlier (λ who. ap (λ (k : EntryKind). speaks who k entry.conn) kind ∙ end_silent who entry.conn) fit,
-  event ∙ ap (λ (k : EntryKind). told_by k entry earlier) (sym kind),
+  event ∙ ap (λ (k : EntryKind). events_by k entry earlier) (sym kind),
 )
 told_end streams entry earlier told (Err Sink) kind fit event = record {
   more = [];
-  whole = append-nil told ∙ event ∙ ap (λ (k : EntryKind). told_by k entry earlier) (sym kind);
+  whole = append-nil told ∙ event ∙ ap (λ (k : EntryKind). events_by k entry earlier) (sym kind);
 }
 told_end streams entry earlier told (Err Memory) kind fit event = record {
-  more = told_by entry.kind entry earlier;
-  whole = ap (λ (l : List Happening). l ++ told_by entry.kind entry earlier) event;
+  more = events_by entry.kind entry earlier;
+  whole = ap (λ (l : List Happening). l ++ events_by entry.kind entry earlier) event;
 }
 
-pub takes_end : (streams : Streams) (before now : Mux) (entry : Entry) (written_before written_now : Option (List ℕ)) (result : Result (Unit {0}) TreatFault) → entry.kind ≡ End
+pub takes_end : (streams : Streams) (before now : Mux) (entry : Entry) (written_before written_now : Option (List ℕ)) (result : Result (Unit {0}) ProcessFault) → entry.kind ≡ End
     → TakesEvent before now (ends entry.conn) written_before written_now result
     → TakesEntry streams streams before now entry written_before written_now result
 takes_end streams before now entry written_before written_now result kind event = record {

@@ -23,17 +23,17 @@ use Rattle.rtspgate.specs.declared.streams.Speaker.{Speaker}
 use Rattle.rtspgate.specs.declared.replay.Stop.{Stop}
 use Rattle.rtspgate.specs.declared.replay.Stop.TheVariants as stop
 use Rattle.rtspgate.specs.Events.{events_of}
-use Rattle.rtspgate.specs.Fed.{Fed}
+use Rattle.rtspgate.specs.Framers.{FramerFed}
 use Rattle.rtspgate.specs.Streams.{framer_at}
-use Rattle.rtspgate.specs.Stops.{status_of}
-use Rattle.rtspgate.specs.Replays.{limit, ends_by, cut_by_kind, cut_by_limit, ends_as, TakenFrom, SoFar, Interrupted, TreatedWhole, Treated, IsAtEnd, Ended, Broken, ReplaySays, FaultRose, StopRose, Going}
+use Rattle.rtspgate.specs.Stops.{status_of_stop}
+use Rattle.rtspgate.specs.Replays.{limit, ends_by, cut_by_kind, cut_by_limit, ends_as, TakenFrom, ReplayedSoFar, IsInterrupted, ProcessedAll, Processed, IsAtEnd, EndsReplay, EndsBySourceFault, ReplaySays, FaultRose, StopRose, IsReplaying, TakesWithin, TakesOne}
 use Rattle.rtspgate.proofs.StandingLemmas.{stood}
 use Rattle.rtspgate.proofs.RunLemmas.{grows_nothing}
 
 -- a piece more was fed
 pub so_far_fed : (bases : Bases) (reader next : EntryReader) (streams : Streams) (mux : Mux) (bytes piece : List ℕ) (before now : Option (List ℕ))
-    → SoFar bases reader streams mux bytes before now → ((stream : List ℕ) (given : List Entry) → ReadsSo reader stream given → ReadsSo next (stream ++ piece) given)
-    → SoFar bases next streams mux (bytes ++ piece) before now
+    → ReplayedSoFar bases reader streams mux bytes before now → ((stream : List ℕ) (given : List Entry) → ReadsSo reader stream given → ReadsSo next (stream ++ piece) given)
+    → ReplayedSoFar bases next streams mux (bytes ++ piece) before now
 so_far_fed bases reader next streams mux bytes piece before now s fed = record {
   entries = s.entries;
   history = s.history;
@@ -46,7 +46,7 @@ so_far_fed bases reader next streams mux bytes piece before now s fed = record {
 }
 
 -- an interruption before a piece is one after it
-pub interrupted_more : (bases : Bases) (bytes piece : List ℕ) (before now : Option (List ℕ)) → Interrupted bases bytes before now → Interrupted bases (bytes ++ piece) before now
+pub interrupted_more : (bases : Bases) (bytes piece : List ℕ) (before now : Option (List ℕ)) → IsInterrupted bases bytes before now → IsInterrupted bases (bytes ++ piece) before now
 interrupted_more bases bytes piece before now i = record {
   history = i.history;
   is_history = i.is_history;
@@ -115,21 +115,21 @@ whole_end (Some whole) left bytes history entries taken at_end short given told 
       told ∙ ap events_of (sym given.entries) ∙ ap (λ (l : List ℕ). events_of (reading l).entries) (sym (ap (take limit) same ∙ take_short limit bytes short)),
     )
 
-finish_by : (bases : Bases) (fault : Option BadEntry) (all left before now : Option (List ℕ)) → IsAtEnd left → Ended bases (ends_by fault) all before now → ReplaySays bases (ends_by fault) all left before now
+finish_by : (bases : Bases) (fault : Option BadEntry) (all left before now : Option (List ℕ)) → IsAtEnd left → EndsReplay bases (ends_by fault) all before now → ReplaySays bases (ends_by fault) all left before now
 finish_by bases None all left before now at_end ended = (ended, at_end)
 finish_by bases (Some bad) all left before now at_end ended = ended
 
 pub finish_says : (bases : Bases) (reader : EntryReader) (streams : Streams) (mux : Mux) (room : ℕ) (all left before now : Option (List ℕ)) (status : Status)
-    → (going : Going bases reader streams mux room all left before now) → IsAtEnd left → status ≡ ends_by (reading going.bytes).fault → ReplaySays bases status all left before now
+    → (going : IsReplaying bases reader streams mux room all left before now) → IsAtEnd left → status ≡ ends_by (reading going.bytes).fault → ReplaySays bases status all left before now
 finish_says bases reader streams mux room all left before now status going at_end answer =
-    let s = going.treated.so_far in
+    let s = going.processed.so_far in
     let short : length going.bytes ≤ limit = omega (arith, going.room_left) in
     subst (λ (x : Status). ReplaySays bases x all left before now) (sym answer)
     (finish_by bases (reading going.bytes).fault all left before now at_end (record {
       history = s.history;
       is_history = stood bases mux s.history s.stands s.based;
       grown = s.grown;
-      ends = whole_end all left going.bytes s.history s.entries going.taken at_end short going.treated.whole s.told;
+      ends = whole_end all left going.bytes s.history s.entries going.taken at_end short going.processed.whole s.told;
     }))
 
 finish_rose : (fault : Option BadEntry) (a b c d : ℕ) → FaultRose (ends_by fault) a b c d
@@ -173,7 +173,7 @@ fault_ends (Some whole) left bytes history entries bad taken short stops told =
     )
 
 pub stop_says : (bases : Bases) (stop : Stop) (reader : EntryReader) (streams : Streams) (mux : Mux) (bytes : List ℕ) (all left before now : Option (List ℕ))
-    → TakenFrom all left bytes → length bytes ≤ limit → Treated bases (Err stop) reader streams mux bytes before now → ReplaySays bases (status_of stop) all left before now
+    → TakenFrom all left bytes → length bytes ≤ limit → Processed bases (Err stop) reader streams mux bytes before now → ReplaySays bases (status_of_stop stop) all left before now
 stop_says bases (stop.Bad bad) reader streams mux bytes all left before now taken short t = record {
   history = t.so_far.history;
   is_history = stood bases mux t.so_far.history t.so_far.stands t.so_far.based;
@@ -185,15 +185,16 @@ stop_says bases stop.Memory reader streams mux bytes all left before now taken s
 
 -- the source fails
 pub broken_says : (bases : Bases) (reader : EntryReader) (streams : Streams) (mux : Mux) (room : ℕ) (all left left_now before now : Option (List ℕ))
-    → Going bases reader streams mux room all left before now → left_now ≡ left → Broken bases all left_now before now
+    → IsReplaying bases reader streams mux room all left before now → left_now ≡ left → EndsBySourceFault bases all left_now before now
 broken_says bases reader streams mux room all left left_now before now going kept =
-    let s = going.treated.so_far in record {
+    let s = going.processed.so_far in record {
       bytes = going.bytes;
       taken = subst (λ (o : Option (List ℕ)). TakenFrom all o going.bytes) (sym kept) going.taken;
       history = s.history;
       is_history = stood bases mux s.history s.stands s.based;
       grown = s.grown;
-      told = s.told ∙ ap events_of (sym going.treated.whole.entries);
+      told = s.told ∙ ap events_of (sym going.processed.whole.entries);
+      sound = going.processed.whole.unfinished;
     }
 
 -- the source holds more than the limit
@@ -220,25 +221,29 @@ too_long_ends (Some whole) left bytes history entries taken more full long given
       told ∙ ap events_of (sym given.entries) ∙ ap (λ (l : List ℕ). events_of (reading l).entries) (sym cut),
     )
 
-pub too_long_says : (bases : Bases) (reader : EntryReader) (streams : Streams) (mux : Mux) (all left before now : Option (List ℕ))
-    → Going bases reader streams mux 0 all left before now → IfSome left (λ l. 0 < length l) → Ended bases TooLong all before now
+holds_more : (left now : Option (List ℕ)) → TakesOne left now → IfSome left (λ l. 0 < length l)
+holds_more None now one = tt
+holds_more (Some bytes) now one = one.0
+
+pub too_long_says : (bases : Bases) (reader : EntryReader) (streams : Streams) (mux : Mux) (all left left_now before now : Option (List ℕ))
+    → IsReplaying bases reader streams mux 0 all left before now → TakesOne left left_now → EndsReplay bases TooLong all before now
 unfolding limit
-too_long_says bases reader streams mux all left before now going more =
-    let s = going.treated.so_far in record {
+too_long_says bases reader streams mux all left left_now before now going more =
+    let s = going.processed.so_far in record {
       history = s.history;
       is_history = stood bases mux s.history s.stands s.based;
       grown = s.grown;
-      ends = too_long_ends all left going.bytes s.history s.entries going.taken more (omega (arith, going.room_left)) (omega (arith, going.room_left)) going.treated.whole s.told;
+      ends = too_long_ends all left going.bytes s.history s.entries going.taken (holds_more left left_now more) (omega (arith, going.room_left)) (omega (arith, going.room_left)) going.processed.whole s.told;
     }
 
 -- nothing was taken yet
-pub going_from : (bases : Bases) (reader : EntryReader) (streams : Streams) (mux : Mux) (all written : Option (List ℕ)) → ReadsSo reader [] [] → ((who : Speaker) → Fed (framer_at streams who) [] []) → Stands mux [] → bases_of mux ≡ bases
-    → Going bases reader streams mux limit all all written written
+pub going_from : (bases : Bases) (reader : EntryReader) (streams : Streams) (mux : Mux) (all written : Option (List ℕ)) → ReadsSo reader [] [] → ((who : Speaker) → FramerFed (framer_at streams who) [] []) → Stands mux [] → bases_of mux ≡ bases
+    → IsReplaying bases reader streams mux limit all all written written
 going_from bases reader streams mux all written reads fed stands based = record {
   bytes = [];
   taken = untaken all;
   room_left = omega arith;
-  treated = record {
+  processed = record {
     so_far = record { entries = []; history = []; reads = reads; fit = fed; stands = stands; based = based; told = refl; grown = grows_nothing written };
     whole = record { entries = refl; unfinished = lit< tt };
   };
@@ -248,33 +253,80 @@ going_from bases reader streams mux all written reads fed stands based = record 
     untaken None = refl
     untaken (Some bytes) = (bytes, refl, refl)
 
-pub going_start : (bases : Bases) (reader : EntryReader) (streams : Streams) (mux : Mux) (all written : Option (List ℕ)) → ReadsSo reader [] [] → ((who : Speaker) → Fed (framer_at streams who) [] []) → Stands mux [] → bases_of mux ≡ bases
-    → Going bases reader streams mux 67108864 all all written written
+-- what was taken, by how the replay ends
+pub taken_so_far : (bases : Bases) (reader : EntryReader) (streams : Streams) (mux : Mux) (room : ℕ) (all left left_now before now : Option (List ℕ))
+    → IsReplaying bases reader streams mux room all left before now → left_now ≡ left → TakesWithin (limit + 1) all left_now
+taken_so_far bases reader streams mux room all left left_now before now going kept = record {
+  bytes = going.bytes;
+  taken = subst (λ (o : Option (List ℕ)). TakenFrom all o going.bytes) (sym kept) going.taken;
+  few = omega (arith, going.room_left);
+}
+
+pub taken_piece : (bases : Bases) (reader : EntryReader) (streams : Streams) (mux : Mux) (room n : ℕ) (all left left_now before now : Option (List ℕ)) (buffer : List ℕ)
+    → (going : IsReplaying bases reader streams mux room all left before now) → Reads {E = Unit {0}} left left_now (Ok n) buffer → n ≤ room → n ≤ length buffer
+    → TakesWithin (limit + 1) all left_now
+taken_piece bases reader streams mux room n all left left_now before now buffer going reads fits enough =
+    let size : length (take n buffer) ≡ n = length-take-le n buffer enough in record {
+      bytes = going.bytes ++ take n buffer;
+      taken = taken_more all left left_now going.bytes buffer n going.taken reads;
+      few = omega (arith, length-append going.bytes (take n buffer), going.room_left);
+    }
+
+one_more : (all left now : Option (List ℕ)) (bytes : List ℕ) (most : ℕ) → TakenFrom all left bytes → length bytes ≤ most → TakesOne left now → TakesWithin (most + 1) all now
+one_more None left now bytes most taken short one = record { bytes = []; taken = subst (λ (o : Option (List ℕ)). TakesOne o now) taken one; few = omega arith }
+one_more (Some whole) left now bytes most taken short one =
+    let took : (0 < length taken.0) × (now ≡ Some (drop 1 taken.0)) = subst (λ (o : Option (List ℕ)). TakesOne o now) taken.2 one in
+    let size : length (take 1 taken.0) ≡ 1 = length-take-le 1 taken.0 took.0 in record {
+      bytes = bytes ++ take 1 taken.0;
+      taken = (
+        drop 1 taken.0,
+        taken.1 ∙ ap (λ (l : List ℕ). bytes ++ l) (sym (take-append-drop 1 taken.0)) ∙ sym (append_assoc bytes (take 1 taken.0) (drop 1 taken.0)),
+        took.1,
+      );
+      few = omega (arith, length-append bytes (take 1 taken.0));
+    }
+
+pub taken_past : (bases : Bases) (reader : EntryReader) (streams : Streams) (mux : Mux) (room : ℕ) (all left left_now before now : Option (List ℕ))
+    → IsReplaying bases reader streams mux room all left before now → TakesOne left left_now → TakesWithin (limit + 1) all left_now
+taken_past bases reader streams mux room all left left_now before now going one =
+    one_more all left left_now going.bytes limit going.taken (omega (arith, going.room_left)) one
+
+-- one byte was read, where one could be
+pub read_one_byte : (left now : Option (List ℕ)) (buffer : List ℕ) (n : ℕ) → Reads {E = Unit {0}} left now (Ok n) buffer → 0 < n → n ≤ 1 → TakesOne left now
+read_one_byte None now buffer n reads some one = reads
+read_one_byte (Some bytes) now buffer n reads some one =
+    let same : n ≡ 1 = omega arith in (
+      (let fits = reads.within in omega arith),
+      reads.left ∙ ap (λ (k : ℕ). let o : Option (List ℕ) = Some (drop k bytes) in o) same,
+    )
+
+pub going_start : (bases : Bases) (reader : EntryReader) (streams : Streams) (mux : Mux) (all written : Option (List ℕ)) → ReadsSo reader [] [] → ((who : Speaker) → FramerFed (framer_at streams who) [] []) → Stands mux [] → bases_of mux ≡ bases
+    → IsReplaying bases reader streams mux 67108864 all all written written
 unfolding limit
 going_start bases reader streams mux all written reads fed stands based = going_from bases reader streams mux all written reads fed stands based
 
--- a piece more was taken and treated
+-- a piece more was taken and processed
 pub going_on : (bases : Bases) (reader next : EntryReader) (streams streams_now : Streams) (mux mux_now : Mux) (room n : ℕ) (all left left_now before mid now : Option (List ℕ)) (buffer : List ℕ)
-    → (going : Going bases reader streams mux room all left before mid) → Reads {E = Unit {0}} left left_now (Ok n) buffer → n ≤ room → n ≤ length buffer
-    → TreatedWhole bases next streams_now mux_now (going.bytes ++ take n buffer) before now
-    → Going bases next streams_now mux_now (room - n) all left_now before now
-going_on bases reader next streams streams_now mux mux_now room n all left left_now before mid now buffer going reads fits enough treated =
+    → (going : IsReplaying bases reader streams mux room all left before mid) → Reads {E = Unit {0}} left left_now (Ok n) buffer → n ≤ room → n ≤ length buffer
+    → ProcessedAll bases next streams_now mux_now (going.bytes ++ take n buffer) before now
+    → IsReplaying bases next streams_now mux_now (room - n) all left_now before now
+going_on bases reader next streams streams_now mux mux_now room n all left left_now before mid now buffer going reads fits enough processed =
     let size : length (take n buffer) ≡ n = length-take-le n buffer enough in record {
       bytes = going.bytes ++ take n buffer;
       taken = taken_more all left left_now going.bytes buffer n going.taken reads;
       room_left = omega (arith, length-append going.bytes (take n buffer), going.room_left);
-      treated = treated;
+      processed = processed;
     }
 
 -- and the bytes so far still fit
 pub piece_fits : (bases : Bases) (reader : EntryReader) (streams : Streams) (mux : Mux) (room n : ℕ) (all left before now : Option (List ℕ)) (buffer : List ℕ)
-    → (going : Going bases reader streams mux room all left before now) → n ≤ room → n ≤ length buffer → length (going.bytes ++ take n buffer) ≤ limit
+    → (going : IsReplaying bases reader streams mux room all left before now) → n ≤ room → n ≤ length buffer → length (going.bytes ++ take n buffer) ≤ limit
 piece_fits bases reader streams mux room n all left before now buffer going fits enough =
     let size : length (take n buffer) ≡ n = length-take-le n buffer enough in
     omega (arith, length-append going.bytes (take n buffer), going.room_left)
 
 -- what made a stop rise
-pub stop_rose : (stop : Stop) (a b first c d : ℕ) → first ≤ c → StopRose c d (Err stop) → FaultRose (status_of stop) a b first d
+pub stop_rose : (stop : Stop) (a b first c d : ℕ) → first ≤ c → StopRose c d (Err stop) → FaultRose (status_of_stop stop) a b first d
 stop_rose (stop.Bad bad) a b first c d later rose = tt
 stop_rose stop.Sink a b first c d later rose = omega arith
 stop_rose stop.Memory a b first c d later rose = tt

@@ -12,9 +12,9 @@ use Rattle.gate_transcript.specs.declared.entry.EntryKind.TheVariants.{Client, U
 use Rattle.rtspgate.specs.declared.streams.Streams.{Streams}
 use Rattle.rtspgate.specs.declared.streams.Speaker.{Speaker}
 use Rattle.rtspgate.specs.declared.streams.Speaker.TheVariants as speaker
-use Rattle.rtspgate.specs.declared.run.TreatFault.{TreatFault}
-use Rattle.rtspgate.specs.Events.{speaks, bytes_here, stream_of, said_by, told_with, told_by}
-use Rattle.rtspgate.specs.Fed.{Fed}
+use Rattle.rtspgate.specs.declared.run.ProcessFault.{ProcessFault}
+use Rattle.rtspgate.specs.Events.{speaks, bytes_here, stream_of, said_by, events_with, events_by}
+use Rattle.rtspgate.specs.Framers.{FramerFed}
 use Rattle.rtspgate.specs.Streams.{framer_at}
 use Rattle.rtspgate.specs.Runs.{IsFront, FedBy, StreamsFit, FitsWith, ToldWith, ToldBy}
 
@@ -34,19 +34,19 @@ after_given : (given shapes all : List Shape) → given ++ shapes ≡ all → sh
 after_given given shapes all whole = sym (drop-append_seam given shapes) ∙ ap (drop (length given)) whole
 
 -- what was told of a piece, by what came of its items
-pub told_items : (result : Result (Unit {0}) TreatFault) (old mid new : Streams) (who : Speaker) (piece : List ℕ) (shapes : List Shape) (told : List Happening) (earlier : List Entry)
-    → ((stream : List ℕ) (given : List Shape) → Fed (framer_at old who) stream given → Fed (framer_at mid who) (stream ++ piece) given)
+pub told_items : (result : Result (Unit {0}) ProcessFault) (old mid new : Streams) (who : Speaker) (piece : List ℕ) (shapes : List Shape) (told : List Happening) (earlier : List Entry)
+    → ((stream : List ℕ) (given : List Shape) → FramerFed (framer_at old who) stream given → FramerFed (framer_at mid who) (stream ++ piece) given)
     → ((other : Speaker) → other ≢ who → framer_at mid other ≡ framer_at old other)
-    → ((stream : List ℕ) (given : List Shape) → Fed (framer_at mid who) stream given → FedBy result (framer_at new who) stream (given ++ shapes))
+    → ((stream : List ℕ) (given : List Shape) → FramerFed (framer_at mid who) stream given → FedBy result (framer_at new who) stream (given ++ shapes))
     → ((other : Speaker) → other ≢ who → framer_at new other ≡ framer_at mid other)
     → told ≡ map (said_by who) shapes → StreamsFit old earlier → ToldWith result new who piece earlier told
 told_items (Ok u) old mid new who piece shapes told earlier fed fed_others took took_others is fit =
     let stream = stream_of who earlier in
     let done = took (stream ++ piece) (items_of stream) (fed stream (items_of stream) (fit who)) in (
       record {
-        here = subst (λ (l : List Shape). Fed (framer_at new who) (stream ++ piece) l) done.1 done.0;
+        here = subst (λ (l : List Shape). FramerFed (framer_at new who) (stream ++ piece) l) done.1 done.0;
         others = λ other apart.
-            subst (λ f. Fed f (stream_of other earlier) (items_of (stream_of other earlier))) (sym (took_others other apart ∙ fed_others other apart)) (fit other);
+            subst (λ f. FramerFed f (stream_of other earlier) (items_of (stream_of other earlier))) (sym (took_others other apart ∙ fed_others other apart)) (fit other);
       },
       is ∙ ap (map (said_by who)) (after_given (items_of stream) shapes (items_of (stream ++ piece)) done.1),
     )
@@ -62,19 +62,19 @@ told_items (Err fault) old mid new who piece shapes told earlier fed fed_others 
     }
 
 -- nothing of a piece was told
-pub told_nothing : (new : Streams) (who : Speaker) (piece : List ℕ) (earlier : List Entry) (fault : TreatFault) → ToldWith (Err fault) new who piece earlier []
-told_nothing new who piece earlier fault = record { more = told_with who piece earlier; whole = refl }
+pub told_nothing : (new : Streams) (who : Speaker) (piece : List ℕ) (earlier : List Entry) (fault : ProcessFault) → ToldWith (Err fault) new who piece earlier []
+told_nothing new who piece earlier fault = record { more = events_with who piece earlier; whole = refl }
 
 -- the streams of all after an entry with a piece of one
 fits_at : (streams : Streams) (who other : Speaker) (entry : Entry) (earlier : List Entry) → bytes_here who entry ≡ entry.body
     → ((other : Speaker) → other ≢ who → bytes_here other entry ≡ []) → FitsWith streams who entry.body earlier
-    → (other ≡ who) ⊎ (other ≢ who) → Fed (framer_at streams other) (stream_of other (entry ∷ earlier)) (items_of (stream_of other (entry ∷ earlier)))
+    → (other ≡ who) ⊎ (other ≢ who) → FramerFed (framer_at streams other) (stream_of other (entry ∷ earlier)) (items_of (stream_of other (entry ∷ earlier)))
 fits_at streams who other entry earlier here none fits (inl same) =
-    subst (λ (x : Speaker). Fed (framer_at streams x) (stream_of x (entry ∷ earlier)) (items_of (stream_of x (entry ∷ earlier)))) (sym same)
-    (subst (λ (l : List ℕ). Fed (framer_at streams who) (stream_of who earlier ++ l) (items_of (stream_of who earlier ++ l))) (sym here) fits.here)
+    subst (λ (x : Speaker). FramerFed (framer_at streams x) (stream_of x (entry ∷ earlier)) (items_of (stream_of x (entry ∷ earlier)))) (sym same)
+    (subst (λ (l : List ℕ). FramerFed (framer_at streams who) (stream_of who earlier ++ l) (items_of (stream_of who earlier ++ l))) (sym here) fits.here)
 fits_at streams who other entry earlier here none fits (inr apart) =
     let stays : stream_of other (entry ∷ earlier) ≡ stream_of other earlier = ap (λ (l : List ℕ). stream_of other earlier ++ l) (none other apart) ∙ append-nil (stream_of other earlier) in
-    subst (λ (l : List ℕ). Fed (framer_at streams other) l (items_of l)) (sym stays) (fits.others other apart)
+    subst (λ (l : List ℕ). FramerFed (framer_at streams other) l (items_of l)) (sym stays) (fits.others other apart)
 
 fits_entry : (streams : Streams) (who : Speaker) (entry : Entry) (earlier : List Entry) → bytes_here who entry ≡ entry.body
     → ((other : Speaker) → other ≢ who → bytes_here other entry ≡ []) → FitsWith streams who entry.body earlier → StreamsFit streams (entry ∷ earlier)
@@ -96,29 +96,29 @@ server_apart conn (speaker.Client i) apart = refl
 server_apart conn speaker.Server apart = absurd (apart refl)
 
 -- an entry with bytes of a client, and one with bytes of the server
-pub told_client : (result : Result (Unit {0}) TreatFault) (streams : Streams) (entry : Entry) (earlier : List Entry) (told : List Happening) → entry.kind ≡ Client
+pub told_client : (result : Result (Unit {0}) ProcessFault) (streams : Streams) (entry : Entry) (earlier : List Entry) (told : List Happening) → entry.kind ≡ Client
     → ToldWith result streams (speaker.Client entry.conn) entry.body earlier told → ToldBy result streams entry earlier told
 told_client (Ok u) streams entry earlier told kind done =
     let spoken = λ (who : Speaker). ap (λ (k : EntryKind). speaks who k entry.conn) kind in (
       fits_entry streams (speaker.Client entry.conn) entry earlier
           (heard (speaker.Client entry.conn) entry (spoken (speaker.Client entry.conn) ∙ eq-eqb entry.conn entry.conn refl))
           (λ other apart. silent other entry (spoken other ∙ client_apart entry.conn other apart)) done.0,
-      done.1 ∙ ap (λ (k : EntryKind). told_by k entry earlier) (sym kind),
+      done.1 ∙ ap (λ (k : EntryKind). events_by k entry earlier) (sym kind),
     )
 told_client (Err fault) streams entry earlier told kind part = record {
   more = part.more;
-  whole = part.whole ∙ ap (λ (k : EntryKind). told_by k entry earlier) (sym kind);
+  whole = part.whole ∙ ap (λ (k : EntryKind). events_by k entry earlier) (sym kind);
 }
 
-pub told_server : (result : Result (Unit {0}) TreatFault) (streams : Streams) (entry : Entry) (earlier : List Entry) (told : List Happening) → entry.kind ≡ Upstream
+pub told_server : (result : Result (Unit {0}) ProcessFault) (streams : Streams) (entry : Entry) (earlier : List Entry) (told : List Happening) → entry.kind ≡ Upstream
     → ToldWith result streams speaker.Server entry.body earlier told → ToldBy result streams entry earlier told
 told_server (Ok u) streams entry earlier told kind done =
     let spoken = λ (who : Speaker). ap (λ (k : EntryKind). speaks who k entry.conn) kind in (
       fits_entry streams speaker.Server entry earlier (heard speaker.Server entry (spoken speaker.Server))
           (λ other apart. silent other entry (spoken other ∙ server_apart entry.conn other apart)) done.0,
-      done.1 ∙ ap (λ (k : EntryKind). told_by k entry earlier) (sym kind),
+      done.1 ∙ ap (λ (k : EntryKind). events_by k entry earlier) (sym kind),
     )
 told_server (Err fault) streams entry earlier told kind part = record {
   more = part.more;
-  whole = part.whole ∙ ap (λ (k : EntryKind). told_by k entry earlier) (sym kind);
+  whole = part.whole ∙ ap (λ (k : EntryKind). events_by k entry earlier) (sym kind);
 }

@@ -8,8 +8,8 @@ use Rattle.rtspgate.specs.declared.words.Command.TheVariants.{Replay}
 use Rattle.rtspgate.specs.declared.words.WordsFault.{WordsFault}
 use Rattle.rtspgate.specs.declared.words.WordsFault.TheVariants as word
 use Rattle.rtspgate.specs.Words.{is_base_word, first_fault, word_fault, ReadsWords, NamesReplay, NamesAddress, Names, bases_between, TellsUsage}
-use Rattle.rtspgate.specs.Stops.{status_at}
-use Rattle.rtspgate.specs.Replays.{TakenFrom, MemoryWanting, ReplaySays, PlainSays, FaultRose}
+use Rattle.rtspgate.specs.Stops.{status_of_words}
+use Rattle.rtspgate.specs.Replays.{TakenFrom, TakesWithin, EndsWithoutMemory, ReplaySays, PlainSays, FaultRose}
 use Rattle.rtspgate.proofs.RunLemmas.{grows_nothing}
 
 -- a fault of a later word has a later place
@@ -29,7 +29,7 @@ known_command words named h =
     later_fault 0 (is_base_word ∷ is_base_word ∷ []) (named.front ∷ named.more) (sym (ap word_fault named.words_are) ∙ h)
 
 -- what a refusal tells of the words
-pub usage_says : (found : WordsFault) (words : List (List ℕ)) → ReadsWords (Err found) words → TellsUsage (status_at found) (word_fault words)
+pub usage_says : (found : WordsFault) (words : List (List ℕ)) → ReadsWords (Err found) words → TellsUsage (status_of_words found) (word_fault words)
 usage_says (word.Place at) words says = record {
   only = λ place e. let same : at ≡ place = cc in says ∙ ap (λ n. Some n) same;
   always = λ place e. let same : at ≡ place = cc in inl (ap (λ n. Usage n) same);
@@ -46,7 +46,7 @@ untaken None = refl
 untaken (Some bytes) = (bytes, refl, refl)
 
 -- nothing was done yet
-pub nothing_done : (bases : Bases) (all written : Option (List ℕ)) → MemoryWanting bases all all written written
+pub nothing_done : (bases : Bases) (all written : Option (List ℕ)) → EndsWithoutMemory bases all all written written
 nothing_done bases all written = record {
   bytes = [];
   taken = untaken all;
@@ -58,9 +58,13 @@ nothing_done bases all written = record {
   };
 }
 
-pub refusal_says : (words : List (List ℕ)) (found : WordsFault) (all written : Option (List ℕ)) → PlainSays words (status_at found) all all written written
-refusal_says words (word.Place at) all written = record { source = refl; sink = refl }
-refusal_says words word.Memory all written = inl (record { source = refl; sink = refl })
+pub refusal_says : (words : List (List ℕ)) (found : WordsFault) (all written : Option (List ℕ)) → ReadsWords (Err found) words → PlainSays words (status_of_words found) all all written written
+refusal_says words (word.Place at) all written says = record { source = refl; sink = refl }
+refusal_says words word.Memory all written says = inl (record { named = says; untouched = record { source = refl; sink = refl } })
+
+-- nothing was taken yet
+pub nothing_taken : (most : ℕ) (all : Option (List ℕ)) → TakesWithin most all all
+nothing_taken most all = record { bytes = []; taken = untaken all; few = omega arith }
 
 -- what a replay between the bases that the words name says
 pub plain_says : (words : List (List ℕ)) (bases : Bases) (status : Status) (all left before now : Option (List ℕ)) → NamesReplay bases words → ReplaySays bases status all left before now →
@@ -73,7 +77,7 @@ plain_says words bases (BadTranscript place fault) all left before now names say
 plain_says words bases TooLong all left before now names says = record { bases = bases; names = names; says = says }
 plain_says words bases Memory all left before now names says = inr (record { bases = bases; names = names; says = says })
 
-pub refusal_rose : (found : WordsFault) (a b c d : ℕ) → FaultRose (status_at found) a b c d
+pub refusal_rose : (found : WordsFault) (a b c d : ℕ) → FaultRose (status_of_words found) a b c d
 refusal_rose (word.Place at) a b c d = tt
 refusal_rose word.Memory a b c d = tt
 

@@ -38,17 +38,17 @@ said_by (speaker.Client i) shape = takes i shape
 said_by speaker.Server shape = hears shape
 
 -- what a piece of a speaker's bytes tells: the items that are whole now
-abbrev pub told_with : Speaker → List ℕ → List Entry → List Happening
-told_with who piece earlier = map (said_by who) (new_items (stream_of who earlier) piece)
+abbrev pub events_with : Speaker → List ℕ → List Entry → List Happening
+events_with who piece earlier = map (said_by who) (new_items (stream_of who earlier) piece)
 
 -- what an entry tells: an entering or an end is one event, and bytes are their items
-abbrev pub told_by : EntryKind → Entry → List Entry → List Happening
-told_by Enter entry earlier = enters entry.conn ∷ []
-told_by Client entry earlier = told_with (speaker.Client entry.conn) entry.body earlier
-told_by Upstream entry earlier = told_with speaker.Server entry.body earlier
-told_by End entry earlier = ends entry.conn ∷ []
+abbrev pub events_by : EntryKind → Entry → List Entry → List Happening
+events_by Enter entry earlier = enters entry.conn ∷ []
+events_by Client entry earlier = events_with (speaker.Client entry.conn) entry.body earlier
+events_by Upstream entry earlier = events_with speaker.Server entry.body earlier
+events_by End entry earlier = ends entry.conn ∷ []
 
 -- all that the entries tell, the oldest first; how their bytes were cut is gone from it
 abbrev pub events_of : List Entry → List Happening
 events_of [] = []
-events_of (entry ∷ earlier) = events_of earlier ++ told_by entry.kind entry earlier
+events_of (entry ∷ earlier) = events_of earlier ++ events_by entry.kind entry earlier

@@ -4,9 +4,9 @@ use Rattle.rtsp_head.specs.Items.{Shape}
 use Rattle.rtsp_frame.specs.Framing.{Held, Framed}
 
 -- the stream was fed, and these items were given; without a framer nothing was
-abbrev pub Fed : Option Held → List ℕ → List Shape → Type 0
-Fed None stream given = (stream ≡ []) × (given ≡ [])
-Fed (Some held) stream given = Framed held stream given
+abbrev pub FramerFed : Option Held → List ℕ → List Shape → Type 0
+FramerFed None stream given = (stream ≡ []) × (given ≡ [])
+FramerFed (Some held) stream given = Framed held stream given
 
 -- how many items wait to be given
 abbrev pub waiting_in : Option Held → ℕ

@@ -2,7 +2,7 @@ pub mod Records
 pub mod ExitCodes
 pub mod Words
 pub mod Events
-pub mod Fed
+pub mod Framers
 pub mod Replays
 pub mod Runs
 pub mod Stops

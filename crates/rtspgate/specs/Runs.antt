@@ -1,4 +1,4 @@
--- What treating events and entries does: which entries the history gains, and what of their records was written
+-- What processing events and entries does: which entries the history gains, and what of their records was written
 -- (this project's own).
 use Rattle.std.specs.Prelude.{◌≡◌, ◌≢◌, ℕ, ◌≤◌, List, [], ◌∷◌, ◌++◌, map, Option, Result, Ok, Err}
 use Rattle.gate_outside.specs.Causes.{Rose}
@@ -13,10 +13,10 @@ use Rattle.gate_transcript.specs.declared.entry.EntryKind.{EntryKind}
 use Rattle.gate_transcript.specs.declared.entry.EntryKind.TheVariants.{Enter, Client, Upstream, End}
 use Rattle.rtspgate.specs.declared.streams.Streams.{Streams}
 use Rattle.rtspgate.specs.declared.streams.Speaker.{Speaker}
-use Rattle.rtspgate.specs.declared.run.TreatFault.{TreatFault}
-use Rattle.rtspgate.specs.declared.run.TreatFault.TheVariants.{Sink, Memory}
-use Rattle.rtspgate.specs.Events.{stream_of, said_by, told_with, told_by}
-use Rattle.rtspgate.specs.Fed.{Fed}
+use Rattle.rtspgate.specs.declared.run.ProcessFault.{ProcessFault}
+use Rattle.rtspgate.specs.declared.run.ProcessFault.TheVariants.{Sink, Memory}
+use Rattle.rtspgate.specs.Events.{stream_of, said_by, events_with, events_by}
+use Rattle.rtspgate.specs.Framers.{FramerFed}
 use Rattle.rtspgate.specs.Streams.{framer_at}
 use Rattle.rtspgate.specs.Written.{records_after}
 
@@ -31,32 +31,32 @@ pub record Advances (before now : Mux) (more : History) : Type 0 where
   pub bases : bases_of now ≡ bases_of before
 
 -- After these entries, what was written is the records of more of them, or, where the sink failed, a front of those.
-abbrev pub WritesAfter : Option (List ℕ) → Option (List ℕ) → History → History → Result (Unit {0}) TreatFault → Type 0
+abbrev pub WritesAfter : Option (List ℕ) → Option (List ℕ) → History → History → Result (Unit {0}) ProcessFault → Type 0
 WritesAfter before now earlier more (Ok u) = Grows before now (records_after earlier more)
 WritesAfter before now earlier more (Err Sink) = GrowsByFront before now (records_after earlier more)
 WritesAfter before now earlier more (Err Memory) = Grows before now (records_after earlier more)
 
 -- So it is whichever history the multiplexer stood for.
-abbrev pub WritesHistory : Mux → Option (List ℕ) → Option (List ℕ) → History → Result (Unit {0}) TreatFault → Type 0
+abbrev pub WritesHistory : Mux → Option (List ℕ) → Option (List ℕ) → History → Result (Unit {0}) ProcessFault → Type 0
 WritesHistory mux before now more result = (T : History) → Stands mux T → WritesAfter before now T more result
 
 -- The sink's count of faults has not fallen, and where the sink is said to have failed it rose.
-abbrev pub SinkRose : ℕ → ℕ → Result (Unit {0}) TreatFault → Type 0
+abbrev pub SinkRose : ℕ → ℕ → Result (Unit {0}) ProcessFault → Type 0
 SinkRose before now (Ok u) = Unit {0}
 SinkRose before now (Err Sink) = Rose before now
 SinkRose before now (Err Memory) = Unit {0}
 
-pub record SinkCause (before now : ℕ) (result : Result (Unit {0}) TreatFault) : Type 0 where
+pub record SinkCause (before now : ℕ) (result : Result (Unit {0}) ProcessFault) : Type 0 where
   pub later : before ≤ now
   pub rose : SinkRose before now result
 
 -- An event: it was taken, but where memory was wanting.
-abbrev pub EventTaken : Happening → List Happening → Result (Unit {0}) TreatFault → Type 0
+abbrev pub EventTaken : Happening → List Happening → Result (Unit {0}) ProcessFault → Type 0
 EventTaken happening told (Ok u) = told ≡ happening ∷ []
 EventTaken happening told (Err Sink) = told ≡ happening ∷ []
 EventTaken happening told (Err Memory) = told ≡ []
 
-pub record TakesEvent (before now : Mux) (happening : Happening) (written_before written_now : Option (List ℕ)) (result : Result (Unit {0}) TreatFault) : Type 0 where
+pub record TakesEvent (before now : Mux) (happening : Happening) (written_before written_now : Option (List ℕ)) (result : Result (Unit {0}) ProcessFault) : Type 0 where
   pub more : History
   pub told : EventTaken happening (happened more) result
   pub advances : Advances before now more
@@ -68,19 +68,19 @@ pub record IsFront (items all : List Shape) : Type 0 where
   pub whole : items ++ more ≡ all
 
 -- Where nothing failed all items were given; else the first ones were.
-abbrev pub FedBy : Result (Unit {0}) TreatFault → Option Held → List ℕ → List Shape → Type 0
-FedBy (Ok u) framer stream given = Fed framer stream given × (given ≡ items_of stream)
+abbrev pub FedBy : Result (Unit {0}) ProcessFault → Option Held → List ℕ → List Shape → Type 0
+FedBy (Ok u) framer stream given = FramerFed framer stream given × (given ≡ items_of stream)
 FedBy (Err fault) framer stream given = IsFront given (items_of stream)
 
 -- Some whole items of a speaker were taken, one event each: in all they and those that the framer gave before are the
 -- first of its stream's items.
-pub record TakesItems (streams_before streams_now : Streams) (before now : Mux) (speaker : Speaker) (written_before written_now : Option (List ℕ)) (result : Result (Unit {0}) TreatFault) : Type 0 where
+pub record TakesItems (streams_before streams_now : Streams) (before now : Mux) (speaker : Speaker) (written_before written_now : Option (List ℕ)) (result : Result (Unit {0}) ProcessFault) : Type 0 where
   pub more : History
   pub shapes : List Shape
   pub told : happened more ≡ map (said_by speaker) shapes
   pub advances : Advances before now more
   pub written : WritesHistory before written_before written_now more result
-  pub fed : (stream : List ℕ) (given : List Shape) → Fed (framer_at streams_before speaker) stream given → FedBy result (framer_at streams_now speaker) stream (given ++ shapes)
+  pub fed : (stream : List ℕ) (given : List Shape) → FramerFed (framer_at streams_before speaker) stream given → FedBy result (framer_at streams_now speaker) stream (given ++ shapes)
   pub others : (who : Speaker) → who ≢ speaker → framer_at streams_now who ≡ framer_at streams_before who
 
 -- The same, while the framer may still have items to give.
@@ -90,12 +90,12 @@ pub record TakesSome (streams_before streams_now : Streams) (before now : Mux) (
   pub told : happened more ≡ map (said_by speaker) shapes
   pub advances : Advances before now more
   pub grown : (T : History) → Stands before T → Grows written_before written_now (records_after T more)
-  pub fed : (stream : List ℕ) (given : List Shape) → Fed (framer_at streams_before speaker) stream given → Fed (framer_at streams_now speaker) stream (given ++ shapes)
+  pub fed : (stream : List ℕ) (given : List Shape) → FramerFed (framer_at streams_before speaker) stream given → FramerFed (framer_at streams_now speaker) stream (given ++ shapes)
   pub others : (who : Speaker) → who ≢ speaker → framer_at streams_now who ≡ framer_at streams_before who
 
 -- each speaker's framer was fed its stream so far, and gave all items of it
 abbrev pub StreamsFit : Streams → List Entry → Type 0
-StreamsFit streams entries = (who : Speaker) → Fed (framer_at streams who) (stream_of who entries) (items_of (stream_of who entries))
+StreamsFit streams entries = (who : Speaker) → FramerFed (framer_at streams who) (stream_of who entries) (items_of (stream_of who entries))
 
 -- these happenings are the first of those
 pub record ToldInPart (told all : List Happening) : Type 0 where
@@ -104,28 +104,28 @@ pub record ToldInPart (told all : List Happening) : Type 0 where
 
 -- A speaker's framer was fed this piece too, and gave all items of it; every other is as before.
 pub record FitsWith (streams : Streams) (speaker : Speaker) (piece : List ℕ) (earlier : List Entry) : Type 0 where
-  pub here : Fed (framer_at streams speaker) (stream_of speaker earlier ++ piece) (items_of (stream_of speaker earlier ++ piece))
-  pub others : (who : Speaker) → who ≢ speaker → Fed (framer_at streams who) (stream_of who earlier) (items_of (stream_of who earlier))
+  pub here : FramerFed (framer_at streams speaker) (stream_of speaker earlier ++ piece) (items_of (stream_of speaker earlier ++ piece))
+  pub others : (who : Speaker) → who ≢ speaker → FramerFed (framer_at streams who) (stream_of who earlier) (items_of (stream_of who earlier))
 
 -- What happened is what the piece tells, or, where something failed, the first part of it.
-abbrev pub ToldWith : Result (Unit {0}) TreatFault → Streams → Speaker → List ℕ → List Entry → List Happening → Type 0
-ToldWith (Ok u) streams speaker piece earlier told = FitsWith streams speaker piece earlier × (told ≡ told_with speaker piece earlier)
-ToldWith (Err fault) streams speaker piece earlier told = ToldInPart told (told_with speaker piece earlier)
+abbrev pub ToldWith : Result (Unit {0}) ProcessFault → Streams → Speaker → List ℕ → List Entry → List Happening → Type 0
+ToldWith (Ok u) streams speaker piece earlier told = FitsWith streams speaker piece earlier × (told ≡ events_with speaker piece earlier)
+ToldWith (Err fault) streams speaker piece earlier told = ToldInPart told (events_with speaker piece earlier)
 
 -- A piece of a speaker's bytes was taken, whichever entries came before it.
-pub record TakesBytes (streams_before streams_now : Streams) (before now : Mux) (speaker : Speaker) (piece : List ℕ) (written_before written_now : Option (List ℕ)) (result : Result (Unit {0}) TreatFault) : Type 0 where
+pub record TakesBytes (streams_before streams_now : Streams) (before now : Mux) (speaker : Speaker) (piece : List ℕ) (written_before written_now : Option (List ℕ)) (result : Result (Unit {0}) ProcessFault) : Type 0 where
   pub more : History
   pub advances : Advances before now more
   pub written : WritesHistory before written_before written_now more result
   pub told : (earlier : List Entry) → StreamsFit streams_before earlier → ToldWith result streams_now speaker piece earlier (happened more)
 
 -- What happened is what the entry tells, or, where something failed, the first part of it.
-abbrev pub ToldBy : Result (Unit {0}) TreatFault → Streams → Entry → List Entry → List Happening → Type 0
-ToldBy (Ok u) streams entry earlier told = StreamsFit streams (entry ∷ earlier) × (told ≡ told_by entry.kind entry earlier)
-ToldBy (Err fault) streams entry earlier told = ToldInPart told (told_by entry.kind entry earlier)
+abbrev pub ToldBy : Result (Unit {0}) ProcessFault → Streams → Entry → List Entry → List Happening → Type 0
+ToldBy (Ok u) streams entry earlier told = StreamsFit streams (entry ∷ earlier) × (told ≡ events_by entry.kind entry earlier)
+ToldBy (Err fault) streams entry earlier told = ToldInPart told (events_by entry.kind entry earlier)
 
--- An entry was treated, whichever entries came before it.
-pub record TakesEntry (streams_before streams_now : Streams) (before now : Mux) (entry : Entry) (written_before written_now : Option (List ℕ)) (result : Result (Unit {0}) TreatFault) : Type 0 where
+-- An entry was processed, whichever entries came before it.
+pub record TakesEntry (streams_before streams_now : Streams) (before now : Mux) (entry : Entry) (written_before written_now : Option (List ℕ)) (result : Result (Unit {0}) ProcessFault) : Type 0 where
   pub more : History
   pub advances : Advances before now more
   pub written : WritesHistory before written_before written_now more result

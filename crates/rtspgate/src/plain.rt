@@ -1,7 +1,7 @@
-//! The commands that must return. No lock, channel or thread is used.
-ghost use Rattle.std.specs.Prelude.{◌≡◌, ◌≤◌, map, string_bytes};
+//! The top call, over any source and sink: it reads the words of the command line and runs the command that they name.
+ghost use Rattle.std.specs.Prelude.{◌≡◌, ◌≤◌, ◌+◌, map, string_bytes};
 ghost use Rattle.rtspgate.specs.Words.{word_fault, bases_between, TellsUsage};
-ghost use Rattle.rtspgate.specs.Replays.{PlainSays, ReplaySays, FaultRose};
+ghost use Rattle.rtspgate.specs.Replays.{PlainSays, ReplaySays, TakesWithin, FaultRose, limit};
 
 use crate::replay::replay;
 use crate::status::Status;
@@ -11,7 +11,7 @@ use gate_outside::{Sink, Source};
 use gateway_mux::{Bases, Mux};
 use std::alloc::Global;
 
-/// Does what the words, without the program's name, ask for.
+/// Runs the command that these words, without the program's name, ask for. It uses no lock, channel or thread.
 pub fn plain<S: Source, K: Sink>(
     alloc: Global,
     words: &[String],
@@ -20,6 +20,7 @@ pub fn plain<S: Source, K: Sink>(
 ) -> Status
     ensures usage { TellsUsage result (word_fault (map string_bytes words.now)) }
     ensures says { PlainSays (map string_bytes words.now) result (S.rest source.old) (S.rest source.new) (K.written sink.old) (K.written sink.new) }
+    ensures taken { TakesWithin (limit + 1) (S.rest source.old) (S.rest source.new) }
     ensures rose { FaultRose result (S.faults source.old) (S.faults source.new) (K.faults sink.old) (K.faults sink.new) }
     ensures source_later { S.faults source.old ≤ S.faults source.new }
     ensures sink_later { K.faults sink.old ≤ K.faults sink.new }
@@ -32,9 +33,9 @@ pub fn plain<S: Source, K: Sink>(
 
 impl From<WordsFault> for Status {
     ghost use Rattle.std.specs.Prelude.{◌≡◌};
-    ghost use Rattle.rtspgate.specs.Stops.{status_at};
+    ghost use Rattle.rtspgate.specs.Stops.{status_of_words};
 
-    ghost from_gives = { λ fault e. e ≡ status_at fault };
+    ghost from_gives = { λ fault e. e ≡ status_of_words fault };
 
     fn from(fault: WordsFault) -> Status {
         match fault {
@@ -44,9 +45,10 @@ impl From<WordsFault> for Status {
     }
 }
 
-/// Does what a command asks for.
+/// Runs a command.
 fn obey<S: Source, K: Sink>(alloc: Global, command: Command, source: &mut S, sink: &mut K) -> Status
     ensures says { ReplaySays (bases_between command) result (S.rest source.old) (S.rest source.new) (K.written sink.old) (K.written sink.new) }
+    ensures taken { TakesWithin (limit + 1) (S.rest source.old) (S.rest source.new) }
     ensures rose { FaultRose result (S.faults source.old) (S.faults source.new) (K.faults sink.old) (K.faults sink.new) }
     ensures source_later { S.faults source.old ≤ S.faults source.new }
     ensures sink_later { K.faults sink.old ≤ K.faults sink.new }
@@ -64,6 +66,7 @@ fn replay_between<S: Source, K: Sink>(
     sink: &mut K,
 ) -> Status
     ensures says { ReplaySays bases result (S.rest source.old) (S.rest source.new) (K.written sink.old) (K.written sink.new) }
+    ensures taken { TakesWithin (limit + 1) (S.rest source.old) (S.rest source.new) }
     ensures rose { FaultRose result (S.faults source.old) (S.faults source.new) (K.faults sink.old) (K.faults sink.new) }
     ensures source_later { S.faults source.old ≤ S.faults source.new }
     ensures sink_later { K.faults sink.old ≤ K.faults sink.new }
@@ -73,8 +76,3 @@ fn replay_between<S: Source, K: Sink>(
         Err(Memory) => Status::Memory,
     }
 }
-
-#[cfg(test)]
-mod server_tests;
-#[cfg(test)]
-mod tests;

@@ -1,6 +1,6 @@
-//! Replaying a transcript: its entries are read from a source and treated, and the records of what was handed out are
-//! written to a sink, each event's before the next.
-ghost use Rattle.std.specs.Prelude.{◌≡◌, ◌<◌, ◌≤◌, ◌++◌, [], ℕ, List, Option, length, IfOk};
+//! Replaying a transcript: the loop that reads it from a source and has its entries processed, up to the end of the
+//! source, a fault, or the limit.
+ghost use Rattle.std.specs.Prelude.{◌≡◌, ◌<◌, ◌≤◌, ◌+◌, ◌++◌, [], ℕ, List, Option, length, IfOk};
 ghost use Rattle.gate_outside.specs.Causes.{HasCause};
 ghost use Rattle.gate_outside.specs.Contents.{Reads};
 ghost use Rattle.rtsp_uri.specs.declared.base.Bases.{Bases};
@@ -9,9 +9,9 @@ ghost use Rattle.gate_transcript.specs.declared.entry.Entry.{Entry};
 ghost use Rattle.gate_transcript.specs.Transcript.{reading};
 ghost use Rattle.gate_transcript.specs.Reads.{ReadsSo, GivenWhole};
 ghost use Rattle.rtspgate.specs.declared.status.Status.TheVariants.{BadTranscript};
-ghost use Rattle.rtspgate.specs.Replays.{SoFar, SomeSoFar, Treated, StopCause, ReplaySays, FaultRose, TellsMore, ends_by};
+ghost use Rattle.rtspgate.specs.Replays.{ReplayedSoFar, SomeSoFar, Processed, StopCause, ReplaySays, FaultRose, TakesWithin, TellsMore, ends_by, limit};
 
-use crate::run::{Run, TreatFault};
+use crate::run::{ProcessFault, Run};
 use crate::status::Status;
 use gate_bytes::before;
 use gate_outside::{Failed, Sink, Source};
@@ -20,10 +20,10 @@ use gateway_mux::Mux;
 use std::alloc::{AllocError, Global};
 
 /// The longest transcript that is replayed, in bytes.
-const LIMIT: usize = 67_108_864;
+pub const LONGEST_TRANSCRIPT: usize = 67_108_864;
 
-/// How many bytes one read asks for.
-const PIECE: usize = 65_536;
+/// The most bytes that one read asks for.
+pub const READ_SIZE: usize = 65_536;
 
 /// What stops a replay before the end of its source.
 #[derive(Clone, Copy, Debug, PartialEq, Eq)]
@@ -32,29 +32,29 @@ pub enum Stop {
     Bad(BadEntry),
     /// The sink failed.
     Sink,
-    /// Memory was wanting.
+    /// Memory ran out.
     Memory,
 }
 
-impl From<TreatFault> for Stop {
+impl From<ProcessFault> for Stop {
     ghost use Rattle.std.specs.Prelude.{◌≡◌};
-    ghost use Rattle.rtspgate.specs.Stops.{stop_of};
+    ghost use Rattle.rtspgate.specs.Stops.{stop_of_event};
 
-    ghost from_gives = { λ fault e. e ≡ stop_of fault };
+    ghost from_gives = { λ fault e. e ≡ stop_of_event fault };
 
-    fn from(fault: TreatFault) -> Stop {
+    fn from(fault: ProcessFault) -> Stop {
         match fault {
-            TreatFault::Sink => Stop::Sink,
-            TreatFault::Memory => Stop::Memory,
+            ProcessFault::Sink => Stop::Sink,
+            ProcessFault::Memory => Stop::Memory,
         }
     }
 }
 
 impl From<EntryFault> for Stop {
     ghost use Rattle.std.specs.Prelude.{◌≡◌};
-    ghost use Rattle.rtspgate.specs.Stops.{stop_at};
+    ghost use Rattle.rtspgate.specs.Stops.{stop_of_reader};
 
-    ghost from_gives = { λ fault e. e ≡ stop_at fault };
+    ghost from_gives = { λ fault e. e ≡ stop_of_reader fault };
 
     fn from(fault: EntryFault) -> Stop {
         match fault {
@@ -66,9 +66,9 @@ impl From<EntryFault> for Stop {
 
 impl From<Stop> for Status {
     ghost use Rattle.std.specs.Prelude.{◌≡◌};
-    ghost use Rattle.rtspgate.specs.Stops.{status_of};
+    ghost use Rattle.rtspgate.specs.Stops.{status_of_stop};
 
-    ghost from_gives = { λ stop e. e ≡ status_of stop };
+    ghost from_gives = { λ stop e. e ≡ status_of_stop stop };
 
     fn from(stop: Stop) -> Status {
         match stop {
@@ -89,10 +89,12 @@ fn bad_transcript(bad: BadEntry) -> Status
     }
 }
 
-/// Replays the transcript that the source holds. The multiplexer stands for the history in which nothing happened.
+/// Replays the transcript that the source holds, and writes the records to the sink. It takes at most one byte more than
+/// [`LONGEST_TRANSCRIPT`] from the source. The multiplexer stands for the history in which nothing happened.
 pub fn replay<S: Source, K: Sink>(alloc: Global, mux: Mux, source: &mut S, sink: &mut K) -> Status
     requires { Stands mux [] }
     ensures says { ReplaySays (bases_of mux) result (S.rest source.old) (S.rest source.new) (K.written sink.old) (K.written sink.new) }
+    ensures taken { TakesWithin (limit + 1) (S.rest source.old) (S.rest source.new) }
     ensures rose { FaultRose result (S.faults source.old) (S.faults source.new) (K.faults sink.old) (K.faults sink.new) }
     ensures source_later { S.faults source.old ≤ S.faults source.new }
     ensures sink_later { K.faults sink.old ≤ K.faults sink.new }
@@ -102,7 +104,7 @@ pub fn replay<S: Source, K: Sink>(alloc: Global, mux: Mux, source: &mut S, sink:
     let Ok(mut buffer) = empty_buffer(alloc) else {
         return Status::Memory;
     };
-    let mut room = LIMIT;
+    let mut room = LONGEST_TRANSCRIPT;
     while room > 0 {
         let Ok(count) = read_some(source, buffer.as_mut_slice(), room) else {
             return Status::SourceFault;
@@ -127,7 +129,7 @@ pub fn replay<S: Source, K: Sink>(alloc: Global, mux: Mux, source: &mut S, sink:
 fn empty_buffer(alloc: Global) -> Result<Vec<u8>, AllocError>
     ensures { IfOk result (λ buffer. 0 < length buffer.items) }
 {
-    vec![in alloc; 0u8; PIECE]
+    vec![in alloc; 0u8; READ_SIZE]
 }
 
 /// Reads a piece of the source into the front of the buffer: so many bytes at most.
@@ -142,7 +144,7 @@ fn read_some<S: Source>(source: &mut S, buffer: &mut [u8], most: usize) -> Resul
     source.read(&mut buffer[..most])
 }
 
-/// Feeds a piece to the reader, and treats all entries that it can give then.
+/// Feeds a piece to the reader, and processes all entries that it can give then.
 fn take_piece<K: Sink>(
     alloc: Global,
     reader: &mut EntryReader,
@@ -151,14 +153,14 @@ fn take_piece<K: Sink>(
     piece: &[u8],
 ) -> Result<(), Stop>
     requires { SomeSoFar reader.old run.old.streams run.old.mux (K.written sink.old) }
-    ensures treated { (bases : Bases) (bytes : List ℕ) (before : Option (List ℕ)) → SoFar bases reader.old run.old.streams run.old.mux bytes before (K.written sink.old)
-        → Treated bases result reader.new run.new.streams run.new.mux (bytes ++ piece.now) before (K.written sink.new) }
+    ensures processed { (bases : Bases) (bytes : List ℕ) (before : Option (List ℕ)) → ReplayedSoFar bases reader.old run.old.streams run.old.mux bytes before (K.written sink.old)
+        → Processed bases result reader.new run.new.streams run.new.mux (bytes ++ piece.now) before (K.written sink.new) }
     ensures cause { StopCause (K.faults sink.old) (K.faults sink.new) result }
 {
     let Ok(()) = reader.feed(piece) else {
         return Err(Stop::Memory);
     };
-    treat(alloc, reader, run, sink)
+    process_entries(alloc, reader, run, sink)
 }
 
 /// The answer at the end of the source.
@@ -181,16 +183,16 @@ fn has_more<S: Source>(source: &mut S) -> Result<bool, Failed>
     Ok(count > 0)
 }
 
-/// Treats all entries that the reader can give.
-fn treat<K: Sink>(
+/// Processes all entries that the reader can give.
+fn process_entries<K: Sink>(
     alloc: Global,
     reader: &mut EntryReader,
     run: &mut Run,
     sink: &mut K,
 ) -> Result<(), Stop>
     requires { SomeSoFar reader.old run.old.streams run.old.mux (K.written sink.old) }
-    ensures treated { (bases : Bases) (bytes : List ℕ) (before : Option (List ℕ)) → SoFar bases reader.old run.old.streams run.old.mux bytes before (K.written sink.old)
-        → Treated bases result reader.new run.new.streams run.new.mux bytes before (K.written sink.new) }
+    ensures processed { (bases : Bases) (bytes : List ℕ) (before : Option (List ℕ)) → ReplayedSoFar bases reader.old run.old.streams run.old.mux bytes before (K.written sink.old)
+        → Processed bases result reader.new run.new.streams run.new.mux bytes before (K.written sink.new) }
     ensures cause { StopCause (K.faults sink.old) (K.faults sink.new) result }
 {
     loop {

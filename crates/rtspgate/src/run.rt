@@ -1,4 +1,4 @@
-//! Treating what happens: the multiplexer takes an event, and its records are written.
+//! Processing events: the multiplexer takes each one, and its records are written before the next.
 ghost use Rattle.std.specs.Prelude.{◌≡◌, ◌≤◌, ℕ, List, []};
 ghost use Rattle.rtsp_head.specs.Shapes.{shape_of};
 ghost use Rattle.gate_history.specs.History.{happening_of};
@@ -14,23 +14,23 @@ use gateway_mux::{Event, Mux};
 use rtsp_frame::Item;
 use std::alloc::Global;
 
-/// What stops the treatment of an event.
+/// Why an event was not processed whole.
 #[derive(Clone, Copy, Debug, PartialEq, Eq)]
-pub enum TreatFault {
+pub enum ProcessFault {
     /// The sink failed.
     Sink,
-    /// Memory was wanting.
+    /// Memory ran out.
     Memory,
 }
 
-impl From<Memory> for TreatFault {
+impl From<Memory> for ProcessFault {
     ghost use Rattle.std.specs.Prelude.{◌≡◌};
-    ghost use Rattle.rtspgate.specs.declared.run.TreatFault.TheVariants as fault;
+    ghost use Rattle.rtspgate.specs.declared.run.ProcessFault.TheVariants as fault;
 
     ghost from_gives = { λ _ e. e ≡ fault.Memory };
 
-    fn from(_: Memory) -> TreatFault {
-        TreatFault::Memory
+    fn from(_: Memory) -> ProcessFault {
+        ProcessFault::Memory
     }
 }
 
@@ -40,18 +40,18 @@ fn happen<K: Sink>(
     mux: &mut Mux,
     sink: &mut K,
     event: Event,
-) -> Result<(), TreatFault>
+) -> Result<(), ProcessFault>
     requires { StandsForSome mux.old }
     ensures takes { TakesEvent mux.old mux.new (happening_of event) (K.written sink.old) (K.written sink.new) result }
     ensures cause { SinkCause (K.faults sink.old) (K.faults sink.new) result }
 {
     let outcome = match mux.step(alloc, event) {
         Ok(outcome) => outcome,
-        Err((_, Memory)) => return Err(TreatFault::Memory),
+        Err((_, Memory)) => return Err(ProcessFault::Memory),
     };
     match write_outcome(sink, mux, &outcome) {
         Ok(()) => Ok(()),
-        Err(Failed) => Err(TreatFault::Sink),
+        Err(Failed) => Err(ProcessFault::Sink),
     }
 }
 
@@ -72,7 +72,7 @@ fn take_items<K: Sink>(
     mux: &mut Mux,
     sink: &mut K,
     speaker: Speaker,
-) -> Result<(), TreatFault>
+) -> Result<(), ProcessFault>
     requires { StandsForSome mux.old }
     ensures takes { TakesItems streams.old streams.new mux.old mux.new speaker (K.written sink.old) (K.written sink.new) result }
     ensures cause { SinkCause (K.faults sink.old) (K.faults sink.new) result }
@@ -83,7 +83,7 @@ fn take_items<K: Sink>(
     Ok(())
 }
 
-/// What a replay keeps of its connections.
+/// The connections of a replay: their streams and the multiplexer.
 #[derive(Drop)]
 pub struct Run {
     streams: Streams,
@@ -92,14 +92,14 @@ pub struct Run {
 
 impl Run {
     ghost use Rattle.rtspgate.specs.declared.streams.Speaker.{Speaker};
-    ghost use Rattle.rtspgate.specs.Fed.{Fed};
+    ghost use Rattle.rtspgate.specs.Framers.{FramerFed};
     ghost use Rattle.rtspgate.specs.Streams.{framer_at};
     ghost use Rattle.rtspgate.specs.Runs.{TakesEntry, EntersFresh};
 
-    /// Nothing was treated yet.
+    /// The state before the first entry.
     pub fn new(alloc: Global, mux: Mux) -> Run
         ensures mux { result.mux ≡ mux }
-        ensures streams { (who : Speaker) → Fed (framer_at result.streams who) [] [] }
+        ensures streams { (who : Speaker) → FramerFed (framer_at result.streams who) [] [] }
     {
         Run {
             streams: Streams::new(alloc),
@@ -107,13 +107,13 @@ impl Run {
         }
     }
 
-    /// Treats one entry: a connection enters, bytes of its client or of the server come, or it ends.
+    /// Processes one entry: a connection enters, bytes of its client or of the server come, or it ends.
     pub fn take<K: Sink>(
         &mut self,
         alloc: Global,
         sink: &mut K,
         entry: &Entry,
-    ) -> Result<(), TreatFault>
+    ) -> Result<(), ProcessFault>
         requires stands { StandsForSome self.old.mux }
         requires fresh { EntersFresh entry.now.kind self.old.mux entry.now.conn }
         ensures takes { TakesEntry self.old.streams self.new.streams self.old.mux self.new.mux entry.now (K.written sink.old) (K.written sink.new) result }
@@ -138,12 +138,66 @@ impl Run {
         sink: &mut K,
         speaker: Speaker,
         bytes: &[u8],
-    ) -> Result<(), TreatFault>
+    ) -> Result<(), ProcessFault>
         requires { StandsForSome self.old.mux }
         ensures takes { TakesBytes self.old.streams self.new.streams self.old.mux self.new.mux speaker bytes.now (K.written sink.old) (K.written sink.new) result }
         ensures cause { SinkCause (K.faults sink.old) (K.faults sink.new) result }
     {
         self.streams.feed(alloc, speaker, bytes)?;
         take_items(alloc, &mut self.streams, &mut self.mux, sink, speaker)
+    }
+}
+
+#[cfg(test)]
+mod tests {
+    use super::*;
+    use gateway_mux::Bases;
+    use rtsp_uri::read_base;
+    use std::test::Fail;
+
+    // How many frames the multiplexer has dropped once a speaker has sent these bytes, of few items.
+    fn dropped_after(
+        alloc: Global,
+        mux: &mut Mux,
+        speaker: Speaker,
+        bytes: &[u8],
+    ) -> Result<u64, Fail> {
+        let mut streams = Streams::new(alloc);
+        streams.feed(alloc, speaker, bytes)?;
+        for _ in 0..3 {
+            if let Some(item) = streams.next(speaker) {
+                mux.step(alloc, said_by(speaker, item))
+                    .map_err(|refused| refused.1)?;
+            }
+        }
+        Ok(mux.dropped())
+    }
+
+    #[test]
+    fn frames_are_dropped_and_counted(rt: HostRuntime) -> Result<(), Fail> {
+        let alloc = rt.alloc();
+        let mut mux = Mux::new(
+            alloc,
+            Bases {
+                front: read_base(alloc, "rtsp://gate.example")?,
+                up: read_base(alloc, "rtsp://media.example")?,
+            },
+        )?;
+        mux.enter(alloc, 1)?;
+        let reply = b"RTSP/2.0 200 OK\r\nCSeq: 1\r\n\r\n".as_slice();
+        let rows = [
+            (Speaker::Client(1), b"$\x01\0\x03abc$\x02\0\0".as_slice(), 2),
+            (Speaker::Server, b"$\0\0\x01z", 3),
+            (Speaker::Client(1), b"hello\r\n\r\n", 3),
+            (Speaker::Client(1), b"$\0\0\x01z", 4),
+            (Speaker::Server, reply, 4),
+            (Speaker::Client(1), b"$\0\0\x01z", 4),
+            (Speaker::Server, b"$\0\0\x01z", 4),
+        ];
+        for (speaker, bytes, wanted) in rows {
+            let dropped = dropped_after(alloc, &mut mux, speaker, bytes)?;
+            assert_eq!(rt; dropped, wanted, "{speaker:?}");
+        }
+        Ok(())
     }
 }

@@ -3,7 +3,7 @@ ghost use Rattle.std.specs.Prelude.{◌≡◌, ◌≢◌, ◌<◌, ℕ, List, []
 ghost use Rattle.std.specs.HashMap.{get};
 ghost use Rattle.rtsp_head.specs.Items.{Shape, items_of};
 ghost use Rattle.rtsp_head.specs.Shapes.{shape_of};
-ghost use Rattle.rtspgate.specs.Fed.{Fed, waiting_in};
+ghost use Rattle.rtspgate.specs.Framers.{FramerFed, waiting_in};
 
 use gate_bytes::Memory;
 use rtsp_frame::{Framer, Item};
@@ -32,7 +32,7 @@ impl Streams {
 
     /// No byte came. It takes no memory.
     pub fn new(alloc: Global) -> Streams
-        ensures { (who : Speaker) → Fed (framer_at result who) [] [] }
+        ensures { (who : Speaker) → FramerFed (framer_at result who) [] [] }
     {
         Streams {
             clients: HashMap::new(alloc),
@@ -43,7 +43,7 @@ impl Streams {
     /// Takes bytes of a speaker. Where memory is wanting they were not taken.
     pub fn feed(&mut self, alloc: Global, speaker: Speaker, piece: &[u8]) -> Result<(), Memory>
         ensures ok { OnOk result ((stream : List ℕ) (given : List Shape) →
-            Fed (framer_at self.old speaker) stream given → Fed (framer_at self.new speaker) (stream ++ piece.now) given) }
+            FramerFed (framer_at self.old speaker) stream given → FramerFed (framer_at self.new speaker) (stream ++ piece.now) given) }
         ensures others { (who : Speaker) → who ≢ speaker → framer_at self.new who ≡ framer_at self.old who }
         ensures err { OnErr result ((who : Speaker) → framer_at self.new who ≡ framer_at self.old who) }
     {
@@ -57,11 +57,11 @@ impl Streams {
     pub fn next(&mut self, speaker: Speaker) -> Option<Item>
         ensures fewer { IfSome result (λ item. waiting_in (framer_at self.new speaker) < waiting_in (framer_at self.old speaker)) }
         ensures some { IfSome result (λ item. (stream : List ℕ) (given : List Shape) →
-            Fed (framer_at self.old speaker) stream given → Fed (framer_at self.new speaker) stream (given ++ shape_of item ∷ [])) }
+            FramerFed (framer_at self.old speaker) stream given → FramerFed (framer_at self.new speaker) stream (given ++ shape_of item ∷ [])) }
         ensures none { IfNone result ((stream : List ℕ) (given : List Shape) →
-            Fed (framer_at self.old speaker) stream given → Fed (framer_at self.new speaker) stream given) }
+            FramerFed (framer_at self.old speaker) stream given → FramerFed (framer_at self.new speaker) stream given) }
         ensures all { IfNone result ((stream : List ℕ) (given : List Shape) →
-            Fed (framer_at self.old speaker) stream given → given ≡ items_of stream) }
+            FramerFed (framer_at self.old speaker) stream given → given ≡ items_of stream) }
         ensures others { (who : Speaker) → who ≢ speaker → framer_at self.new who ≡ framer_at self.old who }
     {
         match speaker {
@@ -79,7 +79,7 @@ fn feed_at(
     piece: &[u8],
 ) -> Result<(), Memory>
     ensures ok { OnOk result ((stream : List ℕ) (given : List Shape) →
-        Fed (get nat_eq framers.old conn) stream given → Fed (get nat_eq framers.new conn) (stream ++ piece.now) given) }
+        FramerFed (get nat_eq framers.old conn) stream given → FramerFed (get nat_eq framers.new conn) (stream ++ piece.now) given) }
     ensures others { (i : ℕ) → i ≢ conn → get nat_eq framers.new i ≡ get nat_eq framers.old i }
     ensures err { OnErr result ((i : ℕ) → get nat_eq framers.new i ≡ get nat_eq framers.old i) }
 {
@@ -98,11 +98,11 @@ fn feed_at(
 fn next_at(framers: &mut HashMap<u32, Framer>, conn: u32) -> Option<Item>
     ensures fewer { IfSome result (λ item. waiting_in (get nat_eq framers.new conn) < waiting_in (get nat_eq framers.old conn)) }
     ensures some { IfSome result (λ item. (stream : List ℕ) (given : List Shape) →
-        Fed (get nat_eq framers.old conn) stream given → Fed (get nat_eq framers.new conn) stream (given ++ shape_of item ∷ [])) }
+        FramerFed (get nat_eq framers.old conn) stream given → FramerFed (get nat_eq framers.new conn) stream (given ++ shape_of item ∷ [])) }
     ensures none { IfNone result ((stream : List ℕ) (given : List Shape) →
-        Fed (get nat_eq framers.old conn) stream given → Fed (get nat_eq framers.new conn) stream given) }
+        FramerFed (get nat_eq framers.old conn) stream given → FramerFed (get nat_eq framers.new conn) stream given) }
     ensures all { IfNone result ((stream : List ℕ) (given : List Shape) →
-        Fed (get nat_eq framers.old conn) stream given → given ≡ items_of stream) }
+        FramerFed (get nat_eq framers.old conn) stream given → given ≡ items_of stream) }
     ensures others { (i : ℕ) → i ≢ conn → get nat_eq framers.new i ≡ get nat_eq framers.old i }
 {
     match framers.get_mut(&conn) {

@@ -13,7 +13,7 @@ const REPLAY: [u8; 6] = *b"replay";
 /// What the program is asked to do.
 #[derive(Drop)]
 pub enum Command {
-    /// `replay FRONT UP`: treat a transcript between these bases. Each word is the address of one side, as
+    /// `replay FRONT UP`: replay a transcript between these bases. Each word is the address of one side, as
     /// [`rtsp_uri::read_base`] reads it.
     Replay(Bases),
 }

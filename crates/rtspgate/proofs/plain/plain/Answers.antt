@@ -1,7 +1,8 @@
-use Rattle.std.proofs.Common.{map}
+use Rattle.std.proofs.Common.{◌+◌, map}
 use Rattle.std.specs.Prelude.{string_bytes}
 use Rattle.rtspgate.specs.Words.{bases_between}
-use Rattle.rtspgate.proofs.UsageLemmas.{usage_says, refusal_says, plain_says, names_between}
+use Rattle.rtspgate.specs.Replays.{limit}
+use Rattle.rtspgate.proofs.UsageLemmas.{usage_says, refusal_says, plain_says, names_between, nothing_taken}
 use Rattle.rtspgate.proofs.plain.plain.Goals as goal
 
 pub returns-in-Err-clause-usage : goal.returns-in-Err-clause-usage
@@ -9,9 +10,12 @@ returns-in-Err-clause-usage g c = rw c.from.ensures (usage_says c.in-Err.fault _
 
 pub returns-in-Err-clause-says : goal.returns-in-Err-clause-says
 returns-in-Err-clause-says g c =
-    rw c.from.ensures (refusal_says (map string_bytes c.args.words.now) c.in-Err.fault (g.S.Source.rest c.args.source.now) (g.K.Sink.written c.args.sink.now))
+    rw c.from.ensures (refusal_says (map string_bytes c.args.words.now) c.in-Err.fault (g.S.Source.rest c.args.source.now) (g.K.Sink.written c.args.sink.now) c.in-Err.ensures)
 
 pub returns-in-Ok-clause-says : goal.returns-in-Ok-clause-says
 returns-in-Ok-clause-says g c =
     plain_says (map string_bytes c.args.words.now) (bases_between c.in-Ok.command) c.obey.result (g.S.Source.rest c.args.source.now) (g.S.Source.rest c.obey.new.source)
     (g.K.Sink.written c.args.sink.now) (g.K.Sink.written c.obey.new.sink) (names_between c.in-Ok.command (map string_bytes c.args.words.now) c.in-Ok.ensures.0) c.obey.ensures.says
+
+pub returns-in-Err-clause-taken : goal.returns-in-Err-clause-taken
+returns-in-Err-clause-taken g c = nothing_taken (limit + 1) (g.S.Source.rest c.args.source.now)

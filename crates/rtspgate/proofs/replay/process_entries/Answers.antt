@@ -2,9 +2,9 @@ use Rattle.std.proofs.Common.{ℕ, List, Option, Some, None, Ok, arith}
 use Rattle.std.proofs.lemmas.Result.{err_from_is_err_and}
 use Rattle.rtsp_uri.specs.declared.base.Bases.{Bases}
 use Rattle.gate_transcript.specs.Reads.{NextSays}
-use Rattle.rtspgate.specs.Replays.{SoFar}
+use Rattle.rtspgate.specs.Replays.{ReplayedSoFar}
 use Rattle.rtspgate.proofs.ReplayLemmas.{enters_fresh, so_far_more, so_far_whole, so_far_faulted, so_far_stopped}
-use Rattle.rtspgate.proofs.replay.treat.Goals as goal
+use Rattle.rtspgate.proofs.replay.process_entries.Goals as goal
 
 pub take-requires-clause-stands : goal.take-requires-clause-stands
 take-requires-clause-stands g c =
@@ -16,8 +16,8 @@ take-requires-clause-fresh g c =
     let some = c.loop-entry.invariant.some in
     enters_fresh some.bases c.loop-entry.reader c.next.new.self c.loop-entry.run.streams c.loop-entry.run.mux some.bytes some.before (g.K.Sink.written c.loop-entry.sink) c.in-Ok-Some.entry some.so_far says
 
-pub returns-in_err-take-in-Ok-Some-clause-treated : goal.returns-in_err-take-in-Ok-Some-clause-treated
-returns-in_err-take-in-Ok-Some-clause-treated g c = λ bases bytes before s.
+pub returns-in_err-take-in-Ok-Some-clause-processed : goal.returns-in_err-take-in-Ok-Some-clause-processed
+returns-in_err-take-in-Ok-Some-clause-processed g c = λ bases bytes before s.
     let says : NextSays c.loop-entry.reader c.next.new.self (Ok (Some c.in-Ok-Some.entry)) = rw c.in-Ok-Some.field-0-is at c.in-Ok-Some.ensures.says in
     let p = err_from_is_err_and c.from_residual.result c.from_residual.ensures.1 in
     rw (p.1, p.2)
@@ -28,8 +28,8 @@ returns-in_err-take-in-Ok-Some-clause-treated g c = λ bases bytes before s.
 pub loop-entry-preserved : goal.loop-entry-preserved
 loop-entry-preserved g c =
     let says : NextSays c.loop-entry.reader c.next.new.self (Ok (Some c.in-Ok-Some.entry)) = rw c.in-Ok-Some.field-0-is at c.in-Ok-Some.ensures.says in
-    let more : (bases : Bases) (bytes : List ℕ) (before : Option (List ℕ)) → SoFar bases c.loop-entry.reader c.loop-entry.run.streams c.loop-entry.run.mux bytes before (g.K.Sink.written c.loop-entry.sink)
-    → SoFar bases c.next.new.self c.take.new.self.streams c.take.new.self.mux bytes before (g.K.Sink.written c.take.new.sink) =
+    let more : (bases : Bases) (bytes : List ℕ) (before : Option (List ℕ)) → ReplayedSoFar bases c.loop-entry.reader c.loop-entry.run.streams c.loop-entry.run.mux bytes before (g.K.Sink.written c.loop-entry.sink)
+    → ReplayedSoFar bases c.next.new.self c.take.new.self.streams c.take.new.self.mux bytes before (g.K.Sink.written c.take.new.sink) =
     λ bases bytes before s.
     so_far_more bases c.loop-entry.reader c.next.new.self c.loop-entry.run.streams c.take.new.self.streams c.loop-entry.run.mux c.take.new.self.mux bytes before
     (g.K.Sink.written c.loop-entry.sink) (g.K.Sink.written c.take.new.sink) c.in-Ok-Some.entry s says c.in_ok-take-in-Ok-Some.ensures.takes in
@@ -39,14 +39,14 @@ loop-entry-preserved g c =
       later = omega (arith, c.loop-entry.invariant.later, c.take.ensures.cause.later);
     }
 
-pub returns-in-Ok-None-clause-treated : goal.returns-in-Ok-None-clause-treated
-returns-in-Ok-None-clause-treated g c = λ bases bytes before s.
+pub returns-in-Ok-None-clause-processed : goal.returns-in-Ok-None-clause-processed
+returns-in-Ok-None-clause-processed g c = λ bases bytes before s.
     let says : NextSays c.loop-entry.reader c.next.new.self (Ok None) = rw c.in-Ok-None.field-0-is at c.in-Ok-None.ensures.says in
     so_far_whole bases c.loop-entry.reader c.next.new.self c.loop-entry.run.streams c.loop-entry.run.mux bytes before (g.K.Sink.written c.loop-entry.sink)
     (c.loop-entry.invariant.keeps bases bytes before s) says
 
-pub returns-in-Err-clause-treated : goal.returns-in-Err-clause-treated
-returns-in-Err-clause-treated g c = λ bases bytes before s.
+pub returns-in-Err-clause-processed : goal.returns-in-Err-clause-processed
+returns-in-Err-clause-processed g c = λ bases bytes before s.
     rw c.from.ensures
     (so_far_faulted bases c.loop-entry.reader c.next.new.self c.loop-entry.run.streams c.loop-entry.run.mux bytes before (g.K.Sink.written c.loop-entry.sink) c.in-Err.fault
     (c.loop-entry.invariant.keeps bases bytes before s) c.in-Err.ensures.says)

@@ -1,14 +1,14 @@
 use Rattle.std.proofs.Common.{◌≤◌, ℕ, List, Option}
 use Rattle.rtsp_uri.specs.declared.base.Bases.{Bases}
 use Rattle.gate_transcript.specs.Reads.{bytes_held}
-use Rattle.rtspgate.specs.Replays.{SoFar, SomeSoFar}
-use Rattle.rtspgate.proofs.replay.treat.Given as goal
+use Rattle.rtspgate.specs.Replays.{ReplayedSoFar, SomeSoFar}
+use Rattle.rtspgate.proofs.replay.process_entries.Given as goal
 
--- what was so before is so, with the entries that were treated since
+-- what was so before is so, with the entries that were processed since
 abbrev pub invariant-loop-entry : goal.invariant-loop-entry
 invariant-loop-entry g l = record {
-  keeps : (bases : Bases) (bytes : List ℕ) (before : Option (List ℕ)) → SoFar bases l.fn.reader l.fn.run.streams l.fn.run.mux bytes before (g.K.Sink.written l.fn.sink)
-      → SoFar bases l.reader l.run.streams l.run.mux bytes before (g.K.Sink.written l.sink);
+  keeps : (bases : Bases) (bytes : List ℕ) (before : Option (List ℕ)) → ReplayedSoFar bases l.fn.reader l.fn.run.streams l.fn.run.mux bytes before (g.K.Sink.written l.fn.sink)
+      → ReplayedSoFar bases l.reader l.run.streams l.run.mux bytes before (g.K.Sink.written l.sink);
   some : SomeSoFar l.reader l.run.streams l.run.mux (g.K.Sink.written l.sink);
   later : g.K.Sink.faults l.fn.sink ≤ g.K.Sink.faults l.sink;
 }

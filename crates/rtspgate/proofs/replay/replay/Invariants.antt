@@ -1,12 +1,12 @@
 use Rattle.std.proofs.Common.{◌<◌, ◌≤◌, length}
 use Rattle.gateway_mux.specs.Stands.{bases_of}
-use Rattle.rtspgate.specs.Replays.{Going}
+use Rattle.rtspgate.specs.Replays.{IsReplaying}
 use Rattle.rtspgate.proofs.replay.replay.Given as goal
 
--- what was taken was treated, and no count has fallen
+-- what was taken was processed, and no count has fallen
 abbrev pub invariant-loop-room : goal.invariant-loop-room
 invariant-loop-room g l = record {
-  going : Going (bases_of l.fn.mux) l.reader l.run.streams l.run.mux l.room (g.S.Source.rest l.fn.source) (g.S.Source.rest l.source) (g.K.Sink.written l.fn.sink) (g.K.Sink.written l.sink);
+  going : IsReplaying (bases_of l.fn.mux) l.reader l.run.streams l.run.mux l.room (g.S.Source.rest l.fn.source) (g.S.Source.rest l.source) (g.K.Sink.written l.fn.sink) (g.K.Sink.written l.sink);
   source_later : g.S.Source.faults l.fn.source ≤ g.S.Source.faults l.source;
   sink_later : g.K.Sink.faults l.fn.sink ≤ g.K.Sink.faults l.sink;
   some : 0 < length l.buffer.items;

@@ -3,8 +3,8 @@ use Rattle.rtspgate.proofs.ReplayLemmas.{so_far_interrupted}
 use Rattle.rtspgate.proofs.SourceLemmas.{so_far_fed, interrupted_more}
 use Rattle.rtspgate.proofs.replay.take_piece.Goals as goal
 
-pub treat-requires : goal.treat-requires
-treat-requires g c = record {
+pub process_entries-requires : goal.process_entries-requires
+process_entries-requires g c = record {
   bases = c.requires.bases;
   bytes = c.requires.bytes ++ c.args.piece.now;
   before = c.requires.before;
@@ -13,12 +13,12 @@ treat-requires g c = record {
       c.requires.so_far c.in-Ok.ensures.ok;
 }
 
-pub returns-clause-treated : goal.returns-clause-treated
-returns-clause-treated g c = λ bases bytes before s.
-    c.treat.ensures.treated bases (bytes ++ c.args.piece.now) before
+pub returns-clause-processed : goal.returns-clause-processed
+returns-clause-processed g c = λ bases bytes before s.
+    c.process_entries.ensures.processed bases (bytes ++ c.args.piece.now) before
     (so_far_fed bases c.args.reader.now c.feed.new.self c.args.run.now.streams c.args.run.now.mux bytes c.args.piece.now before (g.K.Sink.written c.args.sink.now) s c.in-Ok.ensures.ok)
 
-pub returns-in_default-clause-treated : goal.returns-in_default-clause-treated
-returns-in_default-clause-treated g c = λ bases bytes before s.
+pub returns-in_default-clause-processed : goal.returns-in_default-clause-processed
+returns-in_default-clause-processed g c = λ bases bytes before s.
     interrupted_more bases bytes c.args.piece.now before (g.K.Sink.written c.args.sink.now)
     (so_far_interrupted bases c.args.reader.now c.args.run.now.streams c.args.run.now.mux bytes before (g.K.Sink.written c.args.sink.now) s)

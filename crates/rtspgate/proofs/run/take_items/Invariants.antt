@@ -1,5 +1,5 @@
 use Rattle.std.proofs.Common.{◌≤◌}
-use Rattle.rtspgate.specs.Fed.{waiting_in}
+use Rattle.rtspgate.specs.Framers.{waiting_in}
 use Rattle.rtspgate.specs.Streams.{framer_at}
 use Rattle.rtspgate.specs.Runs.{TakesSome}
 use Rattle.rtspgate.proofs.run.take_items.Given as goal
