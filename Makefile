@@ -34,8 +34,9 @@ try:
 test:
 	rt ci
 
-# Runs the program over real files and pipes: cuts, bad words, faults of the outside, the longest transcript; and
-# compares the records of drawn transcripts with a second reading of docs/FORMATS.md.
+# Runs the program over real files and pipes: cuts, the cases of its tests, bad words, faults of the source, the sink
+# and memory, and the longest transcript; and compares the records of drawn transcripts with a second reading of
+# docs/FORMATS.md.
 check: $(PROGRAM)
 	tools/check_program $(PROGRAM)
 	tools/compare $(PROGRAM)

@@ -27,7 +27,7 @@ REASONS = {
 }
 
 
-def trimmed(text):
+def trim(text):
     return text.strip(b" \t")
 
 
@@ -44,7 +44,7 @@ class Head:
         self.headers = []
         for line in lines[1:]:
             self.read_further(line)
-        self.headers = [(name, trimmed(value)) for name, value in self.headers]
+        self.headers = [(name, trim(value)) for name, value in self.headers]
 
     def read_first(self, line):
         if b"\r" in line or b"\0" in line:
@@ -68,7 +68,7 @@ class Head:
             if not self.headers:
                 raise Fault("Colon")
             name, above = self.headers.pop()
-            self.headers.append((name, above + b" " + trimmed(line)))
+            self.headers.append((name, above + b" " + trim(line)))
         elif not colon:
             raise Fault("Colon")
         elif not TOKEN.fullmatch(name):
@@ -76,7 +76,7 @@ class Head:
         elif len(self.headers) >= MOST_HEADERS:
             raise Fault("Many")
         else:
-            self.headers.append((name, trimmed(value)))
+            self.headers.append((name, trim(value)))
 
     def field(self, wanted):
         """The value of the first header of a name."""
@@ -133,23 +133,23 @@ def parts_of(uri):
     return (found[1], port, found[3]) if found and port <= 65535 else None
 
 
-def swapped(one, other, uri):
+def swap(one, other, uri):
     """The URI with the authority `other` in the place of `one`, and every other text as it was."""
     parts = parts_of(uri)
     is_ours = parts is not None and parts[0].lower() == one and parts[1] == DEFAULT_PORT
     return b"rtsp://" + other + parts[2] if is_ours else uri
 
 
-def rewritten(body):
+def rewrite(body):
     """A session description under the gateway's address."""
     *ended, last = body.split(b"\n")
     lines = [(line[:-1], b"\r\n") if line.endswith(b"\r") else (line, b"\n") for line in ended] + [(last, b"")]
     begin = b"a=control:"
-    return b"".join((begin + swapped(UP, FRONT, line[10:]) if line.startswith(begin) else line) + end
+    return b"".join((begin + swap(UP, FRONT, line[10:]) if line.startswith(begin) else line) + end
                     for line, end in lines)
 
 
-def parted(value, mark):
+def split_unquoted(value, mark):
     """The parts between marks outside of double quotes."""
     parts, is_quoted = [b""], False
     for byte in (value[at:at + 1] for at in range(len(value))):
@@ -163,7 +163,7 @@ def parted(value, mark):
 
 def fits(alternative):
     """Whether an alternative of Transport can be given to a player."""
-    protocol, *parameters = [trimmed(part) for part in parted(alternative, b";")[0]]
+    protocol, *parameters = [trim(part) for part in split_unquoted(alternative, b";")[0]]
     values = {}
     for parameter in parameters:
         name, equals, value = parameter.partition(b"=")
@@ -183,7 +183,7 @@ def fits(alternative):
 
 def has_channels(value):
     """Whether an alternative of a Transport field fits."""
-    alternatives, is_open = parted(value or b"", b",")
+    alternatives, is_open = split_unquoted(value or b"", b",")
     return bool(value) and not is_open and any(map(fits, alternatives))
 
 
@@ -267,13 +267,13 @@ class Gateway:
         while player.waiting and player.asked is None:
             _, head, body = player.waiting.pop(0)
             cseq = head.number(19)
-            code, headers = refused(head, cseq)
+            code, headers = refusal_of(head, cseq)
             if code is None and head.method == b"OPTIONS":
                 code, headers = 200, [(b"Public", PUBLIC)]
             if code is not None:
                 hand += reply(code, cseq, headers)
                 continue
-            uri = player.control if head.uri == b"*" else swapped(FRONT, UP, head.uri)
+            uri = player.control if head.uri == b"*" else swap(FRONT, UP, head.uri)
             player.asked = head.method, cseq, uri
             self.issued += 1
             self.loans[self.issued] = number
@@ -306,10 +306,10 @@ class Gateway:
             player.control = uri
         if player.is_alive:
             hand, up = self.treat(number, player)
-            self.record(number, told(method, cseq, head, body) + hand, up)
+            self.record(number, reply_down(method, cseq, head, body) + hand, up)
 
 
-def refused(head, cseq):
+def refusal_of(head, cseq):
     """The code of the first rule that refuses a request of a player without a session, and its headers."""
     required = head.field(b"Require") or head.field(b"Proxy-Require")
     may_ask_all = head.method in (b"OPTIONS", b"GET_PARAMETER", b"SET_PARAMETER")
@@ -337,7 +337,7 @@ def sent_up(head, uri, number, body):
     ], body)
 
 
-def told(method, cseq, head, body):
+def reply_down(method, cseq, head, body):
     """The server's reply as its player gets it."""
     if not 200 <= head.code <= 299:
         return reply(told_code(head.code), cseq,
@@ -346,9 +346,9 @@ def told(method, cseq, head, body):
     body = body if is_described or method == b"GET_PARAMETER" else b""
     base, kind, encoding = (head.field(name) if body else None
                             for name in (b"Content-Base", b"Content-Type", b"Content-Encoding"))
-    if is_described and encoding is None and trimmed((kind or b"").split(b";")[0]).lower() == b"application/sdp":
-        body = rewritten(body)
+    if is_described and encoding is None and trim((kind or b"").split(b";")[0]).lower() == b"application/sdp":
+        body = rewrite(body)
     return reply(200, cseq, [
-        (b"Content-Base", swapped(UP, FRONT, base) if base is not None and is_described else None),
+        (b"Content-Base", swap(UP, FRONT, base) if base is not None and is_described else None),
         (b"Content-Type", kind), (b"Content-Encoding", encoding),
     ], body)

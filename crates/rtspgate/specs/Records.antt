@@ -4,14 +4,14 @@ use Rattle.std.specs.Prelude.{ℕ, List, ◌∷◌, ◌++◌, length}
 use Rattle.std.specs.Int.{w32, to_be_bytes}
 use Rattle.rtspgate.specs.declared.records.RecordKind.{RecordKind}
 use Rattle.rtspgate.specs.declared.records.RecordKind.TheVariants.{Handed, HandedUp, Closed, Fault}
+use Rattle.rtspgate.specs.declared.records.TheConstants.{HANDED_BYTE, HANDED_UP_BYTE, CLOSED_BYTE, FAULT_BYTE}
 
--- T for bytes handed to a client, Y for bytes handed to the server, C for the close of a client's connection, F for the
--- end of the server's
+-- the byte that a record of a kind begins with
 abbrev pub record_byte : RecordKind → ℕ
-record_byte Handed = 84
-record_byte HandedUp = 89
-record_byte Closed = 67
-record_byte Fault = 70
+record_byte Handed = HANDED_BYTE
+record_byte HandedUp = HANDED_UP_BYTE
+record_byte Closed = CLOSED_BYTE
+record_byte Fault = FAULT_BYTE
 
 -- what stands before a body of this length
 abbrev pub record_head : ℕ → ℕ → ℕ → List ℕ

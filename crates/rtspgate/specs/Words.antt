@@ -1,5 +1,5 @@
 -- The words of a command, without the program's name. This project's own.
-use Rattle.std.specs.Prelude.{◌≡◌, ℕ, ◌+◌, Bool, List, [], ◌∷◌, Option, Some, None, is_some, Result, Ok, Err, ◌⊎◌, if◌then◌else◌}
+use Rattle.std.specs.Prelude.{◌≡◌, ℕ, ◌+◌, Bool, List, [], ◌∷◌, Option, Some, None, is_some, Result, Ok, Err, codes, ◌⊎◌, if◌then◌else◌}
 use Rattle.std.specs.Str.{bytes_eq}
 use Rattle.rtspgate.specs.declared.words.Command.{Command}
 use Rattle.rtspgate.specs.declared.words.Command.TheVariants.{Replay}
@@ -11,9 +11,9 @@ use Rattle.rtspgate.specs.declared.status.Status.{Status}
 use Rattle.rtspgate.specs.declared.status.Status.TheVariants.{Usage}
 use Rattle.rtspgate.specs.declared.status.Status.TheVariants as ends
 
--- "replay"
+-- the first word of a replay
 abbrev pub replay_word : List ℕ
-replay_word = 114 ∷ 101 ∷ 112 ∷ 108 ∷ 97 ∷ 121 ∷ []
+replay_word = codes "replay"
 
 abbrev pub is_base_word : List ℕ → Bool
 is_base_word word = is_some (base_in word)

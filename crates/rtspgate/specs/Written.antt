@@ -1,5 +1,5 @@
 -- The records of a history (this project's own).
-use Rattle.std.specs.Prelude.{ℕ, zero, suc, List, [], ◌∷◌, ◌++◌, Option, Some, None, codes, decimal, if◌then◌else◌}
+use Rattle.std.specs.Prelude.{ℕ, zero, suc, ◌^◌, List, [], ◌∷◌, ◌++◌, Option, Some, None, codes, decimal, if◌then◌else◌}
 use Rattle.rtsp_head.specs.declared.item.BadKind.{BadKind}
 use Rattle.rtsp_head.specs.declared.item.BadKind.TheVariants as bad
 use Rattle.gate_history.specs.declared.event.CloseWhy.{CloseWhy}
@@ -14,14 +14,14 @@ use Rattle.gate_history.specs.declared.event.ToClient.{ToClient}
 use Rattle.gate_history.specs.declared.event.Outcome.{Outcome}
 use Rattle.gate_history.specs.History.{History, is_alive}
 use Rattle.rtspgate.specs.declared.records.RecordKind.TheVariants as kind
+use Rattle.rtspgate.specs.declared.outcomes.TheConstants.{END_CLOSE, BAD_ITEM_CLOSE, UPSTREAM_CLOSE}
 use Rattle.rtspgate.specs.Records.{record_byte, record_text}
 
--- the byte that tells why a connection was closed: E its end, B an item that can't be read, U the end of the server's
--- connection
+-- the byte that tells why a connection was closed
 abbrev pub close_byte : CloseWhy → ℕ
-close_byte Ended = 69
-close_byte BadItem = 66
-close_byte Upstream = 85
+close_byte Ended = END_CLOSE
+close_byte BadItem = BAD_ITEM_CLOSE
+close_byte Upstream = UPSTREAM_CLOSE
 
 -- the record of a piece that a client was handed, and that of a text that the server was handed
 abbrev pub piece_record : Option ToClient → List ℕ
@@ -46,7 +46,7 @@ ends_below (suc i) earlier = ends_below i earlier ++ end_of i earlier
 
 -- how many numbers there are of 32 bits
 unfoldable pub numbers : ℕ
-numbers = 4294967296
+numbers = 2 ^ 32
 
 abbrev pub ends : History → List ℕ
 ends earlier = ends_below numbers earlier

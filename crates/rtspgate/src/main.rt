@@ -11,12 +11,10 @@ mod status;
 mod streams;
 mod words;
 
-use crate::plain::plain;
-use crate::standard::{ReadSource, WriteSink};
+use crate::standard::run_between;
 use crate::status::Status;
-use std::env;
-use std::io::{self, BufWriter};
 use std::process::ExitCode;
+use std::{env, io};
 
 /// What the words mean.
 const USAGE: &str = "\
@@ -45,12 +43,12 @@ fn main(rt: HostRuntime) -> io::Result<ExitCode> {
         println!(rt; "{VERSION}")?;
         return Ok(ExitCode::SUCCESS);
     }
-    let mut source = ReadSource::new(rt.reader());
-    let mut sink = WriteSink::new(BufWriter::new(rt.alloc(), io::writer(&rt))?);
-    let mut status = plain(rt.alloc(), words.as_slice(), &mut source, &mut sink);
-    if sink.flush().is_err() && status != Status::SourceFault {
-        status = Status::SinkFault;
-    }
+    let status = run_between(
+        rt.alloc(),
+        words.as_slice(),
+        &mut rt.reader(),
+        &mut io::writer(&rt),
+    );
     if status != Status::Done {
         eprintln!(rt; "rtspgate: {status}")?;
     }
@@ -59,3 +57,6 @@ fn main(rt: HostRuntime) -> io::Result<ExitCode> {
     }
     Ok(ExitCode::from(status.exit_code()))
 }
+
+#[cfg(test)]
+mod tests;

@@ -1,4 +1,4 @@
-//! The records of what one event hands out: the pieces of bytes, the closes, and the fault of the server.
+//! The records of one event's outcome: the bytes for a client, those for the server, the closes, and the cause.
 ghost use Rattle.std.specs.Prelude.{◌≡◌, ◌<◌, ◌^◌, ◌∷◌, IfSome, length};
 ghost use Rattle.gate_outside.specs.Causes.{HasCause};
 ghost use Rattle.gate_outside.specs.Contents.{WritesAll};
@@ -13,6 +13,15 @@ use gate_bytes::Text;
 use gate_outside::{Failed, Sink};
 use gateway_mux::{CloseWhy, Closed, FramingFault, Mux, Outcome, ToClient, UpCause};
 use rtsp_head::BadKind;
+
+/// The byte that tells of a connection that its own end closed.
+pub const END_CLOSE: u8 = b'E';
+
+/// The byte that tells of a connection that a Bad item closed.
+pub const BAD_ITEM_CLOSE: u8 = b'B';
+
+/// The byte that tells of a connection that the end of the connection to the server closed.
+pub const UPSTREAM_CLOSE: u8 = b'U';
 
 /// Writes the records of an event's outcome. The multiplexer is the one that took the event.
 pub fn write_outcome<K: Sink>(sink: &mut K, mux: &Mux, outcome: &Outcome) -> Result<(), Failed>
@@ -103,9 +112,9 @@ fn close_byte(why: CloseWhy) -> u8
     ensures { result ≡ close_byte why }
 {
     match why {
-        CloseWhy::Ended => b'E',
-        CloseWhy::BadItem => b'B',
-        CloseWhy::Upstream => b'U',
+        CloseWhy::Ended => END_CLOSE,
+        CloseWhy::BadItem => BAD_ITEM_CLOSE,
+        CloseWhy::Upstream => UPSTREAM_CLOSE,
     }
 }
 
@@ -162,5 +171,58 @@ fn bad_name(kind: BadKind) -> &'static [u8]
         BadKind::Many => b"Many",
         BadKind::Length => b"Length",
         BadKind::Body => b"Body",
+    }
+}
+
+#[cfg(test)]
+mod tests {
+    use super::*;
+    use gate_bytes::after;
+    use gate_outside::{MemorySink, Numbers, Script};
+    use std::alloc::Global;
+    use std::test::Fail;
+
+    // The text of a cause's record.
+    fn text_of(alloc: Global, cause: UpCause) -> Result<Text, Fail> {
+        let script = Script {
+            fails: Numbers::new(alloc),
+            piece: 64,
+        };
+        let mut sink = MemorySink::new(alloc, script);
+        write_fault(&mut sink, Some(cause))?;
+        let text = after(sink.as_bytes(), 9.min(sink.as_bytes().len()));
+        Ok(Text::copy(alloc, text)?)
+    }
+
+    #[test]
+    fn each_cause_has_its_text(rt: HostRuntime) -> Result<(), Fail> {
+        let bad = |kind| UpCause::Framing(FramingFault::Bad(kind));
+        let rows = [
+            (bad(BadKind::Head), "Framing Head"),
+            (bad(BadKind::Control), "Framing Control"),
+            (bad(BadKind::Start), "Framing Start"),
+            (bad(BadKind::Colon), "Framing Colon"),
+            (bad(BadKind::Name), "Framing Name"),
+            (bad(BadKind::Many), "Framing Many"),
+            (bad(BadKind::Length), "Framing Length"),
+            (bad(BadKind::Body), "Framing Body"),
+            (UpCause::Framing(FramingFault::Version), "Framing Version"),
+            (UpCause::Framing(FramingFault::Cseq), "Framing Cseq"),
+            (UpCause::UnknownReply(0), "UnknownReply 0"),
+            (UpCause::UnknownReply(999_999_999), "UnknownReply 999999999"),
+            (UpCause::CseqSpent, "CseqSpent"),
+        ];
+        for (cause, text) in rows {
+            let told = text_of(rt.alloc(), cause)?;
+            assert_eq!(rt; told.as_bytes(), text.as_bytes());
+        }
+        Ok(())
+    }
+
+    #[test]
+    fn each_close_has_its_byte(rt: HostRuntime) {
+        assert_eq!(rt; close_byte(CloseWhy::Ended), b'E');
+        assert_eq!(rt; close_byte(CloseWhy::BadItem), b'B');
+        assert_eq!(rt; close_byte(CloseWhy::Upstream), b'U');
     }
 }

@@ -76,8 +76,3 @@ fn replay_between<S: Source, K: Sink>(
         Err(Memory) => Status::Memory,
     }
 }
-
-#[cfg(test)]
-mod server_tests;
-#[cfg(test)]
-mod tests;

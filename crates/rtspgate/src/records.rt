@@ -1,10 +1,25 @@
-//! Records: what the gateway did, one after the other, on the sink of a replay.
+//! The form of a record: its head and its body, written to a sink.
 ghost use Rattle.std.specs.Prelude.{◌≡◌, ◌+◌, ◌++◌, ◌<◌, ◌^◌, length};
 ghost use Rattle.gate_outside.specs.Causes.{HasCause};
 ghost use Rattle.gate_outside.specs.Contents.{WritesAll};
 ghost use Rattle.rtspgate.specs.Records.{record_byte, record_head, record_text};
 
 use gate_outside::{Failed, Sink, write_all};
+
+/// The length of a record's head in bytes: a kind byte, and four bytes each for the connection and the body's length.
+pub const RECORD_HEAD_LENGTH: usize = 9;
+
+/// The kind byte of a record of bytes that a client was handed.
+pub const HANDED_BYTE: u8 = b'T';
+
+/// The kind byte of a record of bytes that the server was handed.
+pub const HANDED_UP_BYTE: u8 = b'Y';
+
+/// The kind byte of a record of a connection that was closed.
+pub const CLOSED_BYTE: u8 = b'C';
+
+/// The kind byte of a record of why the connection to the server ended.
+pub const FAULT_BYTE: u8 = b'F';
 
 /// What a record tells.
 #[derive(Clone, Copy, Debug, PartialEq, Eq)]
@@ -25,10 +40,10 @@ impl RecordKind {
         ensures { result ≡ record_byte self }
     {
         match self {
-            RecordKind::Handed => b'T',
-            RecordKind::HandedUp => b'Y',
-            RecordKind::Closed => b'C',
-            RecordKind::Fault => b'F',
+            RecordKind::Handed => HANDED_BYTE,
+            RecordKind::HandedUp => HANDED_UP_BYTE,
+            RecordKind::Closed => CLOSED_BYTE,
+            RecordKind::Fault => FAULT_BYTE,
         }
     }
 }
@@ -75,8 +90,8 @@ pub fn write_parted_record<K: Sink>(
     write_all(sink, second)
 }
 
-/// The nine bytes before a body of this length.
-fn record_head(kind: RecordKind, conn: u32, size: u32) -> [u8; 9]
+/// The bytes that stand before a body of this length.
+fn record_head(kind: RecordKind, conn: u32, size: u32) -> [u8; RECORD_HEAD_LENGTH]
     ensures { result ≡ record_head (record_byte kind) conn size }
 {
     let [c0, c1, c2, c3] = conn.to_be_bytes();

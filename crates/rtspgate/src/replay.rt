@@ -11,7 +11,7 @@ ghost use Rattle.gate_transcript.specs.Reads.{ReadsSo, GivenWhole};
 ghost use Rattle.rtspgate.specs.declared.status.Status.TheVariants.{BadTranscript};
 ghost use Rattle.rtspgate.specs.Replays.{ReplayedSoFar, SomeSoFar, Processed, StopCause, ReplaySays, FaultRose, TakesWithin, TellsMore, ends_by, limit};
 
-use crate::run::{Run, ProcessFault};
+use crate::run::{ProcessFault, Run};
 use crate::status::Status;
 use gate_bytes::before;
 use gate_outside::{Failed, Sink, Source};

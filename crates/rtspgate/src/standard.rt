@@ -1,8 +1,12 @@
-//! Standard input and standard output as source and sink. They tell no content: they are the trusted edge.
+//! Readers and writers of std as source and sink, and a run over them. They tell no content: they are the trusted edge.
 ghost use Rattle.std.specs.Prelude.{None};
+ghost use Rattle.gate_outside.specs.Causes.{HasCause};
 
+use crate::plain::plain;
+use crate::status::Status;
 use gate_outside::{Failed, Sink, Source};
-use std::io::{Read, Write};
+use std::alloc::Global;
+use std::io::{BufWriter, Read, Write};
 
 /// A reader as a source.
 #[derive(Drop)]
@@ -12,7 +16,7 @@ pub struct ReadSource<R: Read> {
 }
 
 impl<R: Read> ReadSource<R> {
-    /// The source that this reader is. It has not failed yet.
+    /// This reader as a source that has not failed yet.
     pub fn new(reader: R) -> Self {
         ReadSource { reader, faults: 0 }
     }
@@ -42,13 +46,15 @@ pub struct WriteSink<W: Write> {
 }
 
 impl<W: Write> WriteSink<W> {
-    /// The sink that this writer is. It has not failed yet.
+    /// This writer as a sink that has not failed yet.
     pub fn new(writer: W) -> Self {
         WriteSink { writer, faults: 0 }
     }
 
     /// Hands on what the writer holds back.
-    pub fn flush(&mut self) -> Result<(), Failed> {
+    pub fn flush(&mut self) -> Result<(), Failed>
+        ensures { HasCause self.old.faults self.new.faults result }
+    {
         match self.writer.flush() {
             Ok(()) => Ok(()),
             Err(_) => {
@@ -73,4 +79,20 @@ impl<W: Write> Sink for WriteSink<W> {
             }
         }
     }
+}
+
+/// Runs the command that these words ask for over a reader and a writer, and flushes the writer at the end.
+pub fn run_between<R: Read, W: Write>(
+    alloc: Global,
+    words: &[String],
+    reader: &mut R,
+    writer: &mut W,
+) -> Status {
+    let Ok(buffered) = BufWriter::new(alloc, writer) else {
+        return Status::Memory;
+    };
+    let mut source = ReadSource::new(reader);
+    let mut sink = WriteSink::new(buffered);
+    let status = plain(alloc, words, &mut source, &mut sink);
+    status.after_flush(sink.flush())
 }
