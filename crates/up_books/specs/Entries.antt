@@ -1,0 +1,13 @@
+-- The entries of a book: what is kept under a key (this project's own).
+use Rattle.std.specs.Prelude.{◌≡◌, ℕ, Bool, List, [], ◌∷◌, Option, Some, None, if◌then◌else◌}
+use Rattle.up_books.specs.declared.entry.Entry.{Entry}
+
+-- the connection of the first entry whose key is this one, by a test of keys
+abbrev pub conn_in : {K : Type 0} → (K → K → Bool) → K → List (Entry K) → Option ℕ
+conn_in same key [] = None
+conn_in same key (entry ∷ entries) = if same entry.key key then Some entry.conn else conn_in same key entries
+
+-- no key has two entries
+abbrev pub HasEachKeyOnce : {K : Type 0} → (K → K → Bool) → List (Entry K) → Type 0
+HasEachKeyOnce same [] = Unit {0}
+HasEachKeyOnce same (entry ∷ entries) = (conn_in same entry.key entries ≡ None) × HasEachKeyOnce same entries
