@@ -10,3 +10,4 @@ pub mod ListLemmas
 pub mod SoundLemmas
 pub mod MessageLemmas
 pub mod StreamLemmas
+pub mod FieldLemmas

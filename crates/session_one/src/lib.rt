@@ -9,5 +9,5 @@ mod table;
 #[cfg(test)]
 mod tests;
 
-pub use parts::{Asked, Play, Track};
+pub use parts::{Asked, MOST_TRACKS, Play, Track};
 pub use table::{State, after, allowed, is_success};

@@ -5,6 +5,9 @@ use rtsp_range::Range;
 use rtsp_small::Method;
 use rtsp_transport::Pair;
 
+/// The most streams of a session (this project's own).
+pub const MOST_TRACKS: usize = 8;
+
 /// A stream that a player has set up.
 #[derive(Drop)]
 pub struct Track {

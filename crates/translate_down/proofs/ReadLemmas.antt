@@ -1,15 +1,14 @@
 -- What a player gets is one reply, and is read back.
-use Rattle.std.proofs.Common.{◌≡◌, ℕ, ◌+◌, ◌<◌, ◌≤◌, ◌^◌, Bool, true, false, cond, not, ◌==◌, ◌&&◌, nat_le, List, [], ◌∷◌, ◌++◌, length, Option, None, Some, Result, Ok, Err, IfSome, refl, sym, ◌∙◌, ap, subst, arith}
+use Rattle.std.proofs.Common.{◌≡◌, ℕ, ◌+◌, ◌<◌, ◌≤◌, ◌^◌, Bool, true, false, cond, not, ◌==◌, ◌&&◌, ◌||◌, nat_le, List, [], ◌∷◌, ◌++◌, length, Option, None, Some, Result, Ok, Err, IfSome, refl, sym, ◌∙◌, ap, subst, arith}
 use Rattle.std.specs.Prelude.{codes, option_map, option_and_then, unwrap_or, is_some}
 use Rattle.std.specs.List.{list_all}
 use Rattle.std.proofs.lemmas.Bool.{and_parts}
-use Rattle.std.proofs.lemmas.List.{length-append}
-use Rattle.std.proofs.lemmas.List.Folds.{list_all-append}
-use Rattle.gate_bytes.specs.Tokens.{is_token}
+use Rattle.gate_bytes.specs.Tokens.{is_token, equal_fold}
+use Rattle.rtsp_small.specs.declared.cseq.TheConstants.{CSEQ_ONE_DIGITS}
 use Rattle.rtsp_head.specs.declared.header.Header.{Header}
 use Rattle.rtsp_head.specs.declared.start.Start.TheVariants.{Status}
 use Rattle.rtsp_head.specs.Headers.{field_of}
-use Rattle.rtsp_head.specs.Messages.{is_added}
+use Rattle.rtsp_head.specs.Messages.{is_added, messages_of}
 use Rattle.rtsp_head.specs.Written.{is_line_text, is_value, is_start, is_header}
 use Rattle.rtsp_head.proofs.SoundLemmas.{field_sound}
 use Rattle.rtsp_head.proofs.MessageLemmas.{message_sound}
@@ -30,20 +29,20 @@ use Rattle.rtsp_status.proofs.RowLemmas.{told_has_reason}
 use Rattle.rtsp_uri.specs.Swaps.{swapped}
 use Rattle.head_one.specs.declared.reply.Reply1.{Reply1}
 use Rattle.head_one.specs.Refusals.{version_one}
-use Rattle.head_one.specs.Replies.{reply_start, reply_text, reply_in}
-use Rattle.head_one.proofs.ReadLemmas.{reply_read}
+use Rattle.head_one.specs.Replies.{reply_start, reply_message, client_reply_in, IsReply}
+use Rattle.head_one.proofs.ReadLemmas.{reply_read, replies_read}
 use Rattle.session_one.specs.declared.parts.Asked.{Asked}
-use Rattle.rtsp_head.specs.Optional.{header_with, said_where}
+use Rattle.rtsp_head.specs.Optional.{said_where, Field, named, field_headers}
+use Rattle.rtsp_head.proofs.FieldLemmas.{EachField, HasValue, fields_sound, names_hold, fields_few}
 use Rattle.translate_down.specs.Settings.{Setting}
 use Rattle.translate_down.specs.Sessions.{sets_up, tells_session, told_timeout, session_value, transport_value}
 use Rattle.translate_down.specs.Plays.{moves, plays, range_with, range_told, range_value, scale_told, scale_value, info_value}
 use Rattle.translate_down.specs.Infos.{info_told}
-use Rattle.translate_down.specs.Contents.{brings_description, brings_body, base_value, type_value, encoding_value}
+use Rattle.translate_down.specs.Contents.{comes_with_description, comes_with_body, base_value, type_value, encoding_value}
 use Rattle.rtsp_small.specs.Methods.{methods_text}
 use Rattle.session_one.specs.Table.{is_success}
-use Rattle.translate_down.specs.Replies.{Told, unsupported_value, refusal_of, tells_methods, public_value, session_headers, play_headers, content_headers, success_headers, success_of, reply_down, reply_text_of}
+use Rattle.translate_down.specs.Replies.{Told, unsupported_value, refusal_of, tells_methods, public_value, success_fields, success_of, reply_down, reply_text_of}
 use Rattle.translate_down.specs.Readings.{CanBeRead}
-use Rattle.translate_down.proofs.FieldLemmas.{IsOwn}
 use Rattle.translate_down.proofs.VisibleLemmas.{is_visible, visible_value}
 use Rattle.translate_down.proofs.ValueLemmas.{session_visible, grant_visible, range_visible, base_visible, swapped_holds}
 use Rattle.translate_down.proofs.InfoLemmas.{info_visible}
@@ -96,80 +95,49 @@ scale_by : (test : Bool) (text : List ℕ) → is_value text ≡ true → Fits (
 scale_by true text h = h
 scale_by false text h = tt
 
--- So many headers at most, each of them sound, and none of them the number or the body's length.
-record Fit (most : ℕ) (headers : List Header) : Type 0 where
-  sound : list_all is_header headers ≡ true
-  own : list_all (λ header. not (is_added header)) headers ≡ true
-  few : length headers ≤ most
+-- each field of a success has a value that can be written, where it has one
+success_values : (setting : Setting) (asked : Asked) (told : Told) → CanBeRead setting asked told → EachField HasValue (success_fields setting asked told)
+success_values setting asked told can = (
+  where_fits (tells_session asked) (option_map (λ id. session_text (record { id = id; timeout = told_timeout asked.method setting.timeout })) setting.session)
+      (session_by setting.session (told_timeout asked.method setting.timeout) can.setting.session (timeout_by asked.method setting.timeout can.setting.timeout)),
+  (
+    where_fits (sets_up asked.method) (option_map (λ pair. grant_text (record { pair = pair; ssrc = setting.ssrc })) setting.client) (pair_by setting.client setting.ssrc can.client),
+    (
+      where_fits (moves asked.method) (option_and_then range_told (field_of told.fields (codes "Range")))
+          (then_fits range_told (field_of told.fields (codes "Range")) (λ text v. range_by text (meaning Two text) refl) (field_sound told.fields (codes "Range") can.fields)),
+      (
+        where_fits (plays asked.method) (option_and_then scale_told (field_of told.fields (codes "Scale")))
+            (then_fits scale_told (field_of told.fields (codes "Scale")) (λ text v. scale_by (is_scale text) text v) (field_sound told.fields (codes "Scale") can.fields)),
+        (
+          where_fits (plays asked.method) (option_and_then (info_told setting.up setting.front) (field_of told.fields (codes "RTP-Info")))
+              (then_fits (info_told setting.up setting.front) (field_of told.fields (codes "RTP-Info"))
+              (λ text v. seen_fits (info_told setting.up setting.front text) (info_visible setting.up setting.front text (base_visible setting.front can.front)))
+              (field_sound told.fields (codes "RTP-Info") can.fields)),
+          (
+            where_fits (tells_methods asked.method) (Some methods_text) refl,
+            (
+              where_fits (comes_with_description asked.method told.body) (option_map (swapped setting.up setting.front) (field_of told.fields (codes "Content-Base")))
+                  (map_fits (swapped setting.up setting.front) (field_of told.fields (codes "Content-Base"))
+                  (λ text v. swapped_holds (λ t. is_value t ≡ true) setting.up setting.front text visible_value (base_visible setting.front can.front) v)
+                  (field_sound told.fields (codes "Content-Base") can.fields)),
+              (
+                where_fits (comes_with_body asked.method told.body) (field_of told.fields (codes "Content-Type")) (field_sound told.fields (codes "Content-Type") can.fields),
+                (where_fits (comes_with_body asked.method told.body) (field_of told.fields (codes "Content-Encoding")) (field_sound told.fields (codes "Content-Encoding") can.fields), tt),
+              ),
+            ),
+          ),
+        ),
+      ),
+    ),
+  ),
+)
 
-fit_with : (name : List ℕ) (value : Option (List ℕ)) → is_token name ≡ true → IsOwn name → Fits value → Fit 1 (header_with name value)
-fit_with name None token own h = record { sound = refl; own = refl; few = omega arith }
-fit_with name (Some text) token own h = record {
-  sound = ap (λ t. (t && is_value text) && true) token ∙ ap (λ t. t && true) h;
-  own = ap (λ t. not t && true) own;
-  few = omega arith;
-}
+refusal_values : (told : Told) → list_all is_header told.fields ≡ true → EachField HasValue (named (codes "Unsupported") (unsupported_value told) ∷ [])
+refusal_values told sound = (where_fits (told.code == 551) (field_of told.fields (codes "Unsupported")) (field_sound told.fields (codes "Unsupported") sound), tt)
 
-fit_more : (m n : ℕ) (front more : List Header) → Fit m front → Fit n more → Fit (m + n) (front ++ more)
-fit_more m n front more f g = record {
-  sound = list_all-append is_header front more ∙ ap (λ t. t && list_all is_header more) f.sound ∙ g.sound;
-  own = list_all-append (λ header. not (is_added header)) front more ∙ ap (λ t. t && list_all (λ header. not (is_added header)) more) f.own ∙ g.own;
-  few = omega (arith, length-append front more, f.few, g.few);
-}
-
-session_fit : (setting : Setting) (asked : Asked) (told : Told) → CanBeRead setting asked told → Fit 2 (session_headers setting asked)
-session_fit setting asked told can =
-    fit_more 1 1 (header_with (codes "Session") (session_value setting asked)) (header_with (codes "Transport") (transport_value setting asked.method))
-    (fit_with (codes "Session") (session_value setting asked) refl refl
-    (where_fits (tells_session asked) (option_map (λ id. session_text (record { id = id; timeout = told_timeout asked.method setting.timeout })) setting.session)
-    (session_by setting.session (told_timeout asked.method setting.timeout) can.setting.session (timeout_by asked.method setting.timeout can.setting.timeout))))
-    (fit_with (codes "Transport") (transport_value setting asked.method) refl refl
-    (where_fits (sets_up asked.method) (option_map (λ pair. grant_text (record { pair = pair; ssrc = setting.ssrc })) setting.client) (pair_by setting.client setting.ssrc can.client)))
-
-play_fit : (setting : Setting) (asked : Asked) (told : Told) → CanBeRead setting asked told → Fit 3 (play_headers setting asked.method told.fields)
-play_fit setting asked told can =
-    fit_more 2 1 (header_with (codes "Range") (range_value asked.method told.fields) ++ header_with (codes "Scale") (scale_value asked.method told.fields)) (header_with (codes "RTP-Info") (info_value setting asked.method told.fields))
-    (fit_more 1 1 (header_with (codes "Range") (range_value asked.method told.fields)) (header_with (codes "Scale") (scale_value asked.method told.fields))
-    (fit_with (codes "Range") (range_value asked.method told.fields) refl refl
-    (where_fits (moves asked.method) (option_and_then range_told (field_of told.fields (codes "Range")))
-    (then_fits range_told (field_of told.fields (codes "Range")) (λ text v. range_by text (meaning Two text) refl) (field_sound told.fields (codes "Range") can.fields))))
-    (fit_with (codes "Scale") (scale_value asked.method told.fields) refl refl
-    (where_fits (plays asked.method) (option_and_then scale_told (field_of told.fields (codes "Scale")))
-    (then_fits scale_told (field_of told.fields (codes "Scale")) (λ text v. scale_by (is_scale text) text v) (field_sound told.fields (codes "Scale") can.fields)))))
-    (fit_with (codes "RTP-Info") (info_value setting asked.method told.fields) refl refl
-    (where_fits (plays asked.method) (option_and_then (info_told setting.up setting.front) (field_of told.fields (codes "RTP-Info")))
-    (then_fits (info_told setting.up setting.front) (field_of told.fields (codes "RTP-Info"))
-    (λ text v. seen_fits (info_told setting.up setting.front text) (info_visible setting.up setting.front text (base_visible setting.front can.front)))
-    (field_sound told.fields (codes "RTP-Info") can.fields))))
-
-content_fit : (setting : Setting) (asked : Asked) (told : Told) → CanBeRead setting asked told → Fit 3 (content_headers setting asked.method told.fields told.body)
-content_fit setting asked told can =
-    fit_more 2 1 (header_with (codes "Content-Base") (base_value setting asked.method told.fields told.body) ++ header_with (codes "Content-Type") (type_value asked.method told.fields told.body))
-    (header_with (codes "Content-Encoding") (encoding_value asked.method told.fields told.body))
-    (fit_more 1 1 (header_with (codes "Content-Base") (base_value setting asked.method told.fields told.body)) (header_with (codes "Content-Type") (type_value asked.method told.fields told.body))
-    (fit_with (codes "Content-Base") (base_value setting asked.method told.fields told.body) refl refl
-    (where_fits (brings_description asked.method told.body) (option_map (swapped setting.up setting.front) (field_of told.fields (codes "Content-Base")))
-    (map_fits (swapped setting.up setting.front) (field_of told.fields (codes "Content-Base"))
-    (λ text v. swapped_holds (λ t. is_value t ≡ true) setting.up setting.front text visible_value (base_visible setting.front can.front) v)
-    (field_sound told.fields (codes "Content-Base") can.fields))))
-    (fit_with (codes "Content-Type") (type_value asked.method told.fields told.body) refl refl
-    (where_fits (brings_body asked.method told.body) (field_of told.fields (codes "Content-Type")) (field_sound told.fields (codes "Content-Type") can.fields))))
-    (fit_with (codes "Content-Encoding") (encoding_value asked.method told.fields told.body) refl refl
-    (where_fits (brings_body asked.method told.body) (field_of told.fields (codes "Content-Encoding")) (field_sound told.fields (codes "Content-Encoding") can.fields)))
-
-success_fit : (setting : Setting) (asked : Asked) (told : Told) → CanBeRead setting asked told → Fit 9 (success_headers setting asked told)
-success_fit setting asked told can =
-    fit_more 6 3 (session_headers setting asked ++ play_headers setting asked.method told.fields ++ header_with (codes "Public") (public_value asked.method)) (content_headers setting asked.method told.fields told.body)
-    (fit_more 5 1 (session_headers setting asked ++ play_headers setting asked.method told.fields) (header_with (codes "Public") (public_value asked.method))
-    (fit_more 2 3 (session_headers setting asked) (play_headers setting asked.method told.fields) (session_fit setting asked told can) (play_fit setting asked told can))
-    (fit_with (codes "Public") (public_value asked.method) refl refl
-    (where_fits (tells_methods asked.method) (Some methods_text) refl)))
-    (content_fit setting asked told can)
-
-refusal_fit : (setting : Setting) (asked : Asked) (told : Told) → CanBeRead setting asked told → Fit 1 (header_with (codes "Unsupported") (unsupported_value told))
-refusal_fit setting asked told can =
-    fit_with (codes "Unsupported") (unsupported_value told) refl refl
-    (where_fits (told.code == 551) (field_of told.fields (codes "Unsupported")) (field_sound told.fields (codes "Unsupported") can.fields))
+-- neither the number nor the body's length
+abbrev is_own : List ℕ → Bool
+is_own name = not (equal_fold name (codes "CSeq") || equal_fold name (codes "Content-Length"))
 
 -- a reason stands in one line
 reason_line : (text : List ℕ) → list_all is_reason_byte text ≡ true → is_line_text text ≡ true
@@ -186,25 +154,36 @@ start_with code (Some text) is h =
     let line : is_line_text text ≡ true = reason_line text (and_parts (nat_le (length text) 40) (list_all is_reason_byte text) fits.1).1 in
     ap (λ t. t && is_line_text text) fits.0 ∙ line
 
--- a reply with such headers is one that is read back
-fit_read : (most : ℕ) (reply : Reply1) (cseq : ℕ) → reply.cseq ≡ Some cseq → cseq < 10 ^ 19 → has_reason reply.code ≡ true → length reply.body < 2 ^ 64 → most ≤ 62 → Fit most reply.headers →
-    reply_in (reply_text reply) ≡ Some reply
-fit_read most reply cseq numbered short known long least fit =
-    let number : IfSome reply.cseq (λ n. n < 10 ^ 19) = subst (λ (o : Option ℕ). IfSome o (λ n. n < 10 ^ 19)) (sym numbered) short in
+-- A reply with such fields is one that is read back.
+pub fields_reply : (reply : Reply1) (fields : List Field) (cseq : ℕ) → reply.headers ≡ field_headers fields → reply.cseq ≡ Some cseq → cseq < 10 ^ CSEQ_ONE_DIGITS → has_reason reply.code ≡ true →
+    length reply.body < 2 ^ 64 → length fields ≤ 62 → list_all (λ field. is_token field.name) fields ≡ true → list_all (λ field. is_own field.name) fields ≡ true → EachField HasValue fields → IsReply reply
+fields_reply reply fields cseq spelled numbered short known long few tokens own values =
+    let number : IfSome reply.cseq (λ n. n < 10 ^ CSEQ_ONE_DIGITS) = subst (λ (o : Option ℕ). IfSome o (λ n. n < 10 ^ CSEQ_ONE_DIGITS)) (sym numbered) short in
     let high : IfSome reply.cseq (λ n. n < 2 ^ 64) = subst (λ (o : Option ℕ). IfSome o (λ n. n < 2 ^ 64)) (sym numbered) (omega (arith, short)) in
-    reply_read reply (record {
+    let sound : list_all is_header reply.headers ≡ true = ap (list_all is_header) spelled ∙ fields_sound fields tokens values in
+    let count : length reply.headers ≤ 62 = omega (arith, ap length spelled, fields_few fields, few) in
+    record {
       short = number;
-      writable = message_sound (reply_start reply) reply.cseq reply.headers reply.body (start_with reply.code (reason_of reply.code) refl known) high long (omega (arith, fit.few, least)) fit.sound;
-      own = fit.own;
-    })
+      writable = message_sound (reply_start reply) reply.cseq reply.headers reply.body (start_with reply.code (reason_of reply.code) refl known) high long count sound;
+      own = ap (list_all (λ header. not (is_added header))) spelled ∙ names_hold (λ header. not (is_added header)) is_own (λ header other. other) fields own;
+      held = long;
+    }
 
-down_by : (test : Bool) (setting : Setting) (asked : Asked) (told : Told) → CanBeRead setting asked told →
-    reply_in (reply_text (cond test (success_of setting asked told) (refusal_of asked told))) ≡ Some (cond test (success_of setting asked told) (refusal_of asked told))
+down_by : (test : Bool) (setting : Setting) (asked : Asked) (told : Told) → CanBeRead setting asked told → IsReply (cond test (success_of setting asked told) (refusal_of asked told))
 down_by true setting asked told can =
-    fit_read 9 (success_of setting asked told) asked.cseq refl can.cseq refl can.body (omega arith) (success_fit setting asked told can)
+    fields_reply (success_of setting asked told) (success_fields setting asked told) asked.cseq refl refl can.cseq refl can.body (omega arith) refl refl (success_values setting asked told can)
 down_by false setting asked told can =
-    fit_read 1 (refusal_of asked told) asked.cseq refl can.cseq (told_has_reason told.code) (omega arith) (omega arith) (refusal_fit setting asked told can)
+    fields_reply (refusal_of asked told) (named (codes "Unsupported") (unsupported_value told) ∷ []) asked.cseq refl refl can.cseq (told_has_reason told.code) (omega arith) (omega arith) refl refl (refusal_values told can.fields)
+
+-- What a player gets is a reply that can be read back.
+pub down_reply : (setting : Setting) (asked : Asked) (told : Told) → CanBeRead setting asked told → IsReply (reply_down setting asked told)
+down_reply setting asked told can = down_by (is_success told.code) setting asked told can
 
 -- What a player gets is read back.
-pub down_read : (setting : Setting) (asked : Asked) (told : Told) → CanBeRead setting asked told → reply_in (reply_text_of setting asked told) ≡ Some (reply_down setting asked told)
-down_read setting asked told can = down_by (is_success told.code) setting asked told can
+pub down_read : (setting : Setting) (asked : Asked) (told : Told) → CanBeRead setting asked told → client_reply_in (reply_text_of setting asked told) ≡ Some (reply_down setting asked told)
+down_read setting asked told can = reply_read (reply_down setting asked told) (down_reply setting asked told can)
+
+-- So are the replies that it gets in a row.
+pub down_row : (setting : Setting) (asked : Asked) (told : Told) (rest : List ℕ) → CanBeRead setting asked told →
+    messages_of (reply_text_of setting asked told ++ rest) ≡ option_map (λ more. reply_message (reply_down setting asked told) ∷ more) (messages_of rest)
+down_row setting asked told rest can = replies_read (reply_down setting asked told) rest (down_reply setting asked told can)

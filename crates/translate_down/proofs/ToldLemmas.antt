@@ -1,5 +1,5 @@
 -- What a player is told of a reply rests on seven of its fields, its code and its body.
-use Rattle.std.proofs.Common.{◌≡◌, ℕ, true, false, cond, ◌&&◌, ◌==◌, List, [], ◌++◌, Option, Some, is_none, filter, option_map, option_and_then, refl, sym, ap, ◌∙◌}
+use Rattle.std.proofs.Common.{◌≡◌, ℕ, true, false, cond, ◌&&◌, ◌==◌, List, [], ◌∷◌, ◌++◌, Option, Some, is_none, filter, option_map, option_and_then, refl, sym, ap, ◌∙◌}
 use Rattle.std.specs.Prelude.{codes}
 use Rattle.rtsp_head.specs.declared.header.Header.{Header}
 use Rattle.rtsp_head.specs.Headers.{field_of}
@@ -11,12 +11,12 @@ use Rattle.translate_down.specs.Settings.{Setting}
 use Rattle.rtsp_status.specs.Codes.{code_one}
 use Rattle.rtsp_uri.specs.Swaps.{swapped}
 use Rattle.rtsp_uri.specs.Descriptions.{rewritten}
-use Rattle.rtsp_head.specs.Optional.{header_with, said_where}
+use Rattle.rtsp_head.specs.Optional.{header_with, said_where, named, field_headers}
 use Rattle.translate_down.specs.Infos.{info_told}
 use Rattle.translate_down.specs.Plays.{moves, plays, range_told, scale_told}
-use Rattle.translate_down.specs.Contents.{describes, brings_description, brings_body, names_description}
+use Rattle.translate_down.specs.Contents.{asks_description, comes_with_description, comes_with_body, names_description}
 use Rattle.session_one.specs.Table.{is_success}
-use Rattle.translate_down.specs.Replies.{session_headers, public_value, Told, success_of, refusal_of, reply_text_of, told_whole, told_by, is_no_transport}
+use Rattle.translate_down.specs.Replies.{session_fields, public_value, Told, success_of, refusal_of, reply_text_of, told_whole, told_by, is_no_transport}
 use Rattle.translate_down.proofs.FieldLemmas.{own_field, untransported_field}
 
 -- the fields that are told
@@ -39,15 +39,15 @@ text_with setting asked code body range scale info base kind encoding unsupporte
     (record {
       code = 200;
       cseq = Some asked.cseq;
-      headers = session_headers setting asked
-          ++ (header_with (codes "Range") (said_where (moves asked.method) (option_and_then range_told range))
-          ++ header_with (codes "Scale") (said_where (plays asked.method) (option_and_then scale_told scale))
-          ++ header_with (codes "RTP-Info") (said_where (plays asked.method) (option_and_then (info_told setting.up setting.front) info)))
-          ++ header_with (codes "Public") (public_value asked.method)
-          ++ (header_with (codes "Content-Base") (said_where (brings_description asked.method body) (option_map (swapped setting.up setting.front) base))
-          ++ header_with (codes "Content-Type") (said_where (brings_body asked.method body) kind)
-          ++ header_with (codes "Content-Encoding") (said_where (brings_body asked.method body) encoding));
-      body = cond (brings_body asked.method body) (cond (describes asked.method && (names_description kind && is_none encoding)) (rewritten setting.up setting.front body) body) [];
+      headers = field_headers (session_fields setting asked
+          ++ (named (codes "Range") (said_where (moves asked.method) (option_and_then range_told range))
+          ∷ named (codes "Scale") (said_where (plays asked.method) (option_and_then scale_told scale))
+          ∷ named (codes "RTP-Info") (said_where (plays asked.method) (option_and_then (info_told setting.up setting.front) info)) ∷ [])
+          ++ named (codes "Public") (public_value asked.method) ∷ []
+          ++ (named (codes "Content-Base") (said_where (comes_with_description asked.method body) (option_map (swapped setting.up setting.front) base))
+          ∷ named (codes "Content-Type") (said_where (comes_with_body asked.method body) kind)
+          ∷ named (codes "Content-Encoding") (said_where (comes_with_body asked.method body) encoding) ∷ []));
+      body = cond (comes_with_body asked.method body) (cond (asks_description asked.method && (names_description kind && is_none encoding)) (rewritten setting.up setting.front body) body) [];
     })
     (record { code = code_one code; cseq = Some asked.cseq; headers = header_with (codes "Unsupported") (said_where (code == 551) unsupported); body = [] }))
 

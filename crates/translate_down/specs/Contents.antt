@@ -1,5 +1,6 @@
 -- The body of a reply, and what the reply tells of it: Content-Base, Content-Type and Content-Encoding.
 use Rattle.std.specs.Prelude.{ℕ, Bool, true, false, ◌==◌, ◌&&◌, not, is_none, codes, List, [], length, Option, Some, None, option_map, if◌then◌else◌}
+use Rattle.gate_bytes.specs.Ascii.{semicolon}
 use Rattle.gate_bytes.specs.Places.{up_to}
 use Rattle.gate_bytes.specs.Tokens.{trimmed, equal_fold}
 use Rattle.rtsp_head.specs.declared.header.Header.{Header}
@@ -12,9 +13,9 @@ use Rattle.rtsp_head.specs.Optional.{said_where}
 use Rattle.translate_down.specs.Settings.{Setting}
 
 -- whether a request asks for a description (RFC 2326, 10.2)
-abbrev pub describes : Method → Bool
-describes Describe = true
-describes method = false
+abbrev pub asks_description : Method → Bool
+asks_description Describe = true
+asks_description method = false
 
 -- whether a request asks for a body: a description, or parameters (RFC 2326, 10.2 and 10.8)
 abbrev pub asks_body : Method → Bool
@@ -27,29 +28,29 @@ abbrev pub has_byte : List ℕ → Bool
 has_byte body = not (length body == 0)
 
 -- whether a description comes with a reply
-abbrev pub brings_description : Method → List ℕ → Bool
-brings_description method body = describes method && has_byte body
+abbrev pub comes_with_description : Method → List ℕ → Bool
+comes_with_description method body = asks_description method && has_byte body
 
 -- whether a body comes with a reply; that of any other reply is not handed on (this project's own)
-abbrev pub brings_body : Method → List ℕ → Bool
-brings_body method body = asks_body method && has_byte body
+abbrev pub comes_with_body : Method → List ℕ → Bool
+comes_with_body method body = asks_body method && has_byte body
 
 -- Content-Base, under the player's address (RFC 2326, 12.11)
 abbrev pub base_value : Setting → Method → List Header → List ℕ → Option (List ℕ)
 base_value setting method fields body =
-    said_where (brings_description method body) (option_map (swapped setting.up setting.front) (field_of fields (codes "Content-Base")))
+    said_where (comes_with_description method body) (option_map (swapped setting.up setting.front) (field_of fields (codes "Content-Base")))
 
 -- Content-Type, unchanged (RFC 2326, 12.16)
 abbrev pub type_value : Method → List Header → List ℕ → Option (List ℕ)
-type_value method fields body = said_where (brings_body method body) (field_of fields (codes "Content-Type"))
+type_value method fields body = said_where (comes_with_body method body) (field_of fields (codes "Content-Type"))
 
 -- Content-Encoding, unchanged (RFC 2326, 12.12)
 abbrev pub encoding_value : Method → List Header → List ℕ → Option (List ℕ)
-encoding_value method fields body = said_where (brings_body method body) (field_of fields (codes "Content-Encoding"))
+encoding_value method fields body = said_where (comes_with_body method body) (field_of fields (codes "Content-Encoding"))
 
 -- the type of a body without its parameters, which the first `;` begins (RFC 2326, 12.16)
 abbrev pub media_type : List ℕ → List ℕ
-media_type value = trimmed (up_to 59 value)
+media_type value = trimmed (up_to semicolon value)
 
 -- whether a Content-Type is that of session descriptions (RFC 2326, C; RFC 4566, 8.1)
 abbrev pub names_description : Option (List ℕ) → Bool
@@ -62,10 +63,10 @@ is_description fields = names_description (field_of fields (codes "Content-Type"
 
 -- whether the body that comes with a reply is a session description
 abbrev pub is_read : Method → List Header → Bool
-is_read method fields = describes method && is_description fields
+is_read method fields = asks_description method && is_description fields
 
 -- the body that a player gets: a session description under the player's address, any other as it came, and none where
 -- none was asked for
 abbrev pub body_told : Setting → Method → List Header → List ℕ → List ℕ
 body_told setting method fields body =
-    if brings_body method body then (if is_read method fields then rewritten setting.up setting.front body else body) else []
+    if comes_with_body method body then (if is_read method fields then rewritten setting.up setting.front body else body) else []

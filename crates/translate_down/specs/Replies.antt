@@ -1,6 +1,6 @@
 -- The server's replies as players get them (RFC 2326, 7; RFC 7826, 8). Which headers are handed on, and in which order, is
 -- this project's own.
-use Rattle.std.specs.Prelude.{ℕ, Bool, true, false, ◌==◌, not, codes, List, [], ◌++◌, filter, Option, Some, if◌then◌else◌}
+use Rattle.std.specs.Prelude.{ℕ, Bool, true, false, ◌==◌, not, codes, List, [], ◌∷◌, ◌++◌, filter, Option, Some, if◌then◌else◌}
 use Rattle.gate_bytes.specs.Tokens.{equal_fold}
 use Rattle.rtsp_head.specs.declared.header.Header.{Header}
 use Rattle.rtsp_head.specs.Headers.{field_of}
@@ -14,7 +14,7 @@ use Rattle.head_one.specs.Replies.{reply_text}
 use Rattle.head_two.specs.declared.reply.Reply2.{Reply2}
 use Rattle.session_one.specs.declared.parts.Asked.{Asked}
 use Rattle.session_one.specs.Table.{is_success}
-use Rattle.rtsp_head.specs.Optional.{header_with, said_where}
+use Rattle.rtsp_head.specs.Optional.{header_with, said_where, Field, named, field_headers}
 use Rattle.translate_down.specs.Settings.{Setting}
 use Rattle.translate_down.specs.Sessions.{session_value, transport_value}
 use Rattle.translate_down.specs.Plays.{range_value, scale_value, info_value}
@@ -47,37 +47,44 @@ tells_methods method = false
 abbrev pub public_value : Method → Option (List ℕ)
 public_value method = said_where (tells_methods method) (Some methods_text)
 
--- the headers of a success in their order; the number comes before them, and the body's length after them
-abbrev pub session_headers : Setting → Asked → List Header
-session_headers setting asked =
-    header_with (codes "Session") (session_value setting asked)
-    ++ header_with (codes "Transport") (transport_value setting asked.method)
+-- the fields of a success that tell of the session
+abbrev pub session_fields : Setting → Asked → List Field
+session_fields setting asked =
+    named (codes "Session") (session_value setting asked)
+    ∷ named (codes "Transport") (transport_value setting asked.method)
+    ∷ []
 
-abbrev pub play_headers : Setting → Method → List Header → List Header
-play_headers setting method fields =
-    header_with (codes "Range") (range_value method fields)
-    ++ header_with (codes "Scale") (scale_value method fields)
-    ++ header_with (codes "RTP-Info") (info_value setting method fields)
+-- those that tell of playing
+abbrev pub play_fields : Setting → Method → List Header → List Field
+play_fields setting method fields =
+    named (codes "Range") (range_value method fields)
+    ∷ named (codes "Scale") (scale_value method fields)
+    ∷ named (codes "RTP-Info") (info_value setting method fields)
+    ∷ []
 
-abbrev pub content_headers : Setting → Method → List Header → List ℕ → List Header
-content_headers setting method fields body =
-    header_with (codes "Content-Base") (base_value setting method fields body)
-    ++ header_with (codes "Content-Type") (type_value method fields body)
-    ++ header_with (codes "Content-Encoding") (encoding_value method fields body)
+-- those that tell of the body
+abbrev pub content_fields : Setting → Method → List Header → List ℕ → List Field
+content_fields setting method fields body =
+    named (codes "Content-Base") (base_value setting method fields body)
+    ∷ named (codes "Content-Type") (type_value method fields body)
+    ∷ named (codes "Content-Encoding") (encoding_value method fields body)
+    ∷ []
 
-abbrev pub success_headers : Setting → Asked → Told → List Header
-success_headers setting asked told =
-    session_headers setting asked
-    ++ play_headers setting asked.method told.fields
-    ++ header_with (codes "Public") (public_value asked.method)
-    ++ content_headers setting asked.method told.fields told.body
+-- The fields of a success in their order, each where it has a value. The number comes before them, and the body's length
+-- after them.
+abbrev pub success_fields : Setting → Asked → Told → List Field
+success_fields setting asked told =
+    session_fields setting asked
+    ++ play_fields setting asked.method told.fields
+    ++ named (codes "Public") (public_value asked.method) ∷ []
+    ++ content_fields setting asked.method told.fields told.body
 
 -- a success: always 200
 abbrev pub success_of : Setting → Asked → Told → Reply1
 success_of setting asked told = record {
   code = 200;
   cseq = Some asked.cseq;
-  headers = success_headers setting asked told;
+  headers = field_headers (success_fields setting asked told);
   body = body_told setting asked.method told.fields told.body;
 }
 

@@ -1,7 +1,7 @@
 //! The body of a reply, and what the reply tells of it.
 ghost use Rattle.std.specs.Prelude.{◌≡◌, IfOk, option_map};
 ghost use Rattle.translate_down.specs.Settings.{setting_of};
-ghost use Rattle.translate_down.specs.Contents.{describes, asks_body, brings_description, brings_body, base_value, type_value, encoding_value, media_type, names_description, is_description, is_read, body_told};
+ghost use Rattle.translate_down.specs.Contents.{asks_description, asks_body, comes_with_description, comes_with_body, base_value, type_value, encoding_value, media_type, names_description, is_description, is_read, body_told};
 
 use crate::Context;
 use gate_bytes::{Memory, Text, eq_fold, trim, up_to};
@@ -15,15 +15,15 @@ use std::alloc::Global;
 const DESCRIPTION: &[u8] = b"application/sdp";
 
 /// Whether a description comes with a reply.
-fn brings_description(method: Method, body: &Text) -> bool
-    ensures { result ≡ brings_description method body.now }
+fn comes_with_description(method: Method, body: &Text) -> bool
+    ensures { result ≡ comes_with_description method body.now }
 {
     method == Method::Describe && !body.is_empty()
 }
 
 /// Whether a body comes with a reply that asked for one.
-fn brings_body(method: Method, body: &Text) -> bool
-    ensures { result ≡ brings_body method body.now }
+fn comes_with_body(method: Method, body: &Text) -> bool
+    ensures { result ≡ comes_with_body method body.now }
 {
     matches!(method, Method::Describe | Method::GetParameter) && !body.is_empty()
 }
@@ -38,7 +38,7 @@ pub(crate) fn base(
     ensures { IfOk result (λ value. value ≡ base_value (setting_of context.now) method reply.now.head.headers reply.now.body) }
 {
     match reply.head.field(b"Content-Base") {
-        Some(value) if brings_description(method, &reply.body) => {
+        Some(value) if comes_with_description(method, &reply.body) => {
             let bases = context.bases;
             Ok(Some(swap_authority(alloc, &bases.up, &bases.front, value)?))
         }
@@ -50,7 +50,7 @@ pub(crate) fn base(
 pub(crate) fn kind(alloc: Global, method: Method, reply: &Reply2) -> Result<Option<Text>, Memory>
     ensures { IfOk result (λ value. value ≡ type_value method reply.now.head.headers reply.now.body) }
 {
-    if brings_body(method, &reply.body) {
+    if comes_with_body(method, &reply.body) {
         Text::copied(alloc, reply.head.field(b"Content-Type"))
     } else {
         Ok(None)
@@ -65,7 +65,7 @@ pub(crate) fn encoding(
 ) -> Result<Option<Text>, Memory>
     ensures { IfOk result (λ value. value ≡ encoding_value method reply.now.head.headers reply.now.body) }
 {
-    if brings_body(method, &reply.body) {
+    if comes_with_body(method, &reply.body) {
         Text::copied(alloc, reply.head.field(b"Content-Encoding"))
     } else {
         Ok(None)
@@ -83,7 +83,7 @@ pub(crate) fn body(
     ensures { IfOk result (λ body. body ≡ body_told (setting_of context.now) method reply.now.head.headers reply.now.body) }
 {
     let body = reply.body.as_bytes();
-    if !brings_body(method, &reply.body) {
+    if !comes_with_body(method, &reply.body) {
         Ok(Text::new(alloc))
     } else if is_read(method, &reply.head) {
         rewrite_sdp(alloc, &context.bases.up, &context.bases.front, body)

@@ -1,9 +1,10 @@
 //! The server's replies as players get them.
-ghost use Rattle.std.specs.Prelude.{◌≡◌, ◌++◌, IfOk, OnOk};
+ghost use Rattle.std.specs.Prelude.{◌≡◌, IfOk, OnOk};
 ghost use Rattle.rtsp_head.specs.Messages.{own_fields};
+ghost use Rattle.rtsp_head.specs.Optional.{then_headers, field_headers};
 ghost use Rattle.head_one.specs.Replies.{reply_text};
 ghost use Rattle.translate_down.specs.Settings.{setting_of, CanBeTold};
-ghost use Rattle.translate_down.specs.Replies.{unsupported_value, refusal_of, public_value, session_headers, play_headers, content_headers, success_headers, success_of, reply_text_of, told_whole, told_by};
+ghost use Rattle.translate_down.specs.Replies.{unsupported_value, refusal_of, public_value, session_fields, play_fields, content_fields, success_fields, success_of, reply_text_of, told_whole, told_by};
 
 use crate::Context;
 use crate::content::{base, body, encoding, kind};
@@ -93,7 +94,7 @@ fn success_headers(
     reply: &Reply2,
 ) -> Result<Headers, Memory>
     requires { CanBeTold (setting_of context.now) }
-    ensures { IfOk result (λ headers. headers ≡ success_headers (setting_of context.now) asked.now (told_whole reply.now)) }
+    ensures { IfOk result (λ headers. headers ≡ field_headers (success_fields (setting_of context.now) asked.now (told_whole reply.now))) }
 {
     let mut headers = Headers::new(alloc);
     push_session(alloc, &mut headers, context, asked)?;
@@ -111,7 +112,7 @@ fn push_session(
     asked: &Asked,
 ) -> Result<(), Memory>
     requires { CanBeTold (setting_of context.now) }
-    ensures { OnOk result (headers.new ≡ headers.old ++ session_headers (setting_of context.now) asked.now) }
+    ensures { OnOk result (headers.new ≡ then_headers headers.old (session_fields (setting_of context.now) asked.now)) }
 {
     headers.push_value(alloc, b"Session", session(alloc, context, asked)?)?;
     headers.push_value(
@@ -129,7 +130,7 @@ fn push_play(
     method: Method,
     reply: &Reply2,
 ) -> Result<(), Memory>
-    ensures { OnOk result (headers.new ≡ headers.old ++ play_headers (setting_of context.now) method reply.now.head.headers) }
+    ensures { OnOk result (headers.new ≡ then_headers headers.old (play_fields (setting_of context.now) method reply.now.head.headers)) }
 {
     headers.push_value(alloc, b"Range", range(alloc, method, &reply.head)?)?;
     headers.push_value(alloc, b"Scale", scale(alloc, method, &reply.head)?)?;
@@ -161,7 +162,7 @@ fn push_content(
     method: Method,
     reply: &Reply2,
 ) -> Result<(), Memory>
-    ensures { OnOk result (headers.new ≡ headers.old ++ content_headers (setting_of context.now) method reply.now.head.headers reply.now.body) }
+    ensures { OnOk result (headers.new ≡ then_headers headers.old (content_fields (setting_of context.now) method reply.now.head.headers reply.now.body)) }
 {
     headers.push_value(alloc, b"Content-Base", base(alloc, context, method, reply)?)?;
     headers.push_value(alloc, b"Content-Type", kind(alloc, method, reply)?)?;

@@ -1,6 +1,6 @@
 -- What a decision sends up can be written and read back.
-use Rattle.std.proofs.Common.{◌≡◌, ℕ, ◌<◌, ◌^◌, Bool, true, false, ◌&&◌, not, cond, List, length, Option, None, Some, Result, Ok, Err, refl, arith}
-use Rattle.std.specs.Prelude.{codes, IfOk}
+use Rattle.std.proofs.Common.{◌≡◌, ℕ, ◌<◌, ◌^◌, Bool, true, false, ◌&&◌, ◌||◌, not, IfSome, cond, List, length, Option, None, Some, Result, Ok, Err, refl, arith}
+use Rattle.std.specs.Prelude.{codes, IfOk, IsTrue, option_map}
 use Rattle.std.specs.Option.{ok_or}
 use Rattle.rtsp_head.specs.Items.{Shape}
 use Rattle.rtsp_range.specs.declared.range.Range.{Range}
@@ -19,22 +19,27 @@ use Rattle.rtsp_transport.proofs.ApartLemmas.{pick_apart}
 use Rattle.head_one.specs.declared.request.Request1.{Request1}
 use Rattle.head_one.specs.declared.refusal.Refusal.{Refusal}
 use Rattle.head_one.specs.Refusals.{first_code}
-use Rattle.head_one.specs.Requests.{request_in}
-use Rattle.session_one.specs.declared.table.State.TheVariants.{Playing}
-use Rattle.session_one.specs.Table.{same_state}
+use Rattle.head_one.specs.Requests.{request_of_item}
+use Rattle.session_one.specs.declared.table.State.{State}
+use Rattle.session_one.specs.declared.table.State.TheVariants.{Init, Ready, Playing}
+use Rattle.rtsp_small.specs.declared.method.Method.{Method}
+use Rattle.rtsp_small.specs.declared.method.Method.TheVariants.{Options, Describe, Setup, Play, Pause, Teardown, GetParameter, SetParameter}
+use Rattle.rtsp_range.specs.Writable.{can_be_written}
 use Rattle.session_one.specs.declared.parts.Track.{Track}
 use Rattle.translate_up.specs.declared.decision.Decision.{Decision}
-use Rattle.translate_up.specs.declared.decision.Decision.TheVariants.{Answer, Forward}
+use Rattle.translate_up.specs.declared.decision.Decision.TheVariants.{Answer}
+use Rattle.translate_up.specs.declared.rule.Admission.{Admission}
+use Rattle.translate_up.specs.declared.rule.Admission.TheVariants.{SetUp, Played, Other}
 use Rattle.translate_up.specs.Views.{Given}
-use Rattle.translate_up.specs.Fields.{field, is_setup, is_play}
+use Rattle.translate_up.specs.Fields.{field, Said, said_of, is_setup, is_play, is_pause}
 use Rattle.translate_up.specs.Channels.{is_taken, free_pair, pair_for, client_pair}
-use Rattle.translate_up.specs.Rules.{rules}
-use Rattle.translate_up.specs.Upward.{uri_up, request_up, asked_of}
+use Rattle.translate_up.specs.Rules.{session_rules, with_channels, with_range, admission, unless_code, rules_checked}
+use Rattle.translate_up.specs.Upward.{uri_up}
 use Rattle.translate_up.specs.Answers.{options_text}
-use Rattle.translate_up.specs.Decisions.{set_up, queued, played_on, is_for_gateway, passed, judged, decided, decide}
+use Rattle.translate_up.specs.Decisions.{play_on, play_in, serve, is_for_gateway, by_rules, decide_request, decide_read, decide}
 use Rattle.translate_up.specs.Sound.{is_target, IsFit, SendsSound}
 use Rattle.translate_up.proofs.ReadLemmas.{Read, request_read}
-use Rattle.translate_up.proofs.SoundLemmas.{up_sound, setup_sound, scale_value}
+use Rattle.translate_up.proofs.SoundLemmas.{IsWritable, up_sound, setup_sound, scale_value}
 use Rattle.translate_up.proofs.TargetLemmas.{uri_target}
 
 -- the pair of a player has two channels
@@ -63,46 +68,105 @@ client_apart : (tracks : List Track) (value : Option (List ℕ)) → ArePairApar
 client_apart tracks None = tt
 client_apart tracks (Some value) = for_apart tracks (wanted_of value) (wanted_apart value (is_readable value))
 
+-- What is let through can be sent: its channels differ, and its range can be written.
+abbrev IsSoundAdmission : Admission → Type 0
+IsSoundAdmission (SetUp pair) = AreApart pair
+IsSoundAdmission (Played range) = IsWritable range
+IsSoundAdmission Other = Unit {0}
+
+-- so for what is said
+record IsSoundSaid (said : Said) : Type 0 where
+  pub channels : ArePairApart said.channels
+  pub range : IfSome said.range (λ read. IfOk read (λ range. IsTrue (can_be_written range)))
+
+setup_channels : (sets : Bool) (tracks : List Track) (value : Option (List ℕ)) → ArePairApart (cond sets (client_pair tracks value) None)
+setup_channels true tracks value = client_apart tracks value
+setup_channels false tracks value = tt
+
+read_writable : (value : List ℕ) (read : Result Range RangeFault) → meaning One value ≡ read → IfOk read (λ range. IsTrue (can_be_written range))
+read_writable value (Ok range) e = meaning_sound One value range e
+read_writable value (Err fault) e = tt
+
+field_writable : (value : Option (List ℕ)) → IfSome (option_map (meaning One) value) (λ read. IfOk read (λ range. IsTrue (can_be_written range)))
+field_writable None = tt
+field_writable (Some value) = read_writable value (meaning One value) refl
+
+range_writable : (plays : Bool) (value : Option (List ℕ)) → IfSome (cond plays (option_map (meaning One) value) None) (λ read. IfOk read (λ range. IsTrue (can_be_written range)))
+range_writable true value = field_writable value
+range_writable false value = tt
+
+said_sound : (tracks : List Track) (request : Request1) → IsSoundSaid (said_of tracks request)
+said_sound tracks request = record {
+  channels = setup_channels (is_setup request.method) tracks (field request (codes "Transport"));
+  range = range_writable (is_play request.method || is_pause request.method) (field request (codes "Range"));
+}
+
+-- an admission is sound, where there is one
+abbrev AdmitsSound : Result Admission ℕ → Type 0
+AdmitsSound admitted = IfOk admitted IsSoundAdmission
+
+channels_admitted : (channels : Option Pair) → ArePairApart channels → AdmitsSound (with_channels channels)
+channels_admitted None apart = tt
+channels_admitted (Some pair) apart = apart
+
+range_admitted : (range : Option (Result Range RangeFault)) → IfSome range (λ read. IfOk read (λ one. IsTrue (can_be_written one))) → AdmitsSound (with_range range)
+range_admitted None can = tt
+range_admitted (Some (Ok range)) can = can
+range_admitted (Some (Err fault)) can = tt
+
+admission_sound : (method : Method) (said : Said) → IsSoundSaid said → AdmitsSound (admission method said)
+admission_sound Options said sound = tt
+admission_sound Describe said sound = tt
+admission_sound Setup said sound = channels_admitted said.channels sound.channels
+admission_sound Play said sound = range_admitted said.range sound.range
+admission_sound Pause said sound = tt
+admission_sound Teardown said sound = tt
+admission_sound GetParameter said sound = tt
+admission_sound SetParameter said sound = tt
+
+unless_sound : (code : Option ℕ) (admitted : Result Admission ℕ) → AdmitsSound admitted → AdmitsSound (unless_code code admitted)
+unless_sound None admitted sound = sound
+unless_sound (Some code) admitted sound = tt
+
 either : (first : Bool) (one other : Decision) → SendsSound one → SendsSound other → SendsSound (cond first one other)
 either true one other a b = a
 either false one other a b = b
 
-set_up_sound : (given : Given) (request : Request1) (uri : List ℕ) (pair : Option Pair) → IsFit given → Read request → is_target uri ≡ true → ArePairApart pair →
-    SendsSound (set_up given request uri pair)
-set_up_sound given request uri None fit read target apart = tt
-set_up_sound given request uri (Some pair) fit read target apart = (setup_sound given request uri fit read target, target, apart)
+play_on_sound : (given : Given) (request : Request1) (said : Said) (uri : List ℕ) (range : Option Range) → Read request → is_target uri ≡ true → IsWritable range →
+    SendsSound (play_on given request said uri range)
+play_on_sound given request said uri None read target can = tt
+play_on_sound given request said uri (Some range) read target can = record { uri = target; range = can; scale = scale_value request read }
 
-queued_sound : (given : Given) (request : Request1) (uri value : List ℕ) (range : Result Range RangeFault) → Read request → is_target uri ≡ true → meaning One value ≡ range →
-    SendsSound (queued given request uri range)
-queued_sound given request uri value (Ok range) read target e = record { uri = target; range = meaning_sound One value range e; scale = scale_value request read }
-queued_sound given request uri value (Err fault) read target e = tt
+play_sound : (state : State) (given : Given) (request : Request1) (said : Said) (uri : List ℕ) (range : Option Range) → IsFit given → Read request → is_target uri ≡ true → IsWritable range →
+    SendsSound (play_in state given request said uri range)
+play_sound Init given request said uri range fit read target can = (up_sound given request said uri range fit read target can, target)
+play_sound Ready given request said uri range fit read target can = (up_sound given request said uri range fit read target can, target)
+play_sound Playing given request said uri range fit read target can = play_on_sound given request said uri range read target can
 
-played_sound : (given : Given) (request : Request1) (uri : List ℕ) (value : Option (List ℕ)) → Read request → is_target uri ≡ true → SendsSound (played_on given request uri value)
-played_sound given request uri None read target = tt
-played_sound given request uri (Some value) read target = queued_sound given request uri value (meaning One value) read target refl
+serve_sound : (given : Given) (request : Request1) (said : Said) (uri : List ℕ) (admitted : Admission) → IsFit given → Read request → is_target uri ≡ true → IsSoundAdmission admitted →
+    SendsSound (serve given request said uri admitted)
+serve_sound given request said uri (SetUp pair) fit read target sound = (setup_sound given request said uri fit read target, target, sound)
+serve_sound given request said uri (Played range) fit read target sound = play_sound given.state given request said uri range fit read target sound
+serve_sound given request said uri Other fit read target sound = (up_sound given request said uri None fit read target tt, target)
 
-passed_sound : (given : Given) (request : Request1) (uri : List ℕ) → IsFit given → Read request → is_target uri ≡ true → SendsSound (passed given request uri)
-passed_sound given request uri fit read target =
-    let pair = client_pair given.tracks (field request (codes "Transport")) in
-    let range = field request (codes "Range") in
-    let plays = is_play request && same_state given.state Playing in
-    let up = Forward (request_up given request uri) (asked_of request uri) in
-    let later = either plays (played_on given request uri range) up (played_sound given request uri range read target) (up_sound given request uri fit read target, target) in
-    let now = either (is_setup request) (set_up given request uri pair) (cond plays (played_on given request uri range) up)
-    (set_up_sound given request uri pair fit read target (client_apart given.tracks (field request (codes "Transport")))) later in
-    either (is_for_gateway request) (Answer (options_text request.cseq)) (cond (is_setup request) (set_up given request uri pair) (cond plays (played_on given request uri range) up)) tt now
+rules_sound : (given : Given) (request : Request1) (said : Said) (uri : List ℕ) (admitted : Result Admission ℕ) → IsFit given → Read request → is_target uri ≡ true → AdmitsSound admitted →
+    SendsSound (by_rules given request said uri admitted)
+rules_sound given request said uri (Err code) fit read target sound = tt
+rules_sound given request said uri (Ok admitted) fit read target sound =
+    either (is_for_gateway request.method said) (Answer (options_text request.cseq)) (serve given request said uri admitted) tt
+    (serve_sound given request said uri admitted fit read target sound)
 
-judged_sound : (given : Given) (request : Request1) (uri : List ℕ) (code : Option ℕ) → IsFit given → Read request → is_target uri ≡ true → SendsSound (judged given request uri code)
-judged_sound given request uri (Some code) fit read target = tt
-judged_sound given request uri None fit read target = passed_sound given request uri fit read target
-
-decided_sound : (given : Given) (found : Result Request1 Refusal) → IsFit given → ((request : Request1) → found ≡ Ok request → Read request) → SendsSound (decided given found)
-decided_sound given (Ok request) fit known =
-    let read = known request refl in
+request_sound : (given : Given) (request : Request1) → IsFit given → Read request → SendsSound (decide_request given request)
+request_sound given request fit read =
+    let said = said_of given.tracks request in
     let uri = uri_up given request.uri in
-    judged_sound given request uri (first_code (rules given request uri)) fit read (uri_target given request.uri fit read.uri)
-decided_sound given (Err refusal) fit known = tt
+    rules_sound given request said uri (rules_checked given request.method said uri) fit read (uri_target given request.uri fit read.uri)
+    (unless_sound (first_code (session_rules given request.method said uri)) (admission request.method said) (admission_sound request.method said (said_sound given.tracks request)))
+
+read_sound : (given : Given) (found : Result Request1 Refusal) → IsFit given → ((request : Request1) → found ≡ Ok request → Read request) → SendsSound (decide_read given found)
+read_sound given (Ok request) fit known = request_sound given request fit (known request refl)
+read_sound given (Err refusal) fit known = tt
 
 -- What a decision sends up can be written and read back.
 pub decide_sound : (given : Given) (shape : Shape) → IsFit given → length shape.bytes < 2 ^ 64 → SendsSound (decide given shape)
-decide_sound given shape fit short = decided_sound given (request_in shape) fit (λ request e. request_read shape request short e)
+decide_sound given shape fit short = read_sound given (request_of_item shape) fit (λ request e. request_read shape request short e)

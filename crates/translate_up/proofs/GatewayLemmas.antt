@@ -1,23 +1,26 @@
 -- A request that is for the gateway itself is answered, whatever else it says.
-use Rattle.std.proofs.Common.{◌≡◌, ℕ, Bool, true, false, cond, ◌&&◌, ◌||◌, not, nat_le, length, List, [], ◌∷◌, Option, None, Some, refl, ◌∙◌, ap}
-use Rattle.std.specs.Prelude.{codes, is_some, is_none}
+use Rattle.std.proofs.Common.{◌≡◌, ℕ, Bool, true, false, cond, ◌&&◌, ◌||◌, not, List, [], ◌∷◌, Option, None, Some, Result, Ok, Err, refl, ◌∙◌, ap}
+use Rattle.std.specs.Prelude.{is_some}
+use Rattle.std.specs.List.{list_all}
 use Rattle.std.proofs.lemmas.Bool.{and_parts}
 use Rattle.rtsp_small.specs.declared.method.Method.{Method}
 use Rattle.rtsp_small.specs.declared.method.Method.TheVariants.{Options, Describe, Setup, Play, Pause, Teardown, GetParameter, SetParameter}
-use Rattle.rtsp_range.specs.Meaning.{One, meaning}
+use Rattle.rtsp_range.specs.declared.range.Range.{Range}
+use Rattle.rtsp_range.specs.declared.fault.RangeFault.{RangeFault}
 use Rattle.head_one.specs.declared.request.Request1.{Request1}
-use Rattle.head_one.specs.Refusals.{rule, first_code}
+use Rattle.head_one.specs.Refusals.{Rule, first_code}
 use Rattle.session_one.specs.declared.table.State.{State}
 use Rattle.session_one.specs.declared.table.State.TheVariants.{Init, Ready, Playing}
-use Rattle.session_one.specs.Table.{same_method, same_state, is_allowed}
+use Rattle.session_one.specs.Table.{same_method, is_allowed}
 use Rattle.translate_up.specs.declared.decision.Decision.{Decision}
 use Rattle.translate_up.specs.declared.decision.Decision.TheVariants.{Answer}
+use Rattle.translate_up.specs.declared.rule.Admission.TheVariants.{Other}
 use Rattle.translate_up.specs.Views.{Given}
-use Rattle.translate_up.specs.Fields.{field, is_setup, is_play, is_pause, is_named, needs_session, is_track}
-use Rattle.translate_up.specs.Channels.{client_pair}
-use Rattle.translate_up.specs.Rules.{names_no_session, is_out_of_turn, names_one_of_many, has_no_channels, is_fault, has_bad_range, finds_none_free, finds_no_place}
+use Rattle.translate_up.specs.Fields.{Said, said_of, is_named}
+use Rattle.translate_up.specs.Upward.{uri_up}
+use Rattle.translate_up.specs.Rules.{names_no_session, is_out_of_turn, has_bad_range, session_rules, admission, unless_code}
 use Rattle.translate_up.specs.Answers.{options_text}
-use Rattle.translate_up.specs.Decisions.{is_for_gateway, judged, ruled}
+use Rattle.translate_up.specs.Decisions.{serve, is_for_gateway, by_rules, decide_request}
 
 is_options : (method : Method) → same_method method Options ≡ true → method ≡ Options
 is_options Options e = refl
@@ -34,51 +37,49 @@ always_allowed Init = refl
 always_allowed Ready = refl
 always_allowed Playing = refl
 
-unnamed : (value : Option (List ℕ)) → not (is_some value) ≡ true → value ≡ None
-unnamed None e = refl
-unnamed (Some value) e = cc
-
--- where neither PLAY nor PAUSE is asked for, a range is not looked at
-range_free : (request : Request1) (value : Option (List ℕ)) → is_play request ≡ false → is_pause request ≡ false → has_bad_range request value ≡ false
-range_free request None p q = refl
-range_free request (Some value) p q = ap (λ b. (b && is_fault (meaning One value)) || is_pause request) p ∙ q
-
--- no rule applies
-none_applies : (a b c d e f g : Bool) → a ≡ false → b ≡ false → c ≡ false → d ≡ false → e ≡ false → f ≡ false → g ≡ false →
-    first_code (rule a 454 ∷ rule b 455 ∷ rule c 460 ∷ rule d 461 ∷ rule e 457 ∷ rule f 453 ∷ rule g 503 ∷ []) ≡ None
-none_applies a b c d e f g ha hb hc hd he hf hg =
-    ap (λ x. first_code (rule x 454 ∷ rule b 455 ∷ rule c 460 ∷ rule d 461 ∷ rule e 457 ∷ rule f 453 ∷ rule g 503 ∷ [])) ha
-    ∙ ap (λ x. first_code (rule x 455 ∷ rule c 460 ∷ rule d 461 ∷ rule e 457 ∷ rule f 453 ∷ rule g 503 ∷ [])) hb
-    ∙ ap (λ x. first_code (rule x 460 ∷ rule d 461 ∷ rule e 457 ∷ rule f 453 ∷ rule g 503 ∷ [])) hc
-    ∙ ap (λ x. first_code (rule x 461 ∷ rule e 457 ∷ rule f 453 ∷ rule g 503 ∷ [])) hd
-    ∙ ap (λ x. first_code (rule x 457 ∷ rule f 453 ∷ rule g 503 ∷ [])) he
-    ∙ ap (λ x. first_code (rule x 453 ∷ rule g 503 ∷ [])) hf
-    ∙ ap (λ x. first_code (rule x 503 ∷ [])) hg
+-- No rule of a list applies where none of them does.
+pub none_applies : (rules : List Rule) → list_all (λ (one : Rule). not one.applies) rules ≡ true → first_code rules ≡ None
+none_applies [] h = refl
+none_applies (one ∷ more) h =
+    let parts = and_parts (not one.applies) (list_all (λ (one : Rule). not one.applies) more) h in
+    by_test one.applies one.code (first_code more) parts.0 (none_applies more parts.1)
+  where
+    by_test : (applies : Bool) (code : ℕ) (later : Option ℕ) → not applies ≡ true → later ≡ None → cond applies (Some code) later ≡ None
+    by_test true code later h none = cc
+    by_test false code later h none = none
 
 first_of : (here : Bool) (one other : Decision) → here ≡ true → cond here one other ≡ one
 first_of true one other e = refl
 first_of false one other e = cc
 
-pub own_answered : (given : Given) (request : Request1) (uri : List ℕ) → is_for_gateway request ≡ true → ruled given request uri ≡ Answer (options_text request.cseq)
-own_answered given request uri own =
-    let parts = and_parts (same_method request.method Options) (not (is_named request)) own in
-    let options : request.method ≡ Options = is_options request.method parts.0 in
-    let none : field request (codes "Session") ≡ None = unnamed (field request (codes "Session")) parts.1 in
-    let sets : is_setup request ≡ false = ap (λ m. same_method m Setup) options in
-    let plays : is_play request ≡ false = ap (λ m. same_method m Play) options in
-    let pauses : is_pause request ≡ false = ap (λ m. same_method m Pause) options in
-    let needs : needs_session request.method ≡ false = ap needs_session options in
-    let session : names_no_session request.method given.session (field request (codes "Session")) ≡ false = ap (names_no_session request.method given.session) none ∙ needs in
-    let turn : is_out_of_turn given request uri ≡ false =
-    ap (λ m. not (is_allowed given.state m) || (is_setup request && ((is_some given.session && not (is_named request)) || is_track given.tracks uri))) options
-    ∙ ap (λ b. not b || (is_setup request && ((is_some given.session && not (is_named request)) || is_track given.tracks uri))) (always_allowed given.state)
-    ∙ ap (λ b. b && ((is_some given.session && not (is_named request)) || is_track given.tracks uri)) sets in
-    let many : names_one_of_many given request uri ≡ false = ap (λ b. b && (is_track given.tracks uri && nat_le 2 (length given.tracks))) needs in
-    let channels : has_no_channels given request ≡ false = ap (λ b. b && is_none (client_pair given.tracks (field request (codes "Transport")))) sets in
-    let range : has_bad_range request (field request (codes "Range")) ≡ false = range_free request (field request (codes "Range")) plays pauses in
-    let free : finds_none_free given request ≡ false = ap (λ b. b && given.full) sets in
-    let place : finds_no_place given request ≡ false =
-    ap (λ b. (b && nat_le 8 (length given.tracks)) || (((is_play request && same_state given.state Playing) && is_some (field request (codes "Range"))) && nat_le 8 given.queued)) sets
-    ∙ ap (λ b. ((b && same_state given.state Playing) && is_some (field request (codes "Range"))) && nat_le 8 given.queued) plays in
-    ap (judged given request uri) (none_applies _ _ _ _ _ _ _ session turn many channels range free place)
-    ∙ first_of (is_for_gateway request) (Answer (options_text request.cseq)) _ own
+no_session_named : (session value : Option (List ℕ)) → not (is_some value) ≡ true → names_no_session Options session value ≡ false
+no_session_named session None e = refl
+no_session_named session (Some value) e = cc
+
+no_range : (range : Option (Result Range RangeFault)) → has_bad_range Options range ≡ false
+no_range None = refl
+no_range (Some (Ok range)) = refl
+no_range (Some (Err fault)) = refl
+
+-- No rule applies to OPTIONS without a session.
+options_rules : (given : Given) (said : Said) (uri : List ℕ) → not (is_named said) ≡ true →
+    list_all (λ (one : Rule). not one.applies) (session_rules given Options said uri) ≡ true
+options_rules given said uri own =
+    ap (λ t. not t && (not (is_out_of_turn given Options said uri) && (true && (true && (not (has_bad_range Options said.range) && (true && (true && true))))))) (no_session_named given.session said.session own)
+    ∙ ap (λ t. not (not t || false) && (true && (true && (not (has_bad_range Options said.range) && (true && (true && true)))))) (always_allowed given.state)
+    ∙ ap (λ t. not t && (true && (true && true))) (no_range said.range)
+
+own_by : (method : Method) (given : Given) (request : Request1) (said : Said) (uri : List ℕ) → is_for_gateway method said ≡ true → method ≡ Options →
+    by_rules given request said uri (unless_code (first_code (session_rules given method said uri)) (admission method said)) ≡ by_rules given request said uri (Ok Other)
+own_by method given request said uri own options =
+    let parts = and_parts (same_method method Options) (not (is_named said)) own in
+    ap (λ m. by_rules given request said uri (unless_code (first_code (session_rules given m said uri)) (admission m said))) options
+    ∙ ap (λ code. by_rules given request said uri (unless_code code (Ok Other))) (none_applies (session_rules given Options said uri) (options_rules given said uri parts.1))
+
+pub own_answered : (given : Given) (request : Request1) → is_for_gateway request.method (said_of given.tracks request) ≡ true → decide_request given request ≡ Answer (options_text request.cseq)
+own_answered given request own =
+    let said = said_of given.tracks request in
+    let uri = uri_up given request.uri in
+    let parts = and_parts (same_method request.method Options) (not (is_named said)) own in
+    own_by request.method given request said uri own (is_options request.method parts.0)
+    ∙ first_of (is_for_gateway request.method said) (Answer (options_text request.cseq)) (serve given request said uri Other) own

@@ -11,4 +11,4 @@ pub mod TransportLemmas
 pub mod VisibleLemmas
 pub mod GatewayLemmas
 pub mod OptionsLemmas
-pub mod ServedLemmas
+pub mod ServeLemmas

@@ -1,5 +1,5 @@
 -- What a player's request says of its session, its stream and its range.
-use Rattle.std.specs.Prelude.{ℕ, Bool, true, false, codes, List, Option, Some, None, is_some, option_map}
+use Rattle.std.specs.Prelude.{ℕ, Bool, true, false, codes, List, Option, Some, None, is_some, option_map, ◌||◌, if◌then◌else◌, Result}
 use Rattle.std.specs.List.{list_any}
 use Rattle.std.specs.Str.{bytes_eq}
 use Rattle.rtsp_head.specs.Headers.{field_of}
@@ -10,27 +10,47 @@ use Rattle.rtsp_small.specs.Sessions.{session_of}
 use Rattle.rtsp_small.specs.Scales.{is_scale}
 use Rattle.head_one.specs.declared.request.Request1.{Request1}
 use Rattle.session_one.specs.declared.parts.Track.{Track}
+use Rattle.rtsp_range.specs.declared.range.Range.{Range}
+use Rattle.rtsp_range.specs.declared.fault.RangeFault.{RangeFault}
+use Rattle.rtsp_range.specs.Meaning.{One, meaning}
+use Rattle.rtsp_transport.specs.declared.channels.Pair.{Pair}
 use Rattle.session_one.specs.Table.{same_method}
+use Rattle.translate_up.specs.Channels.{client_pair}
 
 -- the value of a request's field
 abbrev pub field : Request1 → List ℕ → Option (List ℕ)
 field request name = field_of request.head.headers name
 
-abbrev pub is_describe : Request1 → Bool
-is_describe request = same_method request.method Describe
+abbrev pub is_describe : Method → Bool
+is_describe method = same_method method Describe
 
-abbrev pub is_setup : Request1 → Bool
-is_setup request = same_method request.method Setup
+abbrev pub is_setup : Method → Bool
+is_setup method = same_method method Setup
 
-abbrev pub is_play : Request1 → Bool
-is_play request = same_method request.method Play
+abbrev pub is_play : Method → Bool
+is_play method = same_method method Play
 
-abbrev pub is_pause : Request1 → Bool
-is_pause request = same_method request.method Pause
+abbrev pub is_pause : Method → Bool
+is_pause method = same_method method Pause
 
--- whether a request names a session (RFC 2326, 12.37)
-abbrev pub is_named : Request1 → Bool
-is_named request = is_some (field request (codes "Session"))
+-- What a request says of its session, its channels and its range, each read once: the value of its Session field (RFC
+-- 2326, 12.37); the channels that the player of a SETUP gets (RFC 2326, 12.39); and what the Range of a PLAY or a PAUSE
+-- means (RFC 2326, 12.29).
+pub record Said : Type 0 where
+  pub session : Option (List ℕ)
+  pub channels : Option Pair
+  pub range : Option (Result Range RangeFault)
+
+abbrev pub said_of : List Track → Request1 → Said
+said_of tracks request = record {
+  session = field request (codes "Session");
+  channels = if is_setup request.method then client_pair tracks (field request (codes "Transport")) else None;
+  range = if is_play request.method || is_pause request.method then option_map (meaning One) (field request (codes "Range")) else None;
+}
+
+-- whether a request names a session
+abbrev pub is_named : Said → Bool
+is_named said = is_some said.session
 
 -- the id in a Session field
 abbrev pub id_of : List ℕ → Option (List ℕ)
@@ -53,16 +73,16 @@ needs_session Teardown = true
 needs_session GetParameter = false
 needs_session SetParameter = false
 
--- whether a method may bring a body (RFC 2326, 10.8 and 10.9)
-abbrev pub brings_body : Method → Bool
-brings_body Options = false
-brings_body Describe = false
-brings_body Setup = false
-brings_body Play = false
-brings_body Pause = false
-brings_body Teardown = false
-brings_body GetParameter = true
-brings_body SetParameter = true
+-- whether a method may bring a body up (RFC 2326, 10.8 and 10.9)
+abbrev pub brings_body_up : Method → Bool
+brings_body_up Options = false
+brings_body_up Describe = false
+brings_body_up Setup = false
+brings_body_up Play = false
+brings_body_up Pause = false
+brings_body_up Teardown = false
+brings_body_up GetParameter = true
+brings_body_up SetParameter = true
 
 -- whether a URI is that of a stream that was set up
 abbrev pub is_track : List Track → List ℕ → Bool

@@ -1,9 +1,10 @@
+pub mod Admissions
 pub mod Answers
+pub mod Borrowed
 pub mod Channels
 pub mod Decisions
 pub mod Fields
 pub mod Rules
-pub mod Served
 pub mod Sound
 pub mod Upward
 pub mod Views

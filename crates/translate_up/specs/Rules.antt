@@ -1,17 +1,20 @@
 -- The rules by which a player's request is refused that its head does not refuse. Their order is this project's own.
 -- A request comes here with the URI that it would have on its way up.
-use Rattle.std.specs.Prelude.{ℕ, Bool, true, false, ◌&&◌, ◌||◌, not, nat_le, codes, List, [], ◌∷◌, length, Option, Some, None, is_some, is_none, Result, Ok, Err}
+use Rattle.std.specs.Prelude.{ℕ, Bool, true, false, ◌&&◌, ◌||◌, not, nat_le, List, [], ◌∷◌, length, Option, Some, None, is_some, is_none, Result, Ok, Err}
 use Rattle.rtsp_small.specs.declared.method.Method.{Method}
 use Rattle.rtsp_range.specs.declared.range.Range.{Range}
 use Rattle.rtsp_range.specs.declared.fault.RangeFault.{RangeFault}
-use Rattle.rtsp_range.specs.Meaning.{One, meaning}
-use Rattle.head_one.specs.declared.request.Request1.{Request1}
-use Rattle.head_one.specs.Refusals.{Rule, rule}
+use Rattle.head_one.specs.Refusals.{Rule, rule, first_code}
 use Rattle.session_one.specs.declared.table.State.TheVariants.{Playing}
 use Rattle.session_one.specs.Table.{is_allowed, same_state}
 use Rattle.translate_up.specs.Views.{Given}
-use Rattle.translate_up.specs.Fields.{field, is_setup, is_play, is_pause, is_named, id_of, are_same, needs_session, is_track}
-use Rattle.translate_up.specs.Channels.{client_pair}
+use Rattle.rtsp_transport.specs.declared.channels.Pair.{Pair}
+use Rattle.session_one.specs.declared.parts.TheConstants.{MOST_TRACKS}
+use Rattle.translate_up.specs.declared.rule.TheConstants.{MOST_QUEUED}
+use Rattle.translate_up.specs.declared.rule.Admission.{Admission}
+use Rattle.translate_up.specs.declared.rule.Admission.TheVariants.{SetUp, Played, Other}
+use Rattle.rtsp_small.specs.declared.method.Method.TheVariants.{Options, Describe, Setup, Play, Pause, Teardown, GetParameter, SetParameter}
+use Rattle.translate_up.specs.Fields.{Said, is_setup, is_play, is_pause, is_named, id_of, are_same, needs_session, is_track}
 
 -- The Session field is not that of the player's session, or is missing where there must be one.
 abbrev pub names_no_session : Method → Option (List ℕ) → Option (List ℕ) → Bool
@@ -19,50 +22,78 @@ names_no_session method session None = needs_session method
 names_no_session method session (Some value) = not (are_same session (id_of value))
 
 -- A player has one session, and sets up each stream once.
-abbrev pub sets_up_again : Given → Request1 → List ℕ → Bool
-sets_up_again given request uri = is_setup request && ((is_some given.session && not (is_named request)) || is_track given.tracks uri)
+abbrev pub sets_up_again : Given → Method → Said → List ℕ → Bool
+sets_up_again given method said uri = is_setup method && ((is_some given.session && not (is_named said)) || is_track given.tracks uri)
 
 -- The method has no row in the table of states, or a stream would be set up again.
-abbrev pub is_out_of_turn : Given → Request1 → List ℕ → Bool
-is_out_of_turn given request uri = not (is_allowed given.state request.method) || sets_up_again given request uri
+abbrev pub is_out_of_turn : Given → Method → Said → List ℕ → Bool
+is_out_of_turn given method said uri = not (is_allowed given.state method) || sets_up_again given method said uri
 
 -- One of several streams is named, which are played, paused and torn down together.
-abbrev pub names_one_of_many : Given → Request1 → List ℕ → Bool
-names_one_of_many given request uri = needs_session request.method && (is_track given.tracks uri && nat_le 2 (length given.tracks))
+abbrev pub names_one_of_many : Given → Method → List ℕ → Bool
+names_one_of_many given method uri = needs_session method && (is_track given.tracks uri && nat_le 2 (length given.tracks))
 
 -- No pair of channels can be given to the stream.
-abbrev pub has_no_channels : Given → Request1 → Bool
-has_no_channels given request = is_setup request && is_none (client_pair given.tracks (field request (codes "Transport")))
-
-abbrev pub is_fault : Result Range RangeFault → Bool
-is_fault (Ok range) = false
-is_fault (Err fault) = true
+abbrev pub has_no_channels : Method → Said → Bool
+has_no_channels method said = is_setup method && is_none said.channels
 
 -- A PLAY has a Range that can't be read, or a PAUSE has one.
-abbrev pub has_bad_range : Request1 → Option (List ℕ) → Bool
-has_bad_range request None = false
-has_bad_range request (Some value) = (is_play request && is_fault (meaning One value)) || is_pause request
+abbrev pub has_bad_range : Method → Option (Result Range RangeFault) → Bool
+has_bad_range method None = false
+has_bad_range method (Some (Ok range)) = is_pause method
+has_bad_range method (Some (Err fault)) = is_play method || is_pause method
 
 -- All pairs of channels to the server are held.
-abbrev pub finds_none_free : Given → Request1 → Bool
-finds_none_free given request = is_setup request && given.full
+abbrev pub finds_none_free : Given → Method → Bool
+finds_none_free given method = is_setup method && given.full
 
 -- whether a PLAY would wait for what plays
-abbrev pub must_wait : Given → Request1 → Bool
-must_wait given request = (is_play request && same_state given.state Playing) && is_some (field request (codes "Range"))
+abbrev pub must_wait : Given → Method → Said → Bool
+must_wait given method said = (is_play method && same_state given.state Playing) && is_some said.range
 
--- The session has 8 streams, or 8 PLAYs wait.
-abbrev pub finds_no_place : Given → Request1 → Bool
-finds_no_place given request = (is_setup request && nat_le 8 (length given.tracks)) || (must_wait given request && nat_le 8 given.queued)
+-- The session has all its streams, or as many PLAYs wait as may.
+abbrev pub finds_no_place : Given → Method → Said → Bool
+finds_no_place given method said =
+    (is_setup method && nat_le MOST_TRACKS (length given.tracks)) || (must_wait given method said && nat_le MOST_QUEUED given.queued)
 
 -- the rules in their order
-abbrev pub rules : Given → Request1 → List ℕ → List Rule
-rules given request uri =
-    rule (names_no_session request.method given.session (field request (codes "Session"))) 454
-    ∷ rule (is_out_of_turn given request uri) 455
-    ∷ rule (names_one_of_many given request uri) 460
-    ∷ rule (has_no_channels given request) 461
-    ∷ rule (has_bad_range request (field request (codes "Range"))) 457
-    ∷ rule (finds_none_free given request) 453
-    ∷ rule (finds_no_place given request) 503
+abbrev pub session_rules : Given → Method → Said → List ℕ → List Rule
+session_rules given method said uri =
+    rule (names_no_session method given.session said.session) 454
+    ∷ rule (is_out_of_turn given method said uri) 455
+    ∷ rule (names_one_of_many given method uri) 460
+    ∷ rule (has_no_channels method said) 461
+    ∷ rule (has_bad_range method said.range) 457
+    ∷ rule (finds_none_free given method) 453
+    ∷ rule (finds_no_place given method said) 503
     ∷ []
+
+-- A SETUP is let through with its channels. Where there are none, a rule applies.
+abbrev pub with_channels : Option Pair → Result Admission ℕ
+with_channels None = Err 461
+with_channels (Some pair) = Ok (SetUp pair)
+
+-- A PLAY is let through with its range, where it has one. Where that can't be read, a rule applies.
+abbrev pub with_range : Option (Result Range RangeFault) → Result Admission ℕ
+with_range None = Ok (Played None)
+with_range (Some (Ok range)) = Ok (Played (Some range))
+with_range (Some (Err fault)) = Err 457
+
+-- what the rules let through
+abbrev pub admission : Method → Said → Result Admission ℕ
+admission Options said = Ok Other
+admission Describe said = Ok Other
+admission Setup said = with_channels said.channels
+admission Play said = with_range said.range
+admission Pause said = Ok Other
+admission Teardown said = Ok Other
+admission GetParameter said = Ok Other
+admission SetParameter said = Ok Other
+
+abbrev pub unless_code : Option ℕ → Result Admission ℕ → Result Admission ℕ
+unless_code None admitted = admitted
+unless_code (Some code) admitted = Err code
+
+-- what the rules let through, or the code of the first one that applies
+abbrev pub rules_checked : Given → Method → Said → List ℕ → Result Admission ℕ
+rules_checked given method said uri = unless_code (first_code (session_rules given method said uri)) (admission method said)

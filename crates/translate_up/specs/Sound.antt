@@ -2,6 +2,7 @@
 use Rattle.std.specs.Prelude.{◌≡◌, ℕ, ◌<◌, ◌^◌, Bool, true, ◌&&◌, List, IfSome, IsTrue}
 use Rattle.rtsp_head.specs.Written.{is_part, is_line_text, is_value}
 use Rattle.rtsp_small.specs.Sessions.{is_session_id}
+use Rattle.rtsp_small.specs.declared.cseq.TheConstants.{CSEQ_TWO_DIGITS}
 use Rattle.rtsp_range.specs.Writable.{can_be_written}
 use Rattle.rtsp_transport.specs.declared.channels.Pair.{Pair}
 use Rattle.rtsp_transport.specs.Channels.{AreApart}
@@ -27,7 +28,7 @@ pub record IsFit (given : Given) : Type 0 where
 
 -- a request that can be written under every number, and read back
 abbrev pub IsSound : Request2 → Type 0
-IsSound request = (number : ℕ) → number < 10 ^ 9 → IsRequest number request
+IsSound request = (number : ℕ) → number < 10 ^ CSEQ_TWO_DIGITS → IsRequest number request
 
 -- a SETUP that is so with every pair of channels
 abbrev pub IsSoundSetup : Request2 → Type 0

@@ -2,7 +2,7 @@
 ghost use Rattle.std.specs.Prelude.{◌≡◌, true, codes, [], IfOk};
 ghost use Rattle.std.specs.Option.{option_copied};
 ghost use Rattle.rtsp_status.specs.Reasons.{has_reason};
-ghost use Rattle.translate_up.specs.Answers.{answer_text, refusal_text, options_text, play_text, HasReason};
+ghost use Rattle.translate_up.specs.Answers.{own_answer, refusal_text, options_text, play_text, HasReason};
 
 use gate_bytes::{Memory, Text, push_decimal};
 use head_one::{Refusal, Reply1, write_reply};
@@ -18,7 +18,7 @@ fn answer_with(
     headers: Headers,
 ) -> Result<Text, Memory>
     requires { has_reason code ≡ true }
-    ensures { IfOk result (λ text. text ≡ answer_text code cseq headers) }
+    ensures { IfOk result (λ text. text ≡ own_answer code cseq headers) }
 {
     let reply = Reply1 {
         code,
@@ -32,7 +32,7 @@ fn answer_with(
 /// The answer with this code that tells the number alone.
 pub(crate) fn answer(alloc: Global, code: u16, cseq: Option<u64>) -> Result<Text, Memory>
     requires { has_reason code ≡ true }
-    ensures { IfOk result (λ text. text ≡ answer_text code cseq []) }
+    ensures { IfOk result (λ text. text ≡ own_answer code cseq []) }
 {
     answer_with(alloc, code, cseq, Headers::new(alloc))
 }

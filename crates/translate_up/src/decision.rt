@@ -1,9 +1,24 @@
-//! What may become of a request.
+//! The decision on a request: what it may be, and how it is come to.
+ghost use Rattle.std.specs.Prelude.{◌≡◌, IfOk};
+ghost use Rattle.rtsp_head.specs.Shapes.{shape_of};
+ghost use Rattle.translate_up.specs.Views.{given_of};
+ghost use Rattle.translate_up.specs.Borrowed.{said_seen};
+ghost use Rattle.translate_up.specs.Decisions.{decide, decide_request, is_for_gateway};
 
-use gate_bytes::Text;
+use crate::answer::{answer, options_text, refusal_text};
+use crate::field::SaidFields;
+use crate::rule::check_rules;
+use crate::serving::serve;
+use crate::upward::uri_up;
+use crate::view::View;
+use gate_bytes::{Memory, Text};
+use head_one::{Request1, RequestFault, read_request};
 use head_two::Request2;
+use rtsp_head::Item;
+use rtsp_small::Method;
 use rtsp_transport::Pair;
 use session_one::{Asked, Play};
+use std::alloc::Global;
 
 /// What becomes of a request.
 #[derive(Drop)]
@@ -17,4 +32,46 @@ pub enum Decision {
     /// It goes up as a SETUP once [`crate::with_transport`] has put its channels to the server in;
     /// this is kept for the reply, and the player gets these channels on its own connection.
     Setup(Request2, Asked, Pair),
+}
+
+/// What becomes of a request of a player that has none open. The first rule that applies refuses it;
+/// what none refuses is answered, waits, or goes up.
+///
+/// The rules on its head come first. Then a request is refused with 454 where it names another
+/// session than its own, or none where it needs one; 455 where the table of states has no row for
+/// it, or where a stream would be set up again; 460 where it names one of several streams that are
+/// played together; 461 where no channels can be given to it; 457 where its range is of no use; 453
+/// where all channels to the server are held; 503 where its session has all its streams, or where as
+/// many PLAYs wait as may.
+pub fn decide(alloc: Global, view: &View<'_>, item: &Item) -> Result<Decision, Memory>
+    ensures { IfOk result (λ decision. decision ≡ decide (given_of view.now) (shape_of item.now)) }
+{
+    match read_request(alloc, item) {
+        Ok(request) => decide_request(alloc, view, &request),
+        Err(RequestFault::Refused(refusal)) => Ok(Decision::Answer(refusal_text(alloc, refusal)?)),
+        Err(RequestFault::Memory) => Err(Memory),
+    }
+}
+
+/// What becomes of a request that its head does not refuse. No rule refuses one for the gateway itself,
+/// so its URI is not looked at.
+fn decide_request(alloc: Global, view: &View<'_>, request: &Request1) -> Result<Decision, Memory>
+    ensures { IfOk result (λ decision. decision ≡ decide_request (given_of view.now) request.now) }
+{
+    let said = SaidFields::read(view.tracks, request);
+    if is_for_gateway(request.method, &said) {
+        return Ok(Decision::Answer(options_text(alloc, request.cseq)?));
+    }
+    let uri = uri_up(alloc, view, request.uri.as_bytes())?;
+    match check_rules(view, request.method, &said, uri.as_bytes()) {
+        Ok(admission) => serve(alloc, view, request, &said, uri, admission),
+        Err(code) => Ok(Decision::Answer(answer(alloc, code, Some(request.cseq))?)),
+    }
+}
+
+/// Whether a request is for the gateway itself: OPTIONS without a session.
+fn is_for_gateway(method: Method, said: &SaidFields<'_>) -> bool
+    ensures { result ≡ is_for_gateway method (said_seen said.now) }
+{
+    matches!(method, Method::Options) && !said.is_named()
 }

@@ -1,57 +1,78 @@
-//! What a player's request says of its session, its stream and its scale.
-ghost use Rattle.std.specs.Prelude.{◌≡◌, codes, option_map};
+//! What a player's request says of its session, its channels, its range and its scale.
+ghost use Rattle.std.specs.Prelude.{◌≡◌, IfSome, IfOk, IsTrue};
 ghost use Rattle.std.specs.Option.{option_copied};
-ghost use Rattle.rtsp_small.specs.Scales.{is_scale};
+ghost use Rattle.translate_up.specs.Borrowed.{said_seen, HasWritableRange};
 ghost use Rattle.translate_up.specs.Views.{given_of};
 ghost use Rattle.rtsp_head.specs.Optional.{said_where};
-ghost use Rattle.translate_up.specs.Fields.{is_describe, is_setup, is_play, is_pause, is_named, id_of, are_same, needs_session, brings_body, is_track, scale_of};
+ghost use Rattle.translate_up.specs.Fields.{said_of, is_describe, is_setup, is_play, is_named, id_of, are_same, needs_session, brings_body_up, is_track, scale_of};
 ghost use Rattle.translate_up.specs.Upward.{session_said};
+ghost use Rattle.rtsp_range.specs.Writable.{can_be_written};
+ghost use Rattle.rtsp_range.specs.Meaning.{One, meaning};
+ghost use Rattle.rtsp_range.specs.declared.range.Range.{Range};
+ghost use Rattle.rtsp_range.specs.declared.fault.RangeFault.{RangeFault};
+ghost use Rattle.std.specs.Prelude.{option_map, codes};
 
+use crate::channels::client_pair;
 use crate::view::View;
 use head_one::Request1;
+use rtsp_range::{Range, RangeFault, read_one};
 use rtsp_small::{Method, is_scale, read_session};
+use rtsp_transport::Pair;
 use session_one::Track;
 
-/// Whether a request is a DESCRIBE.
-pub(crate) fn is_describe(request: &Request1) -> bool
-    ensures { result ≡ is_describe request.now }
-{
-    matches!(request.method, Method::Describe)
+/// What a request says of its session, its channels and its range, each read once.
+#[derive(Clone, Copy)]
+pub(crate) struct SaidFields<'a> {
+    /// The value of its Session field (RFC 2326, 12.37).
+    pub(crate) session: Option<&'a [u8]>,
+    /// The channels that the player of a SETUP gets (RFC 2326, 12.39).
+    pub(crate) channels: Option<Pair>,
+    /// What the Range of a PLAY or a PAUSE means (RFC 2326, 12.29).
+    pub(crate) range: Option<Result<Range, RangeFault>>,
 }
 
-/// Whether a request is a SETUP.
-pub(crate) fn is_setup(request: &Request1) -> bool
-    ensures { result ≡ is_setup request.now }
-{
-    matches!(request.method, Method::Setup)
+impl<'a> SaidFields<'a> {
+    /// What a request says on a connection with these streams.
+    pub(crate) fn read(tracks: &[Track], request: &'a Request1) -> SaidFields<'a>
+        ensures said { said_seen result ≡ said_of tracks.now request.now }
+        ensures range { HasWritableRange result }
+    {
+        let channels = match request.method {
+            Method::Setup => client_pair(tracks, request.head.field(b"Transport")),
+            _ => None,
+        };
+        let range = match request.method {
+            Method::Play | Method::Pause => read_range(request.head.field(b"Range")),
+            _ => None,
+        };
+        SaidFields {
+            session: request.head.field(b"Session"),
+            channels,
+            range,
+        }
+    }
+
+    /// Whether the request names a session.
+    pub(crate) fn is_named(&self) -> bool
+        ensures { result ≡ is_named (said_seen self.now) }
+    {
+        self.session.is_some()
+    }
 }
 
-/// Whether a request is a PLAY.
-pub(crate) fn is_play(request: &Request1) -> bool
-    ensures { result ≡ is_play request.now }
+/// What the value of a Range field means, where there is one.
+fn read_range(value: Option<&[u8]>) -> Option<Result<Range, RangeFault>>
+    ensures value { result ≡ option_map (meaning One) (option_copied value.entry) }
+    ensures writable { IfSome result (λ read. IfOk read (λ range. IsTrue (can_be_written range))) }
 {
-    matches!(request.method, Method::Play)
-}
-
-/// Whether a request is a PAUSE.
-pub(crate) fn is_pause(request: &Request1) -> bool
-    ensures { result ≡ is_pause request.now }
-{
-    matches!(request.method, Method::Pause)
-}
-
-/// Whether a request names a session (RFC 2326, 12.37).
-pub(crate) fn is_named(request: &Request1) -> bool
-    ensures { result ≡ is_named request.now }
-{
-    request.head.field(b"Session").is_some()
+    Some(read_one(value?))
 }
 
 /// The session, where a request names it.
-pub(crate) fn session_said<'a>(view: &View<'a>, request: &Request1) -> Option<&'a [u8]>
-    ensures { option_copied result ≡ session_said (given_of view.now) request.now }
+pub(crate) fn session_said<'a>(view: &View<'a>, said: &SaidFields<'_>) -> Option<&'a [u8]>
+    ensures { option_copied result ≡ session_said (given_of view.now) (said_seen said.now) }
 {
-    said_where(is_named(request), view.session)
+    said_where(said.is_named(), view.session)
 }
 
 /// Whether the id in a Session field is that of a session.
@@ -64,6 +85,27 @@ pub(crate) fn is_of_session(session: Option<&[u8]>, value: &[u8]) -> bool
     }
 }
 
+/// Whether a method is DESCRIBE.
+pub(crate) fn is_describe(method: Method) -> bool
+    ensures { result ≡ is_describe method }
+{
+    matches!(method, Method::Describe)
+}
+
+/// Whether a method is SETUP.
+pub(crate) fn is_setup(method: Method) -> bool
+    ensures { result ≡ is_setup method }
+{
+    matches!(method, Method::Setup)
+}
+
+/// Whether a method is PLAY.
+pub(crate) fn is_play(method: Method) -> bool
+    ensures { result ≡ is_play method }
+{
+    matches!(method, Method::Play)
+}
+
 /// Whether a method is for a session that is there (RFC 2326, 10.5 to 10.7).
 pub(crate) fn needs_session(method: Method) -> bool
     ensures { result ≡ needs_session method }
@@ -71,9 +113,9 @@ pub(crate) fn needs_session(method: Method) -> bool
     matches!(method, Method::Play | Method::Pause | Method::Teardown)
 }
 
-/// Whether a method may bring a body (RFC 2326, 10.8 and 10.9).
-pub(crate) fn brings_body(method: Method) -> bool
-    ensures { result ≡ brings_body method }
+/// Whether a method may bring a body up (RFC 2326, 10.8 and 10.9).
+pub(crate) fn brings_body_up(method: Method) -> bool
+    ensures { result ≡ brings_body_up method }
 {
     matches!(method, Method::GetParameter | Method::SetParameter)
 }

@@ -1,16 +1,15 @@
 //! What holds of every decision. Each function does nothing: its contract is the law.
-ghost use Rattle.std.specs.Prelude.{◌≡◌, ℕ, ◌<◌, ◌≤◌, ◌^◌, List, None, length};
+ghost use Rattle.std.specs.Prelude.{◌≡◌, ℕ, ◌<◌, ◌≤◌, ◌^◌, List, Option, length};
 ghost use Rattle.rtsp_head.specs.Items.{Shape};
 ghost use Rattle.rtsp_transport.specs.declared.channels.Pair.{Pair};
 ghost use Rattle.head_one.specs.declared.request.Request1.{Request1};
-ghost use Rattle.head_one.specs.Refusals.{first_code};
 ghost use Rattle.session_one.specs.declared.parts.Track.{Track};
 ghost use Rattle.translate_up.specs.Channels.{free_pair, IsLowestFree};
 ghost use Rattle.translate_up.specs.Views.{Given};
 ghost use Rattle.translate_up.specs.Upward.{request_up, with_transport, without_transport};
-ghost use Rattle.translate_up.specs.Decisions.{decide, passed};
-ghost use Rattle.translate_up.specs.Rules.{rules};
-ghost use Rattle.translate_up.specs.Served.{IsServed};
+ghost use Rattle.translate_up.specs.Decisions.{decide};
+ghost use Rattle.translate_up.specs.Fields.{Said};
+ghost use Rattle.rtsp_range.specs.declared.range.Range.{Range};
 ghost use Rattle.translate_up.specs.Sound.{IsFit, SendsSound};
 
 /// What goes up, at once or later, can be written under every number and read back, and the channels
@@ -29,13 +28,6 @@ pub fn the_lowest_free_channels_are_given()
 
 /// Without its channels to the server, a SETUP is what was decided.
 pub fn the_channels_are_all_that_is_put_in()
-    ensures { (given : Given) (request : Request1) (uri : List ℕ) (pair : Pair)
-        → without_transport (with_transport pair (request_up given request uri)).headers ≡ (request_up given request uri).headers }
-{}
-
-/// Every refusal of a request that its head does not refuse is by a rule of the list: what no rule
-/// refuses is answered with a success, waits, or goes up.
-pub fn what_no_rule_refuses_is_served()
-    ensures { (given : Given) (request : Request1) (uri : List ℕ) → first_code (rules given request uri) ≡ None
-        → IsServed (passed given request uri) }
+    ensures { (given : Given) (request : Request1) (said : Said) (uri : List ℕ) (range : Option Range) (pair : Pair)
+        → without_transport (with_transport pair (request_up given request said uri range)).headers ≡ (request_up given request said uri range).headers }
 {}

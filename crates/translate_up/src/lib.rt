@@ -6,18 +6,17 @@ mod answer;
 mod channels;
 mod decision;
 mod field;
-mod judge;
 mod laws;
 mod rule;
+mod serving;
 mod transport;
 mod upward;
 mod view;
 
-pub use decision::Decision;
-pub use judge::decide;
+pub use decision::{Decision, decide};
 pub use laws::{
     the_channels_are_all_that_is_put_in, the_lowest_free_channels_are_given,
-    what_goes_up_can_be_written, what_no_rule_refuses_is_served,
+    what_goes_up_can_be_written,
 };
 pub use transport::with_transport;
 pub use view::View;

@@ -1,49 +1,84 @@
-//! The rules by which a request is refused that its head does not refuse.
-ghost use Rattle.std.specs.Prelude.{◌≡◌, true, codes, IfSome};
+//! The rules by which a request is refused that its head does not refuse, and what they let through.
+ghost use Rattle.std.specs.Prelude.{◌≡◌, true, IfOk, IfErr, IsTrue, IfSome};
 ghost use Rattle.std.specs.Option.{option_copied};
 ghost use Rattle.rtsp_status.specs.Reasons.{has_reason};
-ghost use Rattle.head_one.specs.Refusals.{first_code};
 ghost use Rattle.translate_up.specs.Views.{given_of};
-ghost use Rattle.translate_up.specs.Fields.{field};
-ghost use Rattle.translate_up.specs.Rules.{rules, names_no_session, sets_up_again, is_out_of_turn, names_one_of_many, has_no_channels, has_bad_range, finds_none_free, must_wait, finds_no_place};
+ghost use Rattle.translate_up.specs.Borrowed.{said_seen, HasWritableRange, AdmitsWritable};
+ghost use Rattle.translate_up.specs.Rules.{rules_checked, names_no_session, sets_up_again, is_out_of_turn, names_one_of_many, must_wait, finds_no_place};
+ghost use Rattle.translate_up.specs.Admissions.{channels_and_range};
 
-use crate::channels::client_pair;
-use crate::field::{is_named, is_of_session, is_pause, is_play, is_setup, is_track, needs_session};
+use crate::field::{SaidFields, is_of_session, is_play, is_setup, is_track, needs_session};
 use crate::view::View;
-use head_one::Request1;
-use rtsp_range::read_one;
+use rtsp_range::Range;
 use rtsp_small::Method;
-use session_one::{State, allowed};
+use rtsp_transport::Pair;
+use session_one::{MOST_TRACKS, State, allowed};
 
-/// The most streams of a session.
-const MOST_TRACKS: usize = 8;
+/// The most PLAYs that wait (this project's own).
+pub(crate) const MOST_QUEUED: usize = 8;
 
-/// The most PLAYs that wait.
-const MOST_QUEUED: usize = 8;
+/// What the rules let through, with what they read of it.
+#[derive(Clone, Copy)]
+pub(crate) enum Admission {
+    /// A SETUP, with the channels that its player gets.
+    SetUp(Pair),
+    /// A PLAY, with its range where it has one.
+    Played(Option<Range>),
+    /// Any other request.
+    Other,
+}
 
-/// The code of the first rule that refuses a request with this URI, where one does.
-pub(crate) fn first_code(view: &View<'_>, request: &Request1, uri: &[u8]) -> Option<u16>
-    ensures code { result ≡ first_code (rules (given_of view.now) request.now uri.now) }
-    ensures reason { IfSome result (λ code. has_reason code ≡ true) }
+/// What the rules let through of a request with this URI on its way up, or the code of the first rule
+/// that refuses it.
+pub(crate) fn check_rules(
+    view: &View<'_>,
+    method: Method,
+    said: &SaidFields<'_>,
+    uri: &[u8],
+) -> Result<Admission, u16>
+    requires { HasWritableRange said.now }
+    ensures checked { result ≡ rules_checked (given_of view.now) method (said_seen said.now) uri.now }
+    ensures reason { IfErr result (λ code. has_reason code ≡ true) }
+    ensures range { IfOk result AdmitsWritable }
 {
-    let session = request.head.field(b"Session");
-    let range = request.head.field(b"Range");
-    if names_no_session(request.method, view.session, session) {
-        Some(454)
-    } else if is_out_of_turn(view, request, uri) {
-        Some(455)
-    } else if names_one_of_many(view, request, uri) {
-        Some(460)
-    } else if has_no_channels(view, request) {
-        Some(461)
-    } else if has_bad_range(request, range) {
-        Some(457)
-    } else if is_setup(request) && view.full {
-        Some(453)
-    } else if finds_no_place(view, request) {
-        Some(503)
-    } else {
-        None
+    if names_no_session(method, view.session, said.session) {
+        return Err(454);
+    }
+    if is_out_of_turn(view, method, said, uri) {
+        return Err(455);
+    }
+    if names_one_of_many(view, method, uri) {
+        return Err(460);
+    }
+    let admission = admit(method, said)?;
+    if is_setup(method) && view.full {
+        return Err(453);
+    }
+    if finds_no_place(view, method, said) {
+        return Err(503);
+    }
+    Ok(admission)
+}
+
+/// What is let through of a request by its channels and its range.
+fn admit(method: Method, said: &SaidFields<'_>) -> Result<Admission, u16>
+    requires { HasWritableRange said.now }
+    ensures checked { result ≡ channels_and_range method (said_seen said.now) }
+    ensures reason { IfErr result (λ code. has_reason code ≡ true) }
+    ensures range { IfOk result AdmitsWritable }
+{
+    match method {
+        Method::Setup => match said.channels {
+            Some(pair) => Ok(Admission::SetUp(pair)),
+            None => Err(461),
+        },
+        Method::Play => match said.range {
+            Some(Ok(range)) => Ok(Admission::Played(Some(range))),
+            Some(Err(_)) => Err(457),
+            None => Ok(Admission::Played(None)),
+        },
+        Method::Pause if said.range.is_some() => Err(457),
+        _ => Ok(Admission::Other),
     }
 }
 
@@ -59,58 +94,40 @@ fn names_no_session(method: Method, session: Option<&[u8]>, field: Option<&[u8]>
 }
 
 /// Whether the table of states has no row for a request, or a stream would be set up again.
-fn is_out_of_turn(view: &View<'_>, request: &Request1, uri: &[u8]) -> bool
-    ensures { result ≡ is_out_of_turn (given_of view.now) request.now uri.now }
+fn is_out_of_turn(view: &View<'_>, method: Method, said: &SaidFields<'_>, uri: &[u8]) -> bool
+    ensures { result ≡ is_out_of_turn (given_of view.now) method (said_seen said.now) uri.now }
 {
-    !allowed(view.state, request.method) || sets_up_again(view, request, uri)
+    !allowed(view.state, method) || sets_up_again(view, method, said, uri)
 }
 
 /// Whether a SETUP is for another session than the one that is there, or for a stream that was set
 /// up.
-fn sets_up_again(view: &View<'_>, request: &Request1, uri: &[u8]) -> bool
-    ensures { result ≡ sets_up_again (given_of view.now) request.now uri.now }
+fn sets_up_again(view: &View<'_>, method: Method, said: &SaidFields<'_>, uri: &[u8]) -> bool
+    ensures { result ≡ sets_up_again (given_of view.now) method (said_seen said.now) uri.now }
 {
-    let adds_session = view.session.is_some() && !is_named(request);
-    is_setup(request) && (adds_session || is_track(view.tracks, uri))
+    let adds_session = view.session.is_some() && !said.is_named();
+    is_setup(method) && (adds_session || is_track(view.tracks, uri))
 }
 
 /// Whether one of several streams is named, which are played, paused and torn down together.
-fn names_one_of_many(view: &View<'_>, request: &Request1, uri: &[u8]) -> bool
-    ensures { result ≡ names_one_of_many (given_of view.now) request.now uri.now }
+fn names_one_of_many(view: &View<'_>, method: Method, uri: &[u8]) -> bool
+    ensures { result ≡ names_one_of_many (given_of view.now) method uri.now }
 {
-    needs_session(request.method) && (is_track(view.tracks, uri) && view.tracks.len() >= 2)
-}
-
-/// Whether no pair of channels can be given to the stream of a SETUP.
-fn has_no_channels(view: &View<'_>, request: &Request1) -> bool
-    ensures { result ≡ has_no_channels (given_of view.now) request.now }
-{
-    let transport = request.head.field(b"Transport");
-    is_setup(request) && client_pair(view.tracks, transport).is_none()
-}
-
-/// Whether a PLAY has a range that can't be read, or a PAUSE has one.
-fn has_bad_range(request: &Request1, range: Option<&[u8]>) -> bool
-    ensures { result ≡ has_bad_range request.now (option_copied range.entry) }
-{
-    match range {
-        Some(value) => (is_play(request) && read_one(value).is_err()) || is_pause(request),
-        None => false,
-    }
+    needs_session(method) && (is_track(view.tracks, uri) && view.tracks.len() >= 2)
 }
 
 /// Whether a PLAY would wait for what plays.
-fn must_wait(view: &View<'_>, request: &Request1) -> bool
-    ensures { result ≡ must_wait (given_of view.now) request.now }
+fn must_wait(view: &View<'_>, method: Method, said: &SaidFields<'_>) -> bool
+    ensures { result ≡ must_wait (given_of view.now) method (said_seen said.now) }
 {
-    let plays = is_play(request) && view.state == State::Playing;
-    plays && request.head.field(b"Range").is_some()
+    let plays = is_play(method) && view.state == State::Playing;
+    plays && said.range.is_some()
 }
 
 /// Whether the session of a SETUP has all its streams, or as many PLAYs wait as may.
-fn finds_no_place(view: &View<'_>, request: &Request1) -> bool
-    ensures { result ≡ finds_no_place (given_of view.now) request.now }
+fn finds_no_place(view: &View<'_>, method: Method, said: &SaidFields<'_>) -> bool
+    ensures { result ≡ finds_no_place (given_of view.now) method (said_seen said.now) }
 {
-    let is_whole = is_setup(request) && view.tracks.len() >= MOST_TRACKS;
-    is_whole || (must_wait(view, request) && view.queued >= MOST_QUEUED)
+    let is_whole = is_setup(method) && view.tracks.len() >= MOST_TRACKS;
+    is_whole || (must_wait(view, method, said) && view.queued >= MOST_QUEUED)
 }

@@ -1,7 +1,7 @@
 //! The channels of a SETUP on its way up.
 ghost use Rattle.std.specs.Prelude.{◌≡◌, ◌≢◌, ◌&&◌, not, codes, [], ◌∷◌, ◌++◌, IfOk, OnOk};
 ghost use Rattle.std.specs.Str.{bytes_eq};
-ghost use Rattle.translate_up.specs.Upward.{transport_header, transported, with_transport};
+ghost use Rattle.translate_up.specs.Upward.{transport_header, headers_with_transport, with_transport};
 
 use gate_bytes::Memory;
 use head_two::Request2;
@@ -15,7 +15,7 @@ pub fn with_transport(alloc: Global, request: Request2, pair: &Pair) -> Result<R
     requires { pair.now.rtp ≢ pair.now.rtcp }
     ensures { IfOk result (λ up. up ≡ with_transport pair.now request) }
 {
-    let headers = transported(alloc, &request.headers, pair)?;
+    let headers = headers_with_transport(alloc, &request.headers, pair)?;
     Ok(Request2 {
         method: request.method,
         uri: request.uri,
@@ -25,9 +25,9 @@ pub fn with_transport(alloc: Global, request: Request2, pair: &Pair) -> Result<R
 }
 
 /// The headers with these channels before the formats of times.
-fn transported(alloc: Global, headers: &Headers, pair: &Pair) -> Result<Headers, Memory>
+fn headers_with_transport(alloc: Global, headers: &Headers, pair: &Pair) -> Result<Headers, Memory>
     requires { pair.now.rtp ≢ pair.now.rtcp }
-    ensures { IfOk result (λ all. all ≡ transported pair.now headers.now) }
+    ensures { IfOk result (λ all. all ≡ headers_with_transport pair.now headers.now) }
 {
     let mut all = Headers::new(alloc);
     let mut is_in = false;

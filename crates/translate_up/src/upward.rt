@@ -1,18 +1,21 @@
 //! Requests as they go up.
-ghost use Rattle.std.specs.Prelude.{◌≡◌, [], if◌then◌else◌, IfOk};
-ghost use Rattle.rtsp_range.specs.Meaning.{One, meaning};
+ghost use Rattle.std.specs.Prelude.{◌≡◌, [], if◌then◌else◌, IfOk, IfSome, IsTrue, option_map};
+ghost use Rattle.rtsp_head.specs.Optional.{field_headers};
+ghost use Rattle.rtsp_range.specs.Writable.{can_be_written};
+ghost use Rattle.rtsp_range.specs.Written.{range_text};
 ghost use Rattle.translate_up.specs.Views.{given_of};
-ghost use Rattle.translate_up.specs.Upward.{uri_up, method_up, text_of, range_said, has_body, headers_up, request_up, asked_of};
+ghost use Rattle.translate_up.specs.Borrowed.{said_seen};
+ghost use Rattle.translate_up.specs.Upward.{uri_up, method_up, has_body_up, fields_up, request_up, asked_of};
 
 use crate::field::{
-    brings_body, is_describe, is_named, is_play, is_setup, said_where, scale_of, session_said,
+    SaidFields, brings_body_up, is_describe, is_play, is_setup, said_where, scale_of, session_said,
 };
 use crate::view::View;
 use gate_bytes::{Memory, Text};
 use head_one::Request1;
 use head_two::Request2;
 use rtsp_head::Headers;
-use rtsp_range::{read_one, write};
+use rtsp_range::{Range, write};
 use rtsp_small::Method;
 use rtsp_uri::swap_authority;
 use session_one::Asked;
@@ -33,31 +36,40 @@ pub(crate) fn uri_up(alloc: Global, view: &View<'_>, uri: &[u8]) -> Result<Text,
     }
 }
 
-/// A request as it goes up with this URI, without its number; a SETUP lacks its channels too.
+/// A request as it goes up with this URI and this range, without its number; a SETUP lacks its channels
+/// too.
 pub(crate) fn request_up(
     alloc: Global,
     view: &View<'_>,
     request: &Request1,
+    said: &SaidFields<'_>,
     uri: Text,
+    range: Option<Range>,
 ) -> Result<Request2, Memory>
-    ensures { IfOk result (λ up. up ≡ request_up (given_of view.now) request.now uri) }
+    requires { IfSome range (λ one. IsTrue (can_be_written one)) }
+    ensures { IfOk result (λ up. up ≡ request_up (given_of view.now) request.now (said_seen said.now) uri range) }
 {
     Ok(Request2 {
         method: Text::copy(alloc, method_up(request.method).name())?,
         uri,
-        headers: headers_up(alloc, view, request)?,
+        headers: headers_up(alloc, view, request, said, range)?,
         body: body_up(alloc, request)?,
     })
 }
 
 /// What is kept of a request that goes up with this URI.
-pub(crate) fn asked_of(alloc: Global, request: &Request1, uri: &[u8]) -> Result<Asked, Memory>
-    ensures { IfOk result (λ asked. asked ≡ asked_of request.now uri.now) }
+pub(crate) fn asked_of(
+    alloc: Global,
+    request: &Request1,
+    said: &SaidFields<'_>,
+    uri: &[u8],
+) -> Result<Asked, Memory>
+    ensures { IfOk result (λ asked. asked ≡ asked_of request.now (said_seen said.now) uri.now) }
 {
     Ok(Asked {
         method: request.method,
         cseq: request.cseq,
-        named: is_named(request),
+        named: said.is_named(),
         uri: Text::copy(alloc, uri)?,
     })
 }
@@ -74,17 +86,17 @@ fn method_up(method: Method) -> Method
 }
 
 /// Whether a request brings a body, and may.
-fn has_body(request: &Request1) -> bool
-    ensures { result ≡ has_body request.now }
+fn has_body_up(request: &Request1) -> bool
+    ensures { result ≡ has_body_up request.now }
 {
-    brings_body(request.method) && request.body.len() != 0
+    brings_body_up(request.method) && request.body.len() != 0
 }
 
 /// The body that goes up.
 fn body_up(alloc: Global, request: &Request1) -> Result<Text, Memory>
-    ensures { IfOk result (λ body. body ≡ (if has_body request.now then request.now.body else [])) }
+    ensures { IfOk result (λ body. body ≡ (if has_body_up request.now then request.now.body else [])) }
 {
-    if has_body(request) {
+    if has_body_up(request) {
         Text::copy(alloc, request.body.as_bytes())
     } else {
         Ok(Text::new(alloc))
@@ -92,18 +104,27 @@ fn body_up(alloc: Global, request: &Request1) -> Result<Text, Memory>
 }
 
 /// The headers that go up, in their order, each where it is said.
-fn headers_up(alloc: Global, view: &View<'_>, request: &Request1) -> Result<Headers, Memory>
-    ensures { IfOk result (λ headers. headers ≡ headers_up (given_of view.now) request.now) }
+fn headers_up(
+    alloc: Global,
+    view: &View<'_>,
+    request: &Request1,
+    said: &SaidFields<'_>,
+    range: Option<Range>,
+) -> Result<Headers, Memory>
+    requires { IfSome range (λ one. IsTrue (can_be_written one)) }
+    ensures { IfOk result (λ headers. headers ≡ field_headers (fields_up (given_of view.now) request.now (said_seen said.now) range)) }
 {
     let head = &request.head;
-    let accept = said_where(is_describe(request), head.field(b"Accept"));
-    let units = said_where(is_setup(request), Some(UNITS));
-    let range = range_up(alloc, request)?;
-    let scale = said_where(is_play(request), scale_of(request));
-    let kind = said_where(has_body(request), head.field(b"Content-Type"));
-    let encoding = said_where(has_body(request), head.field(b"Content-Encoding"));
+    let method = request.method;
+    let range = range_up(alloc, range)?;
+    let has_body = has_body_up(request);
+    let accept = said_where(is_describe(method), head.field(b"Accept"));
+    let units = said_where(is_setup(method), Some(UNITS));
+    let scale = said_where(is_play(method), scale_of(request));
+    let kind = said_where(has_body, head.field(b"Content-Type"));
+    let encoding = said_where(has_body, head.field(b"Content-Encoding"));
     let mut headers = Headers::new(alloc);
-    headers.push_copy(alloc, b"Session", session_said(view, request))?;
+    headers.push_copy(alloc, b"Session", session_said(view, said))?;
     headers.push_copy(alloc, b"Accept", accept)?;
     headers.push_copy(alloc, b"Accept-Ranges", units)?;
     headers.push_value(alloc, b"Range", range)?;
@@ -113,25 +134,13 @@ fn headers_up(alloc: Global, view: &View<'_>, request: &Request1) -> Result<Head
     Ok(headers)
 }
 
-/// The range of a PLAY, where it has one, in the one form that both versions read.
-fn range_up(alloc: Global, request: &Request1) -> Result<Option<Text>, Memory>
-    ensures { IfOk result (λ range. range ≡ range_said request.now) }
+/// A range in the one form that both versions read.
+fn range_up(alloc: Global, range: Option<Range>) -> Result<Option<Text>, Memory>
+    requires { IfSome range (λ one. IsTrue (can_be_written one)) }
+    ensures { IfOk result (λ text. text ≡ option_map range_text range) }
 {
-    if !is_play(request) {
-        return Ok(None);
-    }
-    match request.head.field(b"Range") {
-        Some(value) => written_again(alloc, value),
+    match range {
+        Some(range) => Ok(Some(write(alloc, &range)?)),
         None => Ok(None),
-    }
-}
-
-/// The range that a value means, in the one form that both versions read.
-fn written_again(alloc: Global, value: &[u8]) -> Result<Option<Text>, Memory>
-    ensures { IfOk result (λ range. range ≡ text_of (meaning One value.now)) }
-{
-    match read_one(value) {
-        Ok(range) => Ok(Some(write(alloc, &range)?)),
-        Err(_) => Ok(None),
     }
 }

@@ -28,4 +28,4 @@ pub returns-clause-kind : goal.returns-clause-kind
 returns-clause-kind c setting asked told = told_field setting asked told (codes "Content-Type") ∙ simp or_none
 
 pub returns-clause-encoding : goal.returns-clause-encoding
-returns-clause-encoding c setting asked told = told_field setting asked told (codes "Content-Encoding")
+returns-clause-encoding c setting asked told = told_field setting asked told (codes "Content-Encoding") ∙ simp or_none

@@ -1,9 +1,9 @@
 use Rattle.std.proofs.Common.{◌+◌, ◌++◌, List, cond, drop, sym, ◌∙◌, ap, arith}
 use Rattle.rtsp_head.specs.declared.header.Header.{Header}
-use Rattle.translate_up.specs.Upward.{transported}
+use Rattle.translate_up.specs.Upward.{headers_with_transport}
 use Rattle.translate_up.proofs.TransportLemmas.{rest_at, kept_with, kept_without}
-use Rattle.translate_up.proofs.transport.transported.Goals as goal
-use Rattle.translate_up.proofs.transport.transported.Goals.{then-is_due+in_ok-push_transport, else-is_due}
+use Rattle.translate_up.proofs.transport.headers_with_transport.Goals as goal
+use Rattle.translate_up.proofs.transport.headers_with_transport.Goals.{then-is_due+in_ok-push_transport, else-is_due}
 
 pub loop-place-preserved : goal.loop-place-preserved
 loop-place-preserved c =
@@ -12,7 +12,7 @@ loop-place-preserved c =
     let place = c.loop-place.place in
     let header = c.at-header.result.now in
     let here = rest_at headers place header (omega (arith, c.loop-place-test.true, c.len-place-end.ensures)) c.at-header.ensures in
-    let before = sym (ap (λ (hs : List Header). c.loop-place.all ++ cond c.loop-place.is_in hs (transported pair hs)) here) ∙ c.loop-place.invariant in
+    let before = sym (ap (λ (hs : List Header). c.loop-place.all ++ cond c.loop-place.is_in hs (headers_with_transport pair hs)) here) ∙ c.loop-place.invariant in
     elim c.if-is_due.branch [
       | then-is_due+in_ok-push_transport w ↦
           kept_with pair c.loop-place.all c.if-is_due.all c.push_copy.new.headers header (drop (place + 1) headers) c.loop-place.is_in c.if-is_due.is_in
