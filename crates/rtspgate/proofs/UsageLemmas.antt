@@ -1,5 +1,7 @@
 -- A refusal of words, as the top call answers it.
-use Rattle.std.proofs.Common.{◌≡◌, ℕ, ◌+◌, Bool, true, false, cond, List, [], ◌∷◌, Option, Some, None, Err, inl, inr, refl, sym, ◌∙◌, ap, arith}
+use Rattle.std.proofs.Common.{◌≡◌, ℕ, ◌+◌, Bool, true, false, cond, List, [], ◌∷◌, Option, Some, None, Result, Ok, Err, inl, inr, refl, sym, ◌∙◌, ap, arith}
+use Rattle.std.specs.Prelude.{OnOk, OnErr}
+use Rattle.gate_outside.specs.declared.Failed.{Failed}
 use Rattle.rtsp_uri.specs.declared.base.Bases.{Bases}
 use Rattle.rtspgate.specs.declared.status.Status.{Status}
 use Rattle.rtspgate.specs.declared.status.Status.TheVariants.{Done, Usage, SourceFault, SinkFault, BadTranscript, TooLong, Memory}
@@ -7,7 +9,7 @@ use Rattle.rtspgate.specs.declared.words.Command.{Command}
 use Rattle.rtspgate.specs.declared.words.Command.TheVariants.{Replay}
 use Rattle.rtspgate.specs.declared.words.WordsFault.{WordsFault}
 use Rattle.rtspgate.specs.declared.words.WordsFault.TheVariants as word
-use Rattle.rtspgate.specs.Words.{is_base_word, first_fault, word_fault, ReadsWords, NamesReplay, NamesAddress, Names, bases_between, TellsUsage}
+use Rattle.rtspgate.specs.Words.{is_base_word, first_fault, word_fault, ReadsWords, NamesReplay, NamesAddress, Names, bases_between, TellsUsage, TellsUsageAfterFlush}
 use Rattle.rtspgate.specs.Stops.{status_of_words}
 use Rattle.rtspgate.specs.Replays.{TakenFrom, TakesWithin, EndsWithoutMemory, ReplaySays, PlainSays, FaultRose}
 use Rattle.rtspgate.proofs.RunLemmas.{grows_nothing}
@@ -83,3 +85,18 @@ refusal_rose word.Memory a b c d = tt
 
 pub names_between : (command : Command) (words : List (List ℕ)) → Names command words → NamesReplay (bases_between command) words
 names_between (Replay bases) words names = names
+
+-- a refusal of words after a flush, and where memory is wanting for the sink's buffer
+pub flushed_usage : (result answered : Status) (flushed : Result (Unit {0}) Failed) (fault : Option ℕ) → OnOk flushed (result ≡ answered) → OnErr flushed (result ≡ SinkFault)
+    → TellsUsage answered fault → TellsUsageAfterFlush result fault
+flushed_usage result answered (Ok u) fault ok err says = record {
+  only = λ place e. says.only place (sym ok ∙ e);
+  always = λ place e. elim (says.always place e) [ inl usage ↦ inl (ok ∙ usage) | inr memory ↦ inr (inl (ok ∙ memory)) ];
+}
+flushed_usage result answered (Err f) fault ok err says = record {
+  only = λ place e. (let same : SinkFault ≡ Usage place = sym err ∙ e in cc);
+  always = λ place e. inr (inr err);
+}
+
+pub memory_usage : (fault : Option ℕ) → TellsUsageAfterFlush Memory fault
+memory_usage fault = record { only = λ place e. cc; always = λ place e. inr (inl refl) }

@@ -77,3 +77,8 @@ pub record TellsUsage (status : Status) (fault : Option ℕ) : Type 0 where
   pub only : (place : ℕ) → status ≡ Usage place → fault ≡ Some place
   pub always : (place : ℕ) → fault ≡ Some place → (status ≡ Usage place) ⊎ (status ≡ ends.Memory)
   pub unknown : fault ≡ Some 0 → status ≡ Usage 0
+
+-- The same of a run whose sink was flushed at the end: a flush that fails stands before every other answer.
+pub record TellsUsageAfterFlush (status : Status) (fault : Option ℕ) : Type 0 where
+  pub only : (place : ℕ) → status ≡ Usage place → fault ≡ Some place
+  pub always : (place : ℕ) → fault ≡ Some place → (status ≡ Usage place) ⊎ ((status ≡ ends.Memory) ⊎ (status ≡ ends.SinkFault))

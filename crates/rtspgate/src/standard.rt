@@ -1,6 +1,7 @@
 //! Readers and writers of std as source and sink, and a run over them. They tell no content: they are the trusted edge.
-ghost use Rattle.std.specs.Prelude.{None};
+ghost use Rattle.std.specs.Prelude.{None, map, string_bytes};
 ghost use Rattle.gate_outside.specs.Causes.{HasCause};
+ghost use Rattle.rtspgate.specs.Words.{word_fault, TellsUsageAfterFlush};
 
 use crate::plain::plain;
 use crate::status::Status;
@@ -81,13 +82,17 @@ impl<W: Write> Sink for WriteSink<W> {
     }
 }
 
-/// Runs the command that these words ask for over a reader and a writer, and flushes the writer at the end.
+/// Runs the command that these words ask for over a reader and a writer, and flushes the writer at the end. A flush that
+/// fails makes it [`Status::SinkFault`].
+#[tactic(auto, using(crate::proofs::UsageLemmas::flushed_usage, crate::proofs::UsageLemmas::memory_usage))]
 pub fn run_between<R: Read, W: Write>(
     alloc: Global,
     words: &[String],
     reader: &mut R,
     writer: &mut W,
-) -> Status {
+) -> Status
+    ensures { TellsUsageAfterFlush result (word_fault (map string_bytes words.now)) }
+{
     let Ok(buffered) = BufWriter::new(alloc, writer) else {
         return Status::Memory;
     };
