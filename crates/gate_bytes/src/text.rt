@@ -39,6 +39,13 @@ impl Text {
         })
     }
 
+    /// The text of these bytes, in the memory that they have.
+    pub fn from_vec(bytes: Vec<u8>) -> Text
+        ensures { result ≡ bytes.items }
+    {
+        Text { bytes }
+    }
+
     /// A text with these bytes.
     pub fn copy(alloc: Global, bytes: &[u8]) -> Result<Text, Memory>
         ensures { IfOk result (λ t. t ≡ bytes.now) }

@@ -4,7 +4,7 @@ use Rattle.std.specs.List.{position, position_from, remove}
 use Rattle.std.proofs.lemmas.Iterator.Adapters.{position_from-zero}
 use Rattle.std.proofs.lemmas.List.Quantifiers.{position-Some}
 use Rattle.up_books.specs.declared.entry.Entry.{Entry}
-use Rattle.up_books.specs.Entries.{conn_in, HasEachKeyOnce}
+use Rattle.up_books.specs.Entries.{conn_of_key, HasEachKeyOnce}
 
 -- a test of keys that tells them apart
 pub record TellsApart (K : Type 0) (same : K → K → Bool) : Type 0 where
@@ -16,15 +16,15 @@ none_by : (b : Bool) (i conn : ℕ) (place rest : Option ℕ) → (place ≡ Non
 none_by true i conn place rest later none = cc
 none_by false i conn place rest later none = later none
 
-conn_in-none_from : (K : Type 0) (same : K → K → Bool) (key : K) (entries : List (Entry K)) (i : ℕ) → position_from (λ entry. same entry.key key) i entries ≡ None → conn_in same key entries ≡ None
-conn_in-none_from K same key [] i none = refl
-conn_in-none_from K same key (entry ∷ entries) i none =
-    none_by (same entry.key key) i entry.conn (position_from (λ one. same one.key key) (i + 1) entries) (conn_in same key entries)
-    (conn_in-none_from K same key entries (i + 1)) none
+conn_of_key-none_from : (K : Type 0) (same : K → K → Bool) (key : K) (entries : List (Entry K)) (i : ℕ) → position_from (λ entry. same entry.key key) i entries ≡ None → conn_of_key same key entries ≡ None
+conn_of_key-none_from K same key [] i none = refl
+conn_of_key-none_from K same key (entry ∷ entries) i none =
+    none_by (same entry.key key) i entry.conn (position_from (λ one. same one.key key) (i + 1) entries) (conn_of_key same key entries)
+    (conn_of_key-none_from K same key entries (i + 1)) none
 
-pub conn_in-none : (K : Type 0) (same : K → K → Bool) (key : K) (entries : List (Entry K)) → position (λ entry. same entry.key key) entries ≡ None → conn_in same key entries ≡ None
-conn_in-none K same key entries none =
-    conn_in-none_from K same key entries 0 (sym (position_from-zero (λ entry. same entry.key key) entries) ∙ none)
+pub conn_of_key-none : (K : Type 0) (same : K → K → Bool) (key : K) (entries : List (Entry K)) → position (λ entry. same entry.key key) entries ≡ None → conn_of_key same key entries ≡ None
+conn_of_key-none K same key entries none =
+    conn_of_key-none_from K same key entries 0 (sym (position_from-zero (λ entry. same entry.key key) entries) ∙ none)
 
 -- the entry at a place is the first that has the key
 pub record IsFirst {K : Type 0} (same : K → K → Bool) (key : K) (entries : List (Entry K)) (at : ℕ) (d : Entry K) : Type 0 where
@@ -40,12 +40,12 @@ first-position K same key entries at d is =
 first-tail : (K : Type 0) (same : K → K → Bool) (key : K) (entry : Entry K) (entries : List (Entry K)) (at : ℕ) (d : Entry K) → IsFirst same key (entry ∷ entries) (suc at) d → IsFirst same key entries at d
 first-tail K same key entry entries at d is = record { low = omega (arith, is.low); here = is.here; before = λ k lower. is.before (suc k) (omega arith) }
 
-pub conn_in-some : (K : Type 0) (same : K → K → Bool) (key : K) (entries : List (Entry K)) (at : ℕ) (d : Entry K) → IsFirst same key entries at d → conn_in same key entries ≡ Some (get_or entries at d).conn
-conn_in-some K same key [] at d is = absurd (omega (arith, is.low))
-conn_in-some K same key (entry ∷ entries) zero d is = let here : same entry.key key ≡ true = is.here in rw here
-conn_in-some K same key (entry ∷ entries) (suc at) d is =
+pub conn_of_key-some : (K : Type 0) (same : K → K → Bool) (key : K) (entries : List (Entry K)) (at : ℕ) (d : Entry K) → IsFirst same key entries at d → conn_of_key same key entries ≡ Some (get_or entries at d).conn
+conn_of_key-some K same key [] at d is = absurd (omega (arith, is.low))
+conn_of_key-some K same key (entry ∷ entries) zero d is = let here : same entry.key key ≡ true = is.here in rw here
+conn_of_key-some K same key (entry ∷ entries) (suc at) d is =
     let first : same entry.key key ≡ false = is.before 0 (omega arith) in
-    rw first (conn_in-some K same key entries at d (first-tail K same key entry entries at d is))
+    rw first (conn_of_key-some K same key entries at d (first-tail K same key entry entries at d is))
 
 -- two keys that are not one, whichever is asked about the other
 other_way : (K : Type 0) (same : K → K → Bool) → TellsApart K same → (a b : K) → same a b ≡ false → same b a ≡ false
@@ -59,52 +59,52 @@ fresh_by : (b : Bool) (conn : ℕ) (rest : Option ℕ) → (if b then Some conn 
 fresh_by true conn rest none = cc
 fresh_by false conn rest none = (refl, none)
 
-fresh-tail : (K : Type 0) (same : K → K → Bool) (key : K) (entry : Entry K) (entries : List (Entry K)) → conn_in same key (entry ∷ entries) ≡ None → (same entry.key key ≡ false) × (conn_in same key entries ≡ None)
-fresh-tail K same key entry entries none = fresh_by (same entry.key key) entry.conn (conn_in same key entries) none
+fresh-tail : (K : Type 0) (same : K → K → Bool) (key : K) (entry : Entry K) (entries : List (Entry K)) → conn_of_key same key (entry ∷ entries) ≡ None → (same entry.key key ≡ false) × (conn_of_key same key entries ≡ None)
+fresh-tail K same key entry entries none = fresh_by (same entry.key key) entry.conn (conn_of_key same key entries) none
 
 append_by : (first one : Bool) (a b : ℕ) (rest : Option ℕ) → (first ≡ true → one ≡ false) → (if first then Some a else (if one then Some b else rest)) ≡ (if one then Some b else (if first then Some a else rest))
 append_by true true a b rest apart = let contradiction : true ≡ false = apart refl in cc
 append_by true false a b rest apart = refl
 append_by false one a b rest apart = refl
 
-pub conn_in-append : (K : Type 0) (same : K → K → Bool) → TellsApart K same → (entries : List (Entry K)) (one : Entry K) (key : K)
-    → conn_in same one.key entries ≡ None → conn_in same key (entries ++ one ∷ []) ≡ (if same key one.key then Some one.conn else conn_in same key entries)
-conn_in-append K same tells [] one key fresh = single_by (same one.key key) (same key one.key) refl refl where
+pub conn_of_key-append : (K : Type 0) (same : K → K → Bool) → TellsApart K same → (entries : List (Entry K)) (one : Entry K) (key : K)
+    → conn_of_key same one.key entries ≡ None → conn_of_key same key (entries ++ one ∷ []) ≡ (if same key one.key then Some one.conn else conn_of_key same key entries)
+conn_of_key-append K same tells [] one key fresh = single_by (same one.key key) (same key one.key) refl refl where
   single_by : (b d : Bool) → same one.key key ≡ b → same key one.key ≡ d → (if b then Some one.conn else None) ≡ (if d then Some one.conn else None)
   single_by true true e f = refl
   single_by false false e f = refl
   single_by true false e f = let other : same one.key key ≡ false = other_way K same tells key one.key f in cc
   single_by false true e f = let other : same key one.key ≡ false = other_way K same tells one.key key e in cc
-conn_in-append K same tells (entry ∷ entries) one key fresh =
+conn_of_key-append K same tells (entry ∷ entries) one key fresh =
     let parts = fresh-tail K same one.key entry entries fresh in
-    rw (conn_in-append K same tells entries one key parts.1)
-    (append_by (same entry.key key) (same key one.key) entry.conn one.conn (conn_in same key entries)
+    rw (conn_of_key-append K same tells entries one key parts.1)
+    (append_by (same entry.key key) (same key one.key) entry.conn one.conn (conn_of_key same key entries)
     (λ is. let equal : entry.key ≡ key = tells.equal entry.key key is in rw equal at parts.0))
 
 pub once-append : (K : Type 0) (same : K → K → Bool) → TellsApart K same → (entries : List (Entry K)) (one : Entry K)
-    → conn_in same one.key entries ≡ None → HasEachKeyOnce same entries → HasEachKeyOnce same (entries ++ one ∷ [])
+    → conn_of_key same one.key entries ≡ None → HasEachKeyOnce same entries → HasEachKeyOnce same (entries ++ one ∷ [])
 once-append K same tells [] one fresh once = (refl, tt)
 once-append K same tells (entry ∷ entries) one fresh once =
     let parts = fresh-tail K same one.key entry entries fresh in
-    (rw (conn_in-append K same tells entries one entry.key parts.1, parts.0) once.0, once-append K same tells entries one parts.1 once.1)
+    (rw (conn_of_key-append K same tells entries one entry.key parts.1, parts.0) once.0, once-append K same tells entries one parts.1 once.1)
 
 -- without the entry of a key
-pub conn_in-remove : (K : Type 0) (same : K → K → Bool) → TellsApart K same → (entries : List (Entry K)) (at : ℕ) (d : Entry K) (key other : K)
-    → HasEachKeyOnce same entries → IsFirst same key entries at d → conn_in same other (remove entries at) ≡ (if same other key then None else conn_in same other entries)
-conn_in-remove K same tells [] at d key other once is = absurd (omega (arith, is.low))
-conn_in-remove K same tells (entry ∷ entries) zero d key other once is = here_by (same other key) refl where
+pub conn_of_key-remove : (K : Type 0) (same : K → K → Bool) → TellsApart K same → (entries : List (Entry K)) (at : ℕ) (d : Entry K) (key other : K)
+    → HasEachKeyOnce same entries → IsFirst same key entries at d → conn_of_key same other (remove entries at) ≡ (if same other key then None else conn_of_key same other entries)
+conn_of_key-remove K same tells [] at d key other once is = absurd (omega (arith, is.low))
+conn_of_key-remove K same tells (entry ∷ entries) zero d key other once is = here_by (same other key) refl where
   equal : entry.key ≡ key
   equal = tells.equal entry.key key is.here
 
-  here_by : (one : Bool) → same other key ≡ one → conn_in same other entries ≡ (if one then None else conn_in same other (entry ∷ entries))
+  here_by : (one : Bool) → same other key ≡ one → conn_of_key same other entries ≡ (if one then None else conn_of_key same other (entry ∷ entries))
   here_by true e =
       let found : other ≡ entry.key = tells.equal other key e ∙ sym equal in rw found once.0
   here_by false e =
       let apart : same entry.key other ≡ false = rw equal (other_way K same tells other key e) in rw apart
-conn_in-remove K same tells (entry ∷ entries) (suc at) d key other once is =
+conn_of_key-remove K same tells (entry ∷ entries) (suc at) d key other once is =
     let apart : same entry.key key ≡ false = is.before 0 (omega arith) in
-    rw (conn_in-remove K same tells entries at d key other once.1 (first-tail K same key entry entries at d is))
-    (later_by (same entry.key other) (same other key) entry.conn (conn_in same other entries) (λ here. let equal : entry.key ≡ other = tells.equal entry.key other here in rw equal at apart))
+    rw (conn_of_key-remove K same tells entries at d key other once.1 (first-tail K same key entry entries at d is))
+    (later_by (same entry.key other) (same other key) entry.conn (conn_of_key same other entries) (λ here. let equal : entry.key ≡ other = tells.equal entry.key other here in rw equal at apart))
   where
     later_by : (first one : Bool) (a : ℕ) (rest : Option ℕ) → (first ≡ true → one ≡ false) → (if first then Some a else (if one then None else rest)) ≡ (if one then None else (if first then Some a else rest))
     later_by true true a rest apart = let contradiction : true ≡ false = apart refl in cc
@@ -118,4 +118,4 @@ once-remove K same tells (entry ∷ entries) zero d key once is = once.1
 once-remove K same tells (entry ∷ entries) (suc at) d key once is =
     let apart : same entry.key key ≡ false = is.before 0 (omega arith) in
     let tail = first-tail K same key entry entries at d is in
-    (rw (conn_in-remove K same tells entries at d key entry.key once.1 tail, apart) once.0, once-remove K same tells entries at d key once.1 tail)
+    (rw (conn_of_key-remove K same tells entries at d key entry.key once.1 tail, apart) once.0, once-remove K same tells entries at d key once.1 tail)

@@ -5,22 +5,22 @@ use Rattle.std.specs.List.{position, remove}
 use Rattle.std.proofs.lemmas.Slice.Eq.{bytes_eq-Decides}
 use Rattle.up_books.specs.declared.entry.Entry.{Entry}
 use Rattle.up_books.specs.Ids.{holder_in, IsIds}
-use Rattle.up_books.proofs.EntryLemmas.{TellsApart, conn_in-none, conn_in-some, first-position, conn_in-append, once-append, conn_in-remove, once-remove}
+use Rattle.up_books.proofs.EntryLemmas.{TellsApart, conn_of_key-none, conn_of_key-some, first-position, conn_of_key-append, once-append, conn_of_key-remove, once-remove}
 
 ids_tell : TellsApart (List ℕ) bytes_eq
 ids_tell = record { equal = λ a b. (bytes_eq-Decides a b).0; alike = λ a. (bytes_eq-Decides a a).1 refl }
 
 -- which place tells whose an id is
 pub holder-none : (id : List ℕ) (bound : List (Entry (List ℕ))) → position (λ entry. bytes_eq entry.key id) bound ≡ None → holder_in id bound ≡ None
-holder-none id bound none = conn_in-none (List ℕ) bytes_eq id bound none
+holder-none id bound none = conn_of_key-none (List ℕ) bytes_eq id bound none
 
 pub holder-some : (id : List ℕ) (bound : List (Entry (List ℕ))) (at : ℕ) (d : Entry (List ℕ)) → position (λ entry. bytes_eq entry.key id) bound ≡ Some at → holder_in id bound ≡ Some (get_or bound at d).conn
-holder-some id bound at d is = conn_in-some (List ℕ) bytes_eq id bound at d (first-position (List ℕ) bytes_eq id bound at d is)
+holder-some id bound at d is = conn_of_key-some (List ℕ) bytes_eq id bound at d (first-position (List ℕ) bytes_eq id bound at d is)
 
 -- an id that no connection has is bound
 pub holder-bind : (id : List ℕ) (conn : ℕ) (other : List ℕ) (bound : List (Entry (List ℕ))) → holder_in id bound ≡ None
     → holder_in other (bound ++ record { key = id; conn = conn } ∷ []) ≡ (if bytes_eq other id then Some conn else holder_in other bound)
-holder-bind id conn other bound fresh = conn_in-append (List ℕ) bytes_eq ids_tell bound (record { key = id; conn = conn }) other fresh
+holder-bind id conn other bound fresh = conn_of_key-append (List ℕ) bytes_eq ids_tell bound (record { key = id; conn = conn }) other fresh
 
 pub ids-bind : (id : List ℕ) (conn : ℕ) (bound : List (Entry (List ℕ))) → holder_in id bound ≡ None → IsIds bound → IsIds (bound ++ record { key = id; conn = conn } ∷ [])
 ids-bind id conn bound fresh is = once-append (List ℕ) bytes_eq ids_tell bound (record { key = id; conn = conn }) fresh is
@@ -28,7 +28,7 @@ ids-bind id conn bound fresh is = once-append (List ℕ) bytes_eq ids_tell bound
 -- an id is bound no longer
 pub holder-free : (id other : List ℕ) (at : ℕ) (bound : List (Entry (List ℕ))) (d : Entry (List ℕ)) → IsIds bound → position (λ entry. bytes_eq entry.key id) bound ≡ Some at
     → holder_in other (remove bound at) ≡ (if bytes_eq other id then None else holder_in other bound)
-holder-free id other at bound d is found = conn_in-remove (List ℕ) bytes_eq ids_tell bound at d id other is (first-position (List ℕ) bytes_eq id bound at d found)
+holder-free id other at bound d is found = conn_of_key-remove (List ℕ) bytes_eq ids_tell bound at d id other is (first-position (List ℕ) bytes_eq id bound at d found)
 
 pub ids-free : (id : List ℕ) (at : ℕ) (bound : List (Entry (List ℕ))) (d : Entry (List ℕ)) → IsIds bound → position (λ entry. bytes_eq entry.key id) bound ≡ Some at → IsIds (remove bound at)
 ids-free id at bound d is found = once-remove (List ℕ) bytes_eq ids_tell bound at d id is (first-position (List ℕ) bytes_eq id bound at d found)

@@ -3,11 +3,11 @@ use Rattle.std.specs.Prelude.{◌≡◌, ℕ, Bool, List, [], ◌∷◌, Option,
 use Rattle.up_books.specs.declared.entry.Entry.{Entry}
 
 -- the connection of the first entry whose key is this one, by a test of keys
-abbrev pub conn_in : {K : Type 0} → (K → K → Bool) → K → List (Entry K) → Option ℕ
-conn_in same key [] = None
-conn_in same key (entry ∷ entries) = if same entry.key key then Some entry.conn else conn_in same key entries
+abbrev pub conn_of_key : {K : Type 0} → (K → K → Bool) → K → List (Entry K) → Option ℕ
+conn_of_key same key [] = None
+conn_of_key same key (entry ∷ entries) = if same entry.key key then Some entry.conn else conn_of_key same key entries
 
 -- no key has two entries
 abbrev pub HasEachKeyOnce : {K : Type 0} → (K → K → Bool) → List (Entry K) → Type 0
 HasEachKeyOnce same [] = Unit {0}
-HasEachKeyOnce same (entry ∷ entries) = (conn_in same entry.key entries ≡ None) × HasEachKeyOnce same entries
+HasEachKeyOnce same (entry ∷ entries) = (conn_of_key same entry.key entries ≡ None) × HasEachKeyOnce same entries

@@ -3,7 +3,7 @@ use Rattle.std.specs.Prelude.{ℕ, List, Option, Some, None, Result, Ok, Err}
 use Rattle.std.specs.Str.{bytes_eq}
 use Rattle.up_books.specs.declared.entry.Entry.{Entry}
 use Rattle.up_books.specs.declared.session.Taken.{Taken}
-use Rattle.up_books.specs.Entries.{conn_in, HasEachKeyOnce}
+use Rattle.up_books.specs.Entries.{conn_of_key, HasEachKeyOnce}
 
 -- for how many more sessions there is room, and the connection that each id is bound to
 pub record Ids : Type 0 where
@@ -12,7 +12,7 @@ pub record Ids : Type 0 where
 
 -- the connection that an id is bound to
 abbrev pub holder_in : List ℕ → List (Entry (List ℕ)) → Option ℕ
-holder_in id bound = conn_in bytes_eq id bound
+holder_in id bound = conn_of_key bytes_eq id bound
 
 abbrev pub holder_of : Ids → List ℕ → Option ℕ
 holder_of book id = holder_in id book.bound

@@ -3,7 +3,7 @@
 use Rattle.std.specs.Prelude.{◌≡◌, ℕ, ◌+◌, ◌==◌, ◌<◌, ◌≤◌, List, Option, Some, None, if◌then◌else◌}
 use Rattle.up_books.specs.declared.entry.Entry.{Entry}
 use Rattle.up_books.specs.declared.cseq.TheConstants.{LAST_NUMBER}
-use Rattle.up_books.specs.Entries.{conn_in, HasEachKeyOnce}
+use Rattle.up_books.specs.Entries.{conn_of_key, HasEachKeyOnce}
 
 -- the last number that was issued, for how many more requests there is room, and who asked each open one
 pub record Numbers : Type 0 where
@@ -13,7 +13,7 @@ pub record Numbers : Type 0 where
 
 -- the connection that asked the open request with a number
 abbrev pub asker_in : ℕ → List (Entry ℕ) → Option ℕ
-asker_in number loans = conn_in (λ a b. a == b) number loans
+asker_in number loans = conn_of_key (λ a b. a == b) number loans
 
 abbrev pub asker_of : Numbers → ℕ → Option ℕ
 asker_of book number = asker_in number book.loans

@@ -1,0 +1,2 @@
+pub mod RenumberLemmas
+pub mod TeardownLemmas

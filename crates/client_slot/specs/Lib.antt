@@ -1,0 +1,9 @@
+pub mod Bounds
+pub mod Client
+pub mod Closing
+pub mod Changes
+pub mod Purposes
+pub mod Renumbered
+pub mod Session
+pub mod SessionChanges
+pub mod Teardown

@@ -1,0 +1,24 @@
+//! What is kept of one player's connection: its session, the request of it that is open at the
+//! server, and the requests that wait.
+//!
+//! Each call makes exactly one named change of that record, as `specs/` has them. Numbers of
+//! requests and of pairs of channels are those of the server's one connection; the definitions do
+//! not depend on that, and hold for any other numbering. All memory is taken by [`Slot::new`] and
+//! [`Waiting::new`].
+#![tactic(auto)]
+
+mod closing;
+mod law;
+mod limits;
+mod purpose;
+mod session;
+mod slot;
+#[cfg(test)]
+mod tests;
+mod waiting;
+
+pub use law::changes_keep_any_numbering;
+pub use limits::{CLOSING_ROOM, LONGEST_URI, MOST_TRACKS, MOST_WAITING};
+pub use purpose::{Pending, Settled};
+pub use slot::Slot;
+pub use waiting::Waiting;
