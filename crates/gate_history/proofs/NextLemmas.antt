@@ -16,7 +16,7 @@ use Rattle.gate_history.specs.declared.event.Outcome.{Outcome}
 use Rattle.gate_history.specs.Heard.{Heard, replies, requests, frames, faults, heard, answer_up}
 use Rattle.gate_history.specs.Machine.{PrivateEvent, up_end, step, conn_after, piece, hand, ask, close}
 use Rattle.gate_history.specs.History.{Happening, enters, takes, ends, hears, Entry, fault_in, entered, turn_by, heard_turn, asker, turn, is_turn, event_of, own, pieces_to, closes_of, sent, shut, asked, issued, is_all, is_empty}
-use Rattle.gate_history.specs.Follows.{most_number, conn_in, conn_of_turn, effect_at, effect, said_breach, spent, breach_by, answer_due, IsNext, Spells, SpellsUp, Follows, IsHistory}
+use Rattle.gate_history.specs.Follows.{most_number, conn_in, conn_of_turn, effect_at, effect, said_breach, spent, breach_by, answer_due, IsNext, SpellsNext, SpellsUp, Follows, IsHistory}
 use Rattle.gate_history.specs.Next.{client_piece, one_closed, up_piece, silent, outcome_with, outcome_of, next}
 use Rattle.gate_history.proofs.HistoryLemmas.{sent_alone, shut_alone, asked_alone, same_number}
 use Rattle.gate_history.proofs.SoundLemmas.{conn_fit, turn_fit, effect_asks}
@@ -174,7 +174,7 @@ turn_answer who (hears shape) i e = heard_answer who (heard shape) i e
 
 -- an answer to the server is no request
 answered_spells : (answer : Option (List ℕ)) (turn : Option ℕ) (numbers : ℕ) (request : Option Request2) → (turn ≡ None → request ≡ None) →
-    spent numbers request ≡ None → IfSome request IsSound → Spells answer turn (numbers + 1) (up_piece answer (numbers + 1) request)
+    spent numbers request ≡ None → IfSome request IsSound → SpellsNext answer turn (numbers + 1) (up_piece answer (numbers + 1) request)
 answered_spells (Some text) turn numbers request none left sound = refl
 answered_spells None None numbers request none left sound = ap (up_piece None (numbers + 1)) (none refl)
 answered_spells None (Some i) numbers request none left sound = numbered_next numbers request left sound

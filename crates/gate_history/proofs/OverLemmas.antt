@@ -11,7 +11,7 @@ use Rattle.translate_down.specs.Replies.{Told}
 use Rattle.gate_history.specs.declared.event.CloseWhy.{CloseWhy}
 use Rattle.gate_history.specs.declared.event.CloseWhy.TheVariants as why
 use Rattle.gate_history.specs.declared.event.UpCause.{UpCause}
-use Rattle.gate_history.specs.Decisions.{Decision, answers, forwards, decide}
+use Rattle.gate_history.specs.Decisions.{Decision, answers, forwards, decision_on}
 use Rattle.gate_history.specs.Machine.{Conn, Phase, Alive, Closed, Over, PrivateEvent, arrive, answer, end, up_end, nothing, at_once, take_request, take_item, take_final, take_reply, take_answer, step_at, step, conn_after, piece, hand, ask, close}
 use Rattle.gate_history.specs.History.{Happening, enters, takes, ends, hears, Entry, fault_in, enters_here, entered, turn, is_turn, event_of, own, own_here, issued, is_empty}
 use Rattle.gate_history.specs.Follows.{effect, breach_by, breach, Follows, IsHistory}
@@ -44,7 +44,7 @@ once_live control waiting (forwards request asked) = refl
 
 request_live : (bases : Bases) (open_request : Option Asked) (conn : Conn) (shape : Shape) → is_live (take_request bases open_request conn shape).conn.phase ≡ is_none (take_request bases open_request conn shape).close
 request_live bases (Some asked) conn shape = refl
-request_live bases None conn shape = once_live conn.control conn.waiting (decide bases conn.control shape)
+request_live bases None conn shape = once_live conn.control conn.waiting (decision_on bases conn.control shape)
 
 item_live : (bases : Bases) (kind : ItemKind) (conn : Conn) (shape : Shape) → is_live conn.phase ≡ true → is_live (take_item bases kind conn shape).conn.phase ≡ is_none (take_item bases kind conn shape).close
 item_live bases item.Request conn shape h = request_live bases conn.open_request conn shape

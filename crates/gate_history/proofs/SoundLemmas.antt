@@ -13,7 +13,7 @@ use Rattle.translate_up.specs.Decisions as upward
 use Rattle.translate_up.specs.Sound.{IsSound, is_target, IsFit, SendsSound}
 use Rattle.translate_up.proofs.DecideLemmas.{decide_sound}
 use Rattle.translate_down.specs.Replies.{Told}
-use Rattle.gate_history.specs.Decisions.{Decision, answers, forwards, given, built, fits_memory, decide, describes, control_after}
+use Rattle.gate_history.specs.Decisions.{Decision, answers, forwards, given, built, fits_memory, decision_on, describes, control_after}
 use Rattle.gate_history.specs.Machine.{Treated, treated_first, treated, Conn, Phase, Alive, Closed, Over, PrivateEvent, arrive, answer, end, up_end, Effect, at_once, take_request, take_item, take_final, take_reply, nothing, step_at, step, conn_after}
 use Rattle.gate_history.specs.History.{Entry, entered, own}
 use Rattle.gate_history.specs.Follows.{conn_in, conn_of_turn, effect_at}
@@ -61,7 +61,7 @@ fits_sound false decision h = tt
 shorter : (bytes : List ℕ) → nat_lt (length bytes) (2 ^ 64) ≡ true → length bytes < 2 ^ 64
 shorter bytes e = grind (arith, e)
 
-here_sound : (bases : Bases) (control : Option (List ℕ)) (shape : Shape) → IfSome control (λ uri. is_target uri ≡ true) → IsSoundHere (decide bases control shape)
+here_sound : (bases : Bases) (control : Option (List ℕ)) (shape : Shape) → IfSome control (λ uri. is_target uri ≡ true) → IsSoundHere (decision_on bases control shape)
 here_sound bases control shape fit =
     fits_sound (fits_memory shape) (built (upward.decide (given bases control) shape))
     (λ e. built_sound (upward.decide (given bases control) shape) (decide_sound (given bases control) shape (given_fit bases control fit) (shorter shape.bytes e)))
@@ -86,7 +86,7 @@ first_sound (forwards request asked) more later h rest = record { ask = h.0; ask
 
 treated_sound : (bases : Bases) (control : Option (List ℕ)) (shapes : List Shape) → IfSome control (λ uri. is_target uri ≡ true) → IsSoundTreated (treated bases control shapes)
 treated_sound bases control [] fit = record { ask = tt; asked = tt }
-treated_sound bases control (shape ∷ more) fit = first_sound (decide bases control shape) more (treated bases control more) (here_sound bases control shape fit) (treated_sound bases control more fit)
+treated_sound bases control (shape ∷ more) fit = first_sound (decision_on bases control shape) more (treated bases control more) (here_sound bases control shape fit) (treated_sound bases control more fit)
 
 once_sound : (control : Option (List ℕ)) (waiting : List Shape) (decision : Decision) → IfSome control (λ uri. is_target uri ≡ true) → IsSoundHere decision → IsSoundEffect (at_once control waiting decision)
 unfolding IsSoundHere
@@ -96,7 +96,7 @@ once_sound control waiting (forwards request asked) fit h = record { ask = h.0; 
 request_sound : (bases : Bases) (open_request : Option Asked) (conn : Conn) (shape : Shape) → conn.open_request ≡ open_request → IsFitConn conn → IsSoundEffect (take_request bases open_request conn shape)
 request_sound bases (Some asked) conn shape opens fit =
     nothing_sound _ (record { control = fit.control; asked = subst (λ (one : Option Asked). IfSome one (λ asked. is_target asked.uri ≡ true)) opens fit.asked })
-request_sound bases None conn shape opens fit = once_sound conn.control conn.waiting (decide bases conn.control shape) fit.control (here_sound bases conn.control shape fit.control)
+request_sound bases None conn shape opens fit = once_sound conn.control conn.waiting (decision_on bases conn.control shape) fit.control (here_sound bases conn.control shape fit.control)
 
 item_sound : (bases : Bases) (kind : ItemKind) (conn : Conn) (shape : Shape) → IsFitConn conn → IsSoundEffect (take_item bases kind conn shape)
 item_sound bases item.Request conn shape fit = request_sound bases conn.open_request conn shape refl fit

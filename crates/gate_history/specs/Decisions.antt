@@ -9,7 +9,7 @@ use Rattle.session_one.specs.declared.table.State.TheVariants.{Init}
 use Rattle.session_one.specs.declared.parts.Asked.{Asked}
 use Rattle.session_one.specs.Table.{same_method, is_success}
 use Rattle.translate_up.specs.Views.{Given}
-use Rattle.translate_up.specs.Answers.{answer_text}
+use Rattle.translate_up.specs.Answers.{own_answer}
 use Rattle.translate_up.specs.declared.decision.Decision as up
 use Rattle.translate_up.specs.declared.decision.Decision.TheVariants.{Answer, Forward, Queue, Setup}
 use Rattle.translate_up.specs.Decisions as upward
@@ -39,23 +39,23 @@ abbrev pub built : up.Decision → Decision
 built (Answer text) = answers text
 built (Forward request asked) = forwards request asked
 built (Queue play text) = answers text
-built (Setup request asked pair) = answers (answer_text 501 (Some asked.cseq) [])
+built (Setup request asked pair) = answers (own_answer 501 (Some asked.cseq) [])
 
 -- no item has more bytes than memory has places
 abbrev pub fits_memory : Shape → Bool
 fits_memory shape = nat_lt (length shape.bytes) (2 ^ 64)
 
 -- What is done with a request. Nothing is said of one that no memory holds, since it never comes.
-abbrev pub decide : Bases → Option (List ℕ) → Shape → Decision
-decide bases control shape = if fits_memory shape then built (upward.decide (given bases control) shape) else answers []
+abbrev pub decision_on : Bases → Option (List ℕ) → Shape → Decision
+decision_on bases control shape = if fits_memory shape then built (upward.decide (given bases control) shape) else answers []
 
 -- what a reply is written for
 abbrev pub setting : Bases → Setting
 setting bases = record { front = bases.front.text; up = bases.up.text; session = None; client = None; ssrc = None; timeout = None }
 
 -- the server's reply as its player gets it
-abbrev pub reply_down : Bases → Asked → Told → List ℕ
-reply_down bases asked told = reply_text_of (setting bases) asked told
+abbrev pub player_reply : Bases → Asked → Told → List ℕ
+player_reply bases asked told = reply_text_of (setting bases) asked told
 
 -- A description that was found tells what the connection is about: a request of the server itself then speaks of it.
 abbrev pub describes : Asked → ℕ → Bool

@@ -91,15 +91,15 @@ pub record IsNext (number : ℕ) (bytes : List ℕ) : Type 0 where
   pub spelled : bytes ≡ request_text number request
 
 -- What the server is handed: an answer to its request, or a request with the next number, and nothing else.
-abbrev pub Spells : Option (List ℕ) → Option ℕ → ℕ → Option (List ℕ) → Type 0
-Spells (Some text) turn number to_up = to_up ≡ Some text
-Spells None None number to_up = to_up ≡ None
-Spells None (Some i) number to_up = IfSome to_up (IsNext number)
+abbrev pub SpellsNext : Option (List ℕ) → Option ℕ → ℕ → Option (List ℕ) → Type 0
+SpellsNext (Some text) turn number to_up = to_up ≡ Some text
+SpellsNext None None number to_up = to_up ≡ None
+SpellsNext None (Some i) number to_up = IfSome to_up (IsNext number)
 
 -- While the connection to the server stands, and the entry does not end it; else nothing.
 abbrev pub SpellsUp : Bool → Option (List ℕ) → Option ℕ → ℕ → Option (List ℕ) → Type 0
 SpellsUp true answer turn number to_up = to_up ≡ None
-SpellsUp false answer turn number to_up = Spells answer turn number to_up
+SpellsUp false answer turn number to_up = SpellsNext answer turn number to_up
 
 -- An entry follows a history, for given bases, where every connection has then been handed, in all, exactly what the
 -- private machine hands out on that connection's own events, is closed exactly as there, and the server is asked for it

@@ -8,7 +8,7 @@ use Rattle.head_two.specs.declared.fault.TwoFault.TheVariants as two
 use Rattle.head_two.specs.declared.reply.Reply2.{Reply2}
 use Rattle.head_two.specs.declared.ask.Ask2.{Ask2}
 use Rattle.head_two.specs.Answers.{answer_text}
-use Rattle.head_two.specs.Replies.{reply_in, ask_in}
+use Rattle.head_two.specs.Replies.{reply_of_item, ask_of_item}
 use Rattle.gate_history.specs.declared.event.FramingFault.{FramingFault}
 use Rattle.gate_history.specs.declared.event.FramingFault.TheVariants as framing
 
@@ -33,8 +33,8 @@ heard_ask (Ok request) = requests request
 heard_ask (Err fault) = faults (framing_of fault)
 
 abbrev pub heard_at : ItemKind → Shape → Heard
-heard_at Request shape = heard_ask (ask_in shape)
-heard_at Response shape = heard_reply (reply_in shape)
+heard_at Request shape = heard_ask (ask_of_item shape)
+heard_at Response shape = heard_reply (reply_of_item shape)
 heard_at Frame shape = frames
 heard_at (Bad kind) shape = faults (framing.Bad kind)
 

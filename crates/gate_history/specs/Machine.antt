@@ -11,7 +11,7 @@ use Rattle.session_one.specs.declared.parts.Asked.{Asked}
 use Rattle.translate_down.specs.Replies.{Told}
 use Rattle.gate_history.specs.declared.event.CloseWhy.{CloseWhy}
 use Rattle.gate_history.specs.declared.event.CloseWhy.TheVariants.{Ended, BadItem, Upstream}
-use Rattle.gate_history.specs.Decisions.{Decision, answers, forwards, decide, reply_down, control_after}
+use Rattle.gate_history.specs.Decisions.{Decision, answers, forwards, decision_on, player_reply, control_after}
 
 -- What can happen to a connection: an item of its client comes, the server's reply to its open request comes, with
 -- what it tells, the client ends, or the server's connection ends.
@@ -60,10 +60,10 @@ treated_first (forwards request asked) more later = record { hand = []; ask = So
 -- Requests are treated in order until one of them goes up.
 abbrev pub treated : Bases → Option (List ℕ) → List Shape → Treated
 treated bases control [] = record { hand = []; ask = None; open_request = None; waiting = [] }
-treated bases control (shape ∷ more) = treated_first (decide bases control shape) more (treated bases control more)
+treated bases control (shape ∷ more) = treated_first (decision_on bases control shape) more (treated bases control more)
 
-abbrev pub goes_on : Option (List ℕ) → List ℕ → Treated → Effect
-goes_on control reply t = record {
+abbrev pub goes_on_with : Option (List ℕ) → List ℕ → Treated → Effect
+goes_on_with control reply t = record {
   conn = record { phase = Alive; control = control; open_request = t.open_request; waiting = t.waiting };
   hand = reply ++ t.hand;
   ask = t.ask;
@@ -87,7 +87,7 @@ at_once control waiting (forwards request asked) = record {
 -- A request waits while another one is open; else it is treated at once.
 abbrev pub take_request : Bases → Option Asked → Conn → Shape → Effect
 take_request bases (Some asked) conn shape = nothing (record { phase = Alive; control = conn.control; open_request = Some asked; waiting = conn.waiting ++ shape ∷ [] })
-take_request bases None conn shape = at_once conn.control conn.waiting (decide bases conn.control shape)
+take_request bases None conn shape = at_once conn.control conn.waiting (decision_on bases conn.control shape)
 
 -- A connection that closes drops its waiting requests. Its open request stays open.
 abbrev pub closes : CloseWhy → Conn → Effect
@@ -109,7 +109,7 @@ take_item bases (Bad kind) conn shape = closes BadItem conn
 -- wait are treated.
 abbrev pub take_final : Bases → Phase → Asked → Conn → Told → Effect
 take_final bases Alive asked conn told =
-    goes_on (control_after asked told.code conn.control) (reply_down bases asked told) (treated bases (control_after asked told.code conn.control) conn.waiting)
+    goes_on_with (control_after asked told.code conn.control) (player_reply bases asked told) (treated bases (control_after asked told.code conn.control) conn.waiting)
 take_final bases Closed asked conn told = nothing (record { phase = Closed; control = control_after asked told.code conn.control; open_request = None; waiting = conn.waiting })
 take_final bases Over asked conn told = nothing conn
 

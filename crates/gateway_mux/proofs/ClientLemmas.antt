@@ -5,7 +5,7 @@ use Rattle.rtsp_head.specs.declared.item.ItemKind.TheVariants as item
 use Rattle.rtsp_uri.specs.declared.base.Bases.{Bases}
 use Rattle.session_one.specs.declared.parts.Asked.{Asked}
 use Rattle.gate_history.specs.declared.event.Outcome.{Outcome}
-use Rattle.gate_history.specs.Decisions.{Decision, answers, forwards, decide}
+use Rattle.gate_history.specs.Decisions.{Decision, answers, forwards, decision_on}
 use Rattle.gate_history.specs.Machine.{Conn, Phase, Alive, Closed, Over, Effect, PrivateEvent, arrive, nothing, at_once, take_request, take_item, step_at}
 use Rattle.gate_history.specs.History.{takes, is_frame}
 use Rattle.gate_history.specs.Follows.{effect_at}
@@ -96,13 +96,13 @@ once_fits bases conn shape (forwards request asked) p is =
     (ap (λ phase. record { phase = phase; control = conn.control; open_request = Some asked; waiting = conn.waiting }) (sym p))
 
 treats_at : (bases : Bases) (phase : Phase) (open_request : Option Asked) (conn : Conn) (shape : Shape) → conn.phase ≡ phase → conn.open_request ≡ open_request → shape.kind ≡ item.Request → ready_at phase open_request ≡ Ready →
-    Fits bases (Some conn) (Some (arrive shape)) (deed_of (act_for (decide bases conn.control shape)))
-treats_at bases Alive None conn shape p o kind h = once_fits bases conn shape (decide bases conn.control shape) p (request_effect bases conn shape None p o kind)
+    Fits bases (Some conn) (Some (arrive shape)) (deed_of (act_for (decision_on bases conn.control shape)))
+treats_at bases Alive None conn shape p o kind h = once_fits bases conn shape (decision_on bases conn.control shape) p (request_effect bases conn shape None p o kind)
 treats_at bases Alive (Some asked) conn shape p o kind h = cc
 treats_at bases Closed open_request conn shape p o kind h = cc
 treats_at bases Over open_request conn shape p o kind h = cc
 
-treats_fit : (bases : Bases) (state : Option Conn) (shape : Shape) → shape.kind ≡ item.Request → readiness_of state ≡ Ready → Fits bases state (Some (arrive shape)) (deed_of (act_for (decide bases (control_of state) shape)))
+treats_fit : (bases : Bases) (state : Option Conn) (shape : Shape) → shape.kind ≡ item.Request → readiness_of state ≡ Ready → Fits bases state (Some (arrive shape)) (deed_of (act_for (decision_on bases (control_of state) shape)))
 treats_fit bases None shape kind h = cc
 treats_fit bases (Some conn) shape kind h = treats_at bases conn.phase conn.open_request conn shape refl refl kind h
 

@@ -8,16 +8,16 @@ use Rattle.head_two.specs.declared.fault.TwoFault.{TwoFault}
 use Rattle.head_two.specs.declared.reply.Reply2.{Reply2}
 use Rattle.head_two.specs.declared.ask.Ask2.{Ask2}
 use Rattle.head_two.specs.Answers.{answer_text}
-use Rattle.head_two.specs.Replies.{reply_in, ask_in}
+use Rattle.head_two.specs.Replies.{reply_of_item, ask_of_item}
 use Rattle.rtsp_uri.specs.declared.base.Bases.{Bases}
 use Rattle.session_one.specs.declared.parts.Asked.{Asked}
 use Rattle.translate_down.specs.Replies.{told_by}
 use Rattle.gate_history.specs.declared.event.UpCause.TheVariants.{Framing, UnknownReply}
 use Rattle.gate_history.specs.declared.event.FramingFault.{FramingFault}
 use Rattle.gate_history.specs.declared.event.Outcome.{Outcome}
-use Rattle.gate_history.specs.Decisions.{reply_down, describes, control_after}
+use Rattle.gate_history.specs.Decisions.{player_reply, describes, control_after}
 use Rattle.gate_history.specs.Heard.{replies, requests, frames, faults, heard, heard_at, heard_reply, heard_ask, answer_up}
-use Rattle.gate_history.specs.Machine.{Conn, Phase, Alive, Closed, Over, PrivateEvent, answer, nothing, goes_on, treated, take_reply, take_answer, take_answer, step_at}
+use Rattle.gate_history.specs.Machine.{Conn, Phase, Alive, Closed, Over, PrivateEvent, answer, nothing, goes_on_with, treated, take_reply, take_answer, take_answer, step_at}
 use Rattle.gate_history.specs.History.{hears, heard_turn, heard_event, is_final, is_frame, event_of, drops_here}
 use Rattle.gate_history.specs.Follows.{effect_at, said_breach, heard_breach, spent, breach_by}
 use Rattle.gateway_mux.specs.declared.act.Act.{Act}
@@ -73,11 +73,11 @@ told_here asked code tells open_request control t o =
 
 -- the reply to the open request of a connection that is alive
 treated_fits : (bases : Bases) (conn : Conn) (asked : Asked) (reply : Reply2) (act : Act) → conn.phase ≡ Alive → conn.open_request ≡ Some asked → nat_lt reply.code 200 ≡ false →
-    IsTreated bases (control_after asked reply.code conn.control) (reply_down bases asked (told_by reply)) conn.waiting (describes asked reply.code) (Some reply.cseq) act →
+    IsTreated bases (control_after asked reply.code conn.control) (player_reply bases asked (told_by reply)) conn.waiting (describes asked reply.code) (Some reply.cseq) act →
     Fits bases (Some conn) (Some (reply_event reply)) (deed_of act)
 treated_fits bases conn asked reply act p o late t =
     let control : Option (List ℕ) = control_after asked reply.code conn.control in
-    fits_by bases conn (reply_event reply) (deed_of act) (goes_on control (reply_down bases asked (told_by reply)) (treated bases control conn.waiting)) (alive_effect bases (Some asked) conn reply p o late)
+    fits_by bases conn (reply_event reply) (deed_of act) (goes_on_with control (player_reply bases asked (told_by reply)) (treated bases control conn.waiting)) (alive_effect bases (Some asked) conn reply p o late)
     (sym t.hand) (sym t.ask) refl
     (ap (λ phase. record { phase = phase; control = control; open_request = (treated bases control conn.waiting).open_request; waiting = (treated bases control conn.waiting).waiting }) (sym p)
     ∙ ap (λ one. record { phase = conn.phase; control = one; open_request = (treated bases control conn.waiting).open_request; waiting = (treated bases control conn.waiting).waiting }) (told_here asked reply.code act.described conn.open_request conn.control t.described o)
@@ -164,8 +164,8 @@ heard_reply_frame (Ok reply) e = cc
 heard_reply_frame (Err fault) e = cc
 
 pub frame_kind : (kind : ItemKind) (shape : Shape) → heard_at kind shape ≡ frames → is_frame kind ≡ true
-frame_kind item.Request shape e = absurd (heard_ask_frame (ask_in shape) e)
-frame_kind item.Response shape e = absurd (heard_reply_frame (reply_in shape) e)
+frame_kind item.Request shape e = absurd (heard_ask_frame (ask_of_item shape) e)
+frame_kind item.Response shape e = absurd (heard_reply_frame (reply_of_item shape) e)
 frame_kind item.Frame shape e = refl
 frame_kind (item.Bad kind) shape e = cc
 

@@ -9,7 +9,7 @@ use Rattle.head_two.specs.declared.fault.TwoFault.{TwoFault}
 use Rattle.head_two.specs.declared.reply.Reply2.{Reply2}
 use Rattle.head_two.specs.declared.ask.Ask2.{Ask2}
 use Rattle.head_two.specs.Answers.{answer_text}
-use Rattle.head_two.specs.Replies.{reply_in, ask_in}
+use Rattle.head_two.specs.Replies.{reply_of_item, ask_of_item}
 use Rattle.head_two.proofs.AnswerLemmas.{answer_no_request}
 use Rattle.head_two.proofs.ReadLemmas.{ask_small}
 use Rattle.head_two.specs.declared.request.Request2.{Request2}
@@ -137,8 +137,8 @@ replied_answer (Err fault) text e = cc
 
 -- what the server is answered is no request
 heard_answered : (shape : Shape) (kind : ItemKind) (text : List ℕ) → answer_up (heard_at kind shape) ≡ Some text → request_in text ≡ None
-heard_answered shape item.Request text e = asked_answer (ask_in shape) text (ask_small shape) e
-heard_answered shape item.Response text e = replied_answer (reply_in shape) text e
+heard_answered shape item.Request text e = asked_answer (ask_of_item shape) text (ask_small shape) e
+heard_answered shape item.Response text e = replied_answer (reply_of_item shape) text e
 heard_answered shape item.Frame text e = cc
 heard_answered shape (item.Bad kind) text e = cc
 

@@ -10,7 +10,7 @@ use Rattle.rtsp_head.specs.declared.item.Item.{Item}
 use Rattle.rtsp_uri.specs.declared.base.Bases.{Bases}
 use Rattle.head_two.specs.declared.request.Request2.{Request2}
 use Rattle.session_one.specs.declared.parts.Asked.{Asked}
-use Rattle.gate_history.specs.Decisions.{answers, forwards, decide}
+use Rattle.gate_history.specs.Decisions.{answers, forwards, decision_on}
 use Rattle.gate_history.specs.Machine.{treated_first, treated}
 use Rattle.gateway_mux.specs.declared.act.Act.{Act}
 use Rattle.gateway_mux.specs.Acts.{asked_up, opened, IsTreated}
@@ -33,7 +33,7 @@ next_waits items at item e =
     ∙ ap (λ one. one ∷ drop (at + 1) (shapes items)) (get_or_from_slice_get (shapes items) at (shape_of item) (shape_of item) found)
 
 -- It is answered.
-pub answered_reached : (bases : Bases) (control : Option (List ℕ)) (first : List ℕ) (all : List Shape) (so_far text : List ℕ) (shape : Shape) (more : List Shape) → decide bases control shape ≡ answers text → Reached bases control first all so_far (shape ∷ more) →
+pub answered_reached : (bases : Bases) (control : Option (List ℕ)) (first : List ℕ) (all : List Shape) (so_far text : List ℕ) (shape : Shape) (more : List Shape) → decision_on bases control shape ≡ answers text → Reached bases control first all so_far (shape ∷ more) →
     Reached bases control first all (so_far ++ text) more
 answered_reached bases control first all so_far text shape more is r =
     record {
@@ -45,7 +45,7 @@ answered_reached bases control first all so_far text shape more is r =
 
 -- It goes up.
 pub sent_treated : (bases : Bases) (control : Option (List ℕ)) (first : List ℕ) (all : List Shape) (so_far : List ℕ) (shape : Shape) (more : List Shape) (request : Request2) (asked : Asked) (tells : Bool) (number : Option ℕ) (act : Act) →
-    decide bases control shape ≡ forwards request asked → Reached bases control first all so_far (shape ∷ more) → drop act.treated all ≡ more → act.hand ≡ so_far →
+    decision_on bases control shape ≡ forwards request asked → Reached bases control first all so_far (shape ∷ more) → drop act.treated all ≡ more → act.hand ≡ so_far →
     act.ask ≡ Some (record { request = request; asked = asked }) → act.described ≡ tells → act.settles ≡ number → IsTreated bases control first all tells number act
 sent_treated bases control first all so_far shape more request asked tells number act is r left hand ask described settles =
     record {
@@ -76,7 +76,7 @@ Treating bases control first items tells number act =
     (act.treated ≤ length items) × (act.ask ≡ None) × (act.described ≡ tells) × (act.settles ≡ number) × Reached bases control first (shapes items) act.hand (drop act.treated (shapes items))
 
 pub answered_treating : (bases : Bases) (control : Option (List ℕ)) (first : List ℕ) (items : List Item) (tells : Bool) (number : Option ℕ) (act : Act) (item : Item) (text new : List ℕ) → Treating bases control first items tells number act → slice_get items act.treated ≡ Some item →
-    decide bases control (shape_of item) ≡ answers text → new ≡ act.hand ++ text → Treating bases control first items tells number (record { hand = new; ask = act.ask; treated = act.treated + 1; described = act.described; settles = act.settles })
+    decision_on bases control (shape_of item) ≡ answers text → new ≡ act.hand ++ text → Treating bases control first items tells number (record { hand = new; ask = act.ask; treated = act.treated + 1; described = act.described; settles = act.settles })
 answered_treating bases control first items tells number act item text new (within, none, described, settles, r) found is grown =
     let less : act.treated < length items = slice_get_within items act.treated item found in (
       omega arith,
@@ -89,7 +89,7 @@ answered_treating bases control first items tells number act item text new (with
     )
 
 pub sent_treating : (bases : Bases) (control : Option (List ℕ)) (first : List ℕ) (items : List Item) (tells : Bool) (number : Option ℕ) (act : Act) (item : Item) (request : Request2) (asked : Asked) → Treating bases control first items tells number act → slice_get items act.treated ≡ Some item →
-    decide bases control (shape_of item) ≡ forwards request asked →
+    decision_on bases control (shape_of item) ≡ forwards request asked →
     IsTreated bases control first (shapes items) tells number (record { hand = act.hand; ask = Some (record { request = request; asked = asked }); treated = act.treated + 1; described = act.described; settles = act.settles })
 sent_treating bases control first items tells number act item request asked (within, none, described, settles, r) found is =
     sent_treated bases control first (shapes items) act.hand (shape_of item) (drop (act.treated + 1) (shapes items)) request asked tells number

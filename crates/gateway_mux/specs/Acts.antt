@@ -18,7 +18,7 @@ use Rattle.gateway_mux.specs.declared.slot.Change.{Change}
 use Rattle.gateway_mux.specs.declared.mux.Mux.{Mux}
 use Rattle.gateway_mux.specs.Seats.{conn_at}
 use Rattle.gateway_mux.specs.Slots.{with_waiting, gone_on, changed}
-use Rattle.gateway_mux.specs.Loans.{owner, has_room}
+use Rattle.gateway_mux.specs.Loans.{owner, HasSpare}
 use Rattle.gateway_mux.specs.Commits.{goes_under, Stays}
 use Rattle.gateway_mux.specs.Short.{IsShort}
 
@@ -109,7 +109,7 @@ pub record Fits (bases : Bases) (state : Option Conn) (event : Option PrivateEve
 pub record GoesOn (old new : Mux) (conn : ℕ) (change : Change) (settles : Option ℕ) : Type 0 where
   pub seats : (i : ℕ) → conn_at new.seats i ≡ (if conn == i then option_map (changed change) (conn_at old.seats i) else conn_at old.seats i)
   pub loans : (g : ℕ) → owner new.loans g ≡ (if settled_at settles g then None else owner old.loans g)
-  pub room : has_room old.loans → has_room new.loans
+  pub room : HasSpare old.loans → HasSpare new.loans
   pub issued : new.issued ≡ old.issued
   pub ended : new.ended ≡ old.ended
   pub dropped : new.dropped ≡ old.dropped

@@ -8,7 +8,7 @@ use Rattle.session_one.specs.declared.parts.Asked.{Asked}
 use Rattle.translate_down.specs.Replies.{told_by}
 use Rattle.gate_history.specs.declared.event.Closed.TheVariants.{Nobody}
 use Rattle.gate_history.specs.declared.event.Outcome.{Outcome}
-use Rattle.gate_history.specs.Decisions.{reply_down, describes, control_after}
+use Rattle.gate_history.specs.Decisions.{player_reply, describes, control_after}
 use Rattle.gate_history.specs.Machine.{Conn, Phase}
 use Rattle.gate_history.specs.Machine as phase
 use Rattle.gateway_mux.specs.declared.act.Act.{Act}
@@ -43,7 +43,7 @@ is_busy_readiness Ready = false
 abbrev pub IsAnsweredAt : Bases → Phase → Option Asked → Conn → Reply2 → Act → Type 0
 IsAnsweredAt bases phase.Alive None conn reply act = act ≡ act_settling false reply.cseq
 IsAnsweredAt bases phase.Alive (Some asked) conn reply act =
-    IsTreated bases (control_after asked reply.code conn.control) (reply_down bases asked (told_by reply)) conn.waiting (describes asked reply.code) (Some reply.cseq) act
+    IsTreated bases (control_after asked reply.code conn.control) (player_reply bases asked (told_by reply)) conn.waiting (describes asked reply.code) (Some reply.cseq) act
 IsAnsweredAt bases phase.Closed None conn reply act = act ≡ act_settling false reply.cseq
 IsAnsweredAt bases phase.Closed (Some asked) conn reply act = act ≡ act_settling (describes asked reply.code) reply.cseq
 IsAnsweredAt bases phase.Over open_request conn reply act = ⊥

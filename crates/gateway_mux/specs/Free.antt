@@ -6,11 +6,11 @@ use Rattle.gate_history.specs.declared.event.Event.{Event}
 use Rattle.gate_history.specs.declared.event.Event.TheVariants.{Client, Up, End}
 
 -- Whether an item is a request.
-abbrev pub is_request : ItemKind → Bool
-is_request Request = true
-is_request Response = false
-is_request Frame = false
-is_request (Bad kind) = false
+abbrev pub is_client_request : ItemKind → Bool
+is_client_request Request = true
+is_client_request Response = false
+is_client_request Frame = false
+is_client_request (Bad kind) = false
 
 -- Whether an item has a message's head.
 abbrev pub is_message : ItemKind → Bool
@@ -21,6 +21,6 @@ is_message (Bad kind) = false
 
 -- Whether an event may need memory: a request of a client, or a message of the server.
 abbrev pub needs_memory : Event → Bool
-needs_memory (Client conn item) = is_request item.kind
+needs_memory (Client conn item) = is_client_request item.kind
 needs_memory (Up item) = is_message item.kind
 needs_memory (End conn) = false

@@ -13,5 +13,5 @@ abbrev pub owner : Loans → ℕ → Option ℕ
 owner loans g = owner_in g loans.open.items
 
 -- one more can be lent without memory
-abbrev pub has_room : Loans → Type 0
-has_room loans = vec_len loans.open < vec_capacity loans.open
+abbrev pub HasSpare : Loans → Type 0
+HasSpare loans = vec_len loans.open < vec_capacity loans.open

@@ -2,7 +2,7 @@
 ghost use Rattle.std.specs.Prelude.{◌≡◌, IfOk, Some, option_map};
 ghost use Rattle.rtsp_head.specs.Shapes.{shape_of, shapes};
 ghost use Rattle.translate_down.specs.Replies.{told_by};
-ghost use Rattle.gate_history.specs.Decisions.{decide, describes, control_after, reply_down};
+ghost use Rattle.gate_history.specs.Decisions.{decision_on, describes, control_after, player_reply};
 ghost use Rattle.gateway_mux.specs.Acts.{act_for, act_settling, IsBegun, IsTreated};
 
 use crate::decide::{Decision, decide};
@@ -47,7 +47,7 @@ pub(crate) fn arrive<'a>(
     control: Option<&'a [u8]>,
     item: &Item,
 ) -> Result<Act, Memory>
-    ensures { IfOk result (λ act. act ≡ act_for (decide bases.now (option_map (λ uri. uri.now) control.entry) (shape_of item.now))) }
+    ensures { IfOk result (λ act. act ≡ act_for (decision_on bases.now (option_map (λ uri. uri.now) control.entry) (shape_of item.now))) }
 {
     let (hand, ask) = match decide(alloc, bases, control, item)? {
         Decision::Answer(text) => (text, None),
@@ -103,7 +103,7 @@ pub(crate) fn reply<'a>(
     reply: &Reply2,
     waiting: &VecDeque<Item>,
 ) -> Result<Act, Memory>
-    ensures { IfOk result (λ act. IsTreated bases.now (control_after asked.now reply.now.code (option_map (λ uri. uri.now) control.entry)) (reply_down bases.now asked.now (told_by reply.now)) (shapes waiting.now.items)
+    ensures { IfOk result (λ act. IsTreated bases.now (control_after asked.now reply.now.code (option_map (λ uri. uri.now) control.entry)) (player_reply bases.now asked.now (told_by reply.now)) (shapes waiting.now.items)
         (describes asked.now reply.now.code) (Some reply.now.cseq) act) }
 {
     let context = Context {

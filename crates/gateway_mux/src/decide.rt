@@ -1,8 +1,8 @@
 //! What is done with a request of a player that is not busy. A session can't be set up yet.
 ghost use Rattle.std.specs.Prelude.{◌≡◌, Some, [], IfOk, option_map};
 ghost use Rattle.rtsp_head.specs.Shapes.{shape_of};
-ghost use Rattle.translate_up.specs.Answers.{answer_text};
-ghost use Rattle.gate_history.specs.Decisions.{decide, built};
+ghost use Rattle.translate_up.specs.Answers.{own_answer};
+ghost use Rattle.gate_history.specs.Decisions.{decision_on, built};
 ghost use Rattle.gateway_mux.specs.Decisions.{decision_seen};
 
 use gate_bytes::{Memory, Text};
@@ -30,7 +30,7 @@ pub(crate) fn decide<'a>(
     control: Option<&'a [u8]>,
     item: &Item,
 ) -> Result<Decision, Memory>
-    ensures { IfOk result (λ decision. decision_seen decision ≡ decide bases.now (option_map (λ uri. uri.now) control.entry) (shape_of item.now)) }
+    ensures { IfOk result (λ decision. decision_seen decision ≡ decision_on bases.now (option_map (λ uri. uri.now) control.entry) (shape_of item.now)) }
 {
     let view = View {
         state: State::Init,
@@ -62,7 +62,7 @@ fn build(alloc: Global, decision: translate_up::Decision) -> Result<Decision, Me
 
 /// The answer to a request whose method is not built yet.
 fn not_built(alloc: Global, cseq: u64) -> Result<Text, Memory>
-    ensures { IfOk result (λ text. text ≡ answer_text 501 (Some cseq) []) }
+    ensures { IfOk result (λ text. text ≡ own_answer 501 (Some cseq) []) }
 {
     let reply = Reply1 {
         code: 501,

@@ -4,7 +4,7 @@ ghost use Rattle.rtsp_head.specs.Shapes.{shape_of};
 ghost use Rattle.gate_history.specs.Heard.{heard, heard_reply, heard_ask};
 ghost use Rattle.gateway_mux.specs.Free.{is_message};
 ghost use Rattle.gateway_mux.specs.Hearing.{heard_seen};
-ghost use Rattle.head_two.specs.Replies.{reply_in, ask_in};
+ghost use Rattle.head_two.specs.Replies.{reply_of_item, ask_of_item};
 
 use gate_bytes::Memory;
 use gate_history::FramingFault;
@@ -40,7 +40,7 @@ pub(crate) fn hear(alloc: Global, item: &Item) -> Result<Heard, Memory>
 
 /// What a reply of the server says.
 fn hear_reply(alloc: Global, item: &Item) -> Result<Heard, Memory>
-    ensures { IfOk result (λ said. heard_seen said ≡ heard_reply (reply_in (shape_of item.now))) }
+    ensures { IfOk result (λ said. heard_seen said ≡ heard_reply (reply_of_item (shape_of item.now))) }
 {
     match read_reply(alloc, item) {
         Ok(reply) => Ok(Heard::Reply(reply)),
@@ -52,7 +52,7 @@ fn hear_reply(alloc: Global, item: &Item) -> Result<Heard, Memory>
 
 /// What a request of the server says.
 fn hear_ask(alloc: Global, item: &Item) -> Result<Heard, Memory>
-    ensures { IfOk result (λ said. heard_seen said ≡ heard_ask (ask_in (shape_of item.now))) }
+    ensures { IfOk result (λ said. heard_seen said ≡ heard_ask (ask_of_item (shape_of item.now))) }
 {
     match read_ask(alloc, item) {
         Ok(request) => Ok(Heard::Ask(request)),

@@ -34,7 +34,7 @@ pub(crate) struct Loans {
 }
 
 impl Loans {
-    ghost use Rattle.gateway_mux.specs.Loans.{owner, has_room};
+    ghost use Rattle.gateway_mux.specs.Loans.{owner, HasSpare};
 
     /// No request is open. It takes no memory.
     pub fn new(alloc: Global) -> Loans
@@ -48,7 +48,7 @@ impl Loans {
     /// Makes room for one more.
     pub fn room(&mut self) -> Result<(), Memory>
         ensures same { (g : ℕ) → owner self.new g ≡ owner self.old g }
-        ensures room { OnOk result (has_room self.new) }
+        ensures room { OnOk result (HasSpare self.new) }
     {
         self.open.reserve(1)?;
         Ok(())
@@ -67,7 +67,7 @@ impl Loans {
 
     /// A connection asked a request. It takes no memory.
     pub fn lend(&mut self, number: u32, conn: u32)
-        requires { has_room self.old }
+        requires { HasSpare self.old }
         ensures { (g : ℕ) → owner self.new g ≡ (if number == g then Some conn else owner self.old g) }
     {
         self.open.push_reserved(Loan { number, conn });
@@ -76,7 +76,7 @@ impl Loans {
     /// A request is open no longer.
     pub fn settle(&mut self, number: u32)
         ensures owners { (g : ℕ) → owner self.new g ≡ (if number == g then None else owner self.old g) }
-        ensures room { has_room self.old → has_room self.new }
+        ensures room { HasSpare self.old → HasSpare self.new }
     {
         self.open.retain(|loan| loan.number != number);
     }

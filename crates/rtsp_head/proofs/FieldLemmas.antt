@@ -11,7 +11,7 @@ use Rattle.rtsp_head.specs.Headers.{field_of}
 use Rattle.rtsp_head.specs.declared.header.Header.{Header}
 use Rattle.rtsp_head.specs.Written.{is_value, is_header}
 use Rattle.rtsp_head.specs.Messages.{is_added}
-use Rattle.rtsp_head.specs.Optional.{header_with, Field, then_headers, field_headers, value_in}
+use Rattle.rtsp_head.specs.Optional.{header_with, Field, then_headers, field_headers, told_value}
 
 -- what holds of each field
 abbrev pub EachField : (Field → Type 0) → List Field → Type 0
@@ -123,7 +123,7 @@ or_assoc : (one two three : Option (List ℕ)) → option_or (option_or one two)
 or_assoc None two three = refl
 or_assoc (Some text) two three = refl
 
-then_field : (name : List ℕ) (headers : List Header) (fields : List Field) → field_of (then_headers headers fields) name ≡ option_or (field_of headers name) (value_in name fields)
+then_field : (name : List ℕ) (headers : List Header) (fields : List Field) → field_of (then_headers headers fields) name ≡ option_or (field_of headers name) (told_value name fields)
 then_field name headers [] = or_nothing (field_of headers name)
   where
     or_nothing : (value : Option (List ℕ)) → value ≡ option_or value None
@@ -131,9 +131,9 @@ then_field name headers [] = or_nothing (field_of headers name)
     or_nothing (Some text) = refl
 then_field name headers (field ∷ fields) =
     then_field name (headers ++ header_with field.name field.value) fields
-    ∙ ap (λ o. option_or o (value_in name fields)) (two_fields name headers (header_with field.name field.value) ∙ ap (option_or (field_of headers name)) (one_field name field.name field.value))
-    ∙ or_assoc (field_of headers name) (cond (equal_fold field.name name) field.value None) (value_in name fields)
+    ∙ ap (λ o. option_or o (told_value name fields)) (two_fields name headers (header_with field.name field.value) ∙ ap (option_or (field_of headers name)) (one_field name field.name field.value))
+    ∙ or_assoc (field_of headers name) (cond (equal_fold field.name name) field.value None) (told_value name fields)
 
 -- A field is found by its name among the headers that are written.
-pub field_told : (name : List ℕ) (fields : List Field) → field_of (field_headers fields) name ≡ value_in name fields
+pub field_told : (name : List ℕ) (fields : List Field) → field_of (field_headers fields) name ≡ told_value name fields
 field_told name fields = then_field name [] fields

@@ -27,9 +27,9 @@ abbrev pub field_headers : List Field → List Header
 field_headers fields = then_headers [] fields
 
 -- the value of the first field of a name that has one, without ASCII case
-abbrev pub value_in : List ℕ → List Field → Option (List ℕ)
-value_in name [] = None
-value_in name (field ∷ fields) = option_or (if equal_fold field.name name then field.value else None) (value_in name fields)
+abbrev pub told_value : List ℕ → List Field → Option (List ℕ)
+told_value name [] = None
+told_value name (field ∷ fields) = option_or (if equal_fold field.name name then field.value else None) (told_value name fields)
 
 -- a value that is said only where a condition holds
 abbrev pub said_where : Bool → Option (List ℕ) → Option (List ℕ)

@@ -2,7 +2,7 @@
 ghost use Rattle.std.specs.Prelude.{◌≡◌, true, false, None, IsOk, IfOk, IfErr, OnErr};
 ghost use Rattle.rtsp_head.specs.Shapes.{shape_of};
 ghost use Rattle.rtsp_head.specs.declared.item.ItemKind.TheVariants.{Request};
-ghost use Rattle.gate_history.specs.Decisions.{decide};
+ghost use Rattle.gate_history.specs.Decisions.{decision_on};
 ghost use Rattle.gate_history.specs.History.{Happening, takes, drops_here};
 
 use super::Mux;
@@ -21,7 +21,7 @@ impl Mux {
     ghost use Rattle.gateway_mux.specs.Answered.{readiness_of, control_of};
     ghost use Rattle.gateway_mux.specs.Quiet.{Idles, Keeps};
     ghost use Rattle.gateway_mux.specs.Closes.{Closes};
-    ghost use Rattle.gateway_mux.specs.Free.{is_request};
+    ghost use Rattle.gateway_mux.specs.Free.{is_client_request};
 
     /// Takes an item of a client.
     pub(super) fn take(
@@ -34,7 +34,7 @@ impl Mux {
         ensures ok { IfOk result (λ outcome. Commits self.old self.new (takes conn (shape_of item)) outcome) }
         ensures given_back { IfErr result (λ refused. refused.0 ≡ item) }
         ensures err { OnErr result (Keeps self.old self.new) }
-        ensures free { is_request item.kind ≡ false → IsOk result }
+        ensures free { is_client_request item.kind ≡ false → IsOk result }
     {
         match item.kind {
             ItemKind::Request => self.take_request(alloc, conn, item),
@@ -92,7 +92,7 @@ impl Mux {
 
     /// A request is treated at once.
     fn treat_now(&mut self, alloc: Global, conn: u32, item: &Item) -> Result<Outcome, Memory>
-        ensures ok { IfOk result (λ outcome. Acted self.old self.new conn (deed_of (act_for (decide self.old.bases (control_of (conn_at self.old.seats conn)) (shape_of item.now)))) outcome) }
+        ensures ok { IfOk result (λ outcome. Acted self.old self.new conn (deed_of (act_for (decision_on self.old.bases (control_of (conn_at self.old.seats conn)) (shape_of item.now)))) outcome) }
         ensures err { OnErr result (Keeps self.old self.new) }
     {
         let act = self.arrival(alloc, conn, item)?;
@@ -101,7 +101,7 @@ impl Mux {
 
     /// What a request leads to that is treated at once.
     fn arrival(&self, alloc: Global, conn: u32, item: &Item) -> Result<Act, Memory>
-        ensures { IfOk result (λ act. act ≡ act_for (decide self.now.bases (control_of (conn_at self.now.seats conn)) (shape_of item.now))) }
+        ensures { IfOk result (λ act. act ≡ act_for (decision_on self.now.bases (control_of (conn_at self.now.seats conn)) (shape_of item.now))) }
     {
         arrive(alloc, &self.bases, self.seats.control(conn), item)
     }
