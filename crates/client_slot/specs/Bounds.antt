@@ -1,7 +1,8 @@
 -- What is bounded of a connection, so that no call but the first takes memory (this project's own).
 use Rattle.std.specs.Prelude.{◌≡◌, ℕ, ◌≤◌, ◌<◌, Bool, true, false, ◌&&◌, ◌||◌, not, List, length, All, Option, Some, None, is_some, IsSome, IfSome}
 use Rattle.rtsp_small.specs.Sessions.{is_session_id}
-use Rattle.client_slot.specs.declared.limits.TheConstants.{LONGEST_URI, MOST_TRACKS}
+use Rattle.client_slot.specs.declared.limits.TheConstants.{LONGEST_URI}
+use Rattle.session_one.specs.declared.parts.TheConstants.{MOST_TRACKS}
 use Rattle.client_slot.specs.declared.purpose.Purpose.{Purpose}
 use Rattle.client_slot.specs.declared.purpose.Purpose.TheVariants as purposes
 use Rattle.client_slot.specs.Session.{PlayerSession}

@@ -18,7 +18,7 @@ mod tests;
 mod waiting;
 
 pub use law::changes_keep_any_numbering;
-pub use limits::{CLOSING_ROOM, LONGEST_URI, MOST_TRACKS, MOST_WAITING};
+pub use limits::{CLOSING_ROOM, LONGEST_URI, MOST_WAITING};
 pub use purpose::{Pending, Settled};
 pub use slot::Slot;
 pub use waiting::Waiting;

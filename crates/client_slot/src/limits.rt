@@ -1,8 +1,5 @@
 //! The limits of one connection, all of them this project's own.
 
-/// The most streams of one session.
-pub const MOST_TRACKS: usize = 8;
-
 /// The most bytes of a URI that goes up. A head has 8,192 bytes at most, and the swap of its
 /// authority makes a URI longer by fewer than 256.
 pub const LONGEST_URI: usize = 8448;

@@ -6,10 +6,9 @@ ghost use Rattle.client_slot.specs.declared.limits.TheConstants.{LONGEST_URI};
 mod changes;
 
 use crate::closing::ClosingRoom;
-use crate::limits::MOST_TRACKS;
 use gate_bytes::{Memory, Text};
 use play_queue::PlayQueue;
-use session_one::{Play, State, Track};
+use session_one::{MOST_TRACKS, Play, State, Track};
 use session_two::Running;
 use std::alloc::Global;
 use std::marker::Model;
@@ -32,7 +31,7 @@ impl Model for Session {
 
     ghost use Rattle.client_slot.specs.Bounds.{IsBounded};
     ghost use Rattle.std.specs.Prelude.{◌≤◌, vec_capacity};
-    ghost use Rattle.client_slot.specs.declared.limits.TheConstants.{MOST_TRACKS};
+    ghost use Rattle.session_one.specs.declared.parts.TheConstants.{MOST_TRACKS};
 
     ghost view = { λ s. record { state = s.state; id = s.id; control = s.control; tracks = s.tracks.items; running = s.running; queue = s.queue } };
 

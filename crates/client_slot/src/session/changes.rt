@@ -1,6 +1,7 @@
 //! What changes a session.
 ghost use Rattle.std.specs.Prelude.{◌≡◌, ◌≤◌, ◌<◌, length, drop, slice_get, true, IfSome, IsSome, OnSome};
-ghost use Rattle.client_slot.specs.declared.limits.TheConstants.{LONGEST_URI, MOST_TRACKS};
+ghost use Rattle.client_slot.specs.declared.limits.TheConstants.{LONGEST_URI};
+ghost use Rattle.session_one.specs.declared.parts.TheConstants.{MOST_TRACKS};
 ghost use Rattle.play_queue.specs.declared.queue.TheConstants.{MOST_PLAYS};
 ghost use Rattle.rtsp_small.specs.Sessions.{is_session_id};
 ghost use Rattle.session_two.specs.Ends.{end_counts};

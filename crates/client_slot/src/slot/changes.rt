@@ -4,7 +4,8 @@ ghost use Rattle.rtsp_head.specs.Shapes.{shape_of};
 ghost use Rattle.rtsp_small.specs.Sessions.{is_session_id};
 ghost use Rattle.session_two.specs.Ends.{end_counts};
 ghost use Rattle.play_queue.specs.declared.queue.TheConstants.{MOST_PLAYS};
-ghost use Rattle.client_slot.specs.declared.limits.TheConstants.{LONGEST_URI, MOST_TRACKS, MOST_WAITING};
+ghost use Rattle.client_slot.specs.declared.limits.TheConstants.{LONGEST_URI, MOST_WAITING};
+ghost use Rattle.session_one.specs.declared.parts.TheConstants.{MOST_TRACKS};
 ghost use Rattle.client_slot.specs.Purposes.{settled_as};
 
 use super::Slot;

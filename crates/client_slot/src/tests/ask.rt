@@ -1,5 +1,5 @@
 // What is asked of a connection, where it may be.
-use crate::{LONGEST_URI, MOST_TRACKS, MOST_WAITING, Slot, Waiting};
+use crate::{LONGEST_URI, MOST_WAITING, Slot, Waiting};
 use gate_bytes::{Memory, Text};
 use play_queue::MOST_PLAYS;
 use rtsp_frame::Framer;
@@ -7,7 +7,7 @@ use rtsp_head::Item;
 use rtsp_range::read_one;
 use rtsp_small::Method;
 use rtsp_transport::Pair;
-use session_one::{Asked, Play, Track};
+use session_one::{Asked, MOST_TRACKS, Play, Track};
 use std::alloc::Global;
 
 /// The stream that a SETUP brings.
