@@ -9,6 +9,31 @@ use std::test::Fail;
 use told::told;
 use walk::walk;
 
+/// Whether the PLAY q1 is the first that waits, and due.
+fn is_due(slot: &Slot) -> bool {
+    match (slot.first_queued(), slot.due()) {
+        (Some(first), Some(due)) => first.uri.as_bytes() == due.uri.as_bytes(),
+        _ => false,
+    }
+}
+
+/// Whether the request that the steps bring waits alone.
+fn waits(slot: &Slot) -> bool {
+    match slot.waiting_at(0) {
+        Some(item) => item.bytes.len() == 31 && slot.waiting_at(1).is_none(),
+        None => false,
+    }
+}
+
+/// Whether the closing TEARDOWN goes up once.
+fn closes(slot: &mut Slot) -> bool {
+    slot.close();
+    match slot.closing(2) {
+        Some(text) => text.as_bytes() == table::CLOSING.as_bytes() && slot.closing(3).is_none(),
+        None => false,
+    }
+}
+
 #[test]
 fn changes_go_by_the_table(rt: HostRuntime) -> Result<(), Fail> {
     let alloc = rt.alloc();
@@ -21,40 +46,8 @@ fn changes_go_by_the_table(rt: HostRuntime) -> Result<(), Fail> {
             "at {row}"
         );
     }
-    Ok(())
-}
-
-#[test]
-fn a_closing_teardown_names_its_session(rt: HostRuntime) -> Result<(), Fail> {
-    let alloc = rt.alloc();
-    let mut slot = Slot::new(alloc)?;
-    walk(alloc, &mut slot, "SETUP rtsp://media.example/m/1")?;
-    walk(alloc, &mut slot, "reply 1 200 abcd1234")?;
-    slot.close();
-    let text = slot.closing(2).ok_or("no TEARDOWN")?;
-    assert!(rt; text.as_bytes() == table::CLOSING.as_bytes());
-    Ok(())
-}
-
-#[test]
-fn a_request_waits(rt: HostRuntime) -> Result<(), Fail> {
-    let alloc = rt.alloc();
-    let mut slot = Slot::new(alloc)?;
-    walk(alloc, &mut slot, "wait")?;
-    let item = slot.waiting_at(0).ok_or("nothing waits")?;
-    assert_eq!(rt; item.bytes.len(), 31);
-    assert!(rt; slot.waiting_at(1).is_none());
-    Ok(())
-}
-
-#[test]
-fn a_play_is_due(rt: HostRuntime) -> Result<(), Fail> {
-    let alloc = rt.alloc();
-    let mut slot = Slot::new(alloc)?;
-    walk(alloc, &mut slot, "queue q1")?;
-    let first = slot.first_queued().ok_or("no PLAY waits")?;
-    assert_eq!(rt; first.uri.len(), 2);
-    let due = slot.due().ok_or("no PLAY is due")?;
-    assert_eq!(rt; due.uri.len(), 2);
+    assert!(rt; is_due(&slot));
+    assert!(rt; waits(&slot));
+    assert!(rt; closes(&mut slot));
     Ok(())
 }

@@ -5,6 +5,7 @@ use Rattle.rtsp_uri.specs.declared.base.Bases.{Bases}
 use Rattle.head_two.specs.declared.request.Request2.{Request2}
 use Rattle.head_two.specs.Requests.{request_text, IsRequest}
 use Rattle.session_one.specs.declared.parts.Asked.{Asked}
+use Rattle.rtsp_small.specs.declared.cseq.TheConstants.{LAST_CSEQ_TWO}
 use Rattle.gate_history.specs.declared.event.UpCause.{UpCause}
 use Rattle.gate_history.specs.declared.event.UpCause.TheVariants.{Framing, UnknownReply, CseqSpent}
 use Rattle.gate_history.specs.Heard.{Heard, replies, requests, frames, faults, heard, answer_up}
@@ -13,7 +14,7 @@ use Rattle.gate_history.specs.History.{Happening, enters, takes, ends, hears, En
 
 -- the greatest number of a request: nine digits
 unfoldable pub most_number : ℕ
-most_number = 999999999
+most_number = LAST_CSEQ_TWO
 
 -- connection i as the private machine has it, where it entered
 abbrev pub conn_in : Bases → ℕ → List Entry → Option Conn

@@ -1,8 +1,9 @@
 //! Laws over the definitions of a history. Each holds by its contract alone: no call is made.
-ghost use Rattle.std.specs.Prelude.{◌≡◌, ℕ, List, map};
+ghost use Rattle.std.specs.Prelude.{◌≡◌, ◌+◌, ◌^◌, ℕ, List, map};
 ghost use Rattle.rtsp_uri.specs.declared.base.Bases.{Bases};
 ghost use Rattle.gate_history.specs.History.{Happening, Entry, own, sent, shut, asked};
-ghost use Rattle.gate_history.specs.Follows.{IsHistory, Follows};
+ghost use Rattle.gate_history.specs.Follows.{IsHistory, Follows, most_number};
+ghost use Rattle.rtsp_small.specs.declared.cseq.TheConstants.{CSEQ_TWO_DIGITS};
 ghost use Rattle.gate_history.specs.Next.{next};
 
 /// At most one entry with a given happening follows a history.
@@ -29,4 +30,9 @@ pub fn equal_own_events()
 pub fn some_next_entry()
     ensures { (bases : Bases) (earlier : List Entry) (happening : Happening) → IsHistory bases earlier
         → Follows bases earlier (record { happening = happening; outcome = next bases earlier happening }) }
+{}
+
+/// The greatest number that goes up is the greatest that is read in a reply.
+pub fn the_last_number_is_the_greatest_read()
+    ensures { most_number + 1 ≡ 10 ^ CSEQ_TWO_DIGITS }
 {}

@@ -11,5 +11,8 @@ mod event;
 mod laws;
 
 pub use event::{CloseWhy, Closed, Event, FramingFault, Outcome, ToClient, UpCause};
-pub use laws::{at_most_one_history, equal_own_events, one_next_entry, some_next_entry};
+pub use laws::{
+    at_most_one_history, equal_own_events, one_next_entry, some_next_entry,
+    the_last_number_is_the_greatest_read,
+};
 pub use rtsp_uri::{Base, Bases};

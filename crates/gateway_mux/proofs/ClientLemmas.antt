@@ -111,14 +111,14 @@ unsettled (answers text) g = refl
 unsettled (forwards request asked) g = refl
 
 pub treat_commits : (old new : Mux) (conn : ℕ) (shape : Shape) (outcome : Outcome) → old.ended ≡ None → shape.kind ≡ item.Request → readiness_of (conn_at old.seats conn) ≡ Ready →
-    Acted old new conn (deed_of (act_for (decide old.bases (control_of (conn_at old.seats conn)) shape))) outcome → Commits old new (takes conn shape) outcome
+    Acted old new conn (deed_of (act_for (decision_on old.bases (control_of (conn_at old.seats conn)) shape))) outcome → Commits old new (takes conn shape) outcome
 treat_commits old new conn shape outcome open_still kind ready a =
-    acted_commits old new (takes conn shape) conn (deed_of (act_for (decide old.bases (control_of (conn_at old.seats conn)) shape))) outcome open_still
+    acted_commits old new (takes conn shape) conn (deed_of (act_for (decision_on old.bases (control_of (conn_at old.seats conn)) shape))) outcome open_still
     (record {
       turn = refl;
       right = refl;
       unanswered = refl;
       uncounted = ap is_frame kind;
-      settles = λ g. ap (λ s. settled_at s g) (sym (unsettled (decide old.bases (control_of (conn_at old.seats conn)) shape) g));
+      settles = λ g. ap (λ s. settled_at s g) (sym (unsettled (decision_on old.bases (control_of (conn_at old.seats conn)) shape) g));
       fits = treats_fit old.bases (conn_at old.seats conn) shape kind ready;
     }) a

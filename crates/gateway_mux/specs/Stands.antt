@@ -1,8 +1,9 @@
 -- When a multiplexer stands for a history (this project's own).
-use Rattle.std.specs.Prelude.{◌≡◌, ℕ, List, None}
+use Rattle.std.specs.Prelude.{◌≡◌, ℕ, List, Option, None}
 use Rattle.rtsp_uri.specs.declared.base.Bases.{Bases}
 use Rattle.gate_history.specs.History.{Entry, fault_in, standing, asker, issued, dropped_frames}
 use Rattle.gate_history.specs.Follows.{IsHistory, conn_in}
+use Rattle.gate_history.specs.declared.event.UpCause.{UpCause}
 use Rattle.gateway_mux.specs.declared.mux.Mux.{Mux}
 use Rattle.gateway_mux.specs.Seats.{conn_at}
 use Rattle.gateway_mux.specs.Loans.{owner}
@@ -28,3 +29,7 @@ pub record IsFresh (mux : Mux) (conn : ℕ) : Type 0 where
 
 abbrev pub bases_of : Mux → Bases
 bases_of mux = mux.bases
+
+-- why the connection to the server ended, where it did
+abbrev pub end_of : Mux → Option UpCause
+end_of mux = mux.ended

@@ -1,5 +1,5 @@
 //! The multiplexer.
-ghost use Rattle.std.specs.Prelude.{◌≡◌, true, false, IfOk, OnOk, IsOk, IfErr, OnErr, [], List, ◌∷◌};
+ghost use Rattle.std.specs.Prelude.{◌≡◌, true, false, IfOk, OnOk, IsOk, IsSome, IfErr, OnErr, [], List, ◌∷◌};
 ghost use Rattle.gate_history.specs.History.{Happening, Entry, entry_of, entering, standing, drops_here, dropped_frames, is_alive, IsFirstAlive, fault_in};
 ghost use Rattle.gate_history.specs.Follows.{is_busy};
 
@@ -27,7 +27,7 @@ pub struct Mux {
 }
 
 impl Mux {
-    ghost use Rattle.gateway_mux.specs.Stands.{Stands, IsFresh, bases_of};
+    ghost use Rattle.gateway_mux.specs.Stands.{Stands, IsFresh, bases_of, end_of};
     ghost use Rattle.gateway_mux.specs.Short.{IsShort};
     ghost use Rattle.gateway_mux.specs.Free.{needs_memory};
     ghost use Rattle.gateway_mux.specs.Seats.{conn_at};
@@ -53,6 +53,7 @@ impl Mux {
         requires { IsFresh self.old conn }
         ensures ok { OnOk result ((T : List Entry) → Stands self.old T → Stands self.new (entering conn ∷ T)) }
         ensures err { OnErr result ((T : List Entry) → Stands self.old T → Stands self.new T) }
+        ensures free { IsSome (end_of self.old) → IsOk result }
         ensures bases { bases_of self.new ≡ bases_of self.old }
     {
         if self.ended.is_some() {
@@ -112,7 +113,8 @@ impl Mux {
 
     /// Why the connection to the server ended, where it did.
     pub fn ended(&self) -> Option<UpCause>
-        ensures { (T : List Entry) → Stands self.now T → result ≡ fault_in T }
+        ensures history { (T : List Entry) → Stands self.now T → result ≡ fault_in T }
+        ensures value { result ≡ end_of self.now }
     {
         self.ended
     }

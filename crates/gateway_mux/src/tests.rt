@@ -6,6 +6,7 @@ ghost use Rattle.gateway_mux.specs.Stands.{Stands};
 use super::*;
 use gate_bytes::{Memory, Text};
 use rtsp_head::{BadKind, Item, ItemKind};
+use rtsp_small::LAST_CSEQ_TWO;
 use rtsp_uri::read_base;
 use std::alloc::Global;
 use std::test::Fail;
@@ -99,5 +100,30 @@ fn a_bad_item_of_the_server_ends_all(rt: HostRuntime) -> Result<(), Fail> {
     assert_eq!(rt; mux.ended(), Some(cause));
     assert_eq!(rt; mux.next_alive(0), Some(1));
     assert!(rt; !mux.alive(1));
+    Ok(())
+}
+
+#[test]
+fn the_last_number_is_used_once(rt: HostRuntime) -> Result<(), Fail> {
+    let alloc = rt.alloc();
+    let mut mux = gateway(alloc)?;
+    mux.issued = LAST_CSEQ_TWO - 1;
+    mux.enter(alloc, 1)?;
+    mux.enter(alloc, 2)?;
+    let rows = [(1, None), (2, Some(UpCause::CseqSpent))];
+    for (conn, cause) in rows {
+        let describe = item(
+            alloc,
+            ItemKind::Request,
+            b"DESCRIBE rtsp://gate.example/m RTSP/1.0\r\nCSeq: 7\r\n\r\n",
+            52,
+        )?;
+        let outcome = mux
+            .step(alloc, Event::Client(conn, describe))
+            .map_err(|refused| refused.1)?;
+        assert_eq!(rt; outcome.fault, cause);
+        assert_eq!(rt; outcome.to_up.is_some(), cause.is_none());
+        assert_eq!(rt; mux.ended(), cause);
+    }
     Ok(())
 }

@@ -12,6 +12,9 @@ pub const CSEQ_ONE_DIGITS: u32 = MOST_DIGITS;
 /// The most digits of the number of a request to or from the server (RFC 7826, 18.20).
 pub const CSEQ_TWO_DIGITS: u32 = 9;
 
+/// The greatest number of a request to the server: all digits that it may have are 9.
+pub const LAST_CSEQ_TWO: u32 = 999_999_999;
+
 /// The number of a client's request: 1 to [`CSEQ_ONE_DIGITS`] digits (RFC 2326, 12.17).
 pub fn read_cseq_one(value: &[u8]) -> Option<u64>
     ensures { result ≡ number_in CSEQ_ONE_DIGITS value.now }

@@ -13,7 +13,7 @@ mod session;
 #[cfg(test)]
 mod tests;
 
-pub use cseq::{CSEQ_ONE_DIGITS, CSEQ_TWO_DIGITS, read_cseq_one, read_cseq_two};
+pub use cseq::{CSEQ_ONE_DIGITS, CSEQ_TWO_DIGITS, LAST_CSEQ_TWO, read_cseq_one, read_cseq_two};
 pub use method::{METHODS, Method, push_methods, read_method};
 pub use notify::{NotifyReason, read_reason, read_request_status};
 pub use scale::{SCALE_FRACTION_DIGITS, SCALE_WHOLE_DIGITS, is_scale};

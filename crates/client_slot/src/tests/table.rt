@@ -143,8 +143,12 @@ reply 9 200: Playing abcd1234 m 8 9 0 0 - alive
 queue q1: Playing abcd1234 m 8 9 1 0 - alive
 close: Playing abcd1234 m 8 9 0 0 - closed
 closing 999999999: Playing abcd1234 m 8 9 0 0 closing closed
-reply 999999999 200: Playing - - 0 9 0 0 - closed";
+reply 999999999 200: Playing - - 0 9 0 0 - closed
+new: Init - - 0 - 0 0 - alive
+SETUP m/1: Init - - 0 - 0 0 SETUP alive
+reply 1 200 abcd1234: Ready abcd1234 m/1 1 - 0 0 - alive
+wait: Ready abcd1234 m/1 1 - 0 1 - alive
+queue q1: Ready abcd1234 m/1 1 - 1 1 - alive";
 
-/// The closing TEARDOWN with the number 2 of a session whose only stream is m/1.
-pub(crate) const CLOSING: &str =
-    "TEARDOWN rtsp://media.example/m/1 RTSP/2.0\r\nCSeq: 2\r\nSession: abcd1234\r\n\r\n";
+/// The closing TEARDOWN with the number 2 of the connection at the end of the table.
+pub(crate) const CLOSING: &str = "TEARDOWN m/1 RTSP/2.0\r\nCSeq: 2\r\nSession: abcd1234\r\n\r\n";

@@ -8,10 +8,11 @@ use crate::slot::Change;
 use gate_bytes::Memory;
 use gate_history::{Outcome, UpCause};
 use head_two::write_request;
+use rtsp_small::LAST_CSEQ_TWO;
 use std::alloc::Global;
 
 /// The greatest number of a request: it has nine digits (this project's own).
-const MOST_NUMBER: u32 = 999_999_999;
+const MOST_NUMBER: u32 = LAST_CSEQ_TWO;
 
 impl Mux {
     ghost use Rattle.gateway_mux.specs.Acts.{Acted, GoesOn, deed_of};
