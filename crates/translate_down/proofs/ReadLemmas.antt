@@ -11,7 +11,6 @@ use Rattle.rtsp_head.specs.Headers.{field_of}
 use Rattle.rtsp_head.specs.Messages.{is_added, messages_of}
 use Rattle.rtsp_head.specs.Written.{is_line_text, is_value, is_start, is_header}
 use Rattle.rtsp_head.proofs.SoundLemmas.{field_sound}
-use Rattle.rtsp_head.proofs.MessageLemmas.{message_sound}
 use Rattle.rtsp_small.specs.declared.method.Method.{Method}
 use Rattle.rtsp_small.specs.declared.method.Method.TheVariants.{Options, Describe, Setup, Play, Pause, Teardown, GetParameter, SetParameter}
 use Rattle.rtsp_small.specs.Sessions.{is_session_id, session_text}
@@ -23,14 +22,12 @@ use Rattle.rtsp_range.specs.declared.fault.RangeFault.{RangeFault}
 use Rattle.rtsp_range.specs.Meaning.{Two, meaning}
 use Rattle.rtsp_range.specs.Written.{range_text}
 use Rattle.rtsp_range.proofs.MeaningSound.{meaning_sound}
-use Rattle.rtsp_status.specs.Reasons.{reason_of, has_reason, is_reason_byte}
-use Rattle.rtsp_status.proofs.ReasonLemmas.{reason_fits}
 use Rattle.rtsp_status.proofs.RowLemmas.{told_has_reason}
 use Rattle.rtsp_uri.specs.Swaps.{swapped}
 use Rattle.head_one.specs.declared.reply.Reply1.{Reply1}
-use Rattle.head_one.specs.Refusals.{version_one}
-use Rattle.head_one.specs.Replies.{reply_start, reply_message, client_reply_in, IsReply}
+use Rattle.head_one.specs.Replies.{reply_message, client_reply_in, IsReply}
 use Rattle.head_one.proofs.ReadLemmas.{reply_read, replies_read}
+use Rattle.head_one.proofs.FieldReplies.{fields_reply}
 use Rattle.session_one.specs.declared.parts.Asked.{Asked}
 use Rattle.rtsp_head.specs.Optional.{said_where, Field, named, field_headers}
 use Rattle.rtsp_head.proofs.FieldLemmas.{EachField, HasValue, fields_sound, names_hold, fields_few}
@@ -134,40 +131,6 @@ success_values setting asked told can = (
 
 refusal_values : (told : Told) → list_all is_header told.fields ≡ true → EachField HasValue (named (codes "Unsupported") (unsupported_value told) ∷ [])
 refusal_values told sound = (where_fits (told.code == 551) (field_of told.fields (codes "Unsupported")) (field_sound told.fields (codes "Unsupported") sound), tt)
-
--- neither the number nor the body's length
-abbrev is_own : List ℕ → Bool
-is_own name = not (equal_fold name (codes "CSeq") || equal_fold name (codes "Content-Length"))
-
--- a reason stands in one line
-reason_line : (text : List ℕ) → list_all is_reason_byte text ≡ true → is_line_text text ≡ true
-reason_line [] h = refl
-reason_line (b ∷ text) h =
-    let parts = and_parts (is_reason_byte b) (list_all is_reason_byte text) h in
-    let rest : is_line_text text ≡ true = reason_line text parts.1 in
-    grind arith
-
-start_with : (code : ℕ) (reason : Option (List ℕ)) → reason_of code ≡ reason → is_some reason ≡ true → is_start (Status version_one code (unwrap_or reason [])) ≡ true
-start_with code None is h = cc
-start_with code (Some text) is h =
-    let fits = and_parts (nat_le 100 code && nat_le code 999) (nat_le (length text) 40 && list_all is_reason_byte text) (reason_fits code text is) in
-    let line : is_line_text text ≡ true = reason_line text (and_parts (nat_le (length text) 40) (list_all is_reason_byte text) fits.1).1 in
-    ap (λ t. t && is_line_text text) fits.0 ∙ line
-
--- A reply with such fields is one that is read back.
-pub fields_reply : (reply : Reply1) (fields : List Field) (cseq : ℕ) → reply.headers ≡ field_headers fields → reply.cseq ≡ Some cseq → cseq < 10 ^ CSEQ_ONE_DIGITS → has_reason reply.code ≡ true →
-    length reply.body < 2 ^ 64 → length fields ≤ 62 → list_all (λ field. is_token field.name) fields ≡ true → list_all (λ field. is_own field.name) fields ≡ true → EachField HasValue fields → IsReply reply
-fields_reply reply fields cseq spelled numbered short known long few tokens own values =
-    let number : IfSome reply.cseq (λ n. n < 10 ^ CSEQ_ONE_DIGITS) = subst (λ (o : Option ℕ). IfSome o (λ n. n < 10 ^ CSEQ_ONE_DIGITS)) (sym numbered) short in
-    let high : IfSome reply.cseq (λ n. n < 2 ^ 64) = subst (λ (o : Option ℕ). IfSome o (λ n. n < 2 ^ 64)) (sym numbered) (omega (arith, short)) in
-    let sound : list_all is_header reply.headers ≡ true = ap (list_all is_header) spelled ∙ fields_sound fields tokens values in
-    let count : length reply.headers ≤ 62 = omega (arith, ap length spelled, fields_few fields, few) in
-    record {
-      short = number;
-      writable = message_sound (reply_start reply) reply.cseq reply.headers reply.body (start_with reply.code (reason_of reply.code) refl known) high long count sound;
-      own = ap (list_all (λ header. not (is_added header))) spelled ∙ names_hold (λ header. not (is_added header)) is_own (λ header other. other) fields own;
-      held = long;
-    }
 
 down_by : (test : Bool) (setting : Setting) (asked : Asked) (told : Told) → CanBeRead setting asked told → IsReply (cond test (success_of setting asked told) (refusal_of asked told))
 down_by true setting asked told can =

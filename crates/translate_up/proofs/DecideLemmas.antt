@@ -43,7 +43,7 @@ use Rattle.translate_up.proofs.SoundLemmas.{IsWritable, up_sound, setup_sound, s
 use Rattle.translate_up.proofs.TargetLemmas.{uri_target}
 
 -- the pair of a player has two channels
-abbrev ArePairApart : Option Pair → Type 0
+abbrev pub ArePairApart : Option Pair → Type 0
 ArePairApart None = Unit {0}
 ArePairApart (Some pair) = AreApart pair
 
@@ -69,13 +69,13 @@ client_apart tracks None = tt
 client_apart tracks (Some value) = for_apart tracks (wanted_of value) (wanted_apart value (is_readable value))
 
 -- What is let through can be sent: its channels differ, and its range can be written.
-abbrev IsSoundAdmission : Admission → Type 0
+abbrev pub IsSoundAdmission : Admission → Type 0
 IsSoundAdmission (SetUp pair) = AreApart pair
 IsSoundAdmission (Played range) = IsWritable range
 IsSoundAdmission Other = Unit {0}
 
 -- so for what is said
-record IsSoundSaid (said : Said) : Type 0 where
+pub record IsSoundSaid (said : Said) : Type 0 where
   pub channels : ArePairApart said.channels
   pub range : IfSome said.range (λ read. IfOk read (λ range. IsTrue (can_be_written range)))
 
@@ -95,14 +95,14 @@ range_writable : (plays : Bool) (value : Option (List ℕ)) → IfSome (cond pla
 range_writable true value = field_writable value
 range_writable false value = tt
 
-said_sound : (tracks : List Track) (request : Request1) → IsSoundSaid (said_of tracks request)
+pub said_sound : (tracks : List Track) (request : Request1) → IsSoundSaid (said_of tracks request)
 said_sound tracks request = record {
   channels = setup_channels (is_setup request.method) tracks (field request (codes "Transport"));
   range = range_writable (is_play request.method || is_pause request.method) (field request (codes "Range"));
 }
 
 -- an admission is sound, where there is one
-abbrev AdmitsSound : Result Admission ℕ → Type 0
+abbrev pub AdmitsSound : Result Admission ℕ → Type 0
 AdmitsSound admitted = IfOk admitted IsSoundAdmission
 
 channels_admitted : (channels : Option Pair) → ArePairApart channels → AdmitsSound (with_channels channels)
@@ -114,7 +114,7 @@ range_admitted None can = tt
 range_admitted (Some (Ok range)) can = can
 range_admitted (Some (Err fault)) can = tt
 
-admission_sound : (method : Method) (said : Said) → IsSoundSaid said → AdmitsSound (admission method said)
+pub admission_sound : (method : Method) (said : Said) → IsSoundSaid said → AdmitsSound (admission method said)
 admission_sound Options said sound = tt
 admission_sound Describe said sound = tt
 admission_sound Setup said sound = channels_admitted said.channels sound.channels
@@ -124,7 +124,7 @@ admission_sound Teardown said sound = tt
 admission_sound GetParameter said sound = tt
 admission_sound SetParameter said sound = tt
 
-unless_sound : (code : Option ℕ) (admitted : Result Admission ℕ) → AdmitsSound admitted → AdmitsSound (unless_code code admitted)
+pub unless_sound : (code : Option ℕ) (admitted : Result Admission ℕ) → AdmitsSound admitted → AdmitsSound (unless_code code admitted)
 unless_sound None admitted sound = sound
 unless_sound (Some code) admitted sound = tt
 

@@ -12,3 +12,4 @@ pub mod VisibleLemmas
 pub mod GatewayLemmas
 pub mod OptionsLemmas
 pub mod ServeLemmas
+pub mod AnswerLemmas

@@ -38,11 +38,11 @@ use Rattle.translate_up.proofs.ReadLemmas.{Read}
 abbrev pub AreValues : Option (List ℕ) → Type 0
 AreValues value = IfSome value (λ v. is_value v ≡ true)
 
-where_value : (holds : Bool) (value : Option (List ℕ)) → AreValues value → AreValues (said_where holds value)
+pub where_value : (holds : Bool) (value : Option (List ℕ)) → AreValues value → AreValues (said_where holds value)
 where_value true value v = v
 where_value false value v = tt
 
-session_value : (session : Option (List ℕ)) → IfSome session (λ id. is_session_id id ≡ true) → AreValues session
+pub session_value : (session : Option (List ℕ)) → IfSome session (λ id. is_session_id id ≡ true) → AreValues session
 session_value None h = tt
 session_value (Some id) h = visible_value id (id_visible id h)
 
@@ -57,7 +57,7 @@ passing_value test (Some value) v = where_value (test value) (Some value) v
 abbrev pub IsWritable : Option Range → Type 0
 IsWritable range = IfSome range (λ one. IsTrue (can_be_written one))
 
-range_value : (range : Option Range) → IsWritable range → AreValues (option_map range_text range)
+pub range_value : (range : Option Range) → IsWritable range → AreValues (option_map range_text range)
 range_value None can = tt
 range_value (Some range) can = visible_value (range_text range) (range_visible range can)
 

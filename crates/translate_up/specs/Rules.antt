@@ -10,7 +10,7 @@ use Rattle.session_one.specs.Table.{is_allowed, same_state}
 use Rattle.translate_up.specs.Views.{Given}
 use Rattle.rtsp_transport.specs.declared.channels.Pair.{Pair}
 use Rattle.session_one.specs.declared.parts.TheConstants.{MOST_TRACKS}
-use Rattle.translate_up.specs.declared.rule.TheConstants.{MOST_QUEUED}
+use Rattle.play_queue.specs.declared.queue.TheConstants.{MOST_PLAYS}
 use Rattle.translate_up.specs.declared.rule.Admission.{Admission}
 use Rattle.translate_up.specs.declared.rule.Admission.TheVariants.{SetUp, Played, Other}
 use Rattle.rtsp_small.specs.declared.method.Method.TheVariants.{Options, Describe, Setup, Play, Pause, Teardown, GetParameter, SetParameter}
@@ -54,7 +54,7 @@ must_wait given method said = (is_play method && same_state given.state Playing)
 -- The session has all its streams, or as many PLAYs wait as may.
 abbrev pub finds_no_place : Given → Method → Said → Bool
 finds_no_place given method said =
-    (is_setup method && nat_le MOST_TRACKS (length given.tracks)) || (must_wait given method said && nat_le MOST_QUEUED given.queued)
+    (is_setup method && nat_le MOST_TRACKS (length given.tracks)) || (must_wait given method said && nat_le MOST_PLAYS given.queued)
 
 -- the rules in their order
 abbrev pub session_rules : Given → Method → Said → List ℕ → List Rule

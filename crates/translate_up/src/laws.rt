@@ -10,6 +10,7 @@ ghost use Rattle.translate_up.specs.Upward.{request_up, with_transport, without_
 ghost use Rattle.translate_up.specs.Decisions.{decide};
 ghost use Rattle.translate_up.specs.Fields.{Said};
 ghost use Rattle.rtsp_range.specs.declared.range.Range.{Range};
+ghost use Rattle.translate_up.specs.OneReply.{AnswersOneReply};
 ghost use Rattle.translate_up.specs.Sound.{IsFit, SendsSound};
 
 /// What goes up, at once or later, can be written under every number and read back, and the channels
@@ -30,4 +31,11 @@ pub fn the_lowest_free_channels_are_given()
 pub fn the_channels_are_all_that_is_put_in()
     ensures { (given : Given) (request : Request1) (said : Said) (uri : List ℕ) (range : Option Range) (pair : Pair)
         → without_transport (with_transport pair (request_up given request said uri range)).headers ≡ (request_up given request said uri range).headers }
+{}
+
+/// What the gateway answers by itself, a refusal among it, is one reply, and is read back as that
+/// reply whatever follows it.
+pub fn what_is_answered_is_one_reply()
+    ensures { (given : Given) (shape : Shape) → IsFit given → length shape.bytes < 2 ^ 64
+        → AnswersOneReply (decide given shape) }
 {}

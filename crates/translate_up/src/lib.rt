@@ -16,7 +16,7 @@ mod view;
 pub use decision::{Decision, decide};
 pub use laws::{
     the_channels_are_all_that_is_put_in, the_lowest_free_channels_are_given,
-    what_goes_up_can_be_written,
+    what_goes_up_can_be_written, what_is_answered_is_one_reply,
 };
 pub use transport::with_transport;
 pub use view::View;

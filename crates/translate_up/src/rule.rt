@@ -9,13 +9,11 @@ ghost use Rattle.translate_up.specs.Admissions.{channels_and_range};
 
 use crate::field::{SaidFields, is_of_session, is_play, is_setup, is_track, needs_session};
 use crate::view::View;
+use play_queue::MOST_PLAYS;
 use rtsp_range::Range;
 use rtsp_small::Method;
 use rtsp_transport::Pair;
 use session_one::{MOST_TRACKS, State, allowed};
-
-/// The most PLAYs that wait (this project's own).
-pub(crate) const MOST_QUEUED: usize = 8;
 
 /// What the rules let through, with what they read of it.
 #[derive(Clone, Copy)]
@@ -129,5 +127,5 @@ fn finds_no_place(view: &View<'_>, method: Method, said: &SaidFields<'_>) -> boo
     ensures { result ≡ finds_no_place (given_of view.now) method (said_seen said.now) }
 {
     let is_whole = is_setup(method) && view.tracks.len() >= MOST_TRACKS;
-    is_whole || (must_wait(view, method, said) && view.queued >= MOST_QUEUED)
+    is_whole || (must_wait(view, method, said) && view.queued >= MOST_PLAYS)
 }

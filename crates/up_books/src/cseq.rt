@@ -4,11 +4,12 @@ ghost use Rattle.up_books.specs.declared.cseq.TheConstants.{LAST_NUMBER};
 
 use crate::entry::Entry;
 use gate_bytes::Memory;
+use rtsp_small::LAST_CSEQ_TWO;
 use std::alloc::Global;
 use std::marker::Model;
 
 /// The last number of a request: the largest of nine digits (RFC 7826, 20.2.3).
-pub const LAST_NUMBER: u32 = 999_999_999;
+pub const LAST_NUMBER: u32 = LAST_CSEQ_TWO;
 
 /// All numbers were issued.
 #[derive(Clone, Copy, Debug, PartialEq, Eq)]
