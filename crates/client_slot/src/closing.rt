@@ -1,4 +1,5 @@
 //! The text of a closing TEARDOWN, in memory that was taken before.
+ghost use Rattle.rtsp_small.specs.declared.session.TheConstants.{LONGEST_SESSION_ID};
 ghost use Rattle.std.specs.Prelude.{◌≡◌, ◌≤◌, ◌+◌, [], ◌++◌, length, vec_len, vec_capacity};
 ghost use Rattle.client_slot.specs.declared.limits.TheConstants.{LONGEST_URI, CLOSING_ROOM};
 
@@ -30,7 +31,7 @@ impl ClosingRoom {
     /// no memory.
     pub fn write(self, uri: &[u8], number: u32, id: &[u8]) -> Text
         requires uri { length uri.now ≤ LONGEST_URI }
-        requires id { length id.now ≤ 256 }
+        requires id { length id.now ≤ LONGEST_SESSION_ID }
         ensures { result ≡ request_text number (teardown_request uri.now id.now) }
     {
         let mut text = self.bytes;

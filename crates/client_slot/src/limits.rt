@@ -4,7 +4,7 @@
 /// authority makes a URI longer by fewer than 256.
 pub const LONGEST_URI: usize = 8448;
 
-/// The bytes that a closing TEARDOWN has room for: its URI, its session of at most 256 bytes, and
+/// The bytes that a closing TEARDOWN has room for: its URI, its session's id, and
 /// what stands round them.
 pub const CLOSING_ROOM: usize = 9216;
 

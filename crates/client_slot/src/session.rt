@@ -1,4 +1,5 @@
 //! The session of one connection.
+ghost use Rattle.rtsp_small.specs.declared.session.TheConstants.{LONGEST_SESSION_ID};
 ghost use Rattle.std.specs.Prelude.{◌≡◌, ◌≤◌, length, codes, slice_get, option_map, unwrap_or, IfOk, IfSome};
 ghost use Rattle.head_two.specs.Requests.{request_text};
 ghost use Rattle.client_slot.specs.declared.limits.TheConstants.{LONGEST_URI};
@@ -66,7 +67,7 @@ impl Session {
     /// Its id, where the server made it.
     pub fn id(&self) -> Option<&[u8]>
         ensures id { option_map (λ id. id.now) result ≡ self.now.id }
-        ensures short { IfSome result (λ id. length id.now ≤ 256) }
+        ensures short { IfSome result (λ id. length id.now ≤ LONGEST_SESSION_ID) }
     {
         match &self.id {
             Some(id) => Some(id.as_bytes()),
