@@ -10,6 +10,7 @@ use Rattle.rtsp_head.specs.declared.fault.HeadFault.TheVariants as faults
 use Rattle.rtsp_head.specs.Lines.{and_then, result_map, has_control, head_lines}
 use Rattle.rtsp_head.specs.Starts.{start_of, status_of, request_of, names_protocol}
 use Rattle.rtsp_head.specs.Headers.{header_limit, SoFar, Further, More, Begins, header_from, header_of, goes_on, continued, headers_in, further_of, with_further, with_line, after_lines, no_headers, headers_of}
+use Rattle.rtsp_head.specs.declared.headers.TheConstants.{MOST_HEADERS}
 use Rattle.rtsp_head.specs.Heads.{head_of_lines, head_of, facts, facts_of}
 
 pub record NoMemory {A : Type 0} (r : Result A HeadFault) : Type 0 where
@@ -61,7 +62,7 @@ continued_takes so_far text (Some header) = ok_takes _
 with_takes : (so_far : SoFar) (further : Further) → NoMemory (with_further header_limit so_far further)
 with_takes so_far (More text) = continued_takes so_far text so_far.last
 with_takes so_far (Begins header) =
-    choice_takes (ltb (length (headers_in so_far)) 64) (Ok (record { above = headers_in so_far; last = Some header })) (Err faults.Many) (ok_takes _) (record { never = λ h. cc })
+    choice_takes (ltb (length (headers_in so_far)) MOST_HEADERS) (Ok (record { above = headers_in so_far; last = Some header })) (Err faults.Many) (ok_takes _) (record { never = λ h. cc })
 
 after_takes : (so_far : SoFar) (lines : List (List ℕ)) → NoMemory (after_lines header_limit so_far lines)
 after_takes so_far [] = ok_takes so_far

@@ -10,6 +10,7 @@ use Rattle.rtsp_head.specs.declared.fault.HeadFault.TheVariants as faults
 use Rattle.rtsp_head.specs.Lines.{and_then, result_map, has_control}
 use Rattle.rtsp_head.specs.Starts.{names_protocol, status_of, request_of, start_of}
 use Rattle.rtsp_head.specs.Headers.{header_limit, SoFar, Further, More, Begins, no_headers, headers_in, goes_on, header_from, header_of, continued, with_further, further_of, with_line, after_lines, headers_of}
+use Rattle.rtsp_head.specs.declared.headers.TheConstants.{MOST_HEADERS}
 use Rattle.rtsp_head.specs.Heads.{length_in_headers}
 
 -- anything but want of memory
@@ -61,7 +62,7 @@ more_none so_far text (Some header) = tt
 
 with_none : (so_far : SoFar) (further : Further) → NeedsNoMemory (with_further header_limit so_far further)
 with_none so_far (More text) = more_none so_far text so_far.last
-with_none so_far (Begins header) = by_room (nat_lt (length (headers_in so_far)) 64)
+with_none so_far (Begins header) = by_room (nat_lt (length (headers_in so_far)) MOST_HEADERS)
   where
     by_room : (room : Bool) → NeedsNoMemory {A = SoFar} (cond room (Ok (record { above = headers_in so_far; last = Some header })) (Err faults.Many))
     by_room true = tt

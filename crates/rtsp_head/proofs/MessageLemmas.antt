@@ -1,5 +1,5 @@
 -- What a written message is made of: where its head ends, and which headers it has.
-use Rattle.std.proofs.Common.{◌≡◌, ℕ, suc, ◌+◌, ◌<◌, ◌≤◌, ◌^◌, Bool, true, false, ◌&&◌, ◌==◌, not, cond, List, [], ◌∷◌, ◌++◌, length, Option, None, Some, IfSome, refl, sym, ◌∙◌, ap, append_assoc, arith}
+use Rattle.std.proofs.Common.{◌≡◌, ℕ, suc, ◌+◌, ◌-◌, ◌<◌, ◌≤◌, ◌^◌, Bool, true, false, ◌&&◌, ◌==◌, not, cond, List, [], ◌∷◌, ◌++◌, length, Option, None, Some, IfSome, refl, sym, ◌∙◌, ap, append_assoc, arith}
 use Rattle.std.specs.Prelude.{codes, decimal}
 use Rattle.std.specs.Option.{option_map}
 use Rattle.std.specs.List.{list_all, flat_map}
@@ -15,6 +15,7 @@ use Rattle.rtsp_head.specs.Items.{head_from, head_len}
 use Rattle.rtsp_head.specs.Written.{ended, start_text, header_text, head_text, is_line_text, is_start, is_trimmed, is_value, is_header, CanBeWritten}
 use Rattle.rtsp_head.specs.Messages.{number_headers, length_headers, message_headers, is_added, own_fields}
 use Rattle.rtsp_head.proofs.DigitLemmas.{own}
+use Rattle.rtsp_head.specs.declared.headers.TheConstants.{MOST_HEADERS}
 use Rattle.rtsp_head.proofs.WriteLemmas.{digits_line, sound, header_fits, header_long, start_fits, start_long}
 
 -- the place, so many bytes later
@@ -143,7 +144,7 @@ length_few false body = omega arith
 
 -- Sound headers make a message that can be written.
 pub message_sound : (start : Start) (number : Option ℕ) (headers : List Header) (body : List ℕ) → is_start start ≡ true → IfSome number (λ n. n < 2 ^ 64) →
-    length body < 2 ^ 64 → length headers ≤ 62 → list_all is_header headers ≡ true → CanBeWritten start (message_headers number headers body)
+    length body < 2 ^ 64 → length headers ≤ MOST_HEADERS - 2 → list_all is_header headers ≡ true → CanBeWritten start (message_headers number headers body)
 message_sound start number headers body first number_high length_high few fields =
     let all = number_headers number ++ headers in
     let front : list_all is_header all ≡ true = list_all-append is_header (number_headers number) headers ∙ ap (λ t. t && list_all is_header headers) (number_sound number number_high) ∙ fields in

@@ -23,6 +23,7 @@ use Rattle.rtsp_head.specs.Written.{is_line_text, is_start, is_trimmed, is_value
 use Rattle.rtsp_head.proofs.DigitLemmas.{number_small}
 use Rattle.rtsp_head.proofs.TrimLemmas.{trimmed_twice}
 use Rattle.rtsp_head.proofs.CutLemmas.{begins_apart, line_text_append}
+use Rattle.rtsp_head.specs.declared.headers.TheConstants.{MOST_HEADERS}
 use Rattle.rtsp_head.proofs.ListLemmas.{all_parts, all_trimmed, goes_through, are_lines, head_lines_kept, fits_line, Cut, CutIfSome, cut_found}
 
 -- The parts of a line fit into a line.
@@ -152,7 +153,7 @@ OpenedIfSome (Some header) = Opened header
 record Holds (so_far : SoFar) : Type 0 where
   pub above : list_all is_header so_far.above ≡ true
   pub last : OpenedIfSome so_far.last
-  pub few : length (headers_in so_far) ≤ 64
+  pub few : length (headers_in so_far) ≤ MOST_HEADERS
 
 closed_sound : (last : Option Header) → OpenedIfSome last → list_all is_header (closed last) ≡ true
 closed_sound None h = refl
@@ -177,14 +178,14 @@ more_sound above (Some header) text h holds = record {
 }
 
 begins_sound : (so_far : SoFar) (header : Header) → Opened header → Holds so_far → HoldsIfOk (with_header header_limit so_far header)
-begins_sound so_far header h holds = by_room (nat_lt (length (headers_in so_far)) 64) refl
+begins_sound so_far header h holds = by_room (nat_lt (length (headers_in so_far)) MOST_HEADERS) refl
   where
-    by_room : (room : Bool) → nat_lt (length (headers_in so_far)) 64 ≡ room → HoldsIfOk (cond room (Ok (record { above = headers_in so_far; last = Some header })) (Err faults.Many))
+    by_room : (room : Bool) → nat_lt (length (headers_in so_far)) MOST_HEADERS ≡ room → HoldsIfOk (cond room (Ok (record { above = headers_in so_far; last = Some header })) (Err faults.Many))
     by_room false e = tt
     by_room true e = record {
       above = in_sound so_far holds;
       last = h;
-      few = let below : length (headers_in so_far) < 64 = grind arith in omega (arith, length-append (headers_in so_far) (closed (Some header)));
+      few = let below : length (headers_in so_far) < MOST_HEADERS = grind arith in omega (arith, length-append (headers_in so_far) (closed (Some header)));
     }
 
 with_sound : (so_far : SoFar) (further : Result Further HeadFault) → FurtherIfOk further → Holds so_far → HoldsIfOk (and_then (with_further header_limit so_far) further)
@@ -204,7 +205,7 @@ lines_sound (line ∷ lines) h so_far holds =
     then_sound (with_line header_limit so_far line) lines (with_sound so_far (further_of line) (further_sound line parts.0) holds) (lines_sound lines parts.1)
 
 abbrev HeadersIfOk : Result (List Header) HeadFault → Type 0
-HeadersIfOk (Ok headers) = (length headers ≤ 64) × (list_all is_header headers ≡ true)
+HeadersIfOk (Ok headers) = (length headers ≤ MOST_HEADERS) × (list_all is_header headers ≡ true)
 HeadersIfOk (Err fault) = Unit {0}
 
 headers_sound : (read : Result SoFar HeadFault) → HoldsIfOk read → HeadersIfOk (result_map headers_in read)

@@ -22,6 +22,7 @@ use Rattle.rtsp_head.specs.Lines.{and_then, result_map, has_control}
 use Rattle.rtsp_head.specs.Headers.{header_limit, SoFar, Further, More, Begins, closed, headers_in, goes_on, header_from, continued, with_header, with_further, further_of, with_line, after_lines, no_headers, headers_of, field_of}
 use Rattle.rtsp_head.specs.Heads.{length_in, length_of, length_in_headers}
 use Rattle.rtsp_head.specs.Tallies.{number_part, part_of, joined, last_part, last_of, tally_more, tally_header, tally_with, tally_line, tally_lines, empty_tally, part_length, tally_length}
+use Rattle.rtsp_head.specs.declared.headers.TheConstants.{MOST_HEADERS}
 use Rattle.rtsp_head.proofs.TrimLemmas.{front_blank, front_kept, end_blank, end_kept, blank_nothing, other_something, trimmed_twice}
 
 -- what two texts say that are joined by a space
@@ -185,8 +186,8 @@ header_by tally so_far header false tidy fits = refl
 header_alike : (tally : Tally) (so_far : SoFar) (header : Header) → trimmed header.value ≡ header.value → Fits tally so_far →
     Alike (tally_header tally header) (with_header header_limit so_far header)
 header_alike tally so_far header tidy fits =
-    subst (λ n. Alike (tally_header tally header) (cond (nat_lt n 64) (Ok (record { above = headers_in so_far; last = Some header })) (Err faults.Many))) fits.count
-    (header_by tally so_far header (nat_lt tally.count 64) tidy fits)
+    subst (λ n. Alike (tally_header tally header) (cond (nat_lt n MOST_HEADERS) (Ok (record { above = headers_in so_far; last = Some header })) (Err faults.Many))) fits.count
+    (header_by tally so_far header (nat_lt tally.count MOST_HEADERS) tidy fits)
 
 further_alike : (tally : Tally) (so_far : SoFar) (further : Further) → Tidy further → Fits tally so_far → Alike (tally_with tally further) (with_further header_limit so_far further)
 further_alike tally so_far (More text) tidy fits =

@@ -15,7 +15,7 @@ pub enum HeadFault {
     Colon,
     /// What stands before the first colon is not a token.
     Name,
-    /// The line begins the 65th header.
+    /// The line begins one header more than [`MOST_HEADERS`](crate::MOST_HEADERS).
     Many,
     /// Memory was wanting.
     Memory,

@@ -112,12 +112,12 @@ fn many(alloc: Global, count: usize) -> Result<Text, Memory> {
 
 #[test]
 fn counts_headers(rt: HostRuntime) -> Result<(), Fail> {
-    let most = many(rt.alloc(), 64)?;
+    let most = many(rt.alloc(), MOST_HEADERS)?;
     assert_eq!(rt; check_head(most.as_bytes()), Ok(REQUEST));
-    let more = many(rt.alloc(), 65)?;
+    let more = many(rt.alloc(), MOST_HEADERS + 1)?;
     assert_eq!(rt; check_head(more.as_bytes()), Err(HeadFault::Many));
     let head = read_head(rt.alloc(), most.as_bytes())?;
-    assert_eq!(rt; head.headers.len(), 64);
+    assert_eq!(rt; head.headers.len(), MOST_HEADERS);
     assert!(rt; matches!(read_head(rt.alloc(), more.as_bytes()), Err(HeadFault::Many)));
     Ok(())
 }
