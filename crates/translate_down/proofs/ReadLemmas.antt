@@ -1,15 +1,10 @@
 -- What a player gets is one reply, and is read back.
-use Rattle.std.proofs.Common.{◌≡◌, ℕ, ◌+◌, ◌<◌, ◌≤◌, ◌^◌, Bool, true, false, cond, not, ◌==◌, ◌&&◌, ◌||◌, nat_le, List, [], ◌∷◌, ◌++◌, length, Option, None, Some, Result, Ok, Err, IfSome, refl, sym, ◌∙◌, ap, subst, arith}
-use Rattle.std.specs.Prelude.{codes, option_map, option_and_then, unwrap_or, is_some}
+use Rattle.std.proofs.Common.{◌≡◌, ℕ, ◌<◌, ◌^◌, Bool, true, false, cond, ◌==◌, List, [], ◌∷◌, ◌++◌, Option, None, Some, Result, Ok, Err, IfSome, refl, arith}
+use Rattle.std.specs.Prelude.{codes, option_map, option_and_then}
 use Rattle.std.specs.List.{list_all}
-use Rattle.std.proofs.lemmas.Bool.{and_parts}
-use Rattle.gate_bytes.specs.Tokens.{is_token, equal_fold}
-use Rattle.rtsp_small.specs.declared.cseq.TheConstants.{CSEQ_ONE_DIGITS}
-use Rattle.rtsp_head.specs.declared.header.Header.{Header}
-use Rattle.rtsp_head.specs.declared.start.Start.TheVariants.{Status}
 use Rattle.rtsp_head.specs.Headers.{field_of}
-use Rattle.rtsp_head.specs.Messages.{is_added, messages_of}
-use Rattle.rtsp_head.specs.Written.{is_line_text, is_value, is_start, is_header}
+use Rattle.rtsp_head.specs.Messages.{messages_of}
+use Rattle.rtsp_head.specs.Written.{is_value, is_header}
 use Rattle.rtsp_head.proofs.SoundLemmas.{field_sound}
 use Rattle.rtsp_small.specs.declared.method.Method.{Method}
 use Rattle.rtsp_small.specs.declared.method.Method.TheVariants.{Options, Describe, Setup, Play, Pause, Teardown, GetParameter, SetParameter}
@@ -24,24 +19,24 @@ use Rattle.rtsp_range.specs.Written.{range_text}
 use Rattle.rtsp_range.proofs.MeaningSound.{meaning_sound}
 use Rattle.rtsp_status.proofs.RowLemmas.{told_has_reason}
 use Rattle.rtsp_uri.specs.Swaps.{swapped}
-use Rattle.head_one.specs.declared.reply.Reply1.{Reply1}
 use Rattle.head_one.specs.Replies.{reply_message, client_reply_in, IsReply}
 use Rattle.head_one.proofs.ReadLemmas.{reply_read, replies_read}
 use Rattle.head_one.proofs.FieldReplies.{fields_reply}
 use Rattle.session_one.specs.declared.parts.Asked.{Asked}
-use Rattle.rtsp_head.specs.Optional.{said_where, Field, named, field_headers}
-use Rattle.rtsp_head.proofs.FieldLemmas.{EachField, HasValue, fields_sound, names_hold, fields_few}
+use Rattle.rtsp_head.specs.Optional.{said_where, named}
+use Rattle.rtsp_head.proofs.FieldLemmas.{EachField, HasValue}
 use Rattle.translate_down.specs.Settings.{Setting}
-use Rattle.translate_down.specs.Sessions.{sets_up, tells_session, told_timeout, session_value, transport_value}
-use Rattle.translate_down.specs.Plays.{moves, plays, range_with, range_told, range_value, scale_told, scale_value, info_value}
+use Rattle.translate_down.specs.Sessions.{sets_up, tells_session, told_timeout}
+use Rattle.translate_down.specs.Plays.{moves, plays, range_with, range_told, scale_told}
 use Rattle.translate_down.specs.Infos.{info_told}
-use Rattle.translate_down.specs.Contents.{comes_with_description, comes_with_body, base_value, type_value, encoding_value}
+use Rattle.translate_down.specs.Contents.{comes_with_description, comes_with_body}
 use Rattle.rtsp_small.specs.Methods.{methods_text}
 use Rattle.session_one.specs.Table.{is_success}
-use Rattle.translate_down.specs.Replies.{Told, unsupported_value, refusal_of, tells_methods, public_value, success_fields, success_of, reply_down, reply_text_of}
+use Rattle.translate_down.specs.Replies.{Told, unsupported_value, refusal_of, tells_methods, success_fields, success_of, reply_down, reply_text_of}
 use Rattle.translate_down.specs.Readings.{CanBeRead}
 use Rattle.translate_down.proofs.VisibleLemmas.{is_visible, visible_value}
 use Rattle.translate_down.proofs.ValueLemmas.{session_visible, grant_visible, range_visible, base_visible, swapped_holds}
+use Rattle.rtsp_small.specs.declared.session.TheConstants.{TIMEOUT_DIGITS}
 use Rattle.translate_down.proofs.InfoLemmas.{info_visible}
 
 -- where there is a value, it stands in one line
@@ -65,12 +60,12 @@ map_fits f None each h = tt
 map_fits f (Some text) each h = each text h
 
 -- the values of the headers
-session_by : (session : Option (List ℕ)) (timeout : Option ℕ) → IfSome session (λ id. is_session_id id ≡ true) → IfSome timeout (λ seconds. seconds < 10 ^ 10) →
+session_by : (session : Option (List ℕ)) (timeout : Option ℕ) → IfSome session (λ id. is_session_id id ≡ true) → IfSome timeout (λ seconds. seconds < 10 ^ TIMEOUT_DIGITS) →
     Fits (option_map (λ id. session_text (record { id = id; timeout = timeout })) session)
 session_by None timeout is short = tt
 session_by (Some id) timeout is short = visible_value (session_text (record { id = id; timeout = timeout })) (session_visible id timeout is short)
 
-timeout_by : (method : Method) (timeout : Option ℕ) → IfSome timeout (λ seconds. seconds < 10 ^ 10) → IfSome (told_timeout method timeout) (λ seconds. seconds < 10 ^ 10)
+timeout_by : (method : Method) (timeout : Option ℕ) → IfSome timeout (λ seconds. seconds < 10 ^ TIMEOUT_DIGITS) → IfSome (told_timeout method timeout) (λ seconds. seconds < 10 ^ TIMEOUT_DIGITS)
 timeout_by Setup timeout h = h
 timeout_by Options timeout h = tt
 timeout_by Describe timeout h = tt

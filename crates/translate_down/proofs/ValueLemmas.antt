@@ -30,17 +30,19 @@ use Rattle.rtsp_uri.specs.BaseTexts.{ends_at, is_base_text}
 use Rattle.rtsp_uri.specs.Swaps.{has_authority, with_rest, swapped}
 use Rattle.rtsp_uri.proofs.GrammarLemmas.{same_length, port_digits}
 use Rattle.rtsp_uri.proofs.CutLemmas.{cut_is_spelled}
+use Rattle.rtsp_small.specs.declared.session.TheConstants.{LONGEST_SESSION_ID}
+use Rattle.rtsp_small.specs.declared.session.TheConstants.{TIMEOUT_DIGITS}
 use Rattle.translate_down.proofs.VisibleLemmas.{is_visible, visible_more, kind_visible, digits_visible, decimal_visible}
 
 -- a session
-timeout_visible : (timeout : Option ℕ) → IfSome timeout (λ seconds. seconds < 10 ^ 10) → is_visible (timeout_text timeout) ≡ true
+timeout_visible : (timeout : Option ℕ) → IfSome timeout (λ seconds. seconds < 10 ^ TIMEOUT_DIGITS) → is_visible (timeout_text timeout) ≡ true
 timeout_visible None h = refl
 timeout_visible (Some seconds) h = visible_more (codes ";timeout=") (decimal seconds) refl (decimal_visible seconds (omega (arith, h)))
 
-pub session_visible : (id : List ℕ) (timeout : Option ℕ) → is_session_id id ≡ true → IfSome timeout (λ seconds. seconds < 10 ^ 10) →
+pub session_visible : (id : List ℕ) (timeout : Option ℕ) → is_session_id id ≡ true → IfSome timeout (λ seconds. seconds < 10 ^ TIMEOUT_DIGITS) →
     is_visible (session_text (record { id = id; timeout = timeout })) ≡ true
 session_visible id timeout is short =
-    let bytes = (and_parts (not (length id == 0) && nat_le (length id) 256) (list_all is_session_byte id) is).1 in
+    let bytes = (and_parts (not (length id == 0) && nat_le (length id) LONGEST_SESSION_ID) (list_all is_session_byte id) is).1 in
     visible_more id (timeout_text timeout) (kind_visible is_session_byte id (λ b d. grind arith) bytes) (timeout_visible timeout short)
 
 -- a transport

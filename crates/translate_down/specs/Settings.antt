@@ -3,6 +3,7 @@ use Rattle.std.specs.Prelude.{◌≡◌, ◌≢◌, ℕ, ◌<◌, ◌^◌, true,
 use Rattle.std.specs.Option.{option_copied}
 use Rattle.rtsp_small.specs.Sessions.{is_session_id}
 use Rattle.rtsp_transport.specs.declared.channels.Pair.{Pair}
+use Rattle.rtsp_small.specs.declared.session.TheConstants.{TIMEOUT_DIGITS}
 use Rattle.translate_down.specs.declared.context.Context.{Context}
 
 -- the addresses of the front and of the server, the session's id, the player's channels, and what the server's reply
@@ -30,5 +31,5 @@ setting_of context = record {
 -- channels.
 pub record CanBeTold (setting : Setting) : Type 0 where
   pub session : IfSome setting.session (λ id. is_session_id id ≡ true)
-  pub timeout : IfSome setting.timeout (λ seconds. seconds < 10 ^ 10)
+  pub timeout : IfSome setting.timeout (λ seconds. seconds < 10 ^ TIMEOUT_DIGITS)
   pub client : IfSome setting.client (λ pair. pair.rtp ≢ pair.rtcp)
