@@ -1,6 +1,6 @@
 -- What the gateway answers by itself is read back as one reply.
-use Rattle.std.proofs.Common.{◌≡◌, ℕ, ◌<◌, ◌^◌, Bool, true, false, ◌==◌, cond, List, [], ◌∷◌, ◌++◌, length, take, drop, Option, None, Some, IfSome, Result, Ok, Err, refl, sym, ◌∙◌, ap, subst, arith}
-use Rattle.std.specs.Prelude.{codes, option_map}
+use Rattle.std.proofs.Common.{◌≡◌, ℕ, ◌<◌, ◌^◌, Bool, true, false, ◌==◌, cond, List, [], ◌∷◌, length, take, drop, Option, None, Some, IfSome, Result, Ok, Err, refl, subst, arith}
+use Rattle.std.specs.Prelude.{codes}
 use Rattle.std.specs.Option.{option_or}
 use Rattle.std.specs.List.{list_all}
 use Rattle.rtsp_head.specs.Items.{Shape}
@@ -11,7 +11,7 @@ use Rattle.rtsp_head.specs.declared.head.Head.{Head}
 use Rattle.rtsp_head.specs.declared.start.Start.{Start}
 use Rattle.rtsp_head.specs.declared.start.Start.TheVariants.{Request, Status}
 use Rattle.rtsp_head.specs.declared.fault.HeadFault.{HeadFault}
-use Rattle.rtsp_head.specs.Written.{is_value, is_header, CanBeWritten}
+use Rattle.rtsp_head.specs.Written.{is_header, CanBeWritten}
 use Rattle.rtsp_head.specs.Optional.{Field, named, field_headers}
 use Rattle.rtsp_head.proofs.SoundLemmas.{field_sound, read_sound}
 use Rattle.rtsp_head.proofs.FieldLemmas.{EachField, HasValue}
@@ -29,7 +29,7 @@ use Rattle.head_one.specs.declared.request.Request1.{Request1}
 use Rattle.head_one.specs.declared.reply.Reply1.{Reply1}
 use Rattle.head_one.specs.declared.refusal.Refusal.{Refusal}
 use Rattle.head_one.specs.Refusals.{Parts, request_parts, said, required, first_code, parts_checked, refusal, no_request}
-use Rattle.head_one.specs.Replies.{IsReply, reply_text}
+use Rattle.head_one.specs.Replies.{IsReply}
 use Rattle.head_one.specs.Requests.{request_checked, request_at_start, request_of_head, request_of_item}
 use Rattle.head_one.proofs.ReadLemmas.{reply_read, replies_read}
 use Rattle.head_one.proofs.FieldReplies.{is_own, numbered_reply}

@@ -1,5 +1,5 @@
 -- What a decision sends up can be written and read back.
-use Rattle.std.proofs.Common.{◌≡◌, ℕ, ◌<◌, ◌^◌, Bool, true, false, ◌&&◌, ◌||◌, not, IfSome, cond, List, length, Option, None, Some, Result, Ok, Err, refl, arith}
+use Rattle.std.proofs.Common.{◌≡◌, ℕ, ◌<◌, ◌^◌, Bool, true, false, ◌||◌, not, IfSome, cond, List, length, Option, None, Some, Result, Ok, Err, refl, arith}
 use Rattle.std.specs.Prelude.{codes, IfOk, IsTrue, option_map}
 use Rattle.std.specs.Option.{ok_or}
 use Rattle.rtsp_head.specs.Items.{Shape}

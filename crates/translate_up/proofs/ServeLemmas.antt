@@ -1,5 +1,5 @@
 -- What the rules answer is what becomes of a request that is not for the gateway itself.
-use Rattle.std.proofs.Common.{◌≡◌, ℕ, Bool, false, cond, List, [], Some, Result, Ok, Err, refl, sym, ◌∙◌, ap}
+use Rattle.std.proofs.Common.{◌≡◌, ℕ, false, cond, List, [], Some, Result, Ok, Err, sym, ◌∙◌, ap}
 use Rattle.head_one.specs.declared.request.Request1.{Request1}
 use Rattle.translate_up.specs.declared.decision.Decision.{Decision}
 use Rattle.translate_up.specs.declared.decision.Decision.TheVariants.{Answer}

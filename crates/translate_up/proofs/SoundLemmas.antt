@@ -1,11 +1,10 @@
 -- What goes up can be written under every number, and read back.
-use Rattle.std.proofs.Common.{◌≡◌, ℕ, ◌+◌, ◌<◌, ◌≤◌, ◌^◌, Bool, true, false, ◌&&◌, ◌||◌, not, cond, List, [], ◌∷◌, ◌++◌, length, Option, None, Some, IfSome, refl, ◌∙◌, ap, length-append, arith}
+use Rattle.std.proofs.Common.{◌≡◌, ℕ, ◌+◌, ◌<◌, ◌≤◌, ◌^◌, Bool, true, false, ◌&&◌, ◌||◌, not, cond, List, [], ◌∷◌, length, Option, None, Some, IfSome, refl, ◌∙◌, ap, arith}
 use Rattle.std.specs.Prelude.{codes, IsTrue, option_map}
 use Rattle.std.specs.List.{list_all}
 use Rattle.std.specs.Str.{bytes_eq}
 use Rattle.std.proofs.lemmas.Bool.{and_parts}
-use Rattle.std.proofs.lemmas.List.Folds.{list_all-append}
-use Rattle.gate_bytes.specs.Tokens.{is_token, equal_fold}
+use Rattle.gate_bytes.specs.Tokens.{equal_fold}
 use Rattle.rtsp_head.specs.declared.header.Header.{Header}
 use Rattle.rtsp_head.specs.declared.start.Start.TheVariants.{Request}
 use Rattle.rtsp_head.specs.Messages.{is_added}
@@ -24,11 +23,11 @@ use Rattle.rtsp_transport.specs.declared.channels.Pair.{Pair}
 use Rattle.head_one.specs.declared.request.Request1.{Request1}
 use Rattle.head_two.specs.Messages.{version_two}
 use Rattle.translate_up.specs.Views.{Given}
-use Rattle.rtsp_head.specs.Optional.{said_where, Field, field_headers}
+use Rattle.rtsp_head.specs.Optional.{said_where, field_headers}
 use Rattle.rtsp_head.specs.Spellings.{begins_frame}
 use Rattle.rtsp_head.proofs.FieldLemmas.{EachField, HasValue, fields_sound, names_hold, fields_few}
 use Rattle.translate_up.specs.Fields.{field, Said, is_describe, is_setup, is_play, is_named, passing, scale_of}
-use Rattle.translate_up.specs.Upward.{method_up, session_said, units, has_body_up, fields_up, request_up, transport_header, headers_with_transport}
+use Rattle.translate_up.specs.Upward.{method_up, units, has_body_up, fields_up, request_up, transport_header, headers_with_transport}
 use Rattle.translate_up.specs.Sound.{is_target, IsFit, IsSound, IsSoundSetup}
 use Rattle.translate_up.proofs.VisibleLemmas.{visible_value, id_visible, grant_visible}
 use Rattle.translate_up.proofs.RangeLemmas.{range_visible}

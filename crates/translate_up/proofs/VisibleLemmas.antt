@@ -14,6 +14,7 @@ use Rattle.rtsp_small.specs.Sessions.{is_session_byte, is_session_id}
 use Rattle.rtsp_transport.specs.declared.channels.Pair.{Pair}
 use Rattle.rtsp_transport.specs.Written.{grant_text}
 use Rattle.rtsp_transport.proofs.CleanLemmas.{end_kept}
+use Rattle.rtsp_small.specs.declared.session.TheConstants.{LONGEST_SESSION_ID}
 use Rattle.rtsp_uri.specs.Uris.{is_rest_byte}
 
 -- visible bytes of ASCII alone
@@ -90,4 +91,4 @@ session_byte b h = grind (arith, h)
 -- A session's id is visible.
 pub id_visible : (id : List ℕ) → is_session_id id ≡ true → is_visible id ≡ true
 id_visible id h =
-    all_weaker is_session_byte is_rest_byte session_byte id (and_parts (not (length id == 0) && nat_le (length id) 256) (list_all is_session_byte id) h).1
+    all_weaker is_session_byte is_rest_byte session_byte id (and_parts (not (length id == 0) && nat_le (length id) LONGEST_SESSION_ID) (list_all is_session_byte id) h).1

@@ -1,5 +1,5 @@
 -- What a request says, without where it lies in memory.
-use Rattle.std.specs.Prelude.{◌≡◌, IfSome, IfOk, IsTrue}
+use Rattle.std.specs.Prelude.{IfSome, IfOk, IsTrue}
 use Rattle.std.specs.Option.{option_copied}
 use Rattle.rtsp_range.specs.Writable.{can_be_written}
 use Rattle.translate_up.specs.declared.field.SaidFields.{SaidFields}

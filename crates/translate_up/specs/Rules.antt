@@ -1,6 +1,6 @@
 -- The rules by which a player's request is refused that its head does not refuse. Their order is this project's own.
 -- A request comes here with the URI that it would have on its way up.
-use Rattle.std.specs.Prelude.{ℕ, Bool, true, false, ◌&&◌, ◌||◌, not, nat_le, List, [], ◌∷◌, length, Option, Some, None, is_some, is_none, Result, Ok, Err}
+use Rattle.std.specs.Prelude.{ℕ, Bool, false, ◌&&◌, ◌||◌, not, nat_le, List, [], ◌∷◌, length, Option, Some, None, is_some, is_none, Result, Ok, Err}
 use Rattle.rtsp_small.specs.declared.method.Method.{Method}
 use Rattle.rtsp_range.specs.declared.range.Range.{Range}
 use Rattle.rtsp_range.specs.declared.fault.RangeFault.{RangeFault}

@@ -19,6 +19,7 @@ pub(crate) enum Stage {
     Two,
     Seven,
     Eight,
+    Crowded,
     Playing,
     Waiting,
 }
@@ -67,7 +68,7 @@ fn view<'a>(stage: Stage, tracks: &'a [Track; 8], bases: &'a Bases) -> View<'a> 
         Stage::One => (State::Ready, 1),
         Stage::Two => (State::Ready, 2),
         Stage::Seven => (State::Ready, 7),
-        Stage::Eight => (State::Ready, 8),
+        Stage::Eight | Stage::Crowded => (State::Ready, 8),
         Stage::Playing | Stage::Waiting => (State::Playing, 2),
     };
     let is_set_up = state != State::Init;
@@ -81,7 +82,7 @@ fn view<'a>(stage: Stage, tracks: &'a [Track; 8], bases: &'a Bases) -> View<'a> 
         } else {
             None
         },
-        full: stage == Stage::Full,
+        full: matches!(stage, Stage::Full | Stage::Crowded),
         bases,
     }
 }

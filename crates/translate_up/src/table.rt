@@ -241,6 +241,10 @@ eight answer: 503, a ninth stream
 SETUP rtsp://gate.example/m/9 RTSP/1.0|CSeq: 8|Session: abcd1234|Transport: RTP/AVP/TCP||
 RTSP/1.0 503 Service Unavailable|CSeq: 8||
 
+crowded answer: 453, held channels are looked at before the number of streams
+SETUP rtsp://gate.example/m/9 RTSP/1.0|CSeq: 8|Session: abcd1234|Transport: RTP/AVP/TCP||
+RTSP/1.0 453 Not Enough Bandwidth|CSeq: 8||
+
 seven setup: an eighth stream
 SETUP rtsp://gate.example/m/8 RTSP/1.0|CSeq: 8|Session: abcd1234|Transport: RTP/AVP/TCP||
 SETUP rtsp://media.example/m/8 RTSP/2.0|CSeq: 9|Session: abcd1234|Transport: RTP/AVP/TCP;unicast;interleaved=6-7|Accept-Ranges: npt, smpte, smpte-30-drop, smpte-25, clock||

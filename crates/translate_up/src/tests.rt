@@ -36,6 +36,7 @@ fn read_stage(word: &str) -> Option<Stage> {
         "two" => Some(Stage::Two),
         "seven" => Some(Stage::Seven),
         "eight" => Some(Stage::Eight),
+        "crowded" => Some(Stage::Crowded),
         "playing" => Some(Stage::Playing),
         "waiting" => Some(Stage::Waiting),
         _ => None,
@@ -55,7 +56,7 @@ fn read_fate(word: &str) -> Option<Fate> {
 #[test]
 fn requests_are_judged(rt: HostRuntime) -> Result<(), Fail> {
     let alloc = rt.alloc();
-    assert_eq!(rt; TABLE.split("\n\n").count(), 84);
+    assert_eq!(rt; TABLE.split("\n\n").count(), 85);
     for lines in TABLE.split("\n\n") {
         let row = read_row(lines).expect(&rt, lines);
         let request = row.request.replace(alloc, "|", "\r\n")?;
