@@ -18,6 +18,3 @@ pub use gate_history::{
     Base, Bases, CloseWhy, Closed, Event, FramingFault, Outcome, ToClient, UpCause,
 };
 pub use mux::Mux;
-
-#[cfg(test)]
-mod tests;

@@ -13,6 +13,8 @@ use std::alloc::Global;
 mod acting;
 mod client;
 mod server;
+#[cfg(test)]
+mod tests;
 
 /// All connections of a gateway, and its connection to the server. It stands for the history of what
 /// happened to it.

@@ -3,7 +3,7 @@ ghost use Rattle.std.specs.Prelude.{◌≡◌, length, Some, [], IfOk};
 ghost use Rattle.rtsp_head.specs.Items.{first_extent};
 ghost use Rattle.gateway_mux.specs.Stands.{Stands};
 
-use super::*;
+use crate::*;
 use gate_bytes::{Memory, Text};
 use rtsp_head::{BadKind, Item, ItemKind};
 use rtsp_small::LAST_CSEQ_TWO;
@@ -107,9 +107,9 @@ fn a_bad_item_of_the_server_ends_all(rt: HostRuntime) -> Result<(), Fail> {
 fn the_last_number_is_used_once(rt: HostRuntime) -> Result<(), Fail> {
     let alloc = rt.alloc();
     let mut mux = gateway(alloc)?;
-    mux.issued = LAST_CSEQ_TWO - 1;
     mux.enter(alloc, 1)?;
     mux.enter(alloc, 2)?;
+    mux.issued = LAST_CSEQ_TWO - 1;
     let rows = [(1, None), (2, Some(UpCause::CseqSpent))];
     for (conn, cause) in rows {
         let describe = item(
