@@ -1,6 +1,8 @@
 pub mod DigitLemmas
 pub mod EndLemmas
 pub mod FrontLemmas
+pub mod Measures
 pub mod PartLemmas
 pub mod PlaceLemmas
 pub mod SeamLemmas
+mod TokenLemmas

@@ -31,7 +31,7 @@ first_byte_place byte [] (Some k) h = absurd (omega (arith, h.0.high))
 first_byte_place byte (b ∷ text) r h = place_with byte b text (b == byte) refl r h (first_byte_place byte text)
 
 -- the place of a later byte
-place_later : (test : Bool) (later : Option ℕ) (k n : ℕ) → cond test (Some 0) (option_map (λ j. j + 1) later) ≡ Some k → ((j : ℕ) → later ≡ Some j → j < n) → k < n + 1
+pub place_later : (test : Bool) (later : Option ℕ) (k n : ℕ) → cond test (Some 0) (option_map (λ j. j + 1) later) ≡ Some k → ((j : ℕ) → later ≡ Some j → j < n) → k < n + 1
 place_later true later k n h within = grind arith
 place_later false None k n h within = cc
 place_later false (Some j) k n h within = let below : j < n = within j refl in grind arith

@@ -1,7 +1,6 @@
 //! Tokens, blanks and comparison without case.
 ghost use Rattle.std.specs.Prelude.{◌≡◌};
-ghost use Rattle.std.specs.List.{list_all};
-ghost use Rattle.gate_bytes.specs.Tokens.{is_token, is_token_byte, is_blank, without_front, without_end, trimmed, equal_fold};
+ghost use Rattle.gate_bytes.specs.Tokens.{is_token, is_blank, without_front, without_end, trimmed, equal_fold};
 
 /// Whether two texts are equal without ASCII case.
 pub fn eq_fold(a: &[u8], b: &[u8]) -> bool
@@ -11,42 +10,11 @@ pub fn eq_fold(a: &[u8], b: &[u8]) -> bool
 }
 
 /// Whether a text is a token: one or more letters, digits or bytes of ``!#$%&'*+-.^_`|~``
-/// (RFC 2326, 15.1; RFC 7826, 20.1).
+/// (RFC 2326, 15.1; RFC 7826, 20.1). HTTP has the same tokens.
 pub fn is_token(text: &[u8]) -> bool
     ensures { result ≡ is_token text.now }
 {
-    !text.is_empty() && has_token_bytes_alone(text)
-}
-
-/// Whether each byte of a text may stand in a token.
-fn has_token_bytes_alone(text: &[u8]) -> bool
-    ensures { result ≡ list_all is_token_byte text.now }
-{
-    text.iter().all(|byte| is_token_byte(*byte))
-}
-
-/// Whether a byte may stand in a token.
-fn is_token_byte(byte: u8) -> bool
-    ensures { result ≡ is_token_byte byte }
-{
-    byte.is_ascii_alphanumeric()
-        || matches!(
-            byte,
-            b'!' | b'#'
-                | b'$'
-                | b'%'
-                | b'&'
-                | b'\''
-                | b'*'
-                | b'+'
-                | b'-'
-                | b'.'
-                | b'^'
-                | b'_'
-                | b'`'
-                | b'|'
-                | b'~'
-        )
+    httparse::is_token(text)
 }
 
 /// The text without the spaces and tabs at both ends.
