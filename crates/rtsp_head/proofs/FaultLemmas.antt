@@ -1,6 +1,7 @@
 -- No definition of a head answers want of memory.
 use Rattle.std.proofs.Common.{◌≡◌, ℕ, Bool, true, false, cond, List, [], ◌∷◌, Option, None, Some, Result, Ok, Err, nat_lt, length, subst}
 use Rattle.std.specs.Option.{ok_or}
+use Rattle.gate_bytes.specs.Ascii.{colon}
 use Rattle.gate_bytes.specs.Tokens.{is_token, trimmed}
 use Rattle.gate_bytes.specs.Places.{cut_at}
 use Rattle.rtsp_head.specs.declared.start.Start.{Start}
@@ -70,7 +71,7 @@ with_none so_far (Begins header) = by_room (nat_lt (length (headers_in so_far)) 
 
 line_none : (so_far : SoFar) (line : List ℕ) → NeedsNoMemory (with_line header_limit so_far line)
 line_none so_far line =
-    then_none (with_further header_limit so_far) (further_of line) (further_none (has_control line) (goes_on line) (trimmed line) (header_of line) (header_none (cut_at 58 line))) (with_none so_far)
+    then_none (with_further header_limit so_far) (further_of line) (further_none (has_control line) (goes_on line) (trimmed line) (header_of line) (header_none (cut_at colon line))) (with_none so_far)
 
 lines_none : (lines : List (List ℕ)) (so_far : SoFar) → NeedsNoMemory (after_lines header_limit so_far lines)
 lines_none [] so_far = tt

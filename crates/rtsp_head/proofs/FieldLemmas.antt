@@ -1,5 +1,5 @@
 -- What holds of each named field holds of all headers that are written of them.
-use Rattle.std.proofs.Common.{◌≡◌, ℕ, ◌+◌, ◌≤◌, Bool, true, false, cond, find, sym, ◌&&◌, not, List, [], ◌∷◌, ◌++◌, length, Option, None, Some, IfSome, refl, ◌∙◌, ap, arith}
+use Rattle.std.proofs.Common.{◌≡◌, ℕ, ◌+◌, ◌≤◌, Bool, true, false, cond, find, sym, ◌&&◌, List, [], ◌∷◌, ◌++◌, length, Option, None, Some, IfSome, refl, ◌∙◌, ap, arith}
 use Rattle.std.specs.Prelude.{option_map}
 use Rattle.std.specs.Option.{option_or}
 use Rattle.std.specs.List.{list_all}
@@ -10,7 +10,6 @@ use Rattle.gate_bytes.specs.Tokens.{is_token, equal_fold}
 use Rattle.rtsp_head.specs.Headers.{field_of}
 use Rattle.rtsp_head.specs.declared.header.Header.{Header}
 use Rattle.rtsp_head.specs.Written.{is_value, is_header}
-use Rattle.rtsp_head.specs.Messages.{is_added}
 use Rattle.rtsp_head.specs.Optional.{header_with, Field, then_headers, field_headers, told_value}
 
 -- what holds of each field

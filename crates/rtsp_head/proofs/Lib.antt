@@ -11,3 +11,4 @@ pub mod SoundLemmas
 pub mod MessageLemmas
 pub mod StreamLemmas
 pub mod FieldLemmas
+pub mod SearchLemmas

@@ -6,6 +6,7 @@ use Rattle.std.specs.Str.Lines.{lines, lines_of_parts, strip_carriage_return}
 use Rattle.std.proofs.lemmas.Bool.{and_parts, eqb-true}
 use Rattle.std.proofs.lemmas.List.{take-append-drop}
 use Rattle.std.proofs.lemmas.List.Folds.{list_all-append}
+use Rattle.gate_bytes.specs.Ascii.{lf, cr}
 use Rattle.gate_bytes.specs.Tokens.{without_front, without_end, trimmed}
 use Rattle.gate_bytes.specs.Places.{place_of, cut_at}
 use Rattle.rtsp_head.specs.Lines.{before_empty, head_lines, has_control}
@@ -38,7 +39,7 @@ all_trimmed p text h = all_end p (without_front text) (all_front p text h)
 
 -- no LF
 abbrev pub goes_through : ℕ → Bool
-goes_through b = not (b == 10)
+goes_through b = not (b == lf)
 
 -- the same of each line
 abbrev pub are_lines : List (List ℕ) → Bool
@@ -57,7 +58,7 @@ split_lines [] = refl
 split_lines (b ∷ bytes) = split_kept b (ends_line b) (slice_split ends_line bytes) refl (split_lines bytes)
 
 strip_kept : (line : List ℕ) → list_all goes_through line ≡ true → list_all goes_through (strip_carriage_return line) ≡ true
-strip_kept line h = by_test (get_or line (length line - 1) 0 == 13)
+strip_kept line h = by_test (get_or line (length line - 1) 0 == cr)
   where
     by_test : (test : Bool) → list_all goes_through (cond test (take (length line - 1) line) line) ≡ true
     by_test true = all_take goes_through (length line - 1) line h

@@ -8,6 +8,7 @@ use Rattle.std.proofs.lemmas.Bool.{and_parts}
 use Rattle.std.proofs.lemmas.List.{length-append, append-nil}
 use Rattle.std.proofs.lemmas.List.Folds.{list_all-append}
 use Rattle.std.proofs.lemmas.Fmt.{digits_decimal}
+use Rattle.gate_bytes.specs.Ascii.{nul, lf, cr}
 use Rattle.gate_bytes.specs.Tokens.{is_blank, without_front, without_end, trimmed}
 use Rattle.rtsp_head.specs.declared.header.Header.{Header}
 use Rattle.rtsp_head.specs.declared.start.Start.{Start}
@@ -35,13 +36,13 @@ two_later None = refl
 two_later (Some k) = ap Some (omega arith)
 
 -- What is left of a line, and its end, are passed.
-line_left : (line rest : List ℕ) → is_line_text line ≡ true → head_from false (line ++ (13 ∷ 10 ∷ rest)) ≡ later (length line + 2) (head_from true rest)
+line_left : (line rest : List ℕ) → is_line_text line ≡ true → head_from false (line ++ (cr ∷ lf ∷ rest)) ≡ later (length line + 2) (head_from true rest)
 line_left [] rest h = two_later (head_from true rest)
 line_left (b ∷ line) rest h =
-    let parts = and_parts (not (b == 10) && (not (b == 13) && not (b == 0))) (is_line_text line) h in
-    let first = and_parts (not (b == 10)) (not (b == 13) && not (b == 0)) parts.0 in
-    let more : head_from false (line ++ (13 ∷ 10 ∷ rest)) ≡ later (length line + 2) (head_from true rest) = line_left line rest parts.1 in
-    let one : head_from false ((b ∷ line) ++ (13 ∷ 10 ∷ rest)) ≡ option_map suc (head_from false (line ++ (13 ∷ 10 ∷ rest))) = grind arith in
+    let parts = and_parts (not (b == lf) && (not (b == cr) && not (b == nul))) (is_line_text line) h in
+    let first = and_parts (not (b == lf)) (not (b == cr) && not (b == nul)) parts.0 in
+    let more : head_from false (line ++ (cr ∷ lf ∷ rest)) ≡ later (length line + 2) (head_from true rest) = line_left line rest parts.1 in
+    let one : head_from false ((b ∷ line) ++ (cr ∷ lf ∷ rest)) ≡ option_map suc (head_from false (line ++ (cr ∷ lf ∷ rest))) = grind arith in
     let count : suc (length line + 2) ≡ length (b ∷ line) + 2 = omega arith in
     one ∙ ap (option_map suc) more ∙ suc_later (length line + 2) (head_from true rest) ∙ ap (λ n. later n (head_from true rest)) count
 
@@ -49,11 +50,11 @@ line_left (b ∷ line) rest h =
 line_passed : (line rest : List ℕ) → is_line_text line ≡ true → 0 < length line → head_from true (ended line ++ rest) ≡ later (length (ended line)) (head_from true rest)
 line_passed [] rest h some = absurd (omega arith)
 line_passed (b ∷ line) rest h some =
-    let parts = and_parts (not (b == 10) && (not (b == 13) && not (b == 0))) (is_line_text line) h in
-    let first = and_parts (not (b == 10)) (not (b == 13) && not (b == 0)) parts.0 in
-    let joined : ended (b ∷ line) ++ rest ≡ b ∷ (line ++ (13 ∷ 10 ∷ rest)) = ap (λ t. b ∷ t) (append_assoc line (13 ∷ 10 ∷ []) rest) in
-    let one : head_from true (b ∷ (line ++ (13 ∷ 10 ∷ rest))) ≡ option_map suc (head_from false (line ++ (13 ∷ 10 ∷ rest))) = grind arith in
-    let count : suc (length line + 2) ≡ length (ended (b ∷ line)) = omega (arith, length-append (b ∷ line) (13 ∷ 10 ∷ [])) in
+    let parts = and_parts (not (b == lf) && (not (b == cr) && not (b == nul))) (is_line_text line) h in
+    let first = and_parts (not (b == lf)) (not (b == cr) && not (b == nul)) parts.0 in
+    let joined : ended (b ∷ line) ++ rest ≡ b ∷ (line ++ (cr ∷ lf ∷ rest)) = ap (λ t. b ∷ t) (append_assoc line (cr ∷ lf ∷ []) rest) in
+    let one : head_from true (b ∷ (line ++ (cr ∷ lf ∷ rest))) ≡ option_map suc (head_from false (line ++ (cr ∷ lf ∷ rest))) = grind arith in
+    let count : suc (length line + 2) ≡ length (ended (b ∷ line)) = omega (arith, length-append (b ∷ line) (cr ∷ lf ∷ [])) in
     ap (head_from true) joined ∙ one ∙ ap (option_map suc) (line_left line rest parts.1) ∙ suc_later (length line + 2) (head_from true rest)
     ∙ ap (λ n. later n (head_from true rest)) count
 
@@ -82,13 +83,13 @@ pub head_ends : (start : Start) (headers : List Header) (body : List ℕ) → is
 head_ends start headers body first fields =
     let line = ended (start_text start) in
     let lines = flat_map (λ header. ended (header_text header)) headers in
-    let joined : head_text start headers ++ body ≡ line ++ (lines ++ (13 ∷ 10 ∷ body)) =
-    append_assoc (line ++ lines) (13 ∷ 10 ∷ []) body ∙ append_assoc line lines (13 ∷ 10 ∷ body) in
+    let joined : head_text start headers ++ body ≡ line ++ (lines ++ (cr ∷ lf ∷ body)) =
+    append_assoc (line ++ lines) (cr ∷ lf ∷ []) body ∙ append_assoc line lines (cr ∷ lf ∷ body) in
     let count : length line + (length lines + 2) ≡ length (head_text start headers) =
     omega (arith, length-append (line ++ lines) (ended []), length-append line lines) in
     ap (head_from true) joined
-    ∙ line_passed (start_text start) (lines ++ (13 ∷ 10 ∷ body)) (start_fits start first) (start_long start)
-    ∙ ap (later (length line)) (lines_passed headers (13 ∷ 10 ∷ body) fields)
+    ∙ line_passed (start_text start) (lines ++ (cr ∷ lf ∷ body)) (start_fits start first) (start_long start)
+    ∙ ap (later (length line)) (lines_passed headers (cr ∷ lf ∷ body) fields)
     ∙ ap Some count
 
 -- A body with a byte has its length told.

@@ -6,6 +6,7 @@ use Rattle.std.specs.List.{list_all, find}
 use Rattle.std.proofs.lemmas.Bool.{and_parts, eq-eqb}
 use Rattle.std.proofs.lemmas.List.{length-append}
 use Rattle.std.proofs.lemmas.List.Folds.{list_all-append}
+use Rattle.gate_bytes.specs.Ascii.{nul, lf, cr, space, colon}
 use Rattle.gate_bytes.specs.Tokens.{is_token, trimmed, equal_fold}
 use Rattle.gate_bytes.specs.Places.{cut_at}
 use Rattle.gate_bytes.specs.Numbers.{number_in}
@@ -29,12 +30,12 @@ use Rattle.rtsp_head.proofs.ListLemmas.{all_parts, all_trimmed, goes_through, ar
 -- The parts of a line fit into a line.
 cut_texts : (byte : ℕ) (text front back : List ℕ) → Cut byte text front back → is_line_text text ≡ true → (is_line_text front ≡ true) × (is_line_text back ≡ true)
 cut_texts byte text front back cut h =
-    let parts = all_parts (λ b. not (b == 10) && (not (b == 13) && not (b == 0))) front (byte ∷ back) (ap is_line_text (sym cut.whole) ∙ h) in
-    (parts.0, (and_parts (not (byte == 10) && (not (byte == 13) && not (byte == 0))) (is_line_text back) parts.1).1)
+    let parts = all_parts (λ b. not (b == lf) && (not (b == cr) && not (b == nul))) front (byte ∷ back) (ap is_line_text (sym cut.whole) ∙ h) in
+    (parts.0, (and_parts (not (byte == lf) && (not (byte == cr) && not (byte == nul))) (is_line_text back) parts.1).1)
 
 -- The first part begins as the text does.
-cut_begins : (text front back : List ℕ) (names : Bool) → Cut 32 text front back → names_protocol text ≡ names → names_protocol front ≡ names
-cut_begins text front back names cut h = sym (begins_apart (codes "RTSP/") front back 32 refl) ∙ ap names_protocol (sym cut.whole) ∙ h
+cut_begins : (text front back : List ℕ) (names : Bool) → Cut space text front back → names_protocol text ≡ names → names_protocol front ≡ names
+cut_begins text front back names cut h = sym (begins_apart (codes "RTSP/") front back space refl) ∙ ap names_protocol (sym cut.whole) ∙ h
 
 named_long : (text : List ℕ) → names_protocol text ≡ true → not (length text == 0) ≡ true
 named_long [] h = cc
@@ -57,19 +58,19 @@ request_sound method uri version true e m u n tm tu tv =
     let last = and_parts (is_unspaced version) (names_protocol version) all.1 in
     both _ _ (both _ _ (both _ _ (both _ _ (both _ _ long.0 m) (ap not n)) (both _ _ long.1 u)) (both _ _ (both _ _ (named_long version last.1) last.0) last.1)) (both _ _ (both _ _ tm tu) tv)
 
-request_second : (method rest : List ℕ) (cut : Option (List ℕ × List ℕ)) → CutIfSome 32 rest cut → is_unspaced method ≡ true → names_protocol method ≡ false →
+request_second : (method rest : List ℕ) (cut : Option (List ℕ × List ℕ)) → CutIfSome space rest cut → is_unspaced method ≡ true → names_protocol method ≡ false →
     is_line_text method ≡ true → is_line_text rest ≡ true → StartIfSome (option_and_then (λ (second : List ℕ × List ℕ). request_with method second.0 second.1) cut)
 request_second method rest None cut m n tm tr = tt
 request_second method rest (Some second) cut m n tm tr =
-    let texts = cut_texts 32 rest second.0 second.1 cut tr in
+    let texts = cut_texts space rest second.0 second.1 cut tr in
     request_sound method second.0 second.1 _ refl m cut.clean n tm texts.0 texts.1
 
-request_first : (line : List ℕ) (cut : Option (List ℕ × List ℕ)) → CutIfSome 32 line cut → is_line_text line ≡ true → names_protocol line ≡ false →
-    StartIfSome (option_and_then (λ (first : List ℕ × List ℕ). option_and_then (λ (second : List ℕ × List ℕ). request_with first.0 second.0 second.1) (cut_at 32 first.1)) cut)
+request_first : (line : List ℕ) (cut : Option (List ℕ × List ℕ)) → CutIfSome space line cut → is_line_text line ≡ true → names_protocol line ≡ false →
+    StartIfSome (option_and_then (λ (first : List ℕ × List ℕ). option_and_then (λ (second : List ℕ × List ℕ). request_with first.0 second.0 second.1) (cut_at space first.1)) cut)
 request_first line None cut text names = tt
 request_first line (Some first) cut text names =
-    let texts = cut_texts 32 line first.0 first.1 cut text in
-    request_second first.0 first.1 (cut_at 32 first.1) (cut_found 32 first.1) cut.clean (cut_begins line first.0 first.1 false cut names) texts.0 texts.1
+    let texts = cut_texts space line first.0 first.1 cut text in
+    request_second first.0 first.1 (cut_at space first.1) (cut_found space first.1) cut.clean (cut_begins line first.0 first.1 false cut names) texts.0 texts.1
 
 code_sound : (version reason text : List ℕ) (number : Option ℕ) → number_in 3 text ≡ number → is_unspaced version ≡ true → names_protocol version ≡ true →
     is_line_text version ≡ true → is_line_text reason ≡ true →
@@ -85,17 +86,17 @@ code_sound version reason text (Some code) e v n tv tr =
         let high : nat_le code 999 ≡ true = grind arith in
         both _ _ (both _ _ (both _ _ (both _ _ (named_long version n) v) n) (both _ _ low high)) (both _ _ tv tr)
 
-status_rest : (version rest : List ℕ) (cut : Option (List ℕ × List ℕ)) → CutIfSome 32 rest cut → is_unspaced version ≡ true → names_protocol version ≡ true →
+status_rest : (version rest : List ℕ) (cut : Option (List ℕ × List ℕ)) → CutIfSome space rest cut → is_unspaced version ≡ true → names_protocol version ≡ true →
     is_line_text version ≡ true → is_line_text rest ≡ true → StartIfSome (status_with version (unwrap_or cut (rest, [])))
 status_rest version rest None cut v n tv tr = code_sound version [] rest (number_in 3 rest) refl v n tv refl
-status_rest version rest (Some parts) cut v n tv tr = code_sound version parts.1 parts.0 (number_in 3 parts.0) refl v n tv (cut_texts 32 rest parts.0 parts.1 cut tr).1
+status_rest version rest (Some parts) cut v n tv tr = code_sound version parts.1 parts.0 (number_in 3 parts.0) refl v n tv (cut_texts space rest parts.0 parts.1 cut tr).1
 
-status_first : (line : List ℕ) (cut : Option (List ℕ × List ℕ)) → CutIfSome 32 line cut → is_line_text line ≡ true → names_protocol line ≡ true →
-    StartIfSome (option_and_then (λ (first : List ℕ × List ℕ). status_with first.0 (unwrap_or (cut_at 32 first.1) (first.1, []))) cut)
+status_first : (line : List ℕ) (cut : Option (List ℕ × List ℕ)) → CutIfSome space line cut → is_line_text line ≡ true → names_protocol line ≡ true →
+    StartIfSome (option_and_then (λ (first : List ℕ × List ℕ). status_with first.0 (unwrap_or (cut_at space first.1) (first.1, []))) cut)
 status_first line None cut text names = tt
 status_first line (Some first) cut text names =
-    let texts = cut_texts 32 line first.0 first.1 cut text in
-    status_rest first.0 first.1 (cut_at 32 first.1) (cut_found 32 first.1) cut.clean (cut_begins line first.0 first.1 true cut names) texts.0 texts.1
+    let texts = cut_texts space line first.0 first.1 cut text in
+    status_rest first.0 first.1 (cut_at space first.1) (cut_found space first.1) cut.clean (cut_begins line first.0 first.1 true cut names) texts.0 texts.1
 
 abbrev StartIfOk : Result Start HeadFault → Type 0
 StartIfOk (Ok start) = is_start start ≡ true
@@ -110,8 +111,8 @@ start_sound : (line : List ℕ) → list_all goes_through line ≡ true → Star
 start_sound line h = by_control (has_control line) refl
   where
     by_names : is_line_text line ≡ true → (names : Bool) → names_protocol line ≡ names → StartIfOk (ok_or (cond names (status_of line) (request_of line)) faults.Start)
-    by_names text true e = start_ok (status_of line) (status_first line (cut_at 32 line) (cut_found 32 line) text e)
-    by_names text false e = start_ok (request_of line) (request_first line (cut_at 32 line) (cut_found 32 line) text e)
+    by_names text true e = start_ok (status_of line) (status_first line (cut_at space line) (cut_found space line) text e)
+    by_names text false e = start_ok (request_of line) (request_first line (cut_at space line) (cut_found space line) text e)
 
     by_control : (control : Bool) → has_control line ≡ control → StartIfOk (cond control (Err faults.Control) (ok_or (cond (names_protocol line) (status_of line) (request_of line)) faults.Start))
     by_control true e = tt
@@ -126,20 +127,20 @@ FurtherIfOk (Ok (More text)) = is_line_text text ≡ true
 FurtherIfOk (Ok (Begins header)) = Opened header
 FurtherIfOk (Err fault) = Unit {0}
 
-header_sound : (line : List ℕ) (cut : Option (List ℕ × List ℕ)) → CutIfSome 58 line cut → is_line_text line ≡ true → FurtherIfOk (result_map Begins (header_from cut))
+header_sound : (line : List ℕ) (cut : Option (List ℕ × List ℕ)) → CutIfSome colon line cut → is_line_text line ≡ true → FurtherIfOk (result_map Begins (header_from cut))
 header_sound line None cut text = tt
 header_sound line (Some parts) cut text = by_test (is_token parts.0) refl
   where
     by_test : (test : Bool) → is_token parts.0 ≡ test → FurtherIfOk (result_map Begins (cond test (Ok (record { name = parts.0; value = trimmed parts.1 })) (Err faults.Name)))
     by_test false e = tt
-    by_test true e = (e, all_trimmed _ parts.1 (cut_texts 58 line parts.0 parts.1 cut text).1)
+    by_test true e = (e, all_trimmed _ parts.1 (cut_texts colon line parts.0 parts.1 cut text).1)
 
 further_sound : (line : List ℕ) → list_all goes_through line ≡ true → FurtherIfOk (further_of line)
 further_sound line h = by_control (has_control line) refl
   where
     by_more : is_line_text line ≡ true → (more : Bool) → FurtherIfOk (cond more (Ok (More (trimmed line))) (result_map Begins (header_of line)))
     by_more text true = all_trimmed _ line text
-    by_more text false = header_sound line (cut_at 58 line) (cut_found 58 line) text
+    by_more text false = header_sound line (cut_at colon line) (cut_found colon line) text
 
     by_control : (control : Bool) → has_control line ≡ control → FurtherIfOk (cond control (Err faults.Control) (cond (goes_on line) (Ok (More (trimmed line))) (result_map Begins (header_of line))))
     by_control true e = tt
@@ -173,8 +174,8 @@ more_sound : (above : List Header) (last : Option Header) (text : List ℕ) → 
 more_sound above None text h holds = tt
 more_sound above (Some header) text h holds = record {
   above = holds.above;
-  last = (holds.last.0, line_text_append header.value (32 ∷ text) holds.last.1 h);
-  few = omega (arith, holds.few, length-append above (closed (Some header)), length-append above (closed (Some (record { name = header.name; value = header.value ++ (32 ∷ text) }))));
+  last = (holds.last.0, line_text_append header.value (space ∷ text) holds.last.1 h);
+  few = omega (arith, holds.few, length-append above (closed (Some header)), length-append above (closed (Some (record { name = header.name; value = header.value ++ (space ∷ text) }))));
 }
 
 begins_sound : (so_far : SoFar) (header : Header) → Opened header → Holds so_far → HoldsIfOk (with_header header_limit so_far header)

@@ -2,6 +2,7 @@
 use Rattle.std.proofs.Common.{◌≡◌, ℕ, ◌+◌, ◌*◌, ◌==◌, ◌≤◌, Bool, true, false, cond, List, [], ◌∷◌, length, take, drop, Option, Some, None, Result, Ok, Err, subst, arith}
 use Rattle.std.specs.Option.{option_map}
 use Rattle.std.specs.Prelude.{nat_lt, slice_index, IfSome}
+use Rattle.gate_bytes.specs.Ascii.{dollar}
 use Rattle.rtsp_head.specs.declared.facts.Facts.{Facts}
 use Rattle.rtsp_head.specs.declared.facts.Length.{Length}
 use Rattle.rtsp_head.specs.declared.facts.Length.TheVariants as lengths
@@ -61,7 +62,7 @@ frame_has bytes =
 span_has : (bytes : List ℕ) → HasHead (span_of bytes)
 span_has [] = tt
 span_has (b ∷ bytes) =
-    either_has (b == 36) (frame_span (b ∷ bytes)) (message_span (b ∷ bytes))
+    either_has (b == dollar) (frame_span (b ∷ bytes)) (message_span (b ∷ bytes))
     (frame_has (b ∷ bytes))
     (headed_has (b ∷ bytes) (head_len (take MOST_HEAD (b ∷ bytes))))
 

@@ -9,6 +9,7 @@ use Rattle.std.proofs.lemmas.Bool.{and_parts}
 use Rattle.std.proofs.lemmas.List.{length-append, length-drop, append-nil}
 use Rattle.std.proofs.lemmas.Fmt.{digits_decimal, digits_value-decimal, decimal_nonempty}
 use Rattle.std.proofs.Math.Seq.{take-append_seam, drop-append_seam}
+use Rattle.gate_bytes.specs.Ascii.{nul, lf, cr}
 use Rattle.gate_bytes.specs.Numbers.{number_in}
 use Rattle.gate_bytes.specs.Tokens.{equal_fold}
 use Rattle.rtsp_head.specs.declared.header.Header.{Header}
@@ -79,18 +80,18 @@ length_named number headers body none high =
 
 blank_apart : (b : ℕ) (text : List ℕ) → is_line_text (b ∷ text) ≡ true → begins_blank (b ∷ text) ≡ false
 blank_apart b text fits =
-    let parts = and_parts (not (b == 10) && (not (b == 13) && not (b == 0))) (is_line_text text) fits in
-    let first = and_parts (not (b == 10)) (not (b == 13) && not (b == 0)) parts.0 in
-    let second = and_parts (not (b == 13)) (not (b == 0)) first.1 in
+    let parts = and_parts (not (b == lf) && (not (b == cr) && not (b == nul))) (is_line_text text) fits in
+    let first = and_parts (not (b == lf)) (not (b == cr) && not (b == nul)) parts.0 in
+    let second = and_parts (not (b == cr)) (not (b == nul)) first.1 in
     grind arith
 
 -- What begins with a line has no empty line before it, and is a frame only where the line begins as one.
 blanks_none : (line rest : List ℕ) → is_line_text line ≡ true → 0 < length line → blank_lines (line ++ rest) ≡ 0
 blanks_none [] rest fits some = absurd (omega arith)
 blanks_none (b ∷ line) rest fits some =
-    let parts = and_parts (not (b == 10) && (not (b == 13) && not (b == 0))) (is_line_text line) fits in
-    let first = and_parts (not (b == 10)) (not (b == 13) && not (b == 0)) parts.0 in
-    let second = and_parts (not (b == 13)) (not (b == 0)) first.1 in
+    let parts = and_parts (not (b == lf) && (not (b == cr) && not (b == nul))) (is_line_text line) fits in
+    let first = and_parts (not (b == lf)) (not (b == cr) && not (b == nul)) parts.0 in
+    let second = and_parts (not (b == cr)) (not (b == nul)) first.1 in
     let other : begins_blank (b ∷ (line ++ rest)) ≡ false = grind arith in
     ap (λ t. cond t (suc (blank_lines (line ++ rest))) 0) other
 
@@ -101,7 +102,7 @@ frame_first (b ∷ line) rest some = refl
 -- A message's text begins with its first line.
 text_begins : (start : Start) (number : Option ℕ) (headers : List Header) (body rest : List ℕ) →
     message_text start number headers body ++ rest
-    ≡ start_text start ++ ((13 ∷ 10 ∷ []) ++ (flat_map (λ header. ended (header_text header)) (message_headers number headers body) ++ ((13 ∷ 10 ∷ []) ++ (body ++ rest))))
+    ≡ start_text start ++ ((cr ∷ lf ∷ []) ++ (flat_map (λ header. ended (header_text header)) (message_headers number headers body) ++ ((cr ∷ lf ∷ []) ++ (body ++ rest))))
 text_begins start number headers body rest = simp append_assoc
 
 body_there : (head : Head) (body rest : List ℕ) → with_body head (body ++ rest) (length body) ≡ Some (record { message = record { head = head; body = body }; rest = rest })
@@ -164,11 +165,11 @@ some_suc (Some k) n h = let e : suc k ≡ n = cc in omega arith
 
 head_some : (starts : Bool) (bytes : List ℕ) (n : ℕ) → head_from starts bytes ≡ Some n → (0 < n) × (0 < length bytes)
 head_some starts [] n h = cc
-head_some starts (b ∷ bytes) n h = by_test (b == 10 && starts) h
+head_some starts (b ∷ bytes) n h = by_test (b == lf && starts) h
   where
-    by_test : (ends : Bool) → cond ends (Some 1) (option_map suc (head_from (b == 10 || (starts && (b == 13 && begins_with_lf bytes))) bytes)) ≡ Some n → (0 < n) × (0 < length (b ∷ bytes))
+    by_test : (ends : Bool) → cond ends (Some 1) (option_map suc (head_from (b == lf || (starts && (b == cr && begins_with_lf bytes))) bytes)) ≡ Some n → (0 < n) × (0 < length (b ∷ bytes))
     by_test true e = let one : 1 ≡ n = cc in (omega arith, omega arith)
-    by_test false e = (some_suc (head_from (b == 10 || (starts && (b == 13 && begins_with_lf bytes))) bytes) n e, omega arith)
+    by_test false e = (some_suc (head_from (b == lf || (starts && (b == cr && begins_with_lf bytes))) bytes) n e, omega arith)
 
 at_less : (bytes : List ℕ) (o : Option ℕ) → head_len bytes ≡ o → HasLess (length bytes) (option_and_then (λ n. with_head (head_within None (take n bytes)) (drop n bytes)) o)
 at_less bytes None h = tt
@@ -228,7 +229,7 @@ messages_read start number headers body rest can =
     let long = start_long start in
     front_by (message_text start number headers body ++ rest) (record { message = message start number headers body; rest = rest })
     (front_read start number headers body rest can)
-    (omega (arith, ap length (text_begins start number headers body rest), length-append (start_text start) ((13 ∷ 10 ∷ []) ++ (flat_map (λ header. ended (header_text header)) (message_headers number headers body) ++ ((13 ∷ 10 ∷ []) ++ (body ++ rest)))), long))
+    (omega (arith, ap length (text_begins start number headers body rest), length-append (start_text start) ((cr ∷ lf ∷ []) ++ (flat_map (λ header. ended (header_text header)) (message_headers number headers body) ++ ((cr ∷ lf ∷ []) ++ (body ++ rest)))), long))
 
 -- A message that was written is the one that its bytes are.
 pub message_read : (start : Start) (number : Option ℕ) (headers : List Header) (body : List ℕ) → IsReadable start number headers body →

@@ -6,6 +6,7 @@ use Rattle.std.specs.List.{list_all, find}
 use Rattle.std.specs.Char.{is_ascii_digit}
 use Rattle.std.proofs.lemmas.List.Folds.{list_all-append}
 use Rattle.std.proofs.lemmas.List.{length-append}
+use Rattle.gate_bytes.specs.Ascii as ascii
 use Rattle.gate_bytes.specs.Tokens.{is_token, is_blank, trimmed, without_front, without_end, equal_fold}
 use Rattle.gate_bytes.specs.Numbers.{number_in}
 use Rattle.gate_bytes.specs.Places.{cut_at}
@@ -47,29 +48,29 @@ something [] h = absurd (omega arith)
 something (b ∷ text) h = grind arith
 
 -- a text with a space in it is no number
-spaced : (front text : List ℕ) → number_in 10 (front ++ (32 ∷ text)) ≡ None
-spaced front text = let no : list_all is_ascii_digit (front ++ (32 ∷ text)) ≡ false = list_all-append is_ascii_digit front (32 ∷ text) ∙ grind arith in grind arith
+spaced : (front text : List ℕ) → number_in 10 (front ++ (ascii.space ∷ text)) ≡ None
+spaced front text = let no : list_all is_ascii_digit (front ++ (ascii.space ∷ text)) ≡ false = list_all-append is_ascii_digit front (ascii.space ∷ text) ∙ grind arith in grind arith
 
 joined_by : (front text : List ℕ) (front_is text_is : Bool) → list_all is_blank front ≡ front_is → list_all is_blank text ≡ text_is →
-    part_of (trimmed (front ++ (32 ∷ text))) ≡ joined (part_of (trimmed front)) (part_of (trimmed text))
+    part_of (trimmed (front ++ (ascii.space ∷ text))) ≡ joined (part_of (trimmed front)) (part_of (trimmed text))
 joined_by front text true b f t =
-    let left : trimmed (front ++ (32 ∷ text)) ≡ trimmed text = ap without_end (front_blank front (32 ∷ text) f) in
+    let left : trimmed (front ++ (ascii.space ∷ text)) ≡ trimmed text = ap without_end (front_blank front (ascii.space ∷ text) f) in
     ap part_of left ∙ sym (nothing_joined (part_of (trimmed text))) ∙ ap (λ p. joined (part_of p) (part_of (trimmed text))) (sym (blank_nothing front f))
 joined_by front text false true f t =
-    let left : trimmed (front ++ (32 ∷ text)) ≡ trimmed front = ap without_end (front_kept front (32 ∷ text) f) ∙ end_blank (without_front front) (32 ∷ text) t in
+    let left : trimmed (front ++ (ascii.space ∷ text)) ≡ trimmed front = ap without_end (front_kept front (ascii.space ∷ text) f) ∙ end_blank (without_front front) (ascii.space ∷ text) t in
     ap part_of left ∙ sym (joined_nothing (part_of (trimmed front))) ∙ ap (λ p. joined (part_of (trimmed front)) (part_of p)) (sym (blank_nothing text t))
 joined_by front text false false f t =
-    let kept : trimmed (front ++ (32 ∷ text)) ≡ without_front front ++ without_end (32 ∷ text) = ap without_end (front_kept front (32 ∷ text) f) ∙ end_kept (without_front front) (32 ∷ text) t in
-    let space : without_end (32 ∷ text) ≡ 32 ∷ without_end text = grind arith in
-    let whole : trimmed (front ++ (32 ∷ text)) ≡ without_front front ++ (32 ∷ without_end text) = kept ∙ ap (λ e. without_front front ++ e) space in
-    let long : 0 < length (without_front front ++ (32 ∷ without_end text)) = omega (arith, length-append (without_front front) (32 ∷ without_end text)) in
+    let kept : trimmed (front ++ (ascii.space ∷ text)) ≡ without_front front ++ without_end (ascii.space ∷ text) = ap without_end (front_kept front (ascii.space ∷ text) f) ∙ end_kept (without_front front) (ascii.space ∷ text) t in
+    let space : without_end (ascii.space ∷ text) ≡ ascii.space ∷ without_end text = grind arith in
+    let whole : trimmed (front ++ (ascii.space ∷ text)) ≡ without_front front ++ (ascii.space ∷ without_end text) = kept ∙ ap (λ e. without_front front ++ e) space in
+    let long : 0 < length (without_front front ++ (ascii.space ∷ without_end text)) = omega (arith, length-append (without_front front) (ascii.space ∷ without_end text)) in
     ap part_of whole ∙ something _ long ∙ ap number_part (spaced (without_front front) (without_end text)) ∙ sym (
     ap (λ p. joined p (part_of (trimmed text))) (something (trimmed front) (other_something front f))
     ∙ ap (λ p. joined (number_part (number_in 10 (trimmed front))) p) (something (trimmed text) (other_something text t))
     ∙ both_joined (number_in 10 (trimmed front)) (number_in 10 (trimmed text)))
 
 -- What a value says to which text is joined by a space.
-part_more : (value text : List ℕ) → trimmed text ≡ text → part_of (trimmed (value ++ (32 ∷ text))) ≡ joined (part_of (trimmed value)) (part_of text)
+part_more : (value text : List ℕ) → trimmed text ≡ text → part_of (trimmed (value ++ (ascii.space ∷ text))) ≡ joined (part_of (trimmed value)) (part_of text)
 part_more value text h = joined_by value text (list_all is_blank value) (list_all is_blank text) refl refl ∙ ap (λ t. joined (part_of (trimmed value)) (part_of t)) h
 
 part_length_is : (value : List ℕ) → part_length (Some (part_of value)) ≡ length_in (number_in 10 value)
@@ -155,17 +156,17 @@ Tidy (Begins header) = trimmed header.value ≡ header.value
 more_by : (tally : Tally) (above : List Header) (header : Header) (text : List ℕ) (test : Bool) → equal_fold header.name content_length ≡ test → trimmed text ≡ text →
     Fits tally (record { above = above; last = Some header }) →
     Alike (tally_more tally (cond test (lasts.Length (part_of (trimmed header.value))) lasts.Other) (part_of text))
-    (Ok (record { above = above; last = Some (record { name = header.name; value = header.value ++ (32 ∷ text) }) }))
+    (Ok (record { above = above; last = Some (record { name = header.name; value = header.value ++ (ascii.space ∷ text) }) }))
 more_by tally above header text true e tidy fits = record {
-  count = fits.count ∙ same_length above header (record { name = header.name; value = header.value ++ (32 ∷ text) });
+  count = fits.count ∙ same_length above header (record { name = header.name; value = header.value ++ (ascii.space ∷ text) });
   found = fits.found;
-  last = ap lasts.Length (sym (part_more header.value text tidy)) ∙ ap (λ t. cond t (lasts.Length (part_of (trimmed (header.value ++ (32 ∷ text))))) lasts.Other) (sym e);
+  last = ap lasts.Length (sym (part_more header.value text tidy)) ∙ ap (λ t. cond t (lasts.Length (part_of (trimmed (header.value ++ (ascii.space ∷ text))))) lasts.Other) (sym e);
 }
 more_by tally above header text false e tidy fits = record {
-  count = fits.count ∙ same_length above header (record { name = header.name; value = header.value ++ (32 ∷ text) });
+  count = fits.count ∙ same_length above header (record { name = header.name; value = header.value ++ (ascii.space ∷ text) });
   found = fits.found;
   last = fits.last ∙ ap (λ t. cond t (lasts.Length (part_of (trimmed header.value))) lasts.Other) e
-      ∙ ap (λ t. cond t (lasts.Length (part_of (trimmed (header.value ++ (32 ∷ text))))) lasts.Other) (sym e);
+      ∙ ap (λ t. cond t (lasts.Length (part_of (trimmed (header.value ++ (ascii.space ∷ text))))) lasts.Other) (sym e);
 }
 
 more_alike : (tally : Tally) (above : List Header) (last : Option Header) (text : List ℕ) → trimmed text ≡ text → Fits tally (record { above = above; last = last }) →
@@ -209,10 +210,10 @@ header_tidy (Some parts) = named_tidy parts.0 parts.1 (is_token parts.0)
 line_tidy : (line : List ℕ) → TidyIfOk (further_of line)
 line_tidy line = by_tests (has_control line) (goes_on line)
   where
-    by_tests : (control more : Bool) → TidyIfOk (cond control (Err faults.Control) (cond more (Ok (More (trimmed line))) (result_map Begins (header_from (cut_at 58 line)))))
+    by_tests : (control more : Bool) → TidyIfOk (cond control (Err faults.Control) (cond more (Ok (More (trimmed line))) (result_map Begins (header_from (cut_at ascii.colon line)))))
     by_tests true more = tt
     by_tests false true = trimmed_twice line
-    by_tests false false = header_tidy (cut_at 58 line)
+    by_tests false false = header_tidy (cut_at ascii.colon line)
 
 line_alike : (tally : Tally) (so_far : SoFar) (further : Result Further HeadFault) → TidyIfOk further → Fits tally so_far →
     Alike (and_then (tally_with tally) further) (and_then (with_further header_limit so_far) further)

@@ -9,6 +9,7 @@ use Rattle.std.specs.Str.Parse.{digits_value}
 use Rattle.std.proofs.lemmas.Bool.{and_parts, eqb-true}
 use Rattle.std.proofs.lemmas.List.{length-append, append-nil}
 use Rattle.std.proofs.lemmas.Fmt.{digits_decimal, digits_value-decimal, length-decimal-le, decimal_nonempty}
+use Rattle.gate_bytes.specs.Ascii.{space, colon}
 use Rattle.gate_bytes.specs.Tokens.{is_token, is_token_byte, trimmed}
 use Rattle.gate_bytes.specs.Places.{cut_at}
 use Rattle.gate_bytes.specs.Numbers.{number_in}
@@ -23,7 +24,8 @@ use Rattle.rtsp_head.specs.Heads.{head_of_lines, head_within}
 use Rattle.rtsp_head.specs.Written.{ended, start_text, header_text, head_text, is_line_text, is_part, is_start, is_trimmed, is_value, is_header}
 use Rattle.rtsp_head.proofs.DigitLemmas.{own}
 use Rattle.rtsp_head.proofs.TrimLemmas.{trimmed_same}
-use Rattle.rtsp_head.proofs.CutLemmas.{cut_at_seam, begins_apart, lines_ended, line_text_append, no_control}
+use Rattle.gate_bytes.proofs.SeamLemmas.{cut_at_seam}
+use Rattle.rtsp_head.proofs.CutLemmas.{begins_apart, lines_ended, line_text_append, no_control}
 
 -- A code of three digits is written and read.
 code_read : (code : ℕ) → 100 ≤ code → code ≤ 999 → code_of (decimal code) ≡ Some code
@@ -56,11 +58,11 @@ token_line (b ∷ text) h =
     let rest : is_line_text text ≡ true = token_line text parts.1 in
     grind arith
 
-token_uncut : (text : List ℕ) → list_all is_token_byte text ≡ true → list_all (λ b. not (b == 58)) text ≡ true
+token_uncut : (text : List ℕ) → list_all is_token_byte text ≡ true → list_all (λ b. not (b == colon)) text ≡ true
 token_uncut [] h = refl
 token_uncut (b ∷ text) h =
     let parts = and_parts (is_token_byte b) (list_all is_token_byte text) h in
-    let rest : list_all (λ b. not (b == 58)) text ≡ true = token_uncut text parts.1 in
+    let rest : list_all (λ b. not (b == colon)) text ≡ true = token_uncut text parts.1 in
     grind arith
 
 token_begins : (text more : List ℕ) → is_token text ≡ true → goes_on (text ++ more) ≡ false
@@ -88,7 +90,7 @@ request_fits method uri version h =
     let all = and_parts (((is_part method && not (names_protocol method)) && is_part uri) && (is_part version && names_protocol version)) ((is_line_text method && is_line_text uri) && is_line_text version) h in
     let texts = and_parts (is_line_text method && is_line_text uri) (is_line_text version) all.1 in
     let text = and_parts (is_line_text method) (is_line_text uri) texts.0 in
-    line_text_append method (32 ∷ (uri ++ (32 ∷ version))) text.0 (line_text_append uri (32 ∷ version) text.1 texts.1)
+    line_text_append method (space ∷ (uri ++ (space ∷ version))) text.0 (line_text_append uri (space ∷ version) text.1 texts.1)
 
 code_range : (code : ℕ) → nat_le 100 code && nat_le code 999 ≡ true → (100 ≤ code) × (code ≤ 999)
 code_range code h =
@@ -102,7 +104,7 @@ status_fits version code reason h =
     let parts = and_parts (is_part version && names_protocol version) (nat_le 100 code && nat_le code 999) all.0 in
     let range = code_range code parts.1 in
     let digits : list_all is_ascii_digit (decimal code) ≡ true = digits_decimal own code (omega arith) in
-    line_text_append version (32 ∷ (decimal code ++ (32 ∷ reason))) text.0 (line_text_append (decimal code) (32 ∷ reason) (digits_line (decimal code) digits) text.1)
+    line_text_append version (space ∷ (decimal code ++ (space ∷ reason))) text.0 (line_text_append (decimal code) (space ∷ reason) (digits_line (decimal code) digits) text.1)
 
 pub start_fits : (start : Start) → is_start start ≡ true → is_line_text (start_text start) ≡ true
 start_fits (Request method uri version) h = request_fits method uri version h
@@ -114,39 +116,39 @@ four_true a b c d ha hb hc hd = grind arith
 -- A request line is written and read.
 request_read : (method uri version : List ℕ) → is_start (Request method uri version) ≡ true → start_of (start_text (Request method uri version)) ≡ Ok (Request method uri version)
 request_read method uri version h =
-    let rest = uri ++ (32 ∷ version) in
+    let rest = uri ++ (space ∷ version) in
     let all = and_parts (((is_part method && not (names_protocol method)) && is_part uri) && (is_part version && names_protocol version)) ((is_line_text method && is_line_text uri) && is_line_text version) h in
     let parts = and_parts ((is_part method && not (names_protocol method)) && is_part uri) (is_part version && names_protocol version) all.0 in
     let front = and_parts (is_part method && not (names_protocol method)) (is_part uri) parts.0 in
     let first = and_parts (is_part method) (not (names_protocol method)) front.0 in
     let method_part = and_parts (not (length method == 0)) (is_unspaced method) first.0 in
     let uri_part = and_parts (not (length uri == 0)) (is_unspaced uri) front.1 in
-    let begins : names_protocol (method ++ (32 ∷ rest)) ≡ false = begins_apart (codes "RTSP/") method rest 32 refl ∙ was_false (names_protocol method) first.1 in
+    let begins : names_protocol (method ++ (space ∷ rest)) ≡ false = begins_apart (codes "RTSP/") method rest space refl ∙ was_false (names_protocol method) first.1 in
     let last = and_parts (is_part version) (names_protocol version) parts.1 in
     let version_part = and_parts (not (length version == 0)) (is_unspaced version) last.0 in
     let test : (not (length method == 0) && not (length uri == 0)) && (is_unspaced version && names_protocol version) ≡ true = four_true _ _ _ _ method_part.0 uri_part.0 version_part.1 last.1 in
-    let reads : request_of (method ++ (32 ∷ rest)) ≡ Some (Request method uri version) =
-    ap (option_and_then (λ (first : List ℕ × List ℕ). option_and_then (λ (second : List ℕ × List ℕ). request_with first.0 second.0 second.1) (cut_at 32 first.1))) (cut_at_seam 32 method rest method_part.1)
-    ∙ ap (option_and_then (λ (second : List ℕ × List ℕ). request_with method second.0 second.1)) (cut_at_seam 32 uri version uri_part.1)
+    let reads : request_of (method ++ (space ∷ rest)) ≡ Some (Request method uri version) =
+    ap (option_and_then (λ (first : List ℕ × List ℕ). option_and_then (λ (second : List ℕ × List ℕ). request_with first.0 second.0 second.1) (cut_at space first.1))) (cut_at_seam space method rest method_part.1)
+    ∙ ap (option_and_then (λ (second : List ℕ × List ℕ). request_with method second.0 second.1)) (cut_at_seam space uri version uri_part.1)
     ∙ ap (λ t. cond t (Some (Request method uri version)) None) test in
-    start_by (method ++ (32 ∷ rest)) false (Request method uri version) (request_fits method uri version h) begins reads
+    start_by (method ++ (space ∷ rest)) false (Request method uri version) (request_fits method uri version h) begins reads
 
 -- A status line is written and read.
 status_read : (version : List ℕ) (code : ℕ) (reason : List ℕ) → is_start (Status version code reason) ≡ true → start_of (start_text (Status version code reason)) ≡ Ok (Status version code reason)
 status_read version code reason h =
-    let rest = decimal code ++ (32 ∷ reason) in
+    let rest = decimal code ++ (space ∷ reason) in
     let all = and_parts ((is_part version && names_protocol version) && (nat_le 100 code && nat_le code 999)) (is_line_text version && is_line_text reason) h in
     let parts = and_parts (is_part version && names_protocol version) (nat_le 100 code && nat_le code 999) all.0 in
     let first = and_parts (is_part version) (names_protocol version) parts.0 in
     let version_part = and_parts (not (length version == 0)) (is_unspaced version) first.0 in
     let range = code_range code parts.1 in
     let digits : list_all is_ascii_digit (decimal code) ≡ true = digits_decimal own code (omega arith) in
-    let begins : names_protocol (version ++ (32 ∷ rest)) ≡ true = begins_apart (codes "RTSP/") version rest 32 refl ∙ first.1 in
-    let reads : status_of (version ++ (32 ∷ rest)) ≡ Some (Status version code reason) =
-    ap (option_and_then (λ (first : List ℕ × List ℕ). status_with first.0 (unwrap_or (cut_at 32 first.1) (first.1, [])))) (cut_at_seam 32 version rest version_part.1)
-    ∙ ap (λ (cut : Option (List ℕ × List ℕ)). status_with version (unwrap_or cut (rest, []))) (cut_at_seam 32 (decimal code) reason (digits_unspaced (decimal code) digits))
+    let begins : names_protocol (version ++ (space ∷ rest)) ≡ true = begins_apart (codes "RTSP/") version rest space refl ∙ first.1 in
+    let reads : status_of (version ++ (space ∷ rest)) ≡ Some (Status version code reason) =
+    ap (option_and_then (λ (first : List ℕ × List ℕ). status_with first.0 (unwrap_or (cut_at space first.1) (first.1, [])))) (cut_at_seam space version rest version_part.1)
+    ∙ ap (λ (cut : Option (List ℕ × List ℕ)). status_with version (unwrap_or cut (rest, []))) (cut_at_seam space (decimal code) reason (digits_unspaced (decimal code) digits))
     ∙ ap (option_and_then (λ n. Some (Status version n reason))) (code_read code range.0 range.1) in
-    start_by (version ++ (32 ∷ rest)) true (Status version code reason) (status_fits version code reason h) begins reads
+    start_by (version ++ (space ∷ rest)) true (Status version code reason) (status_fits version code reason h) begins reads
 
 start_read : (start : Start) → is_start start ≡ true → start_of (start_text start) ≡ Ok start
 start_read (Request method uri version) h = request_read method uri version h
@@ -168,22 +170,22 @@ sound header h =
     record { tokens = name.1; token = all.0; trimmed = trimmed_same header.value same; text = value.1 }
 
 pub header_fits : (header : Header) → Sound header → is_line_text (header_text header) ≡ true
-header_fits header s = line_text_append header.name (58 ∷ 32 ∷ header.value) (token_line header.name s.tokens) s.text
+header_fits header s = line_text_append header.name (colon ∷ space ∷ header.value) (token_line header.name s.tokens) s.text
 
 pub header_long : (header : Header) → 0 < length (header_text header)
-header_long header = omega (arith, length-append header.name (58 ∷ 32 ∷ header.value))
+header_long header = omega (arith, length-append header.name (colon ∷ space ∷ header.value))
 
 -- A header's line is written and read.
 header_read : (header : Header) → Sound header → further_of (header_text header) ≡ Ok (Begins header)
 header_read header s =
     let line = header_text header in
-    let value : trimmed (32 ∷ header.value) ≡ header.value = s.trimmed in
+    let value : trimmed (space ∷ header.value) ≡ header.value = s.trimmed in
     let named : header_of line ≡ Ok header =
-    ap header_from (cut_at_seam 58 header.name (32 ∷ header.value) (token_uncut header.name s.tokens))
-    ∙ ap (λ t. cond t (Ok (record { name = header.name; value = trimmed (32 ∷ header.value) })) (Err faults.Name)) s.token
+    ap header_from (cut_at_seam colon header.name (space ∷ header.value) (token_uncut header.name s.tokens))
+    ∙ ap (λ t. cond t (Ok (record { name = header.name; value = trimmed (space ∷ header.value) })) (Err faults.Name)) s.token
     ∙ ap (λ v. Ok (record { name = header.name; value = v })) value in
     ap (λ t. cond t (Err faults.Control) (cond (goes_on line) (Ok (More (trimmed line))) (result_map Begins (header_of line)))) (no_control line (header_fits header s))
-    ∙ ap (λ t. cond t (Ok (More (trimmed line))) (result_map Begins (header_of line))) (token_begins header.name (58 ∷ 32 ∷ header.value) s.token)
+    ∙ ap (λ t. cond t (Ok (More (trimmed line))) (result_map Begins (header_of line))) (token_begins header.name (colon ∷ space ∷ header.value) s.token)
     ∙ ap (result_map Begins) named
 
 -- The lines of headers give these headers after those so far.
@@ -232,8 +234,8 @@ header_lines (header ∷ headers) h =
     ∙ ap (λ ls. header_text header ∷ ls) (header_lines headers parts.1)
 
 pub start_long : (start : Start) → 0 < length (start_text start)
-start_long (Request method uri version) = omega (arith, length-append method (32 ∷ (uri ++ (32 ∷ version))))
-start_long (Status version code reason) = omega (arith, length-append version (32 ∷ (decimal code ++ (32 ∷ reason))))
+start_long (Request method uri version) = omega (arith, length-append method (space ∷ (uri ++ (space ∷ version))))
+start_long (Status version code reason) = omega (arith, length-append version (space ∷ (decimal code ++ (space ∷ reason))))
 
 -- A head that was written reads as it was.
 pub head_read : (limit : Option ℕ) (start : Start) (headers : List Header) → is_start start ≡ true → IsWithin limit (length headers) → list_all is_header headers ≡ true →

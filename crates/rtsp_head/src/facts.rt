@@ -6,7 +6,7 @@ ghost use Rattle.rtsp_head.specs.Heads.{facts_of, length_in_headers};
 
 use crate::HeadFault;
 use crate::line::next_line;
-use crate::start::{StartLine, start_line};
+use crate::start::start_line;
 use crate::tally::Tally;
 
 /// The most digits of the length of a body (this project's own).
@@ -41,9 +41,12 @@ pub fn check_head(bytes: &[u8]) -> Result<Facts, HeadFault>
     let Some((line, rest)) = next_line(bytes) else {
         return Err(HeadFault::Start);
     };
-    let request = matches!(start_line(line)?, StartLine::Request { .. });
+    let start = start_line(line)?;
     let length = check_headers(rest)?;
-    Ok(Facts { request, length })
+    Ok(Facts {
+        request: start.is_request(),
+        length,
+    })
 }
 
 /// What the headers say of the length of the body, or their first fault.

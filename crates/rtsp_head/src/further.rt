@@ -5,7 +5,7 @@ ghost use Rattle.rtsp_head.specs.Headers.{goes_on, further_of};
 ghost use Rattle.rtsp_head.specs.Views.{further_seen};
 
 use crate::HeadFault;
-use crate::line::has_control;
+use crate::line::Line;
 use gate_bytes::{is_token, split_once, trim};
 
 /// What a line after the first one says, with its parts where they stand in it.
@@ -19,12 +19,14 @@ pub(crate) enum FurtherLine<'a> {
 
 /// What a line after the first one says. A line that begins with a space or a tab goes on with the
 /// header above (RFC 2326, 15.1; RFC 7826, 5.2).
-pub(crate) fn further_line(line: &[u8]) -> Result<FurtherLine<'_>, HeadFault>
-    ensures { result_map further_seen result ≡ further_of line.now }
+#[inline(always)]
+pub(crate) fn further_line(line: Line<'_>) -> Result<FurtherLine<'_>, HeadFault>
+    ensures { result_map further_seen result ≡ further_of line.entry }
 {
-    if has_control(line) {
+    if line.has_control() {
         return Err(HeadFault::Control);
     }
+    let line = line.text();
     if goes_on(line) {
         return Ok(FurtherLine::More(trim(line)));
     }

@@ -7,6 +7,7 @@ ghost use Rattle.rtsp_head.specs.Views.{so_far};
 
 use crate::further::{FurtherLine, further_line};
 use crate::headers::MOST_HEADERS;
+use crate::line::Line;
 use crate::{HeadFault, Header, Headers};
 use gate_bytes::{Memory, Text, trim};
 use std::alloc::Global;
@@ -30,9 +31,9 @@ impl Reading {
     }
 
     /// Reads one more line. After an error the headers are of no use.
-    pub(crate) fn take_line(&mut self, alloc: Global, line: &[u8]) -> Result<(), HeadFault>
-        ensures ok { OnOk result (with_line header_limit (so_far self.old) line.now ≡ Ok (so_far self.new)) }
-        ensures err { IfErr result (λ fault. IfSome (head_refusal fault) (λ refused. with_line header_limit (so_far self.old) line.now ≡ Err refused)) }
+    pub(crate) fn take_line(&mut self, alloc: Global, line: Line<'_>) -> Result<(), HeadFault>
+        ensures ok { OnOk result (with_line header_limit (so_far self.old) line.entry ≡ Ok (so_far self.new)) }
+        ensures err { IfErr result (λ fault. IfSome (head_refusal fault) (λ refused. with_line header_limit (so_far self.old) line.entry ≡ Err refused)) }
     {
         match further_line(line)? {
             FurtherLine::More(text) => self.go_on(text),
@@ -71,6 +72,7 @@ impl Reading {
     }
 
     /// Puts the last header to those above, with its value trimmed.
+    #[inline(always)]
     fn close_last(&mut self, alloc: Global) -> Result<(), Memory>
         ensures { OnOk result ((self.new.above ≡ headers_in (so_far self.old)) × (self.new.last ≡ None)) }
     {

@@ -2,10 +2,11 @@
 ghost use Rattle.std.specs.Prelude.{◌≡◌, IfOk, option_map, nat_eq};
 ghost use Rattle.rtsp_head.specs.Lines.{result_map};
 ghost use Rattle.rtsp_head.specs.Starts.{names_protocol, is_unspaced, code_of, request_of, status_of, start_of};
+ghost use Rattle.rtsp_head.specs.Heads.{is_request};
 ghost use Rattle.rtsp_head.specs.Views.{start_seen};
 
 use crate::HeadFault;
-use crate::line::has_control;
+use crate::line::Line;
 use gate_bytes::{Memory, Text, read_decimal, split_once};
 use std::alloc::Global;
 
@@ -57,6 +58,13 @@ pub(crate) enum StartLine<'a> {
 }
 
 impl StartLine<'_> {
+    /// Whether it begins a request.
+    pub(crate) fn is_request(&self) -> bool
+        ensures { result ≡ is_request (start_seen self.now) }
+    {
+        matches!(self, StartLine::Request { .. })
+    }
+
     /// The same, owned.
     pub(crate) fn own(&self, alloc: Global) -> Result<Start, Memory>
         ensures { IfOk result (λ start. start ≡ start_seen self.now) }
@@ -85,12 +93,13 @@ impl StartLine<'_> {
 }
 
 /// What a first line says: a status line where it begins with `RTSP/`, else a request line.
-pub(crate) fn start_line(line: &[u8]) -> Result<StartLine<'_>, HeadFault>
-    ensures { result_map start_seen result ≡ start_of line.now }
+pub(crate) fn start_line(line: Line<'_>) -> Result<StartLine<'_>, HeadFault>
+    ensures { result_map start_seen result ≡ start_of line.entry }
 {
-    if has_control(line) {
+    if line.has_control() {
         return Err(HeadFault::Control);
     }
+    let line = line.text();
     let found = if names_protocol(line) {
         status_line(line)
     } else {

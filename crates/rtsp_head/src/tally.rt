@@ -4,6 +4,7 @@ ghost use Rattle.rtsp_head.specs.Tallies.{empty_tally, part_of, joined, last_par
 
 use crate::further::{FurtherLine, further_line};
 use crate::headers::MOST_HEADERS;
+use crate::line::Line;
 use crate::{HeadFault, LENGTH_DIGITS, Length};
 use gate_bytes::{eq_fold, read_decimal};
 
@@ -100,8 +101,8 @@ impl Tally {
     }
 
     /// The same with one more line.
-    pub(crate) fn with_line(self, line: &[u8]) -> Result<Tally, HeadFault>
-        ensures { result ≡ tally_line self line.now }
+    pub(crate) fn with_line(self, line: Line<'_>) -> Result<Tally, HeadFault>
+        ensures { result ≡ tally_line self line.entry }
     {
         match further_line(line)? {
             FurtherLine::More(text) => self.with_more(Part::of(text)),

@@ -7,7 +7,7 @@ use Rattle.rtsp_head.proofs.facts.check_headers.Goals as goal
 pub returns-in_err-tally : goal.returns-in_err-tally
 returns-in_err-tally c =
     let p = err_from_is_err_and c.from_residual.result c.from_residual.ensures.1 in
-    rw (p.1, p.2) (stops_so c.loop-line.tally c.in-Some.line.now (head_lines c.in-Some.after.now) (head_lines c.loop-line.rest.now) (head_lines c.args.bytes.now) c.in_err-tally.field-0.0
+    rw (p.1, p.2) (stops_so c.loop-line.tally c.in-Some.line (head_lines c.in-Some.after.now) (head_lines c.loop-line.rest.now) (head_lines c.args.bytes.now) c.in_err-tally.field-0.0
     c.in-Some.ensures.line c.in_err-tally.ensures c.loop-line.invariant)
 
 pub returns : goal.returns

@@ -5,10 +5,12 @@ use Rattle.rtsp_head.proofs.line.next_line.Goals as goal
 
 pub returns-then-is_empty-clause-line : goal.returns-then-is_empty-clause-line
 returns-then-is_empty-clause-line c =
-    let first = c.first_line.result in
-    lines_apart c.args.bytes.now first.0.now first.1.now c.first_line.ensures ∙ ap (λ t. cond t [] (first.0.now ∷ head_lines first.1.now)) (sym c.is_empty.ensures ∙ c.if-is_empty.true)
+    let line = c.first_line-line.result.0 in
+    let rest = c.first_line-line.result.1.now in
+    lines_apart c.args.bytes.now line rest c.first_line-line.ensures ∙ ap (λ t. cond t [] (line ∷ head_lines rest)) (sym c.is_empty.ensures ∙ c.if-is_empty.true)
 
 pub returns-else-is_empty-clause-line : goal.returns-else-is_empty-clause-line
 returns-else-is_empty-clause-line c =
-    let first = c.first_line.result in
-    lines_apart c.args.bytes.now first.0.now first.1.now c.first_line.ensures ∙ ap (λ t. cond t [] (first.0.now ∷ head_lines first.1.now)) (sym c.is_empty.ensures ∙ c.if-is_empty.false)
+    let line = c.first_line-line.result.0 in
+    let rest = c.first_line-line.result.1.now in
+    lines_apart c.args.bytes.now line rest c.first_line-line.ensures ∙ ap (λ t. cond t [] (line ∷ head_lines rest)) (sym c.is_empty.ensures ∙ c.if-is_empty.false)
