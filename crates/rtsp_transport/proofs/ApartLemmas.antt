@@ -4,6 +4,7 @@ use Rattle.std.specs.Prelude.{IfSome, IfOk, codes}
 use Rattle.std.specs.List.{list_any}
 use Rattle.std.specs.Option.{option_map, option_or, option_and_then, ok_or}
 use Rattle.std.proofs.lemmas.Bool.{eqb-false}
+use Rattle.gate_bytes.specs.Ascii.{comma, hyphen}
 use Rattle.gate_bytes.specs.Places.{cut_at}
 use Rattle.rtsp_transport.specs.declared.channels.Pair.{Pair}
 use Rattle.rtsp_transport.specs.declared.alternative.Wanted.{Wanted}
@@ -43,7 +44,7 @@ exact_by (Some pair) h = h
 channels_apart : (value : Option (Option (List ℕ))) → IfSome (wanted_channels value) NamesApart
 channels_apart None = tt
 channels_apart (Some None) = tt
-channels_apart (Some (Some value)) = exact_by (pair_or_first value) (asked_by value (cut_at 45 value))
+channels_apart (Some (Some value)) = exact_by (pair_or_first value) (asked_by value (cut_at hyphen value))
 
 wanted_by : (fits : Bool) (wanted : Option Wanted) → IfSome wanted NamesApart → IfSome (cond fits wanted None) NamesApart
 wanted_by true wanted h = h
@@ -64,15 +65,15 @@ fit_apart [] = tt
 fit_apart (alternative ∷ more) = or_by (wanted_in (parameters_of alternative)) (first_fit more) (alternative_apart (parameters_of alternative)) (fit_apart more)
 
 -- the channels that a player names differ
-pub picked_apart : (value : List ℕ) → IfSome (first_fit (unquoted_parts 44 value)) NamesApart
-picked_apart value = fit_apart (unquoted_parts 44 value)
+pub picked_apart : (value : List ℕ) → IfSome (first_fit (unquoted_parts comma value)) NamesApart
+picked_apart value = fit_apart (unquoted_parts comma value)
 
 wanted_or : (wanted : Option Wanted) → IfSome wanted NamesApart → IfOk (ok_or wanted faults.NoneFits) NamesApart
 wanted_or None h = tt
 wanted_or (Some wanted) h = h
 
 -- What was picked names channels that differ.
-pub pick_apart : (value : List ℕ) (fit : Option Wanted) (answer : Result Wanted TransportFault) → fit ≡ first_fit (unquoted_parts 44 value) → answer ≡ ok_or fit faults.NoneFits →
+pub pick_apart : (value : List ℕ) (fit : Option Wanted) (answer : Result Wanted TransportFault) → fit ≡ first_fit (unquoted_parts comma value) → answer ≡ ok_or fit faults.NoneFits →
     IfOk answer NamesApart
 pick_apart value fit answer h told =
     subst (λ (w : Result Wanted TransportFault). IfOk w NamesApart) (sym told)

@@ -2,19 +2,20 @@
 use Rattle.std.proofs.Common.{◌≡◌, ℕ, ◌%◌, Bool, true, false, not, ◌==◌, ◌&&◌, List, [], ◌∷◌, ◌++◌, refl, ap, arith}
 use Rattle.std.specs.List.{list_all, count_by}
 use Rattle.std.proofs.lemmas.Bool.{and_parts}
+use Rattle.gate_bytes.specs.Ascii.{double_quote}
 use Rattle.gate_bytes.specs.Tokens.{is_blank, without_end}
 use Rattle.rtsp_transport.specs.Splits.{split_from, unquoted_parts, has_open_quote}
 
 -- neither this byte nor a double quote
 abbrev pub is_clean : ℕ → ℕ → Bool
-is_clean byte b = not (b == byte) && not (b == 34)
+is_clean byte b = not (b == byte) && not (b == double_quote)
 
 -- a text without the byte is its one part
 pub whole_clean : (byte : ℕ) (text : List ℕ) → list_all (is_clean byte) text ≡ true → unquoted_parts byte text ≡ text ∷ []
 whole_clean byte [] h = refl
 whole_clean byte (b ∷ text) h =
     let parts = and_parts (is_clean byte b) (list_all (is_clean byte) text) h in
-    let both = and_parts (not (b == byte)) (not (b == 34)) parts.0 in
+    let both = and_parts (not (b == byte)) (not (b == double_quote)) parts.0 in
     let rest : split_from byte false text ≡ text ∷ [] = whole_clean byte text parts.1 in
     grind arith
 
@@ -23,19 +24,19 @@ pub first_clean : (byte : ℕ) (text more : List ℕ) → list_all (is_clean byt
 first_clean byte [] more h = let same : (byte == byte) ≡ true = grind arith in grind (arith, same)
 first_clean byte (b ∷ text) more h =
     let parts = and_parts (is_clean byte b) (list_all (is_clean byte) text) h in
-    let both = and_parts (not (b == byte)) (not (b == 34)) parts.0 in
+    let both = and_parts (not (b == byte)) (not (b == double_quote)) parts.0 in
     let rest : split_from byte false (text ++ (byte ∷ more)) ≡ text ∷ split_from byte false more = first_clean byte text more parts.1 in
     grind arith
 
-no_quotes : (text : List ℕ) → list_all (λ b. not (b == 34)) text ≡ true → count_by (λ b. b == 34) text ≡ 0
+no_quotes : (text : List ℕ) → list_all (λ b. not (b == double_quote)) text ≡ true → count_by (λ b. b == double_quote) text ≡ 0
 no_quotes [] h = refl
 no_quotes (b ∷ text) h =
-    let parts = and_parts (not (b == 34)) (list_all (λ b. not (b == 34)) text) h in
-    let rest : count_by (λ b. b == 34) text ≡ 0 = no_quotes text parts.1 in
+    let parts = and_parts (not (b == double_quote)) (list_all (λ b. not (b == double_quote)) text) h in
+    let rest : count_by (λ b. b == double_quote) text ≡ 0 = no_quotes text parts.1 in
     grind arith
 
 -- a text without quotes leaves none open
-pub quotes_closed : (text : List ℕ) → list_all (λ b. not (b == 34)) text ≡ true → has_open_quote text ≡ false
+pub quotes_closed : (text : List ℕ) → list_all (λ b. not (b == double_quote)) text ≡ true → has_open_quote text ≡ false
 quotes_closed text h = ap (λ n. n % 2 == 1) (no_quotes text h)
 
 -- a text without blanks has none at its end

@@ -1,7 +1,6 @@
 pub mod ApartLemmas
 pub mod CleanLemmas
 pub mod HexLemmas
-pub mod Measures
 pub mod PlaceLemmas
 pub mod SourceLemmas
 pub mod SplitLemmas

@@ -13,9 +13,12 @@ use Rattle.rtsp_transport.specs.Parameters.{value_in}
 abbrev pub source_number : List ℕ → Option ℕ
 source_number text = if length text == SSRC_DIGITS && list_all is_ascii_hexdigit text then Some (digits_value 16 text) else None
 
--- the source of a parameter `ssrc`: the first of its values, which slashes part
+-- the source that the value of a parameter `ssrc` names: the first of its values, which slashes part
+abbrev pub source_named : Option (Option (List ℕ)) → Option ℕ
+source_named value = option_and_then (λ value. option_and_then (λ text. source_number (up_to slash text)) value) value
+
 abbrev pub source_in : List ℕ → Option ℕ
-source_in parameter = option_and_then (λ value. option_and_then (λ text. source_number (up_to slash text)) value) (value_in (codes "ssrc") parameter)
+source_in parameter = source_named (value_in (codes "ssrc") parameter)
 
 -- the first source among the parameters
 abbrev pub first_source : List (List ℕ) → Option ℕ

@@ -8,7 +8,7 @@ ghost use Rattle.rtsp_transport.specs.Wants.{NamesApart, is_tcp, mode_fits, want
 
 use crate::channels::{Pair, read_asked};
 use crate::fault::TransportFault;
-use crate::parameters::{has_multicast, value_of};
+use crate::parameters::Parameters;
 use crate::split::{first_part, is_readable};
 use gate_bytes::{eq_fold, trim};
 
@@ -53,14 +53,12 @@ fn first_fit(value: &[u8]) -> Option<Wanted>
 fn wanted_in(alternative: &[u8]) -> Option<Wanted>
     ensures { result ≡ wanted_in (parameters_of alternative.now) }
 {
-    let (protocol, parameters) = first_part(b';', alternative);
-    if !is_tcp(trim(protocol)) || has_multicast(parameters) {
+    let (protocol, more) = first_part(b';', alternative);
+    let parameters = Parameters::read(more);
+    if !is_tcp(trim(protocol)) || parameters.multicast || !mode_fits(parameters.mode) {
         return None;
     }
-    if !mode_fits(value_of(b"mode", parameters)) {
-        return None;
-    }
-    wanted_channels(value_of(b"interleaved", parameters))
+    wanted_channels(parameters.interleaved)
 }
 
 /// Whether a text names RTP over the connection itself.

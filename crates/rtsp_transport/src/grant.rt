@@ -9,9 +9,8 @@ ghost use Rattle.rtsp_transport.specs.Grants.{grant_in, grant_among, grant_of};
 use crate::alternative::is_tcp;
 use crate::channels::{Pair, read_pair};
 use crate::fault::TransportFault;
-use crate::parameters::value_of;
+use crate::parameters::Parameters;
 use crate::split::{first_part, is_readable};
-use crate::ssrc::first_source;
 use gate_bytes::trim;
 
 /// What a server grants.
@@ -50,13 +49,14 @@ fn sole_grant(value: &[u8]) -> Option<Grant>
 fn grant_in(alternative: &[u8]) -> Option<Grant>
     ensures { result ≡ grant_in (parameters_of alternative.now) }
 {
-    let (protocol, parameters) = first_part(b';', alternative);
+    let (protocol, more) = first_part(b';', alternative);
     if !is_tcp(trim(protocol)) {
         return None;
     }
-    let pair = read_pair(value_of(b"interleaved", parameters)??)?;
+    let parameters = Parameters::read(more);
+    let pair = read_pair(parameters.interleaved??)?;
     Some(Grant {
         pair,
-        ssrc: first_source(parameters),
+        ssrc: parameters.ssrc,
     })
 }

@@ -1,39 +1,19 @@
 //! The source of RTP packets, as the parameter `ssrc` writes it.
-ghost use Rattle.std.specs.Prelude.{◌≡◌, ◌<◌, ◌++◌, true, OnOk};
+ghost use Rattle.std.specs.Prelude.{◌≡◌, ◌<◌, ◌++◌, true, OnOk, option_map};
 ghost use Rattle.std.specs.Char.{is_ascii_hexdigit, digit_value};
 ghost use Rattle.std.specs.Option.{option_copied};
-ghost use Rattle.rtsp_transport.specs.Sources.{source_number, source_in, first_source, hex_digit, source_digits};
-ghost use Rattle.rtsp_transport.specs.Parameters.{parameters_left};
+ghost use Rattle.rtsp_transport.specs.Sources.{source_number, source_named, hex_digit, source_digits};
 
-use crate::parameters::value_in;
-use crate::split::first_part;
-use gate_bytes::{Memory, Text, trim, up_to};
+use gate_bytes::{Memory, Text, up_to};
 
 /// The number of hexadecimal digits that write a source (RFC 2326, 12.39; RFC 7826, 18.54).
 pub const SSRC_DIGITS: usize = 8;
 
-/// The first source among the parameters.
-pub(crate) fn first_source(parameters: Option<&[u8]>) -> Option<u32>
-    ensures { result ≡ first_source (parameters_left (option_copied parameters.entry)) }
+/// The source that the value of a parameter `ssrc` names: what stands before a `/` in it.
+pub(crate) fn source_named(value: Option<Option<&[u8]>>) -> Option<u32>
+    ensures { result ≡ source_named (option_map option_copied value.entry) }
 {
-    let mut left = parameters;
-    while let Some(text) = left {
-        let (parameter, more) = first_part(b';', text);
-        let source = source_in(trim(parameter));
-        if source.is_some() {
-            return source;
-        }
-        left = more;
-    }
-    None
-}
-
-/// The source of a parameter `ssrc`: its first value, before a `/`.
-fn source_in(parameter: &[u8]) -> Option<u32>
-    ensures { result ≡ source_in parameter.now }
-{
-    let value = value_in(b"ssrc", parameter)??;
-    read_source(up_to(b'/', value))
+    read_source(up_to(b'/', value??))
 }
 
 /// The number that [`SSRC_DIGITS`] hexadecimal digits write.

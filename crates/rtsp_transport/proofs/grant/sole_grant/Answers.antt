@@ -1,5 +1,6 @@
 use Rattle.std.proofs.Common.{◌≡◌, ℕ, ◌<◌, false, List, [], ◌∷◌, length, None, refl, sym, ◌∙◌, ap, arith}
 use Rattle.std.specs.Option.{option_copied}
+use Rattle.gate_bytes.specs.Ascii.{comma}
 use Rattle.rtsp_transport.specs.Splits.{unquoted_parts}
 use Rattle.rtsp_transport.specs.Grants.{grant_among}
 use Rattle.rtsp_transport.specs.Splits.{unquoted_left}
@@ -13,6 +14,6 @@ among_two first (next ∷ others) h = refl
 
 pub returns-in-Some : goal.returns-in-Some
 returns-in-Some c =
-    let parts : unquoted_parts 44 c.args.value.now ≡ c.first_part.result.0.now ∷ unquoted_parts 44 c.in-Some.field-0.now =
-    c.first_part.ensures.parts ∙ ap (λ rest. c.first_part.result.0.now ∷ unquoted_left 44 (option_copied rest)) c.in-Some.is in
-    among_two c.first_part.result.0.now (unquoted_parts 44 c.in-Some.field-0.now) (some_part 44 false c.in-Some.field-0.now) ∙ sym (ap grant_among parts)
+    let parts : unquoted_parts comma c.args.value.now ≡ c.first_part.result.0.now ∷ unquoted_parts comma c.in-Some.field-0.now =
+    c.first_part.ensures.parts ∙ ap (λ rest. c.first_part.result.0.now ∷ unquoted_left comma (option_copied rest)) c.in-Some.is in
+    among_two c.first_part.result.0.now (unquoted_parts comma c.in-Some.field-0.now) (some_part comma false c.in-Some.field-0.now) ∙ sym (ap grant_among parts)
