@@ -1,9 +1,10 @@
 use Rattle.std.proofs.Common.{◌≡◌}
 use Rattle.std.specs.Option.{option_map}
 use Rattle.std.specs.Option.{option_copied}
+use Rattle.gate_bytes.proofs.Measures.{left_size}
 use Rattle.rtp_info.specs.Views.{noted_seen}
 use Rattle.rtp_info.specs.Parameters.{read_parameters}
-use Rattle.rtp_info.proofs.Lefts.{left_size, joined, parameters_left}
+use Rattle.rtp_info.proofs.Lefts.{joined, parameters_left}
 use Rattle.rtp_info.proofs.parameter.read_parameters.Given as goal
 
 -- what was noted and what is left say what all parameters say

@@ -1,7 +1,8 @@
 use Rattle.std.proofs.Common.{◌≡◌}
 use Rattle.std.specs.Option.{option_copied}
+use Rattle.gate_bytes.proofs.Measures.{left_size}
 use Rattle.rtp_info.specs.Infos.{info_of}
-use Rattle.rtp_info.proofs.Lefts.{left_size, entries_with}
+use Rattle.rtp_info.proofs.Lefts.{entries_with}
 use Rattle.rtp_info.proofs.reading.read_two.Given as goal
 
 -- the entries so far and what is left say what all specs say
