@@ -3,6 +3,7 @@ use Rattle.std.proofs.Common.{◌≡◌, ℕ, zero, suc, ◌+◌, ◌<◌, ◌�
 use Rattle.std.specs.Option.{option_map}
 use Rattle.std.proofs.lemmas.List.{take_all, take-take, length-take-le, length-take, get_or-take}
 use Rattle.std.proofs.lemmas.Bool.{eqb-true, eqb-false, ltb-false, le-ltb, cases_lt}
+use Rattle.gate_bytes.specs.Ascii as ascii
 use Rattle.rtsp_head.specs.Items.{begins_with_lf, begins_blank, blank_lines, head_from, head_len, bad_span, when_whole, body_span, judged_span, headed_span, message_span, frame_span, span_of, first_extent, message_kind, bad_kind}
 use Rattle.rtsp_head.specs.Heads.{facts_of}
 use Rattle.rtsp_head.specs.declared.facts.Facts.{Facts}
@@ -35,10 +36,10 @@ head_from_front (b ∷ xs) starts n zero h le = let pos = (head_from_fits (b ∷
 head_from_front (b ∷ []) starts n (suc zero) h le = h
 head_from_front (b ∷ []) starts n (suc (suc m)) h le = h
 head_from_front (b ∷ c ∷ xs) starts n (suc zero) h le =
-    front_turn (eqb b 10 && starts) _ None n 0
+    front_turn (eqb b ascii.lf && starts) _ None n 0
     (λ k at below. let pos = (head_from_fits (c ∷ xs) _ k at).0 in absurd (omega arith)) h le
 head_from_front (b ∷ c ∷ xs) starts n (suc (suc m)) h le =
-    front_turn (eqb b 10 && starts) _ _ n (suc m)
+    front_turn (eqb b ascii.lf && starts) _ _ n (suc m)
     (λ k at below. head_from_front (c ∷ xs) _ k (suc m) at below) h le
 
 -- the same within the longest head
@@ -131,11 +132,11 @@ span_alone (b ∷ xs) s h =
     let come : length (take s.len (b ∷ xs)) ≡ s.len = length-take-le s.len (b ∷ xs) fits in
     let pos : 0 < length (take s.len (b ∷ xs)) = omega arith in
     let first : get_or (take s.len (b ∷ xs)) 0 0 ≡ b = get_or-take s.len (b ∷ xs) 0 0 not_empty in
-    either_is (eqb b 36) (frame_span (b ∷ xs)) (message_span (b ∷ xs)) s (span_of (take s.len (b ∷ xs)) ≡ Some s)
+    either_is (eqb b ascii.dollar) (frame_span (b ∷ xs)) (message_span (b ∷ xs)) s (span_of (take s.len (b ∷ xs)) ≡ Some s)
     (λ dollar at.
-    span_from_dollar (take s.len (b ∷ xs)) pos (first ∙ eqb-true b 36 dollar) ∙ frame_alone (b ∷ xs) s fits at)
+    span_from_dollar (take s.len (b ∷ xs)) pos (first ∙ eqb-true b ascii.dollar dollar) ∙ frame_alone (b ∷ xs) s fits at)
     (λ other at.
-    span_from_other (take s.len (b ∷ xs)) pos (λ e. eqb-false b 36 other (sym first ∙ e))
+    span_from_other (take s.len (b ∷ xs)) pos (λ e. eqb-false b ascii.dollar other (sym first ∙ e))
     ∙ headed_alone (b ∷ xs) (head_len (take MOST_HEAD (b ∷ xs))) s fits refl at) h
 
 -- Empty lines
@@ -158,7 +159,7 @@ cut_short false false lf h = refl
 pub none_in_front : (n : ℕ) (xs : List ℕ) → begins_blank xs ≡ false → begins_blank (take n xs) ≡ false
 none_in_front zero xs h = refl
 none_in_front (suc n) [] h = refl
-none_in_front (suc zero) (b ∷ xs) h = cut_short (eqb b 10) (eqb b 13) (begins_with_lf xs) h
+none_in_front (suc zero) (b ∷ xs) h = cut_short (eqb b ascii.lf) (eqb b ascii.cr) (begins_with_lf xs) h
 none_in_front (suc (suc n)) (b ∷ []) h = h
 none_in_front (suc (suc n)) (b ∷ c ∷ xs) h = h
 

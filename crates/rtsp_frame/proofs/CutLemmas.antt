@@ -1,6 +1,7 @@
 -- How a stream is cut, turn by turn, and what a longer one gives.
 use Rattle.std.proofs.Common.{◌≡◌, ℕ, zero, suc, Bool, true, false, cond, eqb, ◌&&◌, ◌||◌, ◌+◌, ◌≤◌, List, [], ◌∷◌, ◌++◌, length, take, drop, Option, Some, None, refl, sym, ap, ◌∙◌, subst, arith}
 use Rattle.std.proofs.lemmas.List.{append-nil, take-append-le, drop-append-le, length-drop, nil_from_length}
+use Rattle.gate_bytes.specs.Ascii as ascii
 use Rattle.rtsp_head.specs.Items.{Shape, Cut, begins_with_lf, begins_blank, blank_lines, span_of, shape_at, first_extent, with_item, is_bad, behind, cut_with, cut_by, cut, items_of}
 use Rattle.std.specs.Option.{option_map}
 use Rattle.rtsp_head.specs.declared.item.Span.{Span}
@@ -101,7 +102,7 @@ skip_byte b xs blank =
 
 skip_line : (t : Bool) (b : ℕ) (xs ys : List ℕ) → begins_blank (b ∷ xs) ≡ t → cut (xs ++ ys) ≡ cut (behind_blank xs ++ ys) → cut (b ∷ (xs ++ ys)) ≡ cut (drop (cond t (suc (blank_lines xs)) 0) (b ∷ xs) ++ ys)
 skip_line true b xs ys blank more =
-    skip_byte b (xs ++ ys) (lines_stay (eqb b 10) (eqb b 13) (begins_with_lf xs) (begins_with_lf (xs ++ ys)) (lf_stays xs ys) blank) ∙ more
+    skip_byte b (xs ++ ys) (lines_stay (eqb b ascii.lf) (eqb b ascii.cr) (begins_with_lf xs) (begins_with_lf (xs ++ ys)) (lf_stays xs ys) blank) ∙ more
 skip_line false b xs ys full more = refl
 
 pub skip_lines : (xs ys : List ℕ) → cut (xs ++ ys) ≡ cut (behind_blank xs ++ ys)

@@ -3,6 +3,7 @@ use Rattle.std.proofs.Common.{◌≡◌, ℕ, zero, suc, ◌+◌, ◌<◌, ◌�
 use Rattle.std.specs.Option.{option_map}
 use Rattle.std.proofs.lemmas.List.{take_at, take-take, drop-take, length-append, length-drop, nil_from_length}
 use Rattle.std.proofs.lemmas.Bool.{eqb-true, eq-eqb, cases_Bool}
+use Rattle.gate_bytes.specs.Ascii as ascii
 use Rattle.gate_bytes.specs.Places.{place_of}
 use Rattle.gate_bytes.proofs.PlaceLemmas.{place_within}
 use Rattle.rtsp_head.specs.Items.{head_len}
@@ -15,8 +16,8 @@ use Rattle.rtsp_frame.proofs.LineLemmas.{later, place_turn, head_ends, head_goes
 full_line : (line : List ℕ) → IsLine line → is_empty_line line ≡ false
 full_line [] h = absurd (h.not_nothing refl)
 full_line (b ∷ []) h =
-    elim (cases_Bool (eqb b 13)) [
-      | inl cr ↦ absurd (h.not_cr (ap (λ (n : ℕ). n ∷ []) (eqb-true b 13 cr)))
+    elim (cases_Bool (eqb b ascii.cr)) [
+      | inl cr ↦ absurd (h.not_cr (ap (λ (n : ℕ). n ∷ []) (eqb-true b ascii.cr cr)))
       | inr other ↦ other
     ]
 full_line (b ∷ c ∷ line) h = refl
@@ -36,10 +37,10 @@ drop_past : (byte : ℕ) (line more : List ℕ) → drop (suc (length line)) (li
 drop_past byte [] more = refl
 drop_past byte (b ∷ line) more = drop_past byte line more
 
-parted : (line lines end rest : List ℕ) → line ++ 10 ∷ [] ++ lines ++ end ++ rest ≡ line ++ (10 ∷ (lines ++ end ++ rest))
+parted : (line lines end rest : List ℕ) → line ++ ascii.lf ∷ [] ++ lines ++ end ++ rest ≡ line ++ (ascii.lf ∷ (lines ++ end ++ rest))
 parted line lines end rest = simp append_assoc
 
-counted : (line lines end : List ℕ) → suc (length line) + length (lines ++ end) ≡ length (line ++ 10 ∷ [] ++ lines ++ end)
+counted : (line lines end : List ℕ) → suc (length line) + length (lines ++ end) ≡ length (line ++ ascii.lf ∷ [] ++ lines ++ end)
 counted line lines end = simp length-append (omega arith)
 
 -- the head that is read of lines and an empty line is these
@@ -48,13 +49,13 @@ ended_len [] true rest h = refl
 ended_len [] false rest h = refl
 ended_len (line ∷ lines) last rest h =
     let more = with_ends lines ++ empty_line last ++ rest in
-    let text = line ++ (10 ∷ more) in
-    let place : place_of 10 text ≡ Some (length line) = place_behind 10 line more h.0.no_lf in
+    let text = line ++ (ascii.lf ∷ more) in
+    let place : place_of ascii.lf text ≡ Some (length line) = place_behind ascii.lf line more h.0.no_lf in
     let full : is_empty_line (take (length line) text) ≡ false =
-    ap is_empty_line (take_at line (10 ∷ more) (length line) refl) ∙ full_line line h.0 in
+    ap is_empty_line (take_at line (ascii.lf ∷ more) (length line) refl) ∙ full_line line h.0 in
     ap head_len (parted line (with_ends lines) (empty_line last) rest)
     ∙ head_goes_on text (length line) place full
-    ∙ ap (λ (l : List ℕ). later (suc (length line)) (head_len l)) (drop_past 10 line more)
+    ∙ ap (λ (l : List ℕ). later (suc (length line)) (head_len l)) (drop_past ascii.lf line more)
     ∙ ap (later (suc (length line))) (ended_len lines last rest h.1)
     ∙ ap (λ (n : ℕ). Some n) (counted line (with_ends lines) (empty_line last))
 
@@ -66,44 +67,44 @@ ends_len front rest h =
 -- From the length to lines
 
 -- the line that ends at the first LF
-line_at : (text : List ℕ) (end : ℕ) → place_of 10 text ≡ Some end → (place_of 10 (take end text) ≡ None) × (take (suc end) text ≡ take end text ++ 10 ∷ [])
+line_at : (text : List ℕ) (end : ℕ) → place_of ascii.lf text ≡ Some end → (place_of ascii.lf (take end text) ≡ None) × (take (suc end) text ≡ take end text ++ ascii.lf ∷ [])
 line_at [] end h = cc
 line_at (b ∷ text) end h =
-    place_turn (eqb b 10) (place_of 10 text) end ((place_of 10 (take end (b ∷ text)) ≡ None) × (take (suc end) (b ∷ text) ≡ take end (b ∷ text) ++ 10 ∷ []))
+    place_turn (eqb b ascii.lf) (place_of ascii.lf text) end ((place_of ascii.lf (take end (b ∷ text)) ≡ None) × (take (suc end) (b ∷ text) ≡ take end (b ∷ text) ++ ascii.lf ∷ []))
     (λ t e.
-    subst (λ (n : ℕ). (place_of 10 (take n (b ∷ text)) ≡ None) × (take (suc n) (b ∷ text) ≡ take n (b ∷ text) ++ 10 ∷ [])) (sym e)
-    (refl, ap (λ (n : ℕ). n ∷ []) (eqb-true b 10 t)))
+    subst (λ (n : ℕ). (place_of ascii.lf (take n (b ∷ text)) ≡ None) × (take (suc n) (b ∷ text) ≡ take n (b ∷ text) ++ ascii.lf ∷ [])) (sym e)
+    (refl, ap (λ (n : ℕ). n ∷ []) (eqb-true b ascii.lf t)))
     (λ k t at e.
     let more = line_at text k at in
-    subst (λ (n : ℕ). (place_of 10 (take n (b ∷ text)) ≡ None) × (take (suc n) (b ∷ text) ≡ take n (b ∷ text) ++ 10 ∷ [])) e (
-      ap (λ (t : Bool). cond t (Some 0) (option_map (λ k. k + 1) (place_of 10 (take k text)))) t
+    subst (λ (n : ℕ). (place_of ascii.lf (take n (b ∷ text)) ≡ None) × (take (suc n) (b ∷ text) ≡ take n (b ∷ text) ++ ascii.lf ∷ [])) e (
+      ap (λ (t : Bool). cond t (Some 0) (option_map (λ k. k + 1) (place_of ascii.lf (take k text)))) t
           ∙ ap (option_map (λ k. k + 1)) more.0,
       ap (λ (l : List ℕ). b ∷ l) more.1,
     )) h
 
-empty_ends : (line : List ℕ) → is_empty_line line ≡ true → EndsEmpty (line ++ 10 ∷ [])
+empty_ends : (line : List ℕ) → is_empty_line line ≡ true → EndsEmpty (line ++ ascii.lf ∷ [])
 empty_ends [] h = record { lines = []; last = false; are_lines = tt; spelled = refl }
 empty_ends (b ∷ []) h = record {
   lines = [];
   last = true;
   are_lines = tt;
-  spelled = ap (λ (n : ℕ). n ∷ 10 ∷ []) (eqb-true b 13 h);
+  spelled = ap (λ (n : ℕ). n ∷ ascii.lf ∷ []) (eqb-true b ascii.cr h);
 }
 empty_ends (b ∷ c ∷ line) h = cc
 
-full_is_line : (line : List ℕ) → place_of 10 line ≡ None → is_empty_line line ≡ false → IsLine line
+full_is_line : (line : List ℕ) → place_of ascii.lf line ≡ None → is_empty_line line ≡ false → IsLine line
 full_is_line line none full = record {
   no_lf = none;
   not_nothing = λ e. let never : true ≡ false = sym (ap is_empty_line e) ∙ full in cc never;
   not_cr = λ e. let never : true ≡ false = sym (ap is_empty_line e) ∙ full in cc never;
 }
 
-line_first : (line more : List ℕ) → IsLine line → EndsEmpty more → EndsEmpty (line ++ 10 ∷ [] ++ more)
+line_first : (line more : List ℕ) → IsLine line → EndsEmpty more → EndsEmpty (line ++ ascii.lf ∷ [] ++ more)
 line_first line more is h = record {
   lines = line ∷ h.lines;
   last = h.last;
   are_lines = (is, h.are_lines);
-  spelled = ap (λ (l : List ℕ). line ++ 10 ∷ [] ++ l) h.spelled ∙ sym (append_assoc (line ++ 10 ∷ []) (with_ends h.lines) (empty_line h.last));
+  spelled = ap (λ (l : List ℕ). line ++ ascii.lf ∷ [] ++ l) h.spelled ∙ sym (append_assoc (line ++ ascii.lf ∷ []) (with_ends h.lines) (empty_line h.last));
 }
 
 later_some : (m k : ℕ) (o : Option ℕ) (P : Type 0) → ((j : ℕ) → o ≡ Some j → m + j ≡ k → P) → later m o ≡ Some k → P
@@ -116,7 +117,7 @@ take_sum n m xs =
     ∙ ap (λ (l : List ℕ). l ++ drop n (take (n + m) xs)) (take-take n (n + m) xs (omega arith))
     ∙ ap (λ (l : List ℕ). take n xs ++ l) (drop-take n m xs)
 
-place_cases : (text : List ℕ) (o : Option ℕ) (P : Type 0) → place_of 10 text ≡ o → (place_of 10 text ≡ None → P) → ((end : ℕ) → place_of 10 text ≡ Some end → P) → P
+place_cases : (text : List ℕ) (o : Option ℕ) (P : Type 0) → place_of ascii.lf text ≡ o → (place_of ascii.lf text ≡ None → P) → ((end : ℕ) → place_of ascii.lf text ≡ Some end → P) → P
 place_cases text None P e f g = f e
 place_cases text (Some end) P e f g = g end e
 
@@ -126,11 +127,11 @@ ends_by zero text k le h =
     let never : None ≡ Some k = sym (ap head_len nothing) ∙ h in
     cc never
 ends_by (suc n) text k le h =
-    place_cases text (place_of 10 text) (EndsEmpty (take k text)) refl
+    place_cases text (place_of ascii.lf text) (EndsEmpty (take k text)) refl
     (λ none. let never : None ≡ Some k = sym (head_needs_lf text true none) ∙ h in cc never)
     (λ end at.
     let line = line_at text end at in
-    let below : end < length text = place_within 10 text end at in
+    let below : end < length text = place_within ascii.lf text end at in
     elim (cases_Bool (is_empty_line (take end text))) [
       | inl empty ↦
           let found : Some (end + 1) ≡ Some k = sym (head_ends text end at empty) ∙ h in

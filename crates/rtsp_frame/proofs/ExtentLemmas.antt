@@ -3,6 +3,7 @@ use Rattle.std.proofs.Common.{◌≡◌, ℕ, ◌+◌, ◌*◌, ◌<◌, ◌≤�
 use Rattle.std.specs.Option.{option_map}
 use Rattle.std.proofs.lemmas.List.{nil_from_length, take-append-le, drop-append-le, length-append, length-take, length-drop, get_or_append_left}
 use Rattle.std.proofs.lemmas.Bool.{eqb-true, eq-eqb, ne_eqb, ltb-false, le-ltb, cases_Bool}
+use Rattle.gate_bytes.specs.Ascii as ascii
 use Rattle.rtsp_head.specs.Items.{blank_lines, head_len, bad_span, when_whole, body_span, judged_span, headed_span, message_span, frame_span, span_of, first_extent, message_kind, bad_kind}
 use Rattle.rtsp_head.specs.Heads.{facts_of}
 use Rattle.rtsp_head.specs.declared.facts.Facts.{Facts}
@@ -148,7 +149,7 @@ either_more false o p q r s f g h = g h
 pub span_more : (xs ys : List ℕ) (s : Span) → span_of xs ≡ Some s → span_of (xs ++ ys) ≡ Some s
 span_more [] ys s h = cc
 span_more (b ∷ xs) ys s h =
-    either_more (eqb b 36) _ _ _ _ s
+    either_more (eqb b ascii.dollar) _ _ _ _ s
     (frame_more (b ∷ xs) ys s)
     (headed_more (b ∷ xs) ys (head_len (take MOST_HEAD (b ∷ xs))) s refl) h
 
@@ -156,20 +157,20 @@ span_more (b ∷ xs) ys s h =
 pub span_is : (xs : List ℕ) (s : Span) → span_of xs ≡ Some s → IsSpan (length xs) s
 span_is [] s h = cc
 span_is (b ∷ xs) s h =
-    choose_is (eqb b 36) (length (b ∷ xs)) _ _ s
+    choose_is (eqb b ascii.dollar) (length (b ∷ xs)) _ _ s
     (frame_is (b ∷ xs) s)
     (headed_is (b ∷ xs) (head_len (take MOST_HEAD (b ∷ xs))) s refl) h
 
 -- a lone CR is no item
-lone_cr : span_of (13 ∷ []) ≡ None
+lone_cr : span_of (ascii.cr ∷ []) ≡ None
 lone_cr = refl
 
 span_decided : (xs : List ℕ) (s : Span) → span_of xs ≡ Some s → decided xs ≡ true
 span_decided [] s h = cc
 span_decided (b ∷ []) s h =
-    elim (cases_Bool (eqb b 13)) [
+    elim (cases_Bool (eqb b ascii.cr)) [
       | inl cr ↦
-          let none : span_of (b ∷ []) ≡ None = subst (λ (n : ℕ). span_of (n ∷ []) ≡ None) (sym (eqb-true b 13 cr)) lone_cr in
+          let none : span_of (b ∷ []) ≡ None = subst (λ (n : ℕ). span_of (n ∷ []) ≡ None) (sym (eqb-true b ascii.cr cr)) lone_cr in
           cc none
       | inr other ↦ ap not other
     ]
@@ -222,13 +223,13 @@ first_is xs e h =
 
 -- What the code reads of it
 
-pub span_from_dollar : (xs : List ℕ) → 0 < length xs → get_or xs 0 0 ≡ 36 → span_of xs ≡ frame_span xs
+pub span_from_dollar : (xs : List ℕ) → 0 < length xs → get_or xs 0 0 ≡ ascii.dollar → span_of xs ≡ frame_span xs
 span_from_dollar [] pos at = absurd (omega arith)
-span_from_dollar (b ∷ xs) pos at = ap (λ (t : Bool). cond t (frame_span (b ∷ xs)) (message_span (b ∷ xs))) (eq-eqb b 36 at)
+span_from_dollar (b ∷ xs) pos at = ap (λ (t : Bool). cond t (frame_span (b ∷ xs)) (message_span (b ∷ xs))) (eq-eqb b ascii.dollar at)
 
-pub span_from_other : (xs : List ℕ) → 0 < length xs → (get_or xs 0 0 ≡ 36 → ⊥) → span_of xs ≡ message_span xs
+pub span_from_other : (xs : List ℕ) → 0 < length xs → (get_or xs 0 0 ≡ ascii.dollar → ⊥) → span_of xs ≡ message_span xs
 span_from_other [] pos other = absurd (omega arith)
-span_from_other (b ∷ xs) pos other = ap (λ (t : Bool). cond t (frame_span (b ∷ xs)) (message_span (b ∷ xs))) (ne_eqb b 36 other)
+span_from_other (b ∷ xs) pos other = ap (λ (t : Bool). cond t (frame_span (b ∷ xs)) (message_span (b ∷ xs))) (ne_eqb b ascii.dollar other)
 
 pub span_from_nothing : (xs : List ℕ) → length xs ≡ 0 → span_of xs ≡ None
 span_from_nothing xs none = ap span_of (nil_from_length xs none)

@@ -1,6 +1,7 @@
 -- The facts of a head take no memory.
 use Rattle.std.proofs.Common.{◌≡◌, ℕ, Bool, true, false, cond, List, [], ◌∷◌, length, Option, Some, None, Result, Ok, Err, ltb}
 use Rattle.std.specs.Option.{ok_or}
+use Rattle.gate_bytes.specs.Ascii.{colon}
 use Rattle.gate_bytes.specs.Tokens.{is_token, trimmed}
 use Rattle.gate_bytes.specs.Places.{cut_at}
 use Rattle.rtsp_head.specs.declared.header.Header.{Header}
@@ -53,7 +54,7 @@ further_takes line =
     choice_takes (has_control line) (Err faults.Control) (cond (goes_on line) (Ok (More (trimmed line))) (result_map Begins (header_of line)))
     control_takes
     (choice_takes (goes_on line) (Ok (More (trimmed line))) (result_map Begins (header_of line)) (ok_takes (More (trimmed line)))
-    (map_takes Begins (header_of line) (header_takes (cut_at 58 line))))
+    (map_takes Begins (header_of line) (header_takes (cut_at colon line))))
 
 continued_takes : (so_far : SoFar) (text : List ℕ) (last : Option Header) → NoMemory (continued so_far text last)
 continued_takes so_far text None = record { never = λ h. cc }

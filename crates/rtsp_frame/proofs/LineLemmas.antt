@@ -1,6 +1,7 @@
 -- A head line by line.
 use Rattle.std.proofs.Common.{◌≡◌, ℕ, zero, suc, ◌+◌, ◌<◌, Bool, true, false, cond, ◌&&◌, ◌||◌, eqb, List, [], ◌∷◌, length, take, drop, Option, Some, None, refl, sym, ap, ◌∙◌, subst, arith}
 use Rattle.std.specs.Option.{option_map}
+use Rattle.gate_bytes.specs.Ascii as ascii
 use Rattle.gate_bytes.specs.Places.{place_of}
 use Rattle.rtsp_head.specs.Items.{begins_with_lf, begins_blank, blank_lines, head_from, head_len}
 use Rattle.rtsp_frame.specs.Lines.{is_empty_line}
@@ -32,16 +33,16 @@ place_turn false None end P f g h = cc
 place_turn false (Some k) end P f g h = let e : k + 1 ≡ end = cc in g k refl refl (omega arith)
 
 -- Within a line the head goes on to the line's end, and a line starts behind it.
-within_line : (text : List ℕ) (end : ℕ) → place_of 10 text ≡ Some end → head_from false text ≡ later (suc end) (head_from true (drop (suc end) text))
+within_line : (text : List ℕ) (end : ℕ) → place_of ascii.lf text ≡ Some end → head_from false text ≡ later (suc end) (head_from true (drop (suc end) text))
 within_line [] end h = cc
 within_line (b ∷ text) end h =
-    place_turn (eqb b 10) (place_of 10 text) end (head_from false (b ∷ text) ≡ later (suc end) (head_from true (drop (suc end) (b ∷ text))))
+    place_turn (eqb b ascii.lf) (place_of ascii.lf text) end (head_from false (b ∷ text) ≡ later (suc end) (head_from true (drop (suc end) (b ∷ text))))
     (λ t e.
     subst (λ (n : ℕ). head_from false (b ∷ text) ≡ later (suc n) (head_from true (drop (suc n) (b ∷ text)))) (sym e)
-    (within_at (eqb b 10) (begins_with_lf text) (eqb b 13) text t))
+    (within_at (eqb b ascii.lf) (begins_with_lf text) (eqb b ascii.cr) text t))
     (λ k t at e.
     subst (λ (n : ℕ). head_from false (b ∷ text) ≡ later (suc n) (head_from true (drop (suc n) (b ∷ text)))) e
-    (within_past (eqb b 10) (eqb b 13) (begins_with_lf text) text k t (within_line text k at))) h
+    (within_past (eqb b ascii.lf) (eqb b ascii.cr) (begins_with_lf text) text k t (within_line text k at))) h
   where
     within_at : (ten lf cr : Bool) (text : List ℕ) → ten ≡ true → cond (ten && false) (Some 1) (option_map suc (head_from (ten || (false && (cr && lf))) text)) ≡ later 1 (head_from true text)
     within_at true lf cr text t = suc_is_later (head_from true text)
@@ -52,25 +53,25 @@ within_line (b ∷ text) end h =
     within_past false cr lf text k t h = ap (option_map suc) h ∙ suc_later (suc k) (head_from true (drop (suc k) text))
 
 -- an LF comes next, or later
-lf_next : (text : List ℕ) → place_of 10 text ≡ Some 0 → begins_with_lf text ≡ true
+lf_next : (text : List ℕ) → place_of ascii.lf text ≡ Some 0 → begins_with_lf text ≡ true
 lf_next [] h = cc
 lf_next (b ∷ text) h =
-    place_turn (eqb b 10) (place_of 10 text) 0 (eqb b 10 ≡ true) (λ t e. t) (λ k t at e. cc) h
+    place_turn (eqb b ascii.lf) (place_of ascii.lf text) 0 (eqb b ascii.lf ≡ true) (λ t e. t) (λ k t at e. cc) h
 
-lf_later : (text : List ℕ) (k : ℕ) → place_of 10 text ≡ Some (suc k) → begins_with_lf text ≡ false
+lf_later : (text : List ℕ) (k : ℕ) → place_of ascii.lf text ≡ Some (suc k) → begins_with_lf text ≡ false
 lf_later [] k h = cc
 lf_later (b ∷ text) k h =
-    place_turn (eqb b 10) (place_of 10 text) (suc k) (eqb b 10 ≡ false) (λ t e. cc) (λ j t at e. t) h
+    place_turn (eqb b ascii.lf) (place_of ascii.lf text) (suc k) (eqb b ascii.lf ≡ false) (λ t e. cc) (λ j t at e. t) h
 
 -- a line begins an empty line exactly where it is empty up to its LF
-starts_empty : (b : ℕ) (text : List ℕ) (k : ℕ) → place_of 10 text ≡ Some k → (eqb b 13 && begins_with_lf text) ≡ is_empty_line (b ∷ take k text)
-starts_empty b text zero h = and_true (eqb b 13) (begins_with_lf text) (lf_next text h)
+starts_empty : (b : ℕ) (text : List ℕ) (k : ℕ) → place_of ascii.lf text ≡ Some k → (eqb b ascii.cr && begins_with_lf text) ≡ is_empty_line (b ∷ take k text)
+starts_empty b text zero h = and_true (eqb b ascii.cr) (begins_with_lf text) (lf_next text h)
   where
     and_true : (x y : Bool) → y ≡ true → (x && y) ≡ x
     and_true true y h = h
     and_true false y h = refl
 starts_empty b [] (suc k) h = cc
-starts_empty b (c ∷ text) (suc k) h = and_false (eqb b 13) (begins_with_lf (c ∷ text)) (lf_later (c ∷ text) k h)
+starts_empty b (c ∷ text) (suc k) h = and_false (eqb b ascii.cr) (begins_with_lf (c ∷ text)) (lf_later (c ∷ text) k h)
   where
     and_false : (x y : Bool) → y ≡ false → (x && y) ≡ false
     and_false true y h = h
@@ -82,7 +83,7 @@ ends_at false o t = cc
 
 starts_line : (text : List ℕ) → begins_with_lf text ≡ true → head_from true text ≡ Some 1
 starts_line [] h = cc
-starts_line (b ∷ text) h = ends_at (eqb b 10) _ h
+starts_line (b ∷ text) h = ends_at (eqb b ascii.lf) _ h
 
 ends_past : (ten starts : Bool) (text : List ℕ) → ten ≡ false → starts ≡ true → begins_with_lf text ≡ true → cond (ten && true) (Some 1) (option_map suc (head_from (ten || (true && starts)) text)) ≡ Some (suc 0 + 1)
 ends_past true starts text t s h = cc
@@ -99,38 +100,38 @@ none_past true starts next text t h = cc
 none_past false starts next text t h = ap (option_map suc) h
 
 -- an empty line has nothing or a CR before its LF
-only_cr : (b : ℕ) (text : List ℕ) (k : ℕ) → place_of 10 text ≡ Some k → is_empty_line (b ∷ take k text) ≡ true → k ≡ 0
+only_cr : (b : ℕ) (text : List ℕ) (k : ℕ) → place_of ascii.lf text ≡ Some k → is_empty_line (b ∷ take k text) ≡ true → k ≡ 0
 only_cr b text zero at h = refl
 only_cr b [] (suc k) at h = cc
 only_cr b (c ∷ text) (suc k) at h = cc
 
 -- where a line ends that is empty, the head ends
-pub head_ends : (text : List ℕ) (end : ℕ) → place_of 10 text ≡ Some end → is_empty_line (take end text) ≡ true → head_len text ≡ Some (end + 1)
+pub head_ends : (text : List ℕ) (end : ℕ) → place_of ascii.lf text ≡ Some end → is_empty_line (take end text) ≡ true → head_len text ≡ Some (end + 1)
 head_ends [] end h empty = cc
 head_ends (b ∷ text) end h empty =
-    place_turn (eqb b 10) (place_of 10 text) end (head_len (b ∷ text) ≡ Some (end + 1))
-    (λ t e. subst (λ (n : ℕ). head_len (b ∷ text) ≡ Some (n + 1)) (sym e) (ends_at (eqb b 10) _ t))
+    place_turn (eqb b ascii.lf) (place_of ascii.lf text) end (head_len (b ∷ text) ≡ Some (end + 1))
+    (λ t e. subst (λ (n : ℕ). head_len (b ∷ text) ≡ Some (n + 1)) (sym e) (ends_at (eqb b ascii.lf) _ t))
     (λ k t at e.
     let empty_here : is_empty_line (b ∷ take k text) ≡ true = subst (λ (n : ℕ). is_empty_line (take n (b ∷ text)) ≡ true) (sym e) empty in
-    let starts : (eqb b 13 && begins_with_lf text) ≡ true = starts_empty b text k at ∙ empty_here in
+    let starts : (eqb b ascii.cr && begins_with_lf text) ≡ true = starts_empty b text k at ∙ empty_here in
     let none_between : k ≡ 0 = only_cr b text k at empty_here in
     subst (λ (n : ℕ). head_len (b ∷ text) ≡ Some (n + 1)) e
     (subst (λ (n : ℕ). head_len (b ∷ text) ≡ Some (suc n + 1)) (sym none_between)
-    (ends_past (eqb b 10) (eqb b 13 && begins_with_lf text) text t starts (lf_next text (at ∙ ap (λ n. Some n) none_between))))) h
+    (ends_past (eqb b ascii.lf) (eqb b ascii.cr && begins_with_lf text) text t starts (lf_next text (at ∙ ap (λ n. Some n) none_between))))) h
 
 -- otherwise it goes on behind the line
-pub head_goes_on : (text : List ℕ) (end : ℕ) → place_of 10 text ≡ Some end → is_empty_line (take end text) ≡ false → head_len text ≡ later (suc end) (head_len (drop (suc end) text))
+pub head_goes_on : (text : List ℕ) (end : ℕ) → place_of ascii.lf text ≡ Some end → is_empty_line (take end text) ≡ false → head_len text ≡ later (suc end) (head_len (drop (suc end) text))
 head_goes_on [] end h full = cc
 head_goes_on (b ∷ text) end h full =
-    place_turn (eqb b 10) (place_of 10 text) end (head_len (b ∷ text) ≡ later (suc end) (head_len (drop (suc end) (b ∷ text))))
+    place_turn (eqb b ascii.lf) (place_of ascii.lf text) end (head_len (b ∷ text) ≡ later (suc end) (head_len (drop (suc end) (b ∷ text))))
     (λ t e.
     let nothing : is_empty_line [] ≡ false = subst (λ (n : ℕ). is_empty_line (take n (b ∷ text)) ≡ false) e full in
     cc nothing)
     (λ k t at e.
     let full_here : is_empty_line (b ∷ take k text) ≡ false = subst (λ (n : ℕ). is_empty_line (take n (b ∷ text)) ≡ false) (sym e) full in
-    let starts : (eqb b 13 && begins_with_lf text) ≡ false = starts_empty b text k at ∙ full_here in
+    let starts : (eqb b ascii.cr && begins_with_lf text) ≡ false = starts_empty b text k at ∙ full_here in
     subst (λ (n : ℕ). head_len (b ∷ text) ≡ later (suc n) (head_len (drop (suc n) (b ∷ text)))) e
-    (goes_past (eqb b 10) (eqb b 13 && begins_with_lf text) text k t starts (within_line text k at))) h
+    (goes_past (eqb b ascii.lf) (eqb b ascii.cr && begins_with_lf text) text k t starts (within_line text k at))) h
 
 pub no_turn : (t : Bool) (o : Option ℕ) (P : Type 0) → (t ≡ false → o ≡ None → P) → cond t (Some 0) (option_map (λ k. k + 1) o) ≡ None → P
 no_turn true o P f h = cc
@@ -138,11 +139,11 @@ no_turn false None P f h = f refl refl
 no_turn false (Some k) P f h = cc
 
 -- with no line end there is no head
-pub head_needs_lf : (text : List ℕ) (starts : Bool) → place_of 10 text ≡ None → head_from starts text ≡ None
+pub head_needs_lf : (text : List ℕ) (starts : Bool) → place_of ascii.lf text ≡ None → head_from starts text ≡ None
 head_needs_lf [] starts h = refl
 head_needs_lf (b ∷ text) starts h =
-    no_turn (eqb b 10) (place_of 10 text) (head_from starts (b ∷ text) ≡ None)
-    (λ t at. none_past (eqb b 10) starts _ text t (head_needs_lf text _ at)) h
+    no_turn (eqb b ascii.lf) (place_of ascii.lf text) (head_from starts (b ∷ text) ≡ None)
+    (λ t at. none_past (eqb b ascii.lf) starts _ text t (head_needs_lf text _ at)) h
 
 -- Empty lines before an item
 

@@ -2,6 +2,7 @@
 use Rattle.std.proofs.Common.{◌≡◌, ℕ, zero, suc, ◌+◌, ◌*◌, ◌≤◌, Bool, true, false, cond, ◌&&◌, ◌||◌, eqb, ltb, List, [], ◌∷◌, length, take, drop, Option, Some, None, Result, Ok, Err, inl, inr, refl, sym, ap, ◌∙◌, subst, arith}
 use Rattle.std.proofs.lemmas.List.{append-nil, take-take, length-take-le, length-drop}
 use Rattle.std.proofs.lemmas.Bool.{eqb-true, ltb-true, ltb-false, cases_Bool, or_cases, and_parts}
+use Rattle.gate_bytes.specs.Ascii as ascii
 use Rattle.rtsp_head.specs.Heads.{facts_of}
 use Rattle.rtsp_head.specs.Items.{begins_blank, blank_lines, head_len, bad_span, when_whole, body_span, judged_span, headed_span, message_span, frame_span, span_of, first_extent, message_kind, bad_kind, shape_at}
 use Rattle.rtsp_head.specs.Spellings.{AreEmptyLines, begins_frame, BeginsMessage, EndsEmpty, IsHead, IsMessage, IsBad, IsItem, Spells}
@@ -22,19 +23,19 @@ use Rattle.rtsp_frame.proofs.ExtentLemmas.{not_below, unless_below, when_whole_s
 
 -- Empty lines
 
-lf_first : (b : ℕ) (lines : List ℕ) → eqb b 10 ≡ true → AreEmptyLines lines → AreEmptyLines (b ∷ lines)
+lf_first : (b : ℕ) (lines : List ℕ) → eqb b ascii.lf ≡ true → AreEmptyLines lines → AreEmptyLines (b ∷ lines)
 lf_first b lines ten h = record {
   ends = false ∷ h.ends;
-  spelled = ap (λ (n : ℕ). n ∷ lines) (eqb-true b 10 ten) ∙ ap (λ (l : List ℕ). 10 ∷ l) h.spelled;
+  spelled = ap (λ (n : ℕ). n ∷ lines) (eqb-true b ascii.lf ten) ∙ ap (λ (l : List ℕ). ascii.lf ∷ l) h.spelled;
 }
 
-cr_lf_first : (b c : ℕ) (lines : List ℕ) → eqb b 13 ≡ true → eqb c 10 ≡ true → AreEmptyLines lines → AreEmptyLines (b ∷ c ∷ lines)
+cr_lf_first : (b c : ℕ) (lines : List ℕ) → eqb b ascii.cr ≡ true → eqb c ascii.lf ≡ true → AreEmptyLines lines → AreEmptyLines (b ∷ c ∷ lines)
 cr_lf_first b c lines cr ten h = record {
   ends = true ∷ h.ends;
   spelled =
-      ap (λ (n : ℕ). n ∷ c ∷ lines) (eqb-true b 13 cr)
-      ∙ ap (λ (n : ℕ). 13 ∷ n ∷ lines) (eqb-true c 10 ten)
-      ∙ ap (λ (l : List ℕ). 13 ∷ 10 ∷ l) h.spelled;
+      ap (λ (n : ℕ). n ∷ c ∷ lines) (eqb-true b ascii.cr cr)
+      ∙ ap (λ (n : ℕ). ascii.cr ∷ n ∷ lines) (eqb-true c ascii.lf ten)
+      ∙ ap (λ (l : List ℕ). ascii.cr ∷ ascii.lf ∷ l) h.spelled;
 }
 
 nothing_empty : AreEmptyLines []
@@ -56,17 +57,17 @@ lines_found : (xs : List ℕ) → AreEmptyLines (take (blank_lines xs) xs)
 lines_found [] = nothing_empty
 lines_found (b ∷ []) =
     lines_at b [] 0 (λ blank.
-    elim (or_cases (eqb b 10) (eqb b 13 && false) blank) [
+    elim (or_cases (eqb b ascii.lf) (eqb b ascii.cr && false) blank) [
       | inl ten ↦ lf_first b [] ten nothing_empty
-      | inr cr ↦ let never : false ≡ true = (and_parts (eqb b 13) false cr).1 in cc never
+      | inr cr ↦ let never : false ≡ true = (and_parts (eqb b ascii.cr) false cr).1 in cc never
     ])
 lines_found (b ∷ c ∷ xs) =
     lines_at b (c ∷ xs) (blank_lines (c ∷ xs)) (λ blank.
-    elim (or_cases (eqb b 10) (eqb b 13 && eqb c 10) blank) [
+    elim (or_cases (eqb b ascii.lf) (eqb b ascii.cr && eqb c ascii.lf) blank) [
       | inl ten ↦ lf_first b (take (blank_lines (c ∷ xs)) (c ∷ xs)) ten (lines_found (c ∷ xs))
       | inr both ↦
-          let parts = and_parts (eqb b 13) (eqb c 10) both in
-          subst (λ (n : ℕ). AreEmptyLines (b ∷ take n (c ∷ xs))) (sym (ten_blank (eqb c 10) _ (blank_lines xs) parts.1))
+          let parts = and_parts (eqb b ascii.cr) (eqb c ascii.lf) both in
+          subst (λ (n : ℕ). AreEmptyLines (b ∷ take n (c ∷ xs))) (sym (ten_blank (eqb c ascii.lf) _ (blank_lines xs) parts.1))
           (cr_lf_first b c (take (blank_lines xs) xs) parts.0 parts.1 (lines_found xs))
     ])
 
@@ -95,7 +96,7 @@ frame_found (a ∷ b ∷ c ∷ d ∷ bytes) s f h =
         high = c;
         low = d;
         load = take (256 * c + d) bytes;
-        spelled = four_front a b c d (256 * c + d) bytes ∙ ap (λ (n : ℕ). n ∷ b ∷ c ∷ d ∷ take (256 * c + d) bytes) (eqb-true a 36 f);
+        spelled = four_front a b c d (256 * c + d) bytes ∙ ap (λ (n : ℕ). n ∷ b ∷ c ∷ d ∷ take (256 * c + d) bytes) (eqb-true a ascii.dollar f);
         counted = length-take-le (256 * c + d) bytes fits;
       },
       refl,
@@ -198,7 +199,7 @@ headed_found bytes (Some n) s begins at h =
 span_found : (bytes : List ℕ) (s : Span) → begins_blank bytes ≡ false → span_of bytes ≡ Some s → IsFound bytes s
 span_found [] s blank h = cc
 span_found (b ∷ bytes) s blank h =
-    either_is (eqb b 36) (frame_span (b ∷ bytes)) (message_span (b ∷ bytes)) s (IsFound (b ∷ bytes) s)
+    either_is (eqb b ascii.dollar) (frame_span (b ∷ bytes)) (message_span (b ∷ bytes)) s (IsFound (b ∷ bytes) s)
     (λ dollar at. frame_found (b ∷ bytes) s dollar at)
     (λ other at.
     headed_found (b ∷ bytes) (head_len (take MOST_HEAD (b ∷ bytes))) s (record { no_frame = other; no_empty_line = blank }) refl at) h

@@ -4,6 +4,7 @@ use Rattle.std.specs.List.{flat_map}
 use Rattle.std.specs.Option.{option_map}
 use Rattle.std.proofs.lemmas.List.{append-nil, take_all, take_at, drop_at, length-append}
 use Rattle.std.proofs.lemmas.Bool.{le-ltb, lt-ltb}
+use Rattle.gate_bytes.specs.Ascii as ascii
 use Rattle.rtsp_head.specs.Heads.{facts_of}
 use Rattle.rtsp_head.specs.Items.{Shape, begins_with_lf, begins_blank, blank_lines, head_len, bad_span, when_whole, body_span, judged_span, headed_span, message_span, frame_span, span_of, first_extent, message_kind, bad_kind, shape_at}
 use Rattle.rtsp_head.specs.Spellings.{empty_line, AreEmptyLines, IsFrame, begins_frame, EndsEmpty, IsHead, HasLength, IsMessage, IsEndless, HasFault, IsBad, IsItem, Spells}
@@ -32,7 +33,7 @@ all_of kind bytes head = record { skipped = 0; span = record { kind = kind; len 
 frame_read : (bytes : List ℕ) → IsFrame bytes → first_extent bytes ≡ Some (all_of Frame bytes 0)
 frame_read bytes h =
     let n = 256 * h.high + h.low in
-    let all = 36 ∷ h.channel ∷ h.high ∷ h.low ∷ h.load in
+    let all = ascii.dollar ∷ h.channel ∷ h.high ∷ h.low ∷ h.load in
     let come : length all ≡ 4 + n = omega (arith, h.counted) in
     let near : ltb (length all) 4 ≡ false = le-ltb (length all) 4 (omega arith) in
     subst (λ (l : List ℕ). first_extent l ≡ Some (all_of Frame l 0)) (sym h.spelled)
@@ -49,7 +50,7 @@ no_lone_cr false cr h k = cc
 -- a head is decided by its first byte
 head_decided : (head : List ℕ) → begins_blank head ≡ false → head_len head ≡ Some (length head) → decided head ≡ true
 head_decided [] h ends = cc
-head_decided (b ∷ []) h ends = absurd (no_lone_cr (eqb b 10) (eqb b 13) h ends)
+head_decided (b ∷ []) h ends = absurd (no_lone_cr (eqb b ascii.lf) (eqb b ascii.cr) h ends)
 head_decided (b ∷ c ∷ head) h ends = refl
 
 not_cr : (ten cr lf : Bool) → (cr ≡ false) → (ten || (cr && false)) ≡ false → (ten || (cr && lf)) ≡ false
@@ -64,7 +65,7 @@ flipped false h = refl
 -- what begins no empty line begins none when more comes
 begins_more : (xs ys : List ℕ) → decided xs ≡ true → begins_blank xs ≡ false → begins_blank (xs ++ ys) ≡ false
 begins_more [] ys d h = cc
-begins_more (b ∷ []) ys d h = not_cr (eqb b 10) (eqb b 13) (begins_with_lf ys) (flipped (eqb b 13) d) h
+begins_more (b ∷ []) ys d h = not_cr (eqb b ascii.lf) (eqb b ascii.cr) (begins_with_lf ys) (flipped (eqb b ascii.cr) d) h
 begins_more (b ∷ c ∷ xs) ys d h = h
 
 message_front : (bytes : List ℕ) → begins_frame bytes ≡ false → 0 < length bytes → span_of bytes ≡ message_span bytes

@@ -7,6 +7,7 @@ use Rattle.std.proofs.lemmas.Bool.{and_parts, both_ways, not-true}
 use Rattle.std.proofs.lemmas.Bool.Decides.{Decides-eqb}
 use Rattle.std.proofs.lemmas.List.Splits.{join_with_byte-slice_split}
 use Rattle.std.proofs.lemmas.Slice.Eq.{starts_is}
+use Rattle.gate_bytes.specs.Ascii.{lf, cr}
 use Rattle.gate_bytes.proofs.EndLemmas.{last_apart}
 use Rattle.gate_bytes.specs.Places.{parts_at}
 use Rattle.rtsp_uri.specs.Swaps.{swapped}
@@ -26,17 +27,17 @@ control_kept : (from to line : List ℕ) → is_control line ≡ false → swapp
 control_kept from to line h = ap (λ t. cond t (control ++ swapped from to (drop 10 line)) line) h
 
 -- a line is what stands before the CR at its end, and that CR
-return_apart : (line : List ℕ) (t : Bool) → (slice_index line (length line - 1) == 13) ≡ t
-    → cond t (take (length line - 1) line) line ++ cond t (13 ∷ []) [] ≡ line
+return_apart : (line : List ℕ) (t : Bool) → (slice_index line (length line - 1) == cr) ≡ t
+    → cond t (take (length line - 1) line) line ++ cond t (cr ∷ []) [] ≡ line
 return_apart line false e = append-nil line
 return_apart [] true e = cc
 return_apart (b ∷ line) true e =
     let all = b ∷ line in
-    let last : slice_index all (length all - 1) ≡ 13 = grind (arith, e) in
+    let last : slice_index all (length all - 1) ≡ cr = grind (arith, e) in
     ap (λ c. take (length all - 1) all ++ (c ∷ [])) (sym last) ∙ sym (last_apart all (omega arith))
 
 stripped : (line : List ℕ) → strip_carriage_return line ++ return_of line ≡ line
-stripped line = return_apart line (slice_index line (length line - 1) == 13) refl
+stripped line = return_apart line (slice_index line (length line - 1) == cr) refl
 
 ended_kept : (from to line : List ℕ) → is_control line ≡ false → swapped_ended from to line ≡ line
 ended_kept from to line h =
@@ -53,5 +54,5 @@ lines_kept from to (line ∷ next ∷ more) h =
     ∙ ap (λ ts. line ∷ ts) (lines_kept from to (next ∷ more) parts.1)
 
 -- a description without such lines stays
-pub description_kept : (from to body : List ℕ) → list_all (λ line. not (is_control line)) (parts_at 10 body) ≡ true → rewritten from to body ≡ body
-description_kept from to body h = ap (join_with_byte 10) (lines_kept from to (parts_at 10 body) h) ∙ join_with_byte-slice_split 10 body
+pub description_kept : (from to body : List ℕ) → list_all (λ line. not (is_control line)) (parts_at lf body) ≡ true → rewritten from to body ≡ body
+description_kept from to body h = ap (join_with_byte lf) (lines_kept from to (parts_at lf body) h) ∙ join_with_byte-slice_split lf body

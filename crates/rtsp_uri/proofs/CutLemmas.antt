@@ -8,6 +8,7 @@ use Rattle.std.proofs.lemmas.Bool.{and_parts, ltb-true}
 use Rattle.std.proofs.lemmas.List.{take_at, length-append, length-take-le, take-append-drop, drop-drop}
 use Rattle.std.proofs.lemmas.List.Sums.{prefix_len-le-length}
 use Rattle.std.proofs.lemmas.Option.{cond_some, option_and_then_some, same_Some}
+use Rattle.gate_bytes.specs.Ascii.{colon, open_bracket, close_bracket}
 use Rattle.gate_bytes.specs.Tokens.{equal_fold}
 use Rattle.rtsp_uri.specs.declared.grammar.UriPlaces.{UriPlaces}
 use Rattle.rtsp_uri.specs.Uris.{scheme, has_scheme, is_name_byte, is_address_byte, some_bytes, begins_with, address_len, host_len, port_of, port_part, is_rest, places_with, places_behind, places_of}
@@ -37,32 +38,32 @@ name_host text len h =
     subst (HostAt text) found.1 (record { is = inl host; within = fits })
 
 -- an address, and the bracket behind it
-brackets_host : (inside : List ℕ) (len : ℕ) → address_len inside ≡ Some len → HostAt (91 ∷ inside) len
+brackets_host : (inside : List ℕ) (len : ℕ) → address_len inside ≡ Some len → HostAt (open_bracket ∷ inside) len
 brackets_host inside len h =
     let n = prefix_len is_address_byte inside in
-    let found = cond_some (nat_lt 0 n && begins_with 93 (drop n inside)) (n + 2) len h in
-    let tests = and_parts (nat_lt 0 n) (begins_with 93 (drop n inside)) found.0 in
+    let found = cond_some (nat_lt 0 n && begins_with close_bracket (drop n inside)) (n + 2) len h in
+    let tests = and_parts (nat_lt 0 n) (begins_with close_bracket (drop n inside)) found.0 in
     let some : 0 < n = ltb-true 0 n tests.0 in
     let fits : n ≤ length inside = prefix_len-le-length is_address_byte inside in
     let front : length (take n inside) ≡ n = length-take-le n inside fits in
     let more = drop 1 (drop n inside) in
-    let apart : (take n inside ++ (93 ∷ [])) ++ more ≡ inside =
-    append_assoc (take n inside) (93 ∷ []) more ∙ ap (λ t. take n inside ++ t) (sym (first_apart 93 (drop n inside) tests.1)) ∙ take-append-drop n inside in
-    let long : length (91 ∷ (take n inside ++ (93 ∷ []))) ≡ n + 2 = omega (arith, length-append (take n inside) (93 ∷ []), front) in
-    let taken : take (n + 2) (91 ∷ inside) ≡ 91 ∷ (take n inside ++ (93 ∷ [])) =
-    ap (λ t. take (n + 2) (91 ∷ t)) (sym apart) ∙ take_at (91 ∷ (take n inside ++ (93 ∷ []))) more (n + 2) long in
+    let apart : (take n inside ++ (close_bracket ∷ [])) ++ more ≡ inside =
+    append_assoc (take n inside) (close_bracket ∷ []) more ∙ ap (λ t. take n inside ++ t) (sym (first_apart close_bracket (drop n inside) tests.1)) ∙ take-append-drop n inside in
+    let long : length (open_bracket ∷ (take n inside ++ (close_bracket ∷ []))) ≡ n + 2 = omega (arith, length-append (take n inside) (close_bracket ∷ []), front) in
+    let taken : take (n + 2) (open_bracket ∷ inside) ≡ open_bracket ∷ (take n inside ++ (close_bracket ∷ [])) =
+    ap (λ t. take (n + 2) (open_bracket ∷ t)) (sym apart) ∙ take_at (open_bracket ∷ (take n inside ++ (close_bracket ∷ []))) more (n + 2) long in
     let address : SomeOf is_address_byte (take n inside) = (omega (arith, some, front), front_kind is_address_byte inside) in
-    let within : n + 2 ≤ length (91 ∷ inside) = omega (arith, ap length (sym apart), length-append (take n inside ++ (93 ∷ [])) more, length-append (take n inside) (93 ∷ []), front) in
-    subst (HostAt (91 ∷ inside)) found.1 (record { is = inr (take n inside, address, taken); within = within })
+    let within : n + 2 ≤ length (open_bracket ∷ inside) = omega (arith, ap length (sym apart), length-append (take n inside ++ (close_bracket ∷ [])) more, length-append (take n inside) (close_bracket ∷ []), front) in
+    subst (HostAt (open_bracket ∷ inside)) found.1 (record { is = inr (take n inside, address, taken); within = within })
 
-host_with : (text : List ℕ) (len : ℕ) (t : Bool) → begins_with 91 text ≡ t
+host_with : (text : List ℕ) (len : ℕ) (t : Bool) → begins_with open_bracket text ≡ t
     → cond t (address_len (drop 1 text)) (some_bytes (prefix_len is_name_byte text)) ≡ Some len → HostAt text len
 host_with text len false e h = name_host text len h
-host_with text len true e h = subst (λ t. HostAt t len) (sym (first_apart 91 text e)) (brackets_host (drop 1 text) len h)
+host_with text len true e h = subst (λ t. HostAt t len) (sym (first_apart open_bracket text e)) (brackets_host (drop 1 text) len h)
 
 -- what is taken for a host is one
 host_is : (text : List ℕ) (len : ℕ) → host_len text ≡ Some len → HostAt text len
-host_is text len h = host_with text len (begins_with 91 text) refl h
+host_is text len h = host_with text len (begins_with open_bracket text) refl h
 
 -- a port at the front of a text, or none
 pub record PortAt (text : List ℕ) (port : Option ℕ) (len : ℕ) : Type 0 where
@@ -77,25 +78,25 @@ map_some f None y h = cc
 map_some f (Some x) y h = (x, refl, same_Some (f x) y h)
 
 colon_port : (more : List ℕ) (q : Option ℕ × ℕ)
-    → option_map (part (prefix_len is_ascii_digit more)) (port_of (take (prefix_len is_ascii_digit more) more)) ≡ Some q → PortAt (58 ∷ more) q.0 q.1
+    → option_map (part (prefix_len is_ascii_digit more)) (port_of (take (prefix_len is_ascii_digit more) more)) ≡ Some q → PortAt (colon ∷ more) q.0 q.1
 colon_port more q h =
     let n = prefix_len is_ascii_digit more in
     let found = map_some (part n) (port_of (take n more)) q h in
     let fits : n ≤ length more = prefix_len-le-length is_ascii_digit more in
     let one : 1 + n ≡ suc n = omega arith in
-    let taken : take (1 + n) (58 ∷ more) ≡ 58 ∷ take n more = ap (λ k. take k (58 ∷ more)) one in
-    let within : 1 + n ≤ length (58 ∷ more) = omega (arith, fits) in
-    subst (λ (p : Option ℕ × ℕ). PortAt (58 ∷ more) p.0 p.1) found.2 (record { is = (take n more, taken, found.1); within = within })
+    let taken : take (1 + n) (colon ∷ more) ≡ colon ∷ take n more = ap (λ k. take k (colon ∷ more)) one in
+    let within : 1 + n ≤ length (colon ∷ more) = omega (arith, fits) in
+    subst (λ (p : Option ℕ × ℕ). PortAt (colon ∷ more) p.0 p.1) found.2 (record { is = (take n more, taken, found.1); within = within })
 
-port_with : (text : List ℕ) (q : Option ℕ × ℕ) (t : Bool) → begins_with 58 text ≡ t
+port_with : (text : List ℕ) (q : Option ℕ × ℕ) (t : Bool) → begins_with colon text ≡ t
     → cond t (option_map (part (prefix_len is_ascii_digit (drop 1 text))) (port_of (take (prefix_len is_ascii_digit (drop 1 text)) (drop 1 text)))) (Some (None, 0)) ≡ Some q
     → PortAt text q.0 q.1
 port_with text q false e h = subst (λ (p : Option ℕ × ℕ). PortAt text p.0 p.1) (same_Some (None, 0) q h) (record { is = refl; within = omega arith })
-port_with text q true e h = subst (λ t. PortAt t q.0 q.1) (sym (first_apart 58 text e)) (colon_port (drop 1 text) q h)
+port_with text q true e h = subst (λ t. PortAt t q.0 q.1) (sym (first_apart colon text e)) (colon_port (drop 1 text) q h)
 
 -- what is taken for a port is one
 port_is : (text : List ℕ) (q : Option ℕ × ℕ) → port_part text ≡ Some q → PortAt text q.0 q.1
-port_is text q h = port_with text q (begins_with 58 text) refl h
+port_is text q h = port_with text q (begins_with colon text) refl h
 
 -- the parts of a text at these lengths, one after another
 parts_apart : (uri : List ℕ) (h p : ℕ)

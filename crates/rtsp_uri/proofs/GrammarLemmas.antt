@@ -10,6 +10,7 @@ use Rattle.std.proofs.lemmas.Bool.{and_parts, and_from, le-leb, lt-ltb}
 use Rattle.std.proofs.lemmas.List.{take_at, drop_at, length-map, length-append}
 use Rattle.std.proofs.lemmas.Option.{cond_some, option_and_then_some}
 use Rattle.std.proofs.lemmas.Slice.Eq.{bytes_eq-Decides}
+use Rattle.gate_bytes.specs.Ascii as ascii
 use Rattle.gate_bytes.specs.Tokens.{equal_fold}
 use Rattle.gate_bytes.specs.Numbers.{number_in}
 use Rattle.rtsp_uri.specs.declared.grammar.UriPlaces.{UriPlaces}
@@ -26,9 +27,9 @@ same_length xs ys h =
 -- what follows a host begins no host: it is empty, or begins with one of :/?
 abbrev Follows : List ℕ → Type 0
 Follows [] = Unit {0}
-Follows (b ∷ text) = (b ≡ 58) ⊎ ((b ≡ 47) ⊎ (b ≡ 63))
+Follows (b ∷ text) = (b ≡ ascii.colon) ⊎ ((b ≡ ascii.slash) ⊎ (b ≡ ascii.question_mark))
 
-first_of_rest : (b : ℕ) (text : List ℕ) → is_rest (b ∷ text) ≡ true → (b ≡ 47) ⊎ (b ≡ 63)
+first_of_rest : (b : ℕ) (text : List ℕ) → is_rest (b ∷ text) ≡ true → (b ≡ ascii.slash) ⊎ (b ≡ ascii.question_mark)
 first_of_rest b text h = grind (arith, h)
 
 rest_follows : (rest : List ℕ) → is_rest rest ≡ true → Follows rest
@@ -48,25 +49,25 @@ name_stops (b ∷ text) (inr (inr e)) = subst (λ c. is_name_byte c ≡ false) (
 some_length : (n : ℕ) → 0 < n → some_bytes n ≡ Some n
 some_length n h = ap (λ t. cond t (Some n) None) (lt-ltb 0 n h)
 
-name_first : (b : ℕ) (host : List ℕ) → list_all is_name_byte (b ∷ host) ≡ true → (b == 91) ≡ false
+name_first : (b : ℕ) (host : List ℕ) → list_all is_name_byte (b ∷ host) ≡ true → (b == ascii.open_bracket) ≡ false
 name_first b host h = grind (arith, h)
 
 -- the length of an address in brackets that stands at the front
 address_at : (inside more : List ℕ) (n : ℕ) → n ≡ length inside → 0 < length inside
-    → cond (nat_lt 0 n && begins_with 93 (drop n (inside ++ (93 ∷ more)))) (Some (n + 2)) None ≡ Some (length inside + 2)
+    → cond (nat_lt 0 n && begins_with ascii.close_bracket (drop n (inside ++ (ascii.close_bracket ∷ more)))) (Some (n + 2)) None ≡ Some (length inside + 2)
 address_at inside more n e h =
     let len = length inside in
-    ap (λ k. cond (nat_lt 0 k && begins_with 93 (drop k (inside ++ (93 ∷ more)))) (Some (k + 2)) None) e
-    ∙ ap (λ t. cond (t && begins_with 93 (drop len (inside ++ (93 ∷ more)))) (Some (len + 2)) None) (lt-ltb 0 len h)
-    ∙ ap (λ r. cond (begins_with 93 r) (Some (len + 2)) None) (drop_at inside (93 ∷ more) len refl)
+    ap (λ k. cond (nat_lt 0 k && begins_with ascii.close_bracket (drop k (inside ++ (ascii.close_bracket ∷ more)))) (Some (k + 2)) None) e
+    ∙ ap (λ t. cond (t && begins_with ascii.close_bracket (drop len (inside ++ (ascii.close_bracket ∷ more)))) (Some (len + 2)) None) (lt-ltb 0 len h)
+    ∙ ap (λ r. cond (begins_with ascii.close_bracket r) (Some (len + 2)) None) (drop_at inside (ascii.close_bracket ∷ more) len refl)
 
-address_found : (inside more : List ℕ) → SomeOf is_address_byte inside → address_len (inside ++ (93 ∷ more)) ≡ Some (length inside + 2)
-address_found inside more h = address_at inside more (prefix_len is_address_byte (inside ++ (93 ∷ more))) (front_whole is_address_byte inside (93 ∷ more) h.1 refl) h.0
+address_found : (inside more : List ℕ) → SomeOf is_address_byte inside → address_len (inside ++ (ascii.close_bracket ∷ more)) ≡ Some (length inside + 2)
+address_found inside more h = address_at inside more (prefix_len is_address_byte (inside ++ (ascii.close_bracket ∷ more))) (front_whole is_address_byte inside (ascii.close_bracket ∷ more) h.1 refl) h.0
 
-brackets_found : (inside more : List ℕ) → SomeOf is_address_byte inside → host_len ((91 ∷ (inside ++ (93 ∷ []))) ++ more) ≡ Some (length (91 ∷ (inside ++ (93 ∷ []))))
+brackets_found : (inside more : List ℕ) → SomeOf is_address_byte inside → host_len ((ascii.open_bracket ∷ (inside ++ (ascii.close_bracket ∷ []))) ++ more) ≡ Some (length (ascii.open_bracket ∷ (inside ++ (ascii.close_bracket ∷ []))))
 brackets_found inside more h =
-    let long : length inside + 2 ≡ length (91 ∷ (inside ++ (93 ∷ []))) = omega (arith, length-append inside (93 ∷ [])) in
-    ap address_len (append_assoc inside (93 ∷ []) more) ∙ address_found inside more h ∙ ap (λ n. Some n) long
+    let long : length inside + 2 ≡ length (ascii.open_bracket ∷ (inside ++ (ascii.close_bracket ∷ []))) = omega (arith, length-append inside (ascii.close_bracket ∷ [])) in
+    ap address_len (append_assoc inside (ascii.close_bracket ∷ []) more) ∙ address_found inside more h ∙ ap (λ n. Some n) long
 
 -- the length of a host that stands at the front
 host_found : (host more : List ℕ) → IsHost host → Follows more → host_len (host ++ more) ≡ Some (length host)
@@ -80,7 +81,7 @@ host_found host more (inr h) f =
 digits_stop : (rest : List ℕ) → is_rest rest ≡ true → Stops is_ascii_digit rest
 digits_stop [] h = tt
 digits_stop (b ∷ rest) h = by_first (first_of_rest b rest h) where
-  by_first : (b ≡ 47) ⊎ (b ≡ 63) → is_ascii_digit b ≡ false
+  by_first : (b ≡ ascii.slash) ⊎ (b ≡ ascii.question_mark) → is_ascii_digit b ≡ false
   by_first (inl e) = subst (λ c. is_ascii_digit c ≡ false) (sym e) refl
   by_first (inr e) = subst (λ c. is_ascii_digit c ≡ false) (sym e) refl
 
@@ -104,7 +105,7 @@ part_of port bytes = Some (port, bytes)
 no_port : (rest : List ℕ) → is_rest rest ≡ true → port_part rest ≡ part_of None 0
 no_port [] h = refl
 no_port (b ∷ rest) h = by_first (first_of_rest b rest h) where
-  by_first : (b ≡ 47) ⊎ (b ≡ 63) → port_part (b ∷ rest) ≡ part_of None 0
+  by_first : (b ≡ ascii.slash) ⊎ (b ≡ ascii.question_mark) → port_part (b ∷ rest) ≡ part_of None 0
   by_first (inl e) = subst (λ c. port_part (c ∷ rest) ≡ part_of None 0) (sym e) refl
   by_first (inr e) = subst (λ c. port_part (c ∷ rest) ≡ part_of None 0) (sym e) refl
 
@@ -116,9 +117,9 @@ digits_at digits rest port n e h =
     ∙ ap (option_map (part (length digits))) h
 
 colon_found : (digits rest : List ℕ) (port : ℕ) → port_of digits ≡ Some port → is_rest rest ≡ true
-    → port_part ((58 ∷ digits) ++ rest) ≡ part_of (Some port) (length (58 ∷ digits))
+    → port_part ((ascii.colon ∷ digits) ++ rest) ≡ part_of (Some port) (length (ascii.colon ∷ digits))
 colon_found digits rest port h r =
-    let one : 1 + length digits ≡ length (58 ∷ digits) = omega arith in
+    let one : 1 + length digits ≡ length (ascii.colon ∷ digits) = omega arith in
     digits_at digits rest port (prefix_len is_ascii_digit (digits ++ rest)) (front_whole is_ascii_digit digits rest (port_digits digits port h) (digits_stop rest r)) h
     ∙ ap (part_of (Some port)) one
 

@@ -12,6 +12,7 @@ use Rattle.std.proofs.lemmas.List.Elements.{All-nil, All-weaker}
 use Rattle.std.proofs.lemmas.List.Sums.{AllPass-from_list_all}
 use Rattle.std.proofs.lemmas.Option.{none-some}
 use Rattle.std.proofs.lemmas.Str.Parse.{IsNumeralModel, numerals_by_value}
+use Rattle.gate_bytes.specs.Ascii.{colon}
 use Rattle.url.specs.declared.sets.TheConstants.{FORBIDDEN_HOST, USERINFO}
 use Rattle.url.specs.Percent.{IsKept}
 use Rattle.url.specs.declared.host.Host.TheVariants.{Domain}
@@ -88,7 +89,7 @@ plain_canonical name port valid = (tt, ends_visibly (plain name port) valid (All
 -- its text
 plain_text : (name : List ℕ) (port : Option ℕ) → serialize (plain name port) ≡ scheme ++ (name ++ port_text port)
 plain_text name None = refl
-plain_text name (Some n) = ap (λ t. scheme ++ (name ++ (58 ∷ t))) (append-nil (decimal n))
+plain_text name (Some n) = ap (λ t. scheme ++ (name ++ (colon ∷ t))) (append-nil (decimal n))
 
 plain_read : (name : List ℕ) (port : Option ℕ) → SomeOf is_name_byte name → IfSome port (λ n. n < 2 ^ 16)
     → parse_url None (scheme ++ (name ++ port_text port)) ≡ Ok (plain name port)

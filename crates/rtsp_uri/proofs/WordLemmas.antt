@@ -2,6 +2,7 @@
 use Rattle.std.proofs.Common.{◌≡◌, ℕ, ◌≤◌, ◌&&◌, Bool, true, false, cond, List, [], ◌∷◌, ◌++◌, length, Option, Some, None, Ok, refl, sym, ◌∙◌, ap, arith, append-nil}
 use Rattle.std.specs.Prelude.{nat_le, decimal}
 use Rattle.std.proofs.lemmas.Bool.{le-leb}
+use Rattle.gate_bytes.specs.Ascii.{colon}
 use Rattle.url.specs.declared.host.Host.{Host}
 use Rattle.url.specs.declared.slicing.Position.TheVariants.{BeforeUsername, AfterPort}
 use Rattle.url.specs.Host.{host_text}
@@ -28,7 +29,7 @@ bare_text : (scheme : List ℕ) (host : Option (Host (List ℕ))) (port : Option
 bare_text scheme host None path query fragment = refl
 bare_text scheme host (Some port) path query fragment =
     let url = bare scheme [] [] host (Some port) path query fragment in
-    ap (λ t. host_text (host_or_empty url) ++ (58 ∷ t)) (append-nil (decimal port))
+    ap (λ t. host_text (host_or_empty url) ++ (colon ∷ t)) (append-nil (decimal port))
 
 fields_text : (scheme username password : List ℕ) (host : Option (Host (List ℕ))) (port : Option ℕ) (path : List ℕ) (query fragment : Option (List ℕ))
     → username ≡ [] → password ≡ []
