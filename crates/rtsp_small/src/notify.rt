@@ -1,5 +1,5 @@
 //! The fields of a notification: Notify-Reason and Request-Status.
-ghost use Rattle.std.specs.Prelude.{◌≡◌};
+ghost use Rattle.std.specs.Prelude.{◌≡◌, Some};
 ghost use Rattle.rtsp_small.specs.Notices.{notify_reason_name, notify_reason_of, request_status_of};
 
 use crate::read_cseq_two;
@@ -17,9 +17,10 @@ pub enum NotifyReason {
 }
 
 impl NotifyReason {
-    /// The name in the field.
+    /// The name in the field. [`read_reason`] gives the reason back.
     fn name(self) -> &'static [u8]
-        ensures { result.now ≡ notify_reason_name self }
+        ensures name { result.now ≡ notify_reason_name self }
+        ensures read { notify_reason_of result.now ≡ Some self }
     {
         match self {
             NotifyReason::EndOfStream => b"end-of-stream",
