@@ -12,13 +12,12 @@ use crate::{Moment, NptTime, Range, Rate, Smpte};
 use gate_bytes::{Memory, Text, push_decimal};
 use std::alloc::Global;
 
-/// The value of a Range header with this range, in the one form that both versions read. Its fields
-/// are in range, and an npt range has a begin or an end. Both readers read it back.
+/// The value of a Range header with this range, in the one form that both versions read. Where its
+/// fields are in range, and an npt range has a begin or an end, both readers read it back.
 pub fn write(alloc: Global, range: &Range) -> Result<Text, Memory>
-    requires { IsTrue (can_be_written range.now) }
     ensures text { IfOk result (λ text. text ≡ range_text range.now) }
-    ensures read_one { IfOk result (λ text. Means One text range.now) }
-    ensures read_two { IfOk result (λ text. Means Two text range.now) }
+    ensures read_one { IsTrue (can_be_written range.now) → IfOk result (λ text. Means One text range.now) }
+    ensures read_two { IsTrue (can_be_written range.now) → IfOk result (λ text. Means Two text range.now) }
 {
     let mut text = Text::new(alloc);
     push_range(&mut text, range)?;
