@@ -1,5 +1,6 @@
 pub mod ChannelLemmas
 pub mod DecideLemmas
+pub mod DecisionLemmas
 pub mod FreeLemmas
 pub mod LeftOutLemmas
 pub mod RangeLemmas
@@ -13,3 +14,5 @@ pub mod GatewayLemmas
 pub mod OptionsLemmas
 pub mod ServeLemmas
 pub mod AnswerLemmas
+pub mod RuleLemmas
+pub mod PairLemmas

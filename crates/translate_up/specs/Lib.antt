@@ -5,7 +5,9 @@ pub mod Channels
 pub mod Decisions
 pub mod Fields
 pub mod OneReply
+pub mod Queued
 pub mod Rules
+pub mod Setups
 pub mod Sound
 pub mod Upward
 pub mod Views

@@ -1,5 +1,5 @@
 -- What a request is judged by. This project's own.
-use Rattle.std.specs.Prelude.{ℕ, Bool, List, Option}
+use Rattle.std.specs.Prelude.{ℕ, Bool, List, map, Option}
 use Rattle.std.specs.Option.{option_copied}
 use Rattle.session_one.specs.declared.table.State.{State}
 use Rattle.session_one.specs.declared.parts.Track.{Track}
@@ -29,3 +29,10 @@ given_of view = record {
   front = view.bases.now.front.text;
   up = view.bases.now.up.text;
 }
+
+-- the same under other numbers of the pairs of channels
+abbrev pub with_pair : (ℕ → ℕ) → Track → Track
+with_pair pairs track = record track { pair = pairs track.pair }
+
+abbrev pub with_pairs : (ℕ → ℕ) → Given → Given
+with_pairs pairs given = record given { tracks = map (with_pair pairs) given.tracks }

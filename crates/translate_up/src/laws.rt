@@ -1,15 +1,18 @@
 //! What holds of every decision. Each function does nothing: its contract is the law.
-ghost use Rattle.std.specs.Prelude.{◌≡◌, ℕ, ◌<◌, ◌≤◌, ◌^◌, List, Option, length};
+ghost use Rattle.std.specs.Prelude.{◌≡◌, ℕ, ◌<◌, ◌≤◌, ◌^◌, List, Option, Some, Err, length};
 ghost use Rattle.rtsp_head.specs.Items.{Shape};
 ghost use Rattle.rtsp_transport.specs.declared.channels.Pair.{Pair};
+ghost use Rattle.rtsp_small.specs.declared.method.Method.{Method};
 ghost use Rattle.head_one.specs.declared.request.Request1.{Request1};
+ghost use Rattle.head_one.specs.Refusals.{first_code};
 ghost use Rattle.session_one.specs.declared.parts.Track.{Track};
 ghost use Rattle.translate_up.specs.Channels.{free_pair, IsLowestFree};
-ghost use Rattle.translate_up.specs.Views.{Given};
+ghost use Rattle.translate_up.specs.Views.{Given, with_pairs};
 ghost use Rattle.translate_up.specs.Upward.{request_up, with_transport, without_transport};
 ghost use Rattle.translate_up.specs.Decisions.{decide};
 ghost use Rattle.translate_up.specs.Fields.{Said};
 ghost use Rattle.rtsp_range.specs.declared.range.Range.{Range};
+ghost use Rattle.translate_up.specs.Rules.{session_rules, rules_checked};
 ghost use Rattle.translate_up.specs.OneReply.{AnswersOneReply};
 ghost use Rattle.translate_up.specs.Sound.{IsFit, SendsSound};
 
@@ -33,9 +36,21 @@ pub fn the_channels_are_all_that_is_put_in()
         → without_transport (with_transport pair (request_up given request said uri range)).headers ≡ (request_up given request said uri range).headers }
 {}
 
+/// Every refusal of a request that its head does not refuse is by the first rule of the list that
+/// applies: what no rule refuses is let through.
+pub fn every_refusal_is_by_a_rule()
+    ensures { (given : Given) (method : Method) (said : Said) (uri : List ℕ) (code : ℕ)
+        → rules_checked given method said uri ≡ Err code → first_code (session_rules given method said uri) ≡ Some code }
+{}
+
 /// What the gateway answers by itself, a refusal among it, is one reply, and is read back as that
 /// reply whatever follows it.
 pub fn what_is_answered_is_one_reply()
     ensures { (given : Given) (shape : Shape) → IsFit given → length shape.bytes < 2 ^ 64
         → AnswersOneReply (decide given shape) }
+{}
+
+/// The numbers of the pairs of channels to the server make no difference to what becomes of a request.
+pub fn the_numbers_of_pairs_make_no_difference()
+    ensures { (pairs : ℕ → ℕ) (given : Given) (shape : Shape) → decide (with_pairs pairs given) shape ≡ decide given shape }
 {}

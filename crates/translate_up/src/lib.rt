@@ -7,6 +7,7 @@ mod channels;
 mod decision;
 mod field;
 mod laws;
+mod queued;
 mod rule;
 mod serving;
 mod transport;
@@ -15,9 +16,11 @@ mod view;
 
 pub use decision::{Decision, decide};
 pub use laws::{
-    the_channels_are_all_that_is_put_in, the_lowest_free_channels_are_given,
+    every_refusal_is_by_a_rule, the_channels_are_all_that_is_put_in,
+    the_lowest_free_channels_are_given, the_numbers_of_pairs_make_no_difference,
     what_goes_up_can_be_written, what_is_answered_is_one_reply,
 };
+pub use queued::play_up;
 pub use transport::with_transport;
 pub use view::View;
 
