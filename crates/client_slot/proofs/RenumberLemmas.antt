@@ -90,7 +90,7 @@ note_under numbers pairs names client apart =
     ap (λ (session : PlayerSession). record (client_under numbers pairs client) { session = session }) (ended_under numbers pairs names client.session apart)
 
 -- the same PLAY is due
-due_under : (numbers pairs : ℕ → ℕ) (pending : Option Purpose) (running : Option ℕ) (queue : List Play)
+pub due_under : (numbers pairs : ℕ → ℕ) (pending : Option Purpose) (running : Option ℕ) (queue : List Play)
     → due_at (option_map (purpose_under pairs) pending) (option_map numbers running) queue ≡ due_at pending running queue
 due_under numbers pairs None None queue = refl
 due_under numbers pairs None (Some number) queue = refl

@@ -1,6 +1,7 @@
 //! The session of one connection.
 ghost use Rattle.rtsp_small.specs.declared.session.TheConstants.{LONGEST_SESSION_ID};
-ghost use Rattle.std.specs.Prelude.{◌≡◌, ◌≤◌, length, codes, slice_get, option_map, unwrap_or, IfOk, IfSome};
+ghost use Rattle.std.specs.Prelude.{◌≡◌, ◌≤◌, true, length, codes, slice_get, option_map, unwrap_or, IfOk, IfSome};
+ghost use Rattle.rtsp_small.specs.Sessions.{is_session_id};
 ghost use Rattle.head_two.specs.Requests.{request_text};
 ghost use Rattle.client_slot.specs.declared.limits.TheConstants.{LONGEST_URI};
 
@@ -67,6 +68,7 @@ impl Session {
     /// Its id, where the server made it.
     pub fn id(&self) -> Option<&[u8]>
         ensures id { option_map (λ id. id.now) result ≡ self.now.id }
+        ensures valid { IfSome result (λ id. is_session_id id.now ≡ true) }
         ensures short { IfSome result (λ id. length id.now ≤ LONGEST_SESSION_ID) }
     {
         match &self.id {

@@ -1,6 +1,7 @@
 //! One connection: what is kept of it, and what can be asked about that.
-ghost use Rattle.std.specs.Prelude.{◌≡◌, length, slice_get, option_map, is_some, IfOk};
+ghost use Rattle.std.specs.Prelude.{◌≡◌, true, length, slice_get, option_map, is_some, IfOk, IfSome};
 ghost use Rattle.rtsp_head.specs.Shapes.{shape_of};
+ghost use Rattle.rtsp_small.specs.Sessions.{is_session_id};
 ghost use Rattle.client_slot.specs.Purposes.{purpose_seen};
 
 mod changes;
@@ -65,7 +66,8 @@ impl Slot {
 
     /// The id of its session, where it has one.
     pub fn session(&self) -> Option<&[u8]>
-        ensures { option_map (λ id. id.now) result ≡ self.now.session.id }
+        ensures id { option_map (λ id. id.now) result ≡ self.now.session.id }
+        ensures valid { IfSome result (λ id. is_session_id id.now ≡ true) }
     {
         self.session.id()
     }
