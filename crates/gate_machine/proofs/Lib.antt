@@ -1,0 +1,14 @@
+pub mod AfterLemmas
+pub mod AskLemmas
+pub mod BelowLemmas
+pub mod BlindLemmas
+pub mod CommitLemmas
+pub mod FullLemmas
+pub mod HoldLemmas
+pub mod KeepLemmas
+pub mod OnwardLemmas
+pub mod PlanLemmas
+pub mod RenumberLemmas
+pub mod SightLemmas
+pub mod ToldLemmas
+pub mod TreatLemmas

@@ -1,0 +1,17 @@
+pub mod Alone
+pub mod Asking
+pub mod Bounds
+pub mod Events
+pub mod Effects
+pub mod Frames
+pub mod Going
+pub mod Halves
+pub mod Hearing
+pub mod Onward
+pub mod Plans
+pub mod Progresses
+pub mod Renumbered
+pub mod Sights
+pub mod Spelled
+pub mod Step
+pub mod Treating

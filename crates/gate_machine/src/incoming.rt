@@ -1,0 +1,20 @@
+//! What happens to a connection.
+
+use crate::why::CloseWhy;
+use head_two::Reply2;
+use rtsp_head::Item;
+use rtsp_small::NotifyReason;
+use session_two::Names;
+
+/// What happens to a connection, in the numbers of the server's one connection.
+#[derive(Clone, Copy)]
+pub enum Incoming<'a> {
+    /// Its client sent a request.
+    Request(&'a Item),
+    /// The server replied to its open request.
+    Reply(&'a Reply2),
+    /// The server told about its session, and named one of its requests or none.
+    Notice(NotifyReason, Names),
+    /// It closes.
+    Close(CloseWhy),
+}

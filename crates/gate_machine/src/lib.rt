@@ -1,0 +1,35 @@
+//! The machine of one connection: what each event does to it, hands to its player and sends up.
+//!
+//! The definitions in `specs/` are what the gateway's claim is made of: a connection alone, with its
+//! own numbers, and the same step under the numbers of the server's one connection. The functions
+//! here take that step in two parts: [`plan`] changes nothing and takes all memory, and
+//! [`Plan::commit`] takes none and can't be refused.
+#![tactic(auto)]
+
+mod after;
+mod commit;
+mod ends;
+mod frames;
+mod incoming;
+mod laws;
+mod onward;
+mod parts;
+mod planning;
+mod replies;
+mod requests;
+mod sight;
+#[cfg(test)]
+mod tests;
+mod told;
+mod treat;
+mod why;
+
+pub use frames::{StreamHalf, channel_for, half_for};
+pub use incoming::Incoming;
+pub use laws::{
+    a_free_pair_matters_to_a_setup_alone, a_step_keeps_any_numbering, own_numbers_are_kept,
+    what_is_not_closed_is_alive,
+};
+pub use parts::{Done, Plan};
+pub use planning::plan;
+pub use why::CloseWhy;
