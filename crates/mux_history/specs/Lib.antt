@@ -1,0 +1,13 @@
+pub mod Books
+pub mod Follows
+pub mod Happenings
+pub mod Heard
+pub mod Joined
+pub mod Kinds
+pub mod Next
+pub mod Notices
+pub mod Own
+pub mod Settling
+pub mod Shared
+pub mod Tells
+pub mod Turns

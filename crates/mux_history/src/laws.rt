@@ -1,0 +1,54 @@
+//! Laws over the definitions of a history. Each holds by its contract alone: no call is made.
+ghost use Rattle.std.specs.Prelude.{◌≡◌, ◌+◌, ◌≤◌, ℕ, Option, Some, None, List, map};
+ghost use Rattle.rtsp_uri.specs.declared.base.Bases.{Bases};
+ghost use Rattle.client_slot.specs.Client.{Client};
+ghost use Rattle.gate_machine.specs.Alone.{private_after};
+ghost use Rattle.gate_machine.specs.Events.{PrivateEvent};
+ghost use Rattle.mux_history.specs.Happenings.{Happening, Entry, fault_in, sent, shut};
+ghost use Rattle.mux_history.specs.Own.{books_of, own};
+ghost use Rattle.mux_history.specs.Follows.{IsHistory, Follows};
+ghost use Rattle.mux_history.specs.Joined.{IsJoined, AreSound};
+ghost use Rattle.mux_history.specs.Next.{next};
+ghost use Rattle.mux_history.specs.Turns.{IsItsTurn, IsSteppedBy};
+
+/// At most one entry with a given happening follows a history.
+pub fn one_next_entry()
+    ensures { (bases : Bases) (earlier : List Entry) (one other : Entry) → Follows bases earlier one → Follows bases earlier other
+        → one.happening ≡ other.happening → one ≡ other }
+{}
+
+/// A list of happenings has at most one history.
+pub fn at_most_one_history()
+    ensures { (bases : Bases) (one other : List Entry) → IsHistory bases one → IsHistory bases other
+        → map (λ e. e.happening) one ≡ map (λ e. e.happening) other → one ≡ other }
+{}
+
+/// Every list of happenings has a history: after every history, what happens next has an entry that
+/// follows.
+pub fn some_next_entry()
+    ensures { (bases : Bases) (earlier : List Entry) (happening : Happening) → IsHistory bases earlier
+        → Follows bases earlier (record { happening = happening; outcome = next bases earlier happening }) }
+{}
+
+/// Connections that take the same events are handed the same bytes and closed alike, in any two
+/// histories with the same bases and under any two numbers.
+pub fn equal_own_events()
+    ensures { (bases : Bases) (one other : List Entry) (i j : ℕ) → IsHistory bases one → IsHistory bases other
+        → own bases i one ≡ own bases j other → (sent i one ≡ sent j other) × (shut i one ≡ shut j other) }
+{}
+
+/// While the connection to the server stands, the books of a history and what each connection alone
+/// has agree: each of its streams has a pair of channels that it holds and nobody else does, its open
+/// request is owed to it and is its only one, and its session is bound to it.
+pub fn books_and_connections_agree()
+    ensures sound { (bases : Bases) (history : List Entry) → IsHistory bases history → fault_in history ≡ None → AreSound (books_of history) }
+    ensures joined { (bases : Bases) (history : List Entry) (i : ℕ) → IsHistory bases history → fault_in history ≡ None
+        → IsJoined (books_of history) i (private_after bases (own bases i history)).client (private_after bases (own bases i history)).count }
+{}
+
+/// At the turn of a connection, what is handed out, and what the connection is then, is one step of
+/// the machine in the numbers and on the channels of all players. No other connection is touched.
+pub fn a_turn_is_one_step_by_the_books()
+    ensures { (bases : Bases) (history : List Entry) (i : ℕ) (happening : Happening) (own_form raw : PrivateEvent)
+        → IsItsTurn bases history i happening own_form raw → IsSteppedBy bases history i happening raw }
+{}

@@ -1,0 +1,19 @@
+//! Histories of players with sessions: what came in, what was handed out, and what each connection
+//! would be handed alone.
+//!
+//! The types of events and outcomes stand here with the definitions that the gateway's central
+//! claim is made of: the books that a history keeps of numbers, sessions and channels, and what
+//! each connection takes, is handed and asks in it. The laws over these definitions are functions
+//! with empty bodies.
+#![tactic(auto)]
+
+mod event;
+mod laws;
+
+pub use event::{Closed, Event, FramingFault, Outcome, ToClient, ToUp, UpCause, UpMessage, UpWhy};
+pub use gate_machine::CloseWhy;
+pub use laws::{
+    a_turn_is_one_step_by_the_books, at_most_one_history, books_and_connections_agree,
+    equal_own_events, one_next_entry, some_next_entry,
+};
+pub use rtsp_uri::{Base, Bases};
