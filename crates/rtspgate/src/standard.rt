@@ -1,5 +1,5 @@
 //! Readers and writers of std as source and sink, and a run over them. They tell no content: they are the trusted edge.
-ghost use Rattle.std.specs.Prelude.{None, map, string_bytes};
+ghost use Rattle.std.specs.Prelude.{◌≡◌, None, map, string_bytes};
 ghost use Rattle.gate_outside.specs.Causes.{HasCause};
 ghost use Rattle.rtspgate.specs.Words.{word_fault, TellsUsageAfterFlush};
 
@@ -18,7 +18,10 @@ pub struct ReadSource<R: Read> {
 
 impl<R: Read> ReadSource<R> {
     /// This reader as a source that has not failed yet.
-    pub fn new(reader: R) -> Self {
+    pub fn new(reader: R) -> Self
+        ensures reader { result.reader ≡ reader }
+        ensures faults { result.faults ≡ 0 }
+    {
         ReadSource { reader, faults: 0 }
     }
 }
@@ -48,7 +51,10 @@ pub struct WriteSink<W: Write> {
 
 impl<W: Write> WriteSink<W> {
     /// This writer as a sink that has not failed yet.
-    pub fn new(writer: W) -> Self {
+    pub fn new(writer: W) -> Self
+        ensures writer { result.writer ≡ writer }
+        ensures faults { result.faults ≡ 0 }
+    {
         WriteSink { writer, faults: 0 }
     }
 
