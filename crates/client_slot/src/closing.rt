@@ -32,7 +32,8 @@ impl ClosingRoom {
     pub fn write(self, uri: &[u8], number: u32, id: &[u8]) -> Text
         requires uri { length uri.now ≤ LONGEST_URI }
         requires id { length id.now ≤ LONGEST_SESSION_ID }
-        ensures { result ≡ request_text number (teardown_request uri.now id.now) }
+        ensures text { result ≡ request_text number (teardown_request uri.now id.now) }
+        ensures short { length result ≤ CLOSING_ROOM }
     {
         let mut text = self.bytes;
         put(&mut text, b"TEARDOWN ");

@@ -3,7 +3,7 @@ ghost use Rattle.rtsp_small.specs.declared.session.TheConstants.{LONGEST_SESSION
 ghost use Rattle.std.specs.Prelude.{◌≡◌, ◌≤◌, true, length, codes, slice_get, option_map, unwrap_or, IfOk, IfSome};
 ghost use Rattle.rtsp_small.specs.Sessions.{is_session_id};
 ghost use Rattle.head_two.specs.Requests.{request_text};
-ghost use Rattle.client_slot.specs.declared.limits.TheConstants.{LONGEST_URI};
+ghost use Rattle.client_slot.specs.declared.limits.TheConstants.{LONGEST_URI, CLOSING_ROOM};
 
 mod changes;
 
@@ -121,7 +121,8 @@ impl Session {
 
     /// The text of the TEARDOWN with this number, where it has an id.
     pub fn teardown_text(&self, room: ClosingRoom, number: u32) -> Option<Text>
-        ensures { result ≡ option_map (λ id. request_text number (closing_request self.now.control id)) self.now.id }
+        ensures text { result ≡ option_map (λ id. request_text number (closing_request self.now.control id)) self.now.id }
+        ensures short { IfSome result (λ text. length text ≤ CLOSING_ROOM) }
     {
         let id = self.id()?;
         Some(room.write(self.subject(), number, id))

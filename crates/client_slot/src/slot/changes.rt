@@ -4,7 +4,7 @@ ghost use Rattle.rtsp_head.specs.Shapes.{shape_of};
 ghost use Rattle.rtsp_small.specs.Sessions.{is_session_id};
 ghost use Rattle.session_two.specs.Ends.{end_counts};
 ghost use Rattle.play_queue.specs.declared.queue.TheConstants.{MOST_PLAYS};
-ghost use Rattle.client_slot.specs.declared.limits.TheConstants.{LONGEST_URI, MOST_WAITING};
+ghost use Rattle.client_slot.specs.declared.limits.TheConstants.{LONGEST_URI, CLOSING_ROOM, MOST_WAITING};
 ghost use Rattle.session_one.specs.declared.parts.TheConstants.{MOST_TRACKS};
 ghost use Rattle.client_slot.specs.Purposes.{settled_as};
 
@@ -110,6 +110,7 @@ impl Slot {
     /// The text of the closing TEARDOWN with this number, which went up, where one is to.
     pub fn closing(&mut self, number: u32) -> Option<Text>
         ensures text { result ≡ closing_text number self.old }
+        ensures short { IfSome result (λ text. length text ≤ CLOSING_ROOM) }
         ensures closing { self.new ≡ after_closing self.old }
     {
         if self.alive || self.pending.is_some() || self.session.id().is_none() {
