@@ -1,5 +1,5 @@
 -- A plan for an event of a connection: what it says is done, and when that is what the machine does (this project's own).
-use Rattle.std.specs.Prelude.{◌≡◌, ℕ, ◌+◌, ◌≤◌, ◌<◌, Bool, true, false, is_some, List, [], ◌∷◌, drop, length, Option, Some, None, IsSome, IfSome}
+use Rattle.std.specs.Prelude.{◌≡◌, ℕ, ◌+◌, ◌^◌, ◌≤◌, ◌<◌, Bool, true, false, is_some, List, [], ◌∷◌, drop, length, Option, Some, None, IsSome, IfSome}
 use Rattle.rtsp_head.specs.Items.{Shape}
 use Rattle.rtsp_head.specs.Shapes.{shape_of}
 use Rattle.rtsp_head.specs.declared.item.ItemKind.TheVariants as kinds
@@ -44,7 +44,6 @@ abbrev pub incoming_seen : Incoming → Comes
 incoming_seen (comings.Request item) = requests (shape_of item.now)
 incoming_seen (comings.Reply reply) = replies reply.now
 incoming_seen (comings.Notice reason names) = notes reason names
-incoming_seen (comings.Close why) = shuts why
 
 -- An item that comes as a request is one.
 abbrev pub IsSound : Comes → Type 0
@@ -161,3 +160,18 @@ pub record Does (next : ℕ) (pair : Option ℕ) (after : Client) (done : Done) 
   pub hand : done.hand ≡ effect.hand
   pub request : done.request ≡ spelled next pair effect.message
   pub close : done.close ≡ effect.close
+
+-- How long what a plan hands out may be: so that it, and with an answer before it what goes up, fits into 32 bits (this
+-- project's own).
+abbrev pub IsShortUp : Up → Type 0
+IsShortUp ups.Nothing = Unit {0}
+IsShortUp (ups.Due text) = length text < 2 ^ 31
+IsShortUp ups.Leave = Unit {0}
+IsShortUp (ups.Ask text asked track) = length text < 2 ^ 31
+
+abbrev pub IsShortPlan : Plan → Type 0
+IsShortPlan plan = (length plan.hand < 2 ^ 32) × IsShortUp plan.up
+
+pub record IsShortDone (done : Done) : Type 0 where
+  pub hand : length done.hand < 2 ^ 32
+  pub request : IfSome done.request (λ text. length text < 2 ^ 31)

@@ -1,9 +1,9 @@
 //! Plans are carried out.
-ghost use Rattle.std.specs.Prelude.{◌≡◌, ℕ, Option, is_some, length};
+ghost use Rattle.std.specs.Prelude.{◌≡◌, ◌<◌, ◌^◌, ℕ, Option, is_some, length, IfSome};
 ghost use Rattle.rtsp_uri.specs.declared.base.Bases.{Bases};
 ghost use Rattle.client_slot.specs.Client.{Client};
 ghost use Rattle.gate_machine.specs.Going.{after_plays};
-ghost use Rattle.gate_machine.specs.Plans.{Comes, effect_by, changed, shut_by, without, risen, risen_text, is_up, IsReadyChange, ArePlaced, IsReadyUp, IsReady, IsPlan, Does};
+ghost use Rattle.gate_machine.specs.Plans.{Comes, effect_by, changed, shut_by, without, risen, risen_text, is_up, IsReadyChange, ArePlaced, IsReadyUp, IsReady, IsPlan, Does, IsShortUp, IsShortPlan, IsShortDone};
 
 use crate::parts::{Change, Done, Plan, Up};
 use crate::why::CloseWhy;
@@ -25,8 +25,9 @@ impl Plan {
     /// memory, and can't be refused.
     pub fn commit(self, slot: &mut Slot, number: u32, next: u32) -> Done
         requires { IsReady slot.old self }
-        ensures { (bases : Bases) (pair : Option ℕ) (comes : Comes) → IsPlan bases next pair slot.old comes self
+        ensures does { (bases : Bases) (pair : Option ℕ) (comes : Comes) → IsPlan bases next pair slot.old comes self
             → Does next pair slot.new result (effect_by bases number pair slot.old comes) }
+        ensures short { IsShortPlan self → IsShortDone result }
     {
         let Plan {
             change,
@@ -89,6 +90,7 @@ impl Up {
         requires { IsReadyUp slot.old self }
         ensures client { slot.new ≡ risen self slot.old }
         ensures text { result ≡ risen_text next self slot.old }
+        ensures short { IsShortUp self → IfSome result (λ text. length text < 2 ^ 31) }
     {
         match self {
             Up::Nothing => None,

@@ -5,7 +5,7 @@ ghost use Rattle.rtsp_uri.specs.declared.base.Bases.{Bases};
 ghost use Rattle.rtsp_small.specs.declared.notify.NotifyReason.TheVariants.{EndOfStream};
 ghost use Rattle.session_two.specs.Ends.{end_counts};
 ghost use Rattle.client_slot.specs.Changes.{due_play, after_note};
-ghost use Rattle.gate_machine.specs.Plans.{notes, shuts, IsPlan};
+ghost use Rattle.gate_machine.specs.Plans.{notes, shuts, IsPlan, IsShortPlan};
 
 use crate::onward::{due_text, idle, still};
 use crate::parts::{Change, Plan, Up};
@@ -70,9 +70,10 @@ fn counts(running: Option<u32>, names: Names) -> bool
     }
 }
 
-/// The plan for a connection that closes.
-pub(crate) fn plan_close(alloc: Global, slot: &Slot, why: CloseWhy) -> Plan
-    ensures { (bases : Bases) (next : ℕ) (pair : Option ℕ) → IsPlan bases next pair slot.now (shuts why) result }
+/// The plan for a connection that closes. It takes no memory.
+pub fn plan_close(alloc: Global, slot: &Slot, why: CloseWhy) -> Plan
+    ensures plan { (bases : Bases) (next : ℕ) (pair : Option ℕ) → IsPlan bases next pair slot.now (shuts why) result }
+    ensures short { IsShortPlan result }
 {
     if !slot.alive() {
         return idle(alloc);

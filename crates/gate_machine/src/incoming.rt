@@ -1,6 +1,5 @@
 //! What happens to a connection.
 
-use crate::why::CloseWhy;
 use head_two::Reply2;
 use rtsp_head::Item;
 use rtsp_small::NotifyReason;
@@ -15,6 +14,4 @@ pub enum Incoming<'a> {
     Reply(&'a Reply2),
     /// The server told about its session, and named one of its requests or none.
     Notice(NotifyReason, Names),
-    /// It closes.
-    Close(CloseWhy),
 }

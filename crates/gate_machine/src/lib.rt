@@ -24,6 +24,7 @@ mod told;
 mod treat;
 mod why;
 
+pub use ends::plan_close;
 pub use frames::{StreamHalf, channel_for, half_for};
 pub use incoming::Incoming;
 pub use laws::{

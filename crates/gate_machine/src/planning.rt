@@ -1,10 +1,10 @@
 //! Plans are made.
 ghost use Rattle.std.specs.Prelude.{◌<◌, IfOk, IfSome};
-ghost use Rattle.gate_machine.specs.Plans.{incoming_seen, IsSound, IsPlan};
+ghost use Rattle.gate_machine.specs.Plans.{incoming_seen, IsSound, IsPlan, IsShortUp, IsShortPlan};
 
-use crate::ends::{plan_close, plan_notice};
+use crate::ends::plan_notice;
 use crate::incoming::Incoming;
-use crate::parts::Plan;
+use crate::parts::{Plan, Up};
 use crate::replies::plan_reply;
 use crate::requests::plan_request;
 use client_slot::Slot;
@@ -12,10 +12,38 @@ use gate_bytes::Memory;
 use rtsp_uri::Bases;
 use std::alloc::Global;
 
+/// The most bytes that one event hands to a client: their length fits into 32 bits.
+const LONGEST_HAND: usize = 0xffff_ffff;
+
+/// The most bytes of a request, so that it and an answer before it have a length of 32 bits.
+const LONGEST_REQUEST: usize = 0x7fff_ffff;
+
 /// What an event will do to a connection, by the number that the next request would have and the
 /// lowest pair of channels that is free once the event is heard. Nothing changes, and all memory is
 /// taken.
 pub fn plan(
+    alloc: Global,
+    bases: &Bases,
+    slot: &Slot,
+    next: u32,
+    pair: Option<u8>,
+    incoming: &Incoming<'_>,
+) -> Result<Plan, Memory>
+    requires sound { IsSound (incoming_seen incoming.now) }
+    requires pair { IfSome pair (λ one. one < 128) }
+    ensures plan { IfOk result (IsPlan bases.now next pair slot.now (incoming_seen incoming.now)) }
+    ensures short { IfOk result IsShortPlan }
+{
+    let plan = plan_any(alloc, bases, slot, next, pair, incoming)?;
+    if plan.is_short() {
+        Ok(plan)
+    } else {
+        Err(Memory)
+    }
+}
+
+/// A plan of any length.
+fn plan_any(
     alloc: Global,
     bases: &Bases,
     slot: &Slot,
@@ -31,6 +59,31 @@ pub fn plan(
         Incoming::Request(item) => plan_request(alloc, bases, slot, next, pair, item),
         Incoming::Reply(reply) => plan_reply(alloc, bases, slot, next, pair, reply),
         Incoming::Notice(reason, names) => plan_notice(alloc, slot, next, reason, names),
-        Incoming::Close(why) => Ok(plan_close(alloc, slot, why)),
+    }
+}
+
+impl Plan {
+    ghost use Rattle.std.specs.Prelude.{◌≡◌, true};
+
+    /// Whether what it hands out is short enough. A longer one is not made, as if there were no memory
+    /// for it.
+    fn is_short(&self) -> bool
+        ensures { result ≡ true → IsShortPlan self.now }
+    {
+        self.hand.len() <= LONGEST_HAND && self.up.is_short()
+    }
+}
+
+impl Up {
+    ghost use Rattle.std.specs.Prelude.{◌≡◌, true};
+
+    /// Whether what goes up is short enough.
+    fn is_short(&self) -> bool
+        ensures { result ≡ true → IsShortUp self.now }
+    {
+        match self {
+            Up::Nothing | Up::Leave => true,
+            Up::Due(text) | Up::Ask(text, _, _) => text.len() <= LONGEST_REQUEST,
+        }
     }
 }

@@ -1,5 +1,5 @@
 // Events by their lines.
-ghost use Rattle.gate_machine.specs.Plans.{incoming_seen, IsSound};
+ghost use Rattle.gate_machine.specs.Plans.{incoming_seen, IsSound, IsReady};
 
 use crate::*;
 use client_slot::Slot;
@@ -40,9 +40,7 @@ fn item(alloc: Global, text: &str) -> Result<Item, Memory> {
     framer.next().ok_or(Memory)
 }
 
-/// What an event does: the bytes for the player, the request that goes up behind `^`, and `!` for a
-/// close. `-` stands
-/// for nothing.
+/// What an event does.
 fn does(
     alloc: Global,
     bases: &Bases,
@@ -52,9 +50,18 @@ fn does(
 ) -> Result<Text, Memory>
     requires { IsSound (incoming_seen incoming.now) }
 {
+    let next = number.wrapping_add(1);
+    let plan = plan(alloc, bases, slot, next, Some(5), incoming)?;
+    carries_out(alloc, slot, number, plan)
+}
+
+/// What a plan does: the bytes for the player, the request that goes up behind `^`, and `!` for a
+/// close. `-` stands for nothing.
+fn carries_out(alloc: Global, slot: &mut Slot, number: &mut u32, plan: Plan) -> Result<Text, Memory>
+    requires { IsReady slot.old plan }
+{
     let open = *number;
     let next = open.wrapping_add(1);
-    let plan = plan(alloc, bases, slot, next, Some(5), incoming)?;
     if plan.asks() {
         *number = next;
     }
@@ -99,13 +106,10 @@ pub(crate) fn happen(
             let end = Incoming::Notice(NotifyReason::EndOfStream, Names::Unsaid);
             does(alloc, bases, slot, number, &end)
         }
-        "close" => does(
-            alloc,
-            bases,
-            slot,
-            number,
-            &Incoming::Close(CloseWhy::Ended),
-        ),
+        "close" => {
+            let plan = plan_close(alloc, slot, CloseWhy::Ended);
+            carries_out(alloc, slot, number, plan)
+        }
         _ => Text::copy(alloc, b"-"),
     }
 }
