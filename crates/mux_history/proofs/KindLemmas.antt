@@ -38,7 +38,7 @@ kind_by : (number : ℕ) (request : Request2) (free : Option ℕ) (shut : Bool) 
 kind_by number request free shut method e = ap (λ m. kind_of_text (request_text number (asking m request)) free shut) e
 
 -- a SETUP asks for the pair that is free
-setup_asks : (number : ℕ) (request : Request2) (p : ℕ) (shut : Bool) (own : ℕ) → request.method ≡ method_name methods.Setup → kind_of_text (request_text number (with_pair (Some own) (Some p) request)) (Some p) shut ≡ sets_up p
+pub setup_asks : (number : ℕ) (request : Request2) (p : ℕ) (shut : Bool) (own : ℕ) → request.method ≡ method_name methods.Setup → kind_of_text (request_text number (with_pair (Some own) (Some p) request)) (Some p) shut ≡ sets_up p
 setup_asks number request p shut own e = kind_by number (with_pair (Some own) (Some p) request) (Some p) shut (method_name methods.Setup) e
 
 -- the pair that is free is held by nobody

@@ -20,3 +20,4 @@ pub mod TurnStandLemmas
 pub mod TurnBooksLemmas
 pub mod TurnClientLemmas
 pub mod TurnLawLemmas
+pub mod AskedLemmas

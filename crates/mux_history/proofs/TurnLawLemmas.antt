@@ -23,7 +23,8 @@ use Rattle.mux_history.specs.Follows.{message_up}
 use Rattle.mux_history.specs.Shared.{shared, kind_pending, kind_gone}
 use Rattle.mux_history.proofs.AgreeLemmas.{joined, event_for, alone_next, other_quiet}
 use Rattle.mux_history.proofs.CaseLemmas.{not_over}
-use Rattle.mux_history.proofs.JoinedLemmas.{alone, AreJoined, step_is}
+use Rattle.mux_history.specs.Turns.{IsItsTurn, IsSteppedBy}
+use Rattle.mux_history.proofs.JoinedLemmas.{alone, AreJoined, step_is, IsTurnStep, turn_step}
 use Rattle.mux_history.proofs.LendLemmas.{pair_same, number_same}
 use Rattle.mux_history.proofs.MarkLemmas.{pair_where}
 use Rattle.mux_history.proofs.OtherLemmas.{differs}
@@ -32,7 +33,7 @@ use Rattle.mux_history.proofs.StepLemmas.{other_of, free_or}
 use Rattle.mux_history.proofs.TurnBooksLemmas.{kind_at, turn_books_of, lent_kind, AskedOpen, step_open}
 use Rattle.mux_history.proofs.TurnClientLemmas.{asked_is_free, lent_client}
 use Rattle.mux_history.proofs.TurnNextLemmas.{raw_step_of}
-use Rattle.mux_history.proofs.TurnStandLemmas.{IsTurn, renumbered, entry_next, next_history, turn_stands, turn_alone}
+use Rattle.mux_history.proofs.TurnStandLemmas.{IsTurn, renumbered, entry_next, next_history, turn_stands, turn_alone, turn_outcome}
 
 -- after the turn: the connection by the new books, and these books
 abbrev pub IsAfter : Bases → List Entry → ℕ → Happening → PrivateEvent → Type 0
@@ -138,3 +139,28 @@ turn_others bases T i h event raw is j ne =
     ap (λ (one : Private). shared (books_of (entry_next bases T h ∷ T)) j one.client) same
     ∙ ap (λ b. shared b j (alone bases T j).client) (turn_books_of bases T i h event raw is)
     ∙ kept_shared (books_of T) (settled_by (books_of T) h) i j (alone bases T j).count (kind_at bases T i h event) (alone bases T j).client ne (alone_below bases (own bases j T)) (λ k. refl) (λ k. refl)
+
+-- The turn of a connection is one step by the books.
+is_turn : (bases : Bases) (history : List Entry) (i : ℕ) (happening : Happening) (own_form raw : PrivateEvent) → IsItsTurn bases history i happening own_form raw → IsTurn bases history i happening own_form raw
+is_turn bases history i happening own_form raw is = record {
+  history = is.is_history;
+  standing = is.standing;
+  entered = is.entered;
+  turns = is.turns;
+  is_event = is.is_own;
+  is_raw = is.is_raw;
+  made = subst (λ (one : Option PrivateEvent). IsTurnStep bases (books_of history) i (alone bases history i) one (final_in (books_of history) happening)) is.is_own
+      (turn_step bases history i happening ((joined bases history is.is_history is.standing).1 i) is.entered is.turns is.said);
+  said = is.said;
+  left = is.left;
+}
+
+pub stepped : (bases : Bases) (history : List Entry) (i : ℕ) (happening : Happening) (own_form raw : PrivateEvent) → IsItsTurn bases history i happening own_form raw → IsSteppedBy bases history i happening raw
+stepped bases history i happening own_form raw is =
+    let turn : IsTurn bases history i happening own_form raw = is_turn bases history i happening own_form raw is in
+    record {
+      outcome = turn_outcome bases history i happening own_form raw turn;
+      client = (turn_after bases history i happening own_form raw turn).0;
+      others = turn_others bases history i happening own_form raw turn;
+      books = (turn_after bases history i happening own_form raw turn).1;
+    }

@@ -91,19 +91,19 @@ take_below n true shape client below = item_below n shape.kind shape client belo
 take_below n false shape client below = tt
 
 -- no other event sends a frame up
-closes_none : (alive : Bool) (reason : CloseWhy) (client : Client) → (closes alive reason client).effect.message ≡ None
+pub closes_none : (alive : Bool) (reason : CloseWhy) (client : Client) → (closes alive reason client).effect.message ≡ None
 closes_none true reason client = refl
 closes_none false reason client = refl
 
-answer_none : (early : Bool) (client : Client) (heard : Heard) → heard.effect.message ≡ None → (cond early (idles client) heard).effect.message ≡ None
+pub answer_none : (early : Bool) (client : Client) (heard : Heard) → heard.effect.message ≡ None → (cond early (idles client) heard).effect.message ≡ None
 answer_none true client heard none = refl
 answer_none false client heard none = none
 
-settle_none : (bases : Bases) (n : ℕ) (pending : Option Purpose) (told : Told) (ssrc : Option ℕ) (client : Client) → (settle_at bases n pending told ssrc client).effect.message ≡ None
+pub settle_none : (bases : Bases) (n : ℕ) (pending : Option Purpose) (told : Told) (ssrc : Option ℕ) (client : Client) → (settle_at bases n pending told ssrc client).effect.message ≡ None
 settle_none bases n None told ssrc client = refl
 settle_none bases n (Some purpose) told ssrc client = refl
 
-note_none : (reason : NotifyReason) (names : Names) (client : Client) → (take_note reason names client).effect.message ≡ None
+pub note_none : (reason : NotifyReason) (names : Names) (client : Client) → (take_note reason names client).effect.message ≡ None
 note_none EndOfStream names client = refl
 note_none MediaProperties names client = refl
 note_none ScaleChange names client = refl

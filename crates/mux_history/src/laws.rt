@@ -1,9 +1,11 @@
 //! Laws over the definitions of a history. Each holds by its contract alone: no call is made.
-ghost use Rattle.std.specs.Prelude.{◌≡◌, ◌+◌, ◌≤◌, ℕ, Option, Some, None, List, map};
+ghost use Rattle.std.specs.Prelude.{◌≡◌, ◌+◌, ◌≤◌, ◌^◌, ℕ, Option, Some, None, List, map};
 ghost use Rattle.rtsp_uri.specs.declared.base.Bases.{Bases};
+ghost use Rattle.rtsp_small.specs.declared.cseq.TheConstants.{CSEQ_TWO_DIGITS, LAST_CSEQ_TWO};
 ghost use Rattle.client_slot.specs.Client.{Client};
-ghost use Rattle.gate_machine.specs.Alone.{private_after};
+ghost use Rattle.gate_machine.specs.Alone.{private_after, sent_up};
 ghost use Rattle.gate_machine.specs.Events.{PrivateEvent};
+ghost use Rattle.mux_history.specs.Asked.{asked_up, spelled_up};
 ghost use Rattle.mux_history.specs.Happenings.{Happening, Entry, fault_in, sent, shut};
 ghost use Rattle.mux_history.specs.Own.{books_of, own};
 ghost use Rattle.mux_history.specs.Follows.{IsHistory, Follows};
@@ -30,11 +32,18 @@ pub fn some_next_entry()
         → Follows bases earlier (record { happening = happening; outcome = next bases earlier happening }) }
 {}
 
-/// Connections that take the same events are handed the same bytes and closed alike, in any two
-/// histories with the same bases and under any two numbers.
+/// Connections that take the same events are handed the same bytes and closed alike, and the machine
+/// alone asks the same on them, in any two histories with the same bases and under any two numbers.
 pub fn equal_own_events()
     ensures { (bases : Bases) (one other : List Entry) (i j : ℕ) → IsHistory bases one → IsHistory bases other
-        → own bases i one ≡ own bases j other → (sent i one ≡ sent j other) × (shut i one ≡ shut j other) }
+        → own bases i one ≡ own bases j other → (sent i one ≡ sent j other) × (shut i one ≡ shut j other)
+        × (sent_up bases (own bases i one) ≡ sent_up bases (own bases j other)) }
+{}
+
+/// The server is asked, for each connection, exactly what the machine alone asks on that connection's
+/// own events, in order, in the numbers and on the channels of the one connection.
+pub fn the_server_is_asked_what_each_asks_alone()
+    ensures { (bases : Bases) (history : List Entry) (i : ℕ) → IsHistory bases history → asked_up i history ≡ spelled_up (books_of history) i bases (own bases i history) }
 {}
 
 /// While the connection to the server stands, the books of a history and what each connection alone
@@ -51,4 +60,9 @@ pub fn books_and_connections_agree()
 pub fn a_turn_is_one_step_by_the_books()
     ensures { (bases : Bases) (history : List Entry) (i : ℕ) (happening : Happening) (own_form raw : PrivateEvent)
         → IsItsTurn bases history i happening own_form raw → IsSteppedBy bases history i happening raw }
+{}
+
+/// The greatest number that goes up is the greatest that is read in a reply.
+pub fn the_last_number_is_the_greatest_read()
+    ensures { LAST_CSEQ_TWO + 1 ≡ 10 ^ CSEQ_TWO_DIGITS }
 {}

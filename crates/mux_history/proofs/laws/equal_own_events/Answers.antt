@@ -1,5 +1,5 @@
 use Rattle.std.proofs.Common.{◌∙◌, sym, ap}
-use Rattle.gate_machine.specs.Alone.{hand, shut_alone}
+use Rattle.gate_machine.specs.Alone.{hand, sent_up, shut_alone}
 use Rattle.mux_history.proofs.HistoryLemmas.{sent_as_alone, shut_as_alone}
 use Rattle.mux_history.proofs.laws.equal_own_events.Goals as goal
 
@@ -7,4 +7,5 @@ pub returns : goal.returns
 returns c bases one other i j first second same = (
   sent_as_alone bases one first i ∙ ap (hand bases) same ∙ sym (sent_as_alone bases other second j),
   shut_as_alone bases one first i ∙ ap (shut_alone bases) same ∙ sym (shut_as_alone bases other second j),
+  ap (sent_up bases) same,
 )
