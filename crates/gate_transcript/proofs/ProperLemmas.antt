@@ -1,5 +1,5 @@
 -- The entries of a reading come as they may: a connection enters once, and all else comes after that.
-use Rattle.std.proofs.Common.{◌≡◌, ℕ, zero, suc, ◌+◌, Bool, true, false, cond, List, [], ◌∷◌, ◌++◌, length, drop, Option, None, Some, Result, Ok, Err, refl, sym, ap, subst, nat_eq, nat_lt}
+use Rattle.std.proofs.Common.{◌≡◌, ℕ, zero, suc, ◌+◌, Bool, true, false, cond, List, [], ◌∷◌, ◌++◌, length, drop, Option, None, Some, Result, Ok, Err, refl, sym, ap, subst, nat_eq}
 use Rattle.std.specs.List.{starts_with}
 use Rattle.gate_transcript.specs.declared.entry.Entry.{Entry}
 use Rattle.gate_transcript.specs.declared.fault.BadEntryKind.{BadEntryKind}
@@ -7,7 +7,8 @@ use Rattle.gate_transcript.specs.declared.head.Head.{Head}
 use Rattle.gate_transcript.specs.declared.reader.Stage.{Stage}
 use Rattle.gate_transcript.specs.declared.reader.Stage.TheVariants.{Front, Entries, Stopped}
 use Rattle.gate_transcript.specs.declared.reader.EntryReader.{EntryReader}
-use Rattle.gate_transcript.specs.Transcript.{magic, has_entered, may_come, longest_body, sound_head, bad_entry, entry_head, first_head, entry_with, Reading, reading_with, reading_by, reading_on, reading}
+use Rattle.gate_transcript.specs.Transcript.{magic, has_entered, may_come, sound_head, bad_entry, entry_head, first_head, entry_with, Reading, reading_with, reading_by, reading_on, reading}
+use Rattle.gate_transcript.specs.Bodies.{may_have_length}
 use Rattle.gate_transcript.specs.Reads.{ReadsBy, ReadsSo}
 use Rattle.gate_transcript.proofs.HeadLemmas.{first_parts}
 
@@ -20,16 +21,16 @@ sound_may has None head e = absurd (cc)
 sound_may has (Some h) head e = at (may_come has h.kind h.conn) refl e
   where
     sized : Bool → Result Head BadEntryKind
-    sized long = cond long (Err BadEntryKind.Length) (Ok h)
+    sized fits = cond fits (Ok h) (Err BadEntryKind.Length)
 
-    at : (may : Bool) → may_come has h.kind h.conn ≡ may → cond may (sized (nat_lt (longest_body h.kind) h.size)) (Err BadEntryKind.Conn) ≡ Ok head
+    at : (may : Bool) → may_come has h.kind h.conn ≡ may → cond may (sized (may_have_length h.kind h.size)) (Err BadEntryKind.Conn) ≡ Ok head
         → may_come has head.kind head.conn ≡ true
     at false same f = absurd (cc)
-    at true same f = long (nat_lt (longest_body h.kind) h.size) f
+    at true same f = fits (may_have_length h.kind h.size) f
       where
-        long : (b : Bool) → sized b ≡ Ok head → may_come has head.kind head.conn ≡ true
-        long true g = absurd (cc)
-        long false g = let one : h ≡ head = cc in subst (λ (x : Head). may_come has x.kind x.conn ≡ true) one same
+        fits : (b : Bool) → sized b ≡ Ok head → may_come has head.kind head.conn ≡ true
+        fits false g = absurd (cc)
+        fits true g = let one : h ≡ head = cc in subst (λ (x : Head). may_come has x.kind x.conn ≡ true) one same
 
 first_may : (has : ℕ → Bool) (bytes : List ℕ) (head : Head) → first_head has bytes ≡ Ok (Some head) → may_come has head.kind head.conn ≡ true
 first_may has [] head e = absurd (cc)

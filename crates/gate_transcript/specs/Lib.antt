@@ -1,4 +1,5 @@
 pub mod Connections
+pub mod Bodies
 pub mod Transcript
 pub mod Reads
 pub mod Steps

@@ -5,15 +5,16 @@ use Rattle.std.specs.List.{starts_with}
 use Rattle.std.specs.Option.{option_map}
 use Rattle.std.specs.Int.{w32, from_be_bytes}
 use Rattle.gate_transcript.specs.declared.entry.EntryKind.{EntryKind}
-use Rattle.gate_transcript.specs.declared.entry.EntryKind.TheVariants.{Enter, Client, Upstream, End}
+use Rattle.gate_transcript.specs.declared.entry.EntryKind.TheVariants.{Enter, Client, Upstream, End, Slow, UpEnd}
 use Rattle.gate_transcript.specs.declared.entry.Entry.{Entry}
 use Rattle.gate_transcript.specs.declared.fault.BadEntryKind.{BadEntryKind}
 use Rattle.gate_transcript.specs.declared.fault.BadEntryKind.TheVariants.{Magic, Kind, Conn, Length, Cut}
 use Rattle.gate_transcript.specs.declared.fault.BadEntry.{BadEntry}
-use Rattle.gate_transcript.specs.declared.entry.TheConstants.{ENTER_BYTE, CLIENT_BYTE, UPSTREAM_BYTE, END_BYTE}
+use Rattle.gate_transcript.specs.declared.entry.TheConstants.{ENTER_BYTE, CLIENT_BYTE, UPSTREAM_BYTE, END_BYTE, SLOW_BYTE, UP_END_BYTE}
 use Rattle.gate_transcript.specs.declared.head.Head.{Head}
-use Rattle.gate_transcript.specs.declared.head.TheConstants.{HEAD_LENGTH, LONGEST_BODY}
+use Rattle.gate_transcript.specs.declared.head.TheConstants.{HEAD_LENGTH}
 use Rattle.gate_transcript.specs.declared.reader.TheConstants.{MAGIC_LENGTH}
+use Rattle.gate_transcript.specs.Bodies.{may_have_length, is_body}
 use Rattle.gate_bytes.specs.Ascii.{lf}
 
 -- the bytes that a transcript begins with
@@ -26,13 +27,17 @@ kind_of b =
     if b == ENTER_BYTE then Some Enter
     else (if b == CLIENT_BYTE then Some Client
     else (if b == UPSTREAM_BYTE then Some Upstream
-    else (if b == END_BYTE then Some End else None)))
+    else (if b == END_BYTE then Some End
+    else (if b == SLOW_BYTE then Some Slow
+    else (if b == UP_END_BYTE then Some UpEnd else None)))))
 
 abbrev pub is_enter : EntryKind → Bool
 is_enter Enter = true
 is_enter Client = false
 is_enter Upstream = false
 is_enter End = false
+is_enter Slow = false
+is_enter UpEnd = false
 
 -- whether a connection has entered by one of these entries
 abbrev pub has_entered : ℕ → List Entry → Bool
@@ -46,13 +51,8 @@ may_come has Enter conn = not (has conn)
 may_come has Client conn = has conn
 may_come has Upstream conn = conn == 0
 may_come has End conn = has conn
-
--- the longest body of each kind
-abbrev pub longest_body : EntryKind → ℕ
-longest_body Enter = 0
-longest_body Client = LONGEST_BODY
-longest_body Upstream = LONGEST_BODY
-longest_body End = 0
+may_come has Slow conn = has conn
+may_come has UpEnd conn = conn == 0
 
 -- the head that a kind byte and the eight bytes after it spell, where the byte names a kind
 abbrev pub entry_head : ℕ → List ℕ → Option Head
@@ -62,17 +62,18 @@ entry_head b bytes =
 -- the head, or its fault: first of the kind, then of the connection, then of the length
 abbrev pub sound_head : (ℕ → Bool) → Option Head → Result Head BadEntryKind
 sound_head has None = Err Kind
-sound_head has (Some head) = if may_come has head.kind head.conn then (if nat_lt (longest_body head.kind) head.size then Err Length else Ok head) else Err Conn
+sound_head has (Some head) = if may_come has head.kind head.conn then (if may_have_length head.kind head.size then Ok head else Err Length) else Err Conn
 
--- the head, where there is room for its body
-abbrev pub with_room : ℕ → Result Head BadEntryKind → Result (Option Head) BadEntryKind
-with_room room (Ok head) = if nat_lt room head.size then Err Cut else Ok (Some head)
-with_room room (Err bad) = Err bad
+-- the head, where its body stands first in the bytes
+abbrev pub with_its_body : List ℕ → Result Head BadEntryKind → Result (Option Head) BadEntryKind
+with_its_body bytes (Ok head) =
+    if nat_lt (length bytes) head.size then Err Cut else (if is_body head.kind (take head.size bytes) then Ok (Some head) else Err Length)
+with_its_body bytes (Err bad) = Err bad
 
 -- the head of the entry that the bytes begin with, nothing where there is no byte, or the entry's fault
 abbrev pub first_head : (ℕ → Bool) → List ℕ → Result (Option Head) BadEntryKind
 first_head has [] = Ok None
-first_head has (b ∷ bytes) = if nat_lt (length bytes) (HEAD_LENGTH - 1) then Err Cut else with_room (length bytes - (HEAD_LENGTH - 1)) (sound_head has (entry_head b bytes))
+first_head has (b ∷ bytes) = if nat_lt (length bytes) (HEAD_LENGTH - 1) then Err Cut else with_its_body (drop (HEAD_LENGTH - 1) bytes) (sound_head has (entry_head b bytes))
 
 -- the entry with this head, at the front of the bytes
 abbrev pub entry_with : Head → List ℕ → Entry

@@ -1,4 +1,6 @@
 //! An entry of a transcript: its kind, its connection and its body.
+ghost use Rattle.std.specs.Prelude.{◌≡◌};
+ghost use Rattle.gate_transcript.specs.Bodies.{end_reason_by, end_reason_in};
 
 use gate_bytes::Text;
 
@@ -14,6 +16,24 @@ pub const UPSTREAM_BYTE: u8 = b'U';
 /// The kind byte of an entry at which a connection ends.
 pub const END_BYTE: u8 = b'E';
 
+/// The kind byte of an entry at which a client's queue was full.
+pub const SLOW_BYTE: u8 = b'S';
+
+/// The kind byte of an entry at which the connection to the server ends.
+pub const UP_END_BYTE: u8 = b'Z';
+
+/// The byte that tells that the server ended its connection.
+pub const ENDED_REASON: u8 = b'E';
+
+/// The byte that tells that reading from the server failed.
+pub const READ_FAULT_REASON: u8 = b'R';
+
+/// The byte that tells that writing to the server failed.
+pub const WRITE_FAULT_REASON: u8 = b'W';
+
+/// The byte that tells that the server's queue was full.
+pub const FULL_REASON: u8 = b'Q';
+
 /// What an entry tells.
 #[derive(Clone, Copy, Debug, PartialEq, Eq)]
 pub enum EntryKind {
@@ -25,6 +45,46 @@ pub enum EntryKind {
     Upstream,
     /// `E`: a connection ends. It has no body.
     End,
+    /// `S`: a client's queue was full. It has no body.
+    Slow,
+    /// `Z`: the connection to the server ends. Its connection is written as 0, and its body is the byte of a reason.
+    UpEnd,
+}
+
+/// Why the connection to the server ends at an entry.
+#[derive(Clone, Copy, Debug, PartialEq, Eq)]
+pub enum UpEndReason {
+    /// `E`: the server ended it.
+    Ended,
+    /// `R`: reading from it failed.
+    ReadFault,
+    /// `W`: writing to it failed.
+    WriteFault,
+    /// `Q`: the server's queue was full.
+    Full,
+}
+
+/// The reason that a body is; none where it is not the one byte of a reason.
+pub fn end_reason_in(body: &[u8]) -> Option<UpEndReason>
+    ensures { result ≡ end_reason_in body.now }
+{
+    match body {
+        [byte] => end_reason_by(*byte),
+        _ => None,
+    }
+}
+
+/// The reason that a byte tells.
+fn end_reason_by(byte: u8) -> Option<UpEndReason>
+    ensures { result ≡ end_reason_by byte }
+{
+    match byte {
+        ENDED_REASON => Some(UpEndReason::Ended),
+        READ_FAULT_REASON => Some(UpEndReason::ReadFault),
+        WRITE_FAULT_REASON => Some(UpEndReason::WriteFault),
+        FULL_REASON => Some(UpEndReason::Full),
+        _ => None,
+    }
 }
 
 /// One entry of a transcript.
@@ -34,6 +94,6 @@ pub struct Entry {
     pub kind: EntryKind,
     /// The connection's number; 0 where the entry is the server's.
     pub conn: u32,
-    /// The bytes of the client or of the server; none where the kind has no body.
+    /// The bytes of the client or of the server, or the byte of a reason; none where the kind has no body.
     pub body: Text,
 }

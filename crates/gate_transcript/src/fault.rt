@@ -11,7 +11,7 @@ pub enum BadEntryKind {
     Kind,
     /// A connection that enters twice, or that has not entered; or another than 0 for the server.
     Conn,
-    /// A body that is too long for its kind.
+    /// A length that the kind does not have, or a byte that is no reason.
     Length,
     /// The end of the bytes within an entry.
     Cut,

@@ -2,12 +2,16 @@
 ghost use Rattle.std.specs.Prelude.{◌≡◌, ◌≤◌, ◌-◌, length, take, drop};
 ghost use Rattle.std.specs.Int.{w32, from_be_bytes};
 ghost use Rattle.gate_transcript.specs.Connections.{has};
-ghost use Rattle.gate_transcript.specs.Transcript.{kind_of, longest_body, may_come, entry_head, sound_head, first_head};
+ghost use Rattle.gate_transcript.specs.Transcript.{kind_of, may_come, entry_head, sound_head, first_head};
+ghost use Rattle.gate_transcript.specs.Bodies.{may_have_length, is_body};
 
 use crate::connections::Connections;
-use crate::entry::{CLIENT_BYTE, END_BYTE, ENTER_BYTE, EntryKind, UPSTREAM_BYTE};
+use crate::entry::{
+    CLIENT_BYTE, END_BYTE, ENTER_BYTE, EntryKind, SLOW_BYTE, UP_END_BYTE, UPSTREAM_BYTE,
+    end_reason_in,
+};
 use crate::fault::BadEntryKind;
-use gate_bytes::after;
+use gate_bytes::{after, before};
 
 /// The length of an entry's head in bytes: a kind byte, and four bytes each for the connection and the body's length.
 pub const HEAD_LENGTH: usize = 9;
@@ -37,13 +41,17 @@ pub fn first_head(entered: &Connections, bytes: &[u8]) -> Result<Option<Head>, B
         return Err(BadEntryKind::Cut);
     }
     let head = sound_head(entered, entry_head(*kind, rest))?;
-    if rest.len() - (HEAD_LENGTH - 1) < head.size as usize {
+    let body = after(rest, HEAD_LENGTH - 1);
+    if body.len() < head.size as usize {
         return Err(BadEntryKind::Cut);
+    }
+    if !is_body(head.kind, before(body, head.size as usize)) {
+        return Err(BadEntryKind::Length);
     }
     Ok(Some(head))
 }
 
-/// The head, or its first fault: an unknown kind, a wrong connection, or a body that is too long.
+/// The head, or its first fault: an unknown kind, a wrong connection, or a length that the kind does not have.
 fn sound_head(entered: &Connections, head: Option<Head>) -> Result<Head, BadEntryKind>
     ensures { result ≡ sound_head (has entered.now) head }
 {
@@ -53,7 +61,7 @@ fn sound_head(entered: &Connections, head: Option<Head>) -> Result<Head, BadEntr
     if !may_come(entered, head.kind, head.conn) {
         return Err(BadEntryKind::Conn);
     }
-    if head.size > longest_body(head.kind) {
+    if !may_have_length(head.kind, head.size) {
         return Err(BadEntryKind::Length);
     }
     Ok(head)
@@ -68,18 +76,36 @@ fn may_come(entered: &Connections, kind: EntryKind, conn: u32) -> bool
         EntryKind::Client => entered.has(conn),
         EntryKind::Upstream => conn == 0,
         EntryKind::End => entered.has(conn),
+        EntryKind::Slow => entered.has(conn),
+        EntryKind::UpEnd => conn == 0,
     }
 }
 
-/// The longest body of an entry of this kind.
-fn longest_body(kind: EntryKind) -> u32
-    ensures { result ≡ longest_body kind }
+/// Whether the body of an entry of this kind may have this length.
+fn may_have_length(kind: EntryKind, size: u32) -> bool
+    ensures { result ≡ may_have_length kind size }
 {
     match kind {
-        EntryKind::Enter => 0,
-        EntryKind::Client => LONGEST_BODY,
-        EntryKind::Upstream => LONGEST_BODY,
-        EntryKind::End => 0,
+        EntryKind::Enter => size == 0,
+        EntryKind::Client => size <= LONGEST_BODY,
+        EntryKind::Upstream => size <= LONGEST_BODY,
+        EntryKind::End => size == 0,
+        EntryKind::Slow => size == 0,
+        EntryKind::UpEnd => size == 1,
+    }
+}
+
+/// Whether bytes are the body of an entry of this kind: at the end of the connection to the server they tell a reason.
+fn is_body(kind: EntryKind, body: &[u8]) -> bool
+    ensures { result ≡ is_body kind body.now }
+{
+    match kind {
+        EntryKind::Enter => true,
+        EntryKind::Client => true,
+        EntryKind::Upstream => true,
+        EntryKind::End => true,
+        EntryKind::Slow => true,
+        EntryKind::UpEnd => end_reason_in(body).is_some(),
     }
 }
 
@@ -105,6 +131,8 @@ fn kind_of(byte: u8) -> Option<EntryKind>
         CLIENT_BYTE => Some(EntryKind::Client),
         UPSTREAM_BYTE => Some(EntryKind::Upstream),
         END_BYTE => Some(EntryKind::End),
+        SLOW_BYTE => Some(EntryKind::Slow),
+        UP_END_BYTE => Some(EntryKind::UpEnd),
         _ => None,
     }
 }

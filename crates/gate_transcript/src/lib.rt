@@ -14,7 +14,11 @@ mod head;
 mod pending;
 mod reader;
 
-pub use entry::{CLIENT_BYTE, END_BYTE, ENTER_BYTE, Entry, EntryKind, UPSTREAM_BYTE};
+pub use entry::{
+    CLIENT_BYTE, END_BYTE, ENDED_REASON, ENTER_BYTE, Entry, EntryKind, FULL_REASON,
+    READ_FAULT_REASON, SLOW_BYTE, UP_END_BYTE, UPSTREAM_BYTE, UpEndReason, WRITE_FAULT_REASON,
+    end_reason_in,
+};
 pub use fault::{BadEntry, BadEntryKind, EntryFault};
 pub use head::{HEAD_LENGTH, LONGEST_BODY};
 pub use reader::{EntryReader, MAGIC, MAGIC_LENGTH};

@@ -7,9 +7,9 @@ use std::alloc::Global;
 use std::test::Fail;
 
 // Two connections enter; bytes of the first, an entry of its without bytes, and its end; bytes of the server and of the
-// second connection.
+// second connection; its full queue, and the end of the server.
 const ENTRIES: &[u8] =
-    b"O\0\0\0\x01\0\0\0\0O\0\0\0\x07\0\0\0\0A\0\0\0\x01\0\0\0\x02hiA\0\0\0\x01\0\0\0\0E\0\0\0\x01\0\0\0\0U\0\0\0\0\0\0\0\x03allA\0\0\0\x07\0\0\0\x05there";
+    b"O\0\0\0\x01\0\0\0\0O\0\0\0\x07\0\0\0\0A\0\0\0\x01\0\0\0\x02hiA\0\0\0\x01\0\0\0\0E\0\0\0\x01\0\0\0\0U\0\0\0\0\0\0\0\x03allA\0\0\0\x07\0\0\0\x05thereS\0\0\0\x07\0\0\0\0Z\0\0\0\0\0\0\0\x01R";
 
 // The kind byte of an entry.
 fn byte_of(kind: EntryKind) -> u8 {
@@ -18,6 +18,8 @@ fn byte_of(kind: EntryKind) -> u8 {
         EntryKind::Client => CLIENT_BYTE,
         EntryKind::Upstream => UPSTREAM_BYTE,
         EntryKind::End => END_BYTE,
+        EntryKind::Slow => SLOW_BYTE,
+        EntryKind::UpEnd => UP_END_BYTE,
     }
 }
 
@@ -95,4 +97,48 @@ fn a_reader_ends_by_what_it_gave(rt: HostRuntime) -> Result<(), Fail> {
     );
     assert_eq!(rt; reader.finish(), unknown);
     Ok(())
+}
+
+#[test]
+fn an_end_of_the_server_has_its_faults(rt: HostRuntime) -> Result<(), Fail> {
+    let alloc = rt.alloc();
+    let rows = [
+        (b"Z\0\0\0\0\0\0\0".as_slice(), 8, BadEntryKind::Cut),
+        (b"Z\0\0\0\0\0\0\0\x01", 8, BadEntryKind::Cut),
+        (b"Z\0\0\0\0\0\0\0\x01X", 8, BadEntryKind::Length),
+        (b"Z\0\0\0\0\0\0\0\x01e", 8, BadEntryKind::Length),
+        (b"Z\0\0\0\0\0\0\0\x02", 8, BadEntryKind::Length),
+        (b"Z\0\0\0\0\0\0\0\0", 8, BadEntryKind::Length),
+        (b"Z\0\0\0\x01\0\0\0\x01E", 8, BadEntryKind::Conn),
+        (b"S\0\0\0\x01\0\0\0\0", 8, BadEntryKind::Conn),
+        (b"S\0\0\0\0\0\0\0\0", 8, BadEntryKind::Conn),
+        (
+            b"O\0\0\0\x01\0\0\0\0S\0\0\0\x01\0\0\0\x01",
+            17,
+            BadEntryKind::Length,
+        ),
+        (
+            b"Z\0\0\0\0\0\0\0\x01EZ\0\0\0\0\0\0\0\x01Q?\0\0\0\0\0\0\0\0",
+            28,
+            BadEntryKind::Kind,
+        ),
+    ];
+    for (entries, place, kind) in rows {
+        let mut bytes = MAGIC.to_vec(alloc)?;
+        bytes.extend_from_slice(entries)?;
+        let (_, end) = read(alloc, &bytes, 1)?;
+        assert_eq!(rt; end, Err(BadEntry { place, kind }));
+    }
+    Ok(())
+}
+
+#[test]
+fn each_reason_has_its_byte(rt: HostRuntime) {
+    assert_eq!(rt; end_reason_in(b"E"), Some(UpEndReason::Ended));
+    assert_eq!(rt; end_reason_in(b"R"), Some(UpEndReason::ReadFault));
+    assert_eq!(rt; end_reason_in(b"W"), Some(UpEndReason::WriteFault));
+    assert_eq!(rt; end_reason_in(b"Q"), Some(UpEndReason::Full));
+    assert_eq!(rt; end_reason_in(b"S"), None);
+    assert_eq!(rt; end_reason_in(b""), None);
+    assert_eq!(rt; end_reason_in(b"EE"), None);
 }
