@@ -1,139 +1,177 @@
--- What is done for a connection is committed.
-use Rattle.std.proofs.Common.{◌≡◌, ℕ, ◌+◌, ◌-◌, ◌^◌, min, Bool, true, false, cond, ◌==◌, ◌<◌, ◌≤◌, nat_lt, Option, None, Some, refl, sym, ◌∙◌, ap, subst, arith}
-use Rattle.std.specs.Prelude.{is_some}
-use Rattle.std.specs.Option.{option_map, option_or}
-use Rattle.std.proofs.lemmas.Bool.{eqb-true}
-use Rattle.head_two.specs.declared.request.Request2.{Request2}
-use Rattle.gate_history.specs.declared.event.UpCause.{UpCause}
-use Rattle.gate_history.specs.declared.event.UpCause.TheVariants.{CseqSpent}
-use Rattle.gate_history.specs.declared.event.Outcome.{Outcome}
-use Rattle.gate_history.specs.Machine.{Conn, Effect, PrivateEvent}
-use Rattle.gate_history.specs.History.{Happening, is_turn, event_of, settles, drops_here}
-use Rattle.gate_history.specs.Follows.{most_number, effect_at, said_breach, spent, answer_due, breach_by}
-use Rattle.gate_history.specs.Next.{client_piece, one_closed, up_piece, outcome_with, outcome_at}
-use Rattle.gateway_mux.specs.declared.act.Ask.{Ask}
-use Rattle.gateway_mux.specs.declared.act.Act.{Act}
-use Rattle.gateway_mux.specs.declared.mux.Mux.{Mux}
-use Rattle.gateway_mux.specs.Seats.{conn_at}
-use Rattle.gateway_mux.specs.Slots.{gone_on}
-use Rattle.gateway_mux.specs.Loans.{owner}
-use Rattle.gateway_mux.specs.Commits.{turn_at, turned, conn_then, goes_under, Commits}
-use Rattle.gateway_mux.specs.Acts.{Deed, settled_at, asked_up, opened, deed_of, Acts, ActedBy, Acted, Ends, Fits}
+-- What was planned and carried out is the next entry of the history.
+use Rattle.std.proofs.Common.{◌≡◌, ◌∙◌, ℕ, ◌+◌, ◌*◌, ◌/◌, ◌%◌, true, false, cond, List, [], ◌∷◌, length, Option, Some, None, refl, sym, ap, subst, arith}
+use Rattle.std.specs.Option.{option_map}
+use Rattle.std.proofs.lemmas.List.{append-nil}
+use Rattle.rtsp_head.specs.Items.{Shape}
+use Rattle.rtsp_head.specs.declared.item.ItemKind.TheVariants as kinds
+use Rattle.rtsp_uri.specs.declared.base.Bases.{Bases}
+use Rattle.client_slot.specs.Client.{Client}
+use Rattle.gate_machine.specs.declared.parts.Done.{Done}
+use Rattle.gate_machine.specs.Effects.{carries, Effect}
+use Rattle.gate_machine.specs.Events.{PrivateEvent, arrive, media}
+use Rattle.gate_machine.specs.Frames.{channel_in, behind_channel, frame_text, Half, half_for, channel_for}
+use Rattle.gate_machine.specs.Hearing.{carry, take_item, take, give, take_media}
+use Rattle.gate_machine.specs.Step.{heard_step}
+use Rattle.mux_history.specs.declared.event.Closed.TheVariants.{Nobody}
+use Rattle.mux_history.specs.declared.event.Outcome.{Outcome}
+use Rattle.mux_history.specs.declared.event.ToClient.{ToClient}
+use Rattle.mux_history.specs.declared.event.UpCause.{UpCause}
+use Rattle.mux_history.specs.Books.{Opened, Books}
+use Rattle.mux_history.specs.Heard.{Heard, frames, heard, heard_at}
+use Rattle.mux_history.specs.Happenings.{Happening, takes, hears, Entry, enters_here}
+use Rattle.mux_history.specs.Next.{next}
+use Rattle.mux_history.specs.Own.{owner_of, heard_turn, heard_final, settled_by}
+use Rattle.mux_history.specs.Settling.{free_in, settles}
+use Rattle.mux_history.specs.Follows.{spent, heard_answer}
+use Rattle.mux_history.specs.Shared.{heard_raw, outcome_by}
+use Rattle.mux_history.proofs.OtherLemmas.{differs}
+use Rattle.gateway_mux.specs.declared.turn.Turn.{Turn}
+use Rattle.gateway_mux.specs.Acts.{IsPlannedTurn, IsRise, IsFall}
+use Rattle.gateway_mux.specs.Moves.{wrong_heard, wrong_in, step_in, TakesTurn, IsAfterStep, IsIdle, IsEndAt, handed_by, answering, risen_by, fallen_by, ended_by, IsNext, IsCommitted}
+use Rattle.gateway_mux.specs.Pictures.{Picture, opened_in, books_in, IsPictureOf}
+use Rattle.gateway_mux.specs.Turn.{kind_open}
+use Rattle.gateway_mux.proofs.CommitLemmas.{IsTurned, turn_is_after, turn_hands}
+use Rattle.gateway_mux.proofs.EndLemmas.{ends_so}
+use Rattle.gateway_mux.proofs.FollowLemmas.{turn_follows}
+use Rattle.gateway_mux.proofs.IdleLemmas.{idle_follows}
+use Rattle.gateway_mux.proofs.StandLemmas.{standing_open, standing_ended}
 
--- an event that ends the connection to the server
-pub ends_all_commits : (old new : Mux) (h : Happening) (cause : UpCause) (outcome : Outcome) →
-    breach_by (turn_at old h) old.issued h (effect_at old.bases (turned old (turn_at old h)) (event_of h)).ask ≡ Some cause → drops_here h ≡ false → Ends old new cause outcome → Commits old new h outcome
-ends_all_commits old new h cause outcome wrong uncounted e =
-    let ends : outcome.fault ≡ Some cause = ap (λ (o : Outcome). o.fault) e.hands in
-    record {
-      hands = e.hands ∙ sym (ap (λ gone. outcome_with gone (turn_at old h) old.issued (answer_due h) (effect_at old.bases (turned old (turn_at old h)) (event_of h))) wrong);
-      ended = e.ended ∙ sym ends;
-      dropped = e.dropped ∙ sym (ap (λ b. cond b (min (old.dropped + 1) (2 ^ 64 - 1)) old.dropped) uncounted);
-      moves = λ s. let none : Some cause ≡ None = sym ends ∙ s in cc;
-      stays = λ s. e.stays;
-      bases = e.bases;
-      short = e.short;
+-- the next entry, where the connection to the server stands after it
+stands_next : (bases : Bases) (after : Picture) (T : List Entry) (h : Happening) (outcome : Outcome) → outcome ≡ next bases T h → IsPictureOf bases after (record { happening = h; outcome = next bases T h } ∷ T) → IsNext bases after T h outcome
+stands_next bases after T h outcome is there = record {
+  is_next = is;
+  is_after = subst (λ (history : List Entry). IsPictureOf bases after history) (sym (standing_open (record { happening = h; outcome = outcome } ∷ T) here.standing)) here;
+}
+  where
+    here : IsPictureOf bases after (record { happening = h; outcome = outcome } ∷ T)
+    here = subst (λ (one : Outcome). IsPictureOf bases after (record { happening = h; outcome = one } ∷ T)) (sym is) there
+
+-- A turn.
+pub turn_committed : (bases : Bases) (one after : Picture) (h : Happening) (answer : Option (List ℕ)) (it : Turn) (done : Done) → IsPlannedTurn bases one h answer it → IsTurned one after it done
+    → IsCommitted bases one after h (handed_by it.conn answer done)
+turn_committed bases one after h answer it done its turned T is =
+    let (outcome, there) = turn_follows bases one after T h it.conn its.client its.raw is its.its_turn (turn_is_after bases one after T h answer it done is its turned) in
+    stands_next bases after T h (handed_by it.conn answer done) (turn_hands bases one after h answer it done its turned ∙ sym outcome) there
+
+-- Nothing comes of an event, but an answer to the server.
+pub idle_committed : (bases : Bases) (one : Picture) (h : Happening) (answer : Option (List ℕ)) → ((i : ℕ) → enters_here i h ≡ false) → IsIdle bases one h answer → IsCommitted bases one one h (answering answer)
+idle_committed bases one h answer none idle T is =
+    let (outcome, there) = idle_follows bases one T h answer is none idle in
+    stands_next bases one T h (answering answer) (sym outcome) (subst (λ (out : Outcome). IsPictureOf bases one (record { happening = h; outcome = out } ∷ T)) (sym outcome) there)
+
+-- The connection to the server ends.
+pub end_committed : (bases : Bases) (one : Picture) (h : Happening) (cause : UpCause) → IsEndAt bases one h (wrong_in one h) cause → IsCommitted bases one one h (ended_by cause)
+end_committed bases one h cause ends T is = record {
+  is_next = sym (ends_so bases one T h cause is ends);
+  is_after = subst (λ (history : List Entry). IsPictureOf bases one history) (sym (standing_ended T (record { happening = h; outcome = ended_by cause }) is.standing refl)) is;
+}
+
+-- A step that changes nothing of the connection, with no reply.
+opened_again : (one : Picture) (n : ℕ) → one.asker n ≡ option_map (λ (opened : Opened). opened.conn) (opened_in one n)
+opened_again one n = by (one.asker n)
+  where
+    by : (asker : Option ℕ) → asker ≡ option_map (λ (opened : Opened). opened.conn) (option_map (λ conn. let entry : Opened = record { conn = conn; kind = kind_open (one.clients conn) } in entry) asker)
+    by None = refl
+    by (Some conn) = refl
+
+-- A frame of a player goes up.
+rise_step : (bases : Bases) (one : Picture) (i : ℕ) (shape : Shape) (client : Client) (half : Half) → shape.kind ≡ kinds.Frame → client.alive ≡ true → half_for (channel_in shape) client.session.tracks ≡ Some half
+    → step_in bases one (takes i shape) client (arrive shape false) ≡ record { client = client; hand = []; message = Some (carries half.pair half.half (behind_channel shape)); close = None }
+rise_step bases one i shape client half kind alive found =
+    ap (λ t. heard_step bases (free_in (settled_by (books_in one) (takes i shape))) (take t shape client)) alive
+    ∙ ap (λ k. heard_step bases (free_in (settled_by (books_in one) (takes i shape))) (take_item k shape client)) kind
+    ∙ ap (λ (there : Option Half). heard_step bases (free_in (settled_by (books_in one) (takes i shape))) (carry there (behind_channel shape) client)) found
+
+rise_at : (bases : Bases) (one : Picture) (i channel : ℕ) (shape : Shape) (client : Client) (half : Half) → shape.kind ≡ kinds.Frame → one.clients i ≡ Some client → client.alive ≡ true
+    → half_for (channel_in shape) client.session.tracks ≡ Some half → channel ≡ 2 * half.pair + half.half → IsCommitted bases one one (takes i shape) (risen_by (frame_text channel (behind_channel shape)))
+rise_at bases one i channel shape client half kind here alive found is_channel T is =
+    let (outcome, there) = turn_follows bases one one T (takes i shape) i client (arrive shape false) is its_turn now in
+    stands_next bases one T (takes i shape) (risen_by (frame_text channel (behind_channel shape)))
+    (ap (λ n. risen_by (frame_text n (behind_channel shape))) is_channel ∙ ap (outcome_by (books_in one) (takes i shape) i) (sym steps) ∙ sym outcome) there
+  where
+    steps : step_in bases one (takes i shape) client (arrive shape false) ≡ record { client = client; hand = []; message = Some (carries half.pair half.half (behind_channel shape)); close = None }
+    steps = rise_step bases one i shape client half kind alive found
+
+    its_turn : TakesTurn bases one (takes i shape) i client (arrive shape false)
+    its_turn = record { turns = refl; here = here; is_raw = refl; said = refl; left = ap (λ (effect : Effect). spent one.issued effect.message) steps }
+
+    now : IsAfterStep one one (takes i shape) i (step_in bases one (takes i shape) client (arrive shape false))
+    now = subst (λ (effect : Effect). IsAfterStep one one (takes i shape) i effect) (sym steps)
+        (record { is_client = here; others = λ j ne. refl; asker = opened_again one; held = λ p. refl; holder = λ id. refl; issued = refl })
+
+pub rise_committed : (bases : Bases) (one : Picture) (h : Happening) (i channel : ℕ) (shape : Shape) → h ≡ takes i shape → IsRise one h channel → IsCommitted bases one one h (risen_by (frame_text channel (behind_channel shape)))
+rise_committed bases one h i channel shape comes rise =
+    let same : takes rise.i rise.shape ≡ takes i shape = sym rise.comes ∙ comes in
+    subst (λ (one_happening : Happening). IsCommitted bases one one one_happening (risen_by (frame_text channel (behind_channel shape)))) (sym rise.comes)
+    (subst (λ (one_shape : Shape). IsCommitted bases one one (takes rise.i rise.shape) (risen_by (frame_text channel (behind_channel one_shape)))) (taken_shape same)
+    (rise_at bases one rise.i channel rise.shape rise.client rise.half rise.is_frame rise.here rise.alive rise.found rise.is))
+  where
+    taken_shape : {a b : ℕ} {s t : Shape} → takes a s ≡ takes b t → s ≡ t
+    taken_shape e = cc
+
+-- A frame of the server goes to a player.
+fall_step : (bases : Bases) (one : Picture) (h : Happening) (pair half channel : ℕ) (rest : List ℕ) (client : Client) → client.alive ≡ true → channel_for pair half client.session.tracks ≡ Some channel
+    → step_in bases one h client (media pair half rest) ≡ record { client = client; hand = frame_text channel rest; message = None; close = None }
+fall_step bases one h pair half channel rest client alive found =
+    ap (λ t. heard_step bases (free_in (settled_by (books_in one) h)) (take_media t pair half rest client)) alive
+    ∙ ap (λ (there : Option ℕ). heard_step bases (free_in (settled_by (books_in one) h)) (give there rest client)) found
+    ∙ ap (λ bytes. let done : Effect = record { client = client; hand = bytes; message = None; close = None } in done) (append-nil (frame_text channel rest))
+
+heard_frame : (shape : Shape) → shape.kind ≡ kinds.Frame → heard shape ≡ frames (channel_in shape) (behind_channel shape)
+heard_frame shape kind = ap (λ k. heard_at k shape) kind
+
+fall_at : (bases : Bases) (one : Picture) (conn channel : ℕ) (shape : Shape) (client : Client) → shape.kind ≡ kinds.Frame → owner_of (one.held (channel_in shape / 2)) ≡ Some conn → one.clients conn ≡ Some client → client.alive ≡ true
+    → channel_for (channel_in shape / 2) (channel_in shape % 2) client.session.tracks ≡ Some channel → IsCommitted bases one one (hears shape) (fallen_by conn (frame_text channel (behind_channel shape)))
+fall_at bases one conn channel shape client kind owner here alive found T is =
+    let (outcome, there) = turn_follows bases one one T (hears shape) conn client raw is its_turn now in
+    stands_next bases one T (hears shape) (fallen_by conn (frame_text channel (behind_channel shape)))
+    (hands ∙ ap (outcome_by (books_in one) (hears shape) conn) (sym steps) ∙ sym outcome) there
+  where
+    raw : PrivateEvent
+    raw = media (channel_in shape / 2) (channel_in shape % 2) (behind_channel shape)
+
+    says : heard shape ≡ frames (channel_in shape) (behind_channel shape)
+    says = heard_frame shape kind
+
+    steps : step_in bases one (hears shape) client raw ≡ record { client = client; hand = frame_text channel (behind_channel shape); message = None; close = None }
+    steps = fall_step bases one (hears shape) (channel_in shape / 2) (channel_in shape % 2) channel (behind_channel shape) client alive found
+
+    its_turn : TakesTurn bases one (hears shape) conn client raw
+    its_turn = record {
+      turns = ap (heard_turn (books_in one)) says ∙ owner;
+      here = here;
+      is_raw = ap (heard_raw (books_in one)) says;
+      said = ap (wrong_heard one) says;
+      left = ap (λ (effect : Effect). spent one.issued effect.message) steps;
     }
 
--- It is this connection's turn, nothing is wrong with the event, and what its machine does is this deed.
-pub record IsDue (mux : Mux) (h : Happening) (i : ℕ) (deed : Deed) : Type 0 where
-  pub turn : turn_at mux h ≡ Some i
-  pub right : said_breach (Some i) h ≡ None
-  pub unanswered : answer_due h ≡ None
-  pub uncounted : drops_here h ≡ false
-  pub settles : (g : ℕ) → settles g h ≡ settled_at deed.settles g
-  pub fits : Fits mux.bases (conn_at mux.seats i) (event_of h) deed
+    settled : settled_by (books_in one) (hears shape) ≡ books_in one
+    settled = ap (λ (said : Heard). settles (heard_final (books_in one) said) (books_in one)) says
 
--- what the machine of the turn does
-due_effect : (mux : Mux) (h : Happening) (i : ℕ) (deed : Deed) → IsDue mux h i deed → effect_at mux.bases (turned mux (turn_at mux h)) (event_of h) ≡ effect_at mux.bases (conn_at mux.seats i) (event_of h)
-due_effect mux h i deed d = ap (λ turn. effect_at mux.bases (turned mux turn) (event_of h)) d.turn
+    now : IsAfterStep one one (hears shape) conn (step_in bases one (hears shape) client raw)
+    now = subst (λ (effect : Effect). IsAfterStep one one (hears shape) conn effect) (sym steps)
+        (record {
+          is_client = here;
+          others = λ j ne. refl;
+          asker = λ n. opened_again one n ∙ ap (λ (b : Books). option_map (λ (opened : Opened). opened.conn) (b.opened n)) (sym settled);
+          held = λ p. ap (λ (b : Books). b.held p) (sym settled);
+          holder = λ id. ap (λ (b : Books). b.holder id) (sym settled);
+          issued = refl;
+        })
 
-due_ask : (mux : Mux) (h : Happening) (i : ℕ) (deed : Deed) → IsDue mux h i deed → (effect_at mux.bases (turned mux (turn_at mux h)) (event_of h)).ask ≡ deed.ask
-due_ask mux h i deed d = ap (λ (e : Effect). e.ask) (due_effect mux h i deed d) ∙ d.fits.ask
+    hands : fallen_by conn (frame_text channel (behind_channel shape)) ≡ outcome_by (books_in one) (hears shape) conn (record { client = client; hand = frame_text channel (behind_channel shape); message = None; close = None })
+    hands =
+        sym (ap (λ (answer : Option (List ℕ)). let out : Outcome = record { to_client = Some (record { conn = conn; bytes = frame_text channel (behind_channel shape) }); to_up = record { answer = answer; message = None }; closed = Nobody; fault = None } in out)
+        (ap (heard_answer (books_in one)) says))
+        ∙ ap (λ (piece : Option ToClient). let out : Outcome = record { to_client = piece; to_up = record { answer = heard_answer (books_in one) (heard shape); message = None }; closed = Nobody; fault = None } in out)
+        (sym (ap (λ t. cond t None (Some (record { conn = conn; bytes = frame_text channel (behind_channel shape) }))) (differs (length (frame_text channel (behind_channel shape))) 0 (λ zero. grind arith))))
 
-due_breach : (mux : Mux) (h : Happening) (i : ℕ) (deed : Deed) → IsDue mux h i deed →
-    breach_by (turn_at mux h) mux.issued h (effect_at mux.bases (turned mux (turn_at mux h)) (event_of h)).ask ≡ spent mux.issued deed.ask
-due_breach mux h i deed d =
-    ap (breach_by (turn_at mux h) mux.issued h) (due_ask mux h i deed d)
-    ∙ ap (λ turn. option_or (said_breach turn h) (spent mux.issued deed.ask)) d.turn
-    ∙ ap (λ said. option_or said (spent mux.issued deed.ask)) d.right
-
--- what is handed out
-hands_fit : (i numbers : ℕ) (does : Effect) (deed : Deed) → does.hand ≡ deed.hand → does.ask ≡ deed.ask → does.close ≡ None →
-    outcome_with None (Some i) numbers None does ≡ record { to_client = client_piece (Some i) deed.hand; to_up = up_piece None (numbers + 1) deed.ask; closed = one_closed (Some i) None; fault = None }
-hands_fit i numbers does deed hand ask close =
-    ap (λ bytes. record { to_client = client_piece (Some i) bytes; to_up = up_piece None (numbers + 1) does.ask; closed = one_closed (Some i) does.close; fault = None }) hand
-    ∙ ap (λ request. record { to_client = client_piece (Some i) deed.hand; to_up = up_piece None (numbers + 1) request; closed = one_closed (Some i) does.close; fault = None }) ask
-    ∙ ap (λ why. record { to_client = client_piece (Some i) deed.hand; to_up = up_piece None (numbers + 1) deed.ask; closed = one_closed (Some i) why; fault = None }) close
-
-due_hands : (mux : Mux) (h : Happening) (i : ℕ) (deed : Deed) → IsDue mux h i deed → spent mux.issued deed.ask ≡ None →
-    outcome_at mux.bases (turn_at mux h) (turned mux (turn_at mux h)) mux.issued h ≡ outcome_with None (Some i) mux.issued None (effect_at mux.bases (conn_at mux.seats i) (event_of h))
-due_hands mux h i deed d left =
-    let does : Effect = effect_at mux.bases (conn_at mux.seats i) (event_of h) in
-    ap (λ gone. outcome_with gone (turn_at mux h) mux.issued (answer_due h) (effect_at mux.bases (turned mux (turn_at mux h)) (event_of h))) (due_breach mux h i deed d ∙ left)
-    ∙ ap (outcome_with None (turn_at mux h) mux.issued (answer_due h)) (due_effect mux h i deed d)
-    ∙ ap (λ turn. outcome_with None turn mux.issued (answer_due h) does) d.turn
-    ∙ ap (λ answer. outcome_with None (Some i) mux.issued answer does) d.unanswered
-
--- the seats
-seat_fits : (mux : Mux) (i j : ℕ) (event : Option PrivateEvent) (deed : Deed) (here : Bool) → (i == j) ≡ here → Fits mux.bases (conn_at mux.seats i) event deed →
-    cond here (option_map deed.change (conn_at mux.seats j)) (conn_at mux.seats j) ≡ conn_then mux.bases here event (conn_at mux.seats j)
-seat_fits mux i j event deed true e fits =
-    sym (subst (λ (n : ℕ). option_map (λ (one : Conn). (effect_at mux.bases (Some one) event).conn) (conn_at mux.seats n) ≡ option_map deed.change (conn_at mux.seats n)) (eqb-true i j e) fits.conn)
-seat_fits mux i j event deed false e fits = refl
-
-pub acts_commit : (old new : Mux) (h : Happening) (i : ℕ) (deed : Deed) (outcome : Outcome) → old.ended ≡ None → IsDue old h i deed → spent old.issued deed.ask ≡ None → Acts old new i deed outcome → Commits old new h outcome
-acts_commit old new h i deed outcome open_still d left a =
-    let quiet : outcome.fault ≡ None = ap (λ (o : Outcome). o.fault) a.hands in
-    record {
-      hands = a.hands ∙ sym (due_hands old h i deed d left ∙ hands_fit i old.issued (effect_at old.bases (conn_at old.seats i) (event_of h)) deed d.fits.hand d.fits.ask d.fits.close);
-      ended = a.ended ∙ open_still ∙ sym quiet;
-      dropped = a.dropped ∙ sym (ap (λ b. cond b (min (old.dropped + 1) (2 ^ 64 - 1)) old.dropped) d.uncounted);
-      moves = λ s. record {
-        seats = λ j. a.seats j ∙ seat_fits old i j (event_of h) deed (i == j) refl d.fits ∙ ap (λ turn. conn_then old.bases (is_turn j turn) (event_of h) (conn_at old.seats j)) (sym d.turn);
-        loans = λ g. a.loans g ∙ sym (
-            ap (λ ask. cond (goes_under g (old.issued + 1) ask) (turn_at old h) (cond (settles g h) None (owner old.loans g))) (due_ask old h i deed d)
-            ∙ ap (λ turn. cond (goes_under g (old.issued + 1) deed.ask) turn (cond (settles g h) None (owner old.loans g))) d.turn
-            ∙ ap (λ b. cond (goes_under g (old.issued + 1) deed.ask) (Some i) (cond b None (owner old.loans g))) (d.settles g));
-        issued = a.issued ∙ sym (ap (λ ask. cond (is_some ask) 1 0 + old.issued) (due_ask old h i deed d));
-      };
-      stays = λ ends. let none : is_some outcome.fault ≡ false = ap is_some quiet in cc;
-      bases = a.bases;
-      short = a.short;
-    }
-
-acted_by : (old new : Mux) (h : Happening) (i : ℕ) (deed : Deed) (outcome : Outcome) (gone : Option UpCause) → old.ended ≡ None → IsDue old h i deed → spent old.issued deed.ask ≡ gone →
-    ActedBy gone old new i deed outcome → Commits old new h outcome
-acted_by old new h i deed outcome None open_still d left a = acts_commit old new h i deed outcome open_still d left a
-acted_by old new h i deed outcome (Some cause) open_still d gone e = ends_all_commits old new h cause outcome (due_breach old h i deed d ∙ gone) d.uncounted e
-
--- What is done for the connection whose turn it is.
-pub acted_commits : (old new : Mux) (h : Happening) (i : ℕ) (deed : Deed) (outcome : Outcome) → old.ended ≡ None → IsDue old h i deed → Acted old new i deed outcome → Commits old new h outcome
-acted_commits old new h i deed outcome open_still d a = acted_by old new h i deed outcome (spent old.issued deed.ask) open_still d refl a
-
--- Of a request that goes up, and where all numbers were used.
-pub spent_now : (numbers : ℕ) (request : Request2) → 999999999 ≤ numbers → spent numbers (Some request) ≡ Some CseqSpent
-unfolding most_number
-spent_now numbers request used = by_left (nat_lt numbers most_number) refl
+pub fall_committed : (bases : Bases) (one : Picture) (h : Happening) (conn channel : ℕ) (shape : Shape) → h ≡ hears shape → IsFall one h conn channel → IsCommitted bases one one h (fallen_by conn (frame_text channel (behind_channel shape)))
+fall_committed bases one h conn channel shape comes fall =
+    let same : hears fall.shape ≡ hears shape = sym fall.comes ∙ comes in
+    subst (λ (one_happening : Happening). IsCommitted bases one one one_happening (fallen_by conn (frame_text channel (behind_channel shape)))) (sym fall.comes)
+    (subst (λ (one_shape : Shape). IsCommitted bases one one (hears fall.shape) (fallen_by conn (frame_text channel (behind_channel one_shape)))) (heard_shape same)
+    (fall_at bases one conn channel fall.shape fall.client fall.is_frame fall.owner fall.here fall.alive fall.found))
   where
-    by_left : (left : Bool) → nat_lt numbers most_number ≡ left → cond left None (Some CseqSpent) ≡ Some CseqSpent
-    by_left true e = absurd (grind (arith, e, used))
-    by_left false e = refl
-
-pub spent_not : (numbers : ℕ) (request : Request2) → numbers < 999999999 → spent numbers (Some request) ≡ None
-unfolding most_number
-spent_not numbers request left = by_left (nat_lt numbers most_number) refl
-  where
-    by_left : (b : Bool) → nat_lt numbers most_number ≡ b → cond b None (Some CseqSpent) ≡ None
-    by_left true e = refl
-    by_left false e = absurd (grind (arith, e, left))
-
-pub acted_ends : (old new : Mux) (conn : ℕ) (act : Act) (ask : Ask) (outcome : Outcome) → act.ask ≡ Some ask → 999999999 ≤ old.issued → Ends old new CseqSpent outcome → Acted old new conn (deed_of act) outcome
-acted_ends old new conn act ask outcome is used e =
-    subst (λ (gone : Option UpCause). ActedBy gone old new conn (deed_of act) outcome) (sym (ap (λ (a : Option Ask). spent old.issued (asked_up a)) is ∙ spent_now old.issued ask.request used)) e
-
-pub acted_sends : (old new : Mux) (conn : ℕ) (act : Act) (ask : Ask) (outcome : Outcome) → act.ask ≡ Some ask → old.issued < 999999999 →
-    Acts old new conn (record { hand = act.hand; ask = Some ask.request; settles = act.settles; change = gone_on act.treated act.described (Some ask.asked) }) outcome → Acted old new conn (deed_of act) outcome
-acted_sends old new conn act ask outcome is left a =
-    subst (λ (one : Option Ask). ActedBy (spent old.issued (asked_up one)) old new conn (record { hand = act.hand; ask = asked_up one; settles = act.settles; change = gone_on act.treated act.described (opened one) }) outcome) (sym is)
-    (subst (λ (gone : Option UpCause). ActedBy gone old new conn (record { hand = act.hand; ask = Some ask.request; settles = act.settles; change = gone_on act.treated act.described (Some ask.asked) }) outcome) (sym (spent_not old.issued ask.request left)) a)
+    heard_shape : {s t : Shape} → hears s ≡ hears t → s ≡ t
+    heard_shape e = cc

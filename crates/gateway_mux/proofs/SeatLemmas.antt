@@ -1,15 +1,12 @@
 -- A map from numbers to the keys of a slab, with one number and one key more.
-use Rattle.std.proofs.Common.{◌≡◌, ◌≢◌, ℕ, Bool, true, false, cond, ◌==◌, Option, None, Some, is_some, refl, sym, ◌∙◌, ap, subst}
-use Rattle.std.specs.Option.{option_map, option_and_then}
-use Rattle.std.proofs.lemmas.Bool.{eq-eqb, eqb-true}
-use Rattle.gate_history.specs.Machine.{Conn}
-use Rattle.gateway_mux.specs.Slots.{conn_of}
+use Rattle.std.proofs.Common.{◌≡◌, ◌≢◌, ℕ, Bool, true, false, cond, Option, None, Some, is_some, refl, sym, ◌∙◌, ap, subst}
+use Rattle.std.specs.Option.{option_and_then}
 use Rattle.std.specs.declared.cmp.Ordering.{Ordering}
 use Rattle.std.specs.declared.cmp.Ordering.TheVariants.{Less, Equal, Greater}
 use Rattle.std.specs.Ordering.{nat_cmp, is_eq}
 use Rattle.std.specs.BTreeMap.{is_at}
 use Rattle.std.proofs.lemmas.Map.Lookups.{exact_unsigned}
-use Rattle.gateway_mux.specs.declared.slot.Slot.{Slot}
+use Rattle.client_slot.specs.Client.{Client}
 
 is_equal : (o : Ordering) → is_eq o ≡ true → o ≡ Equal
 is_equal Less h = cc
@@ -20,7 +17,7 @@ pub same_key : (conn q : ℕ) → is_at (nat_cmp conn) q ≡ true → conn ≡ q
 same_key conn q h = exact_unsigned conn q (is_equal (nat_cmp conn q) h)
 
 -- What the keys were and are, what the slots were and are, and the new number and its key.
-pub record Adds (conn key : ℕ) (old_keys new_keys : ℕ → Option ℕ) (old_slots new_slots : ℕ → Option Slot) : Type 0 where
+pub record Adds (conn key : ℕ) (old_keys new_keys : ℕ → Option ℕ) (old_slots new_slots : ℕ → Option Client) : Type 0 where
   pub keys : (i : ℕ) → new_keys i ≡ cond (is_at (nat_cmp conn) i) (Some key) (old_keys i)
   pub free : old_slots key ≡ None
   pub here : is_some (new_slots key) ≡ true
@@ -29,7 +26,7 @@ pub record Adds (conn key : ℕ) (old_keys new_keys : ℕ → Option ℕ) (old_s
   pub apart : (i j k : ℕ) → old_keys i ≡ Some k → old_keys j ≡ Some k → i ≡ j
 
 -- a key that was held is not the new one
-not_new : {conn key : ℕ} {old_keys new_keys : ℕ → Option ℕ} {old_slots new_slots : ℕ → Option Slot}
+not_new : {conn key : ℕ} {old_keys new_keys : ℕ → Option ℕ} {old_slots new_slots : ℕ → Option Client}
     → (a : Adds conn key old_keys new_keys old_slots new_slots) (i k : ℕ) → old_keys i ≡ Some k → k ≢ key
 not_new {key} {old_slots} a i k h same =
     let held : is_some (old_slots k) ≡ true = a.held i k h in
@@ -37,7 +34,7 @@ not_new {key} {old_slots} a i k h same =
     let not_held : is_some (old_slots k) ≡ false = ap is_some none in
     cc
 
-pub held_more : {conn key : ℕ} {old_keys new_keys : ℕ → Option ℕ} {old_slots new_slots : ℕ → Option Slot}
+pub held_more : {conn key : ℕ} {old_keys new_keys : ℕ → Option ℕ} {old_slots new_slots : ℕ → Option Client}
     → (a : Adds conn key old_keys new_keys old_slots new_slots) (i k : ℕ) → new_keys i ≡ Some k → is_some (new_slots k) ≡ true
 held_more {conn} {key} {old_keys} {new_keys} {old_slots} {new_slots} a i k h = at (is_at (nat_cmp conn) i) (sym (a.keys i) ∙ h)
   where
@@ -45,7 +42,7 @@ held_more {conn} {key} {old_keys} {new_keys} {old_slots} {new_slots} a i k h = a
     at true e = let same : key ≡ k = cc in subst (λ (q : ℕ). is_some (new_slots q) ≡ true) same a.here
     at false e = ap is_some (a.others k (not_new a i k e)) ∙ a.held i k e
 
-pub apart_more : {conn key : ℕ} {old_keys new_keys : ℕ → Option ℕ} {old_slots new_slots : ℕ → Option Slot}
+pub apart_more : {conn key : ℕ} {old_keys new_keys : ℕ → Option ℕ} {old_slots new_slots : ℕ → Option Client}
     → (a : Adds conn key old_keys new_keys old_slots new_slots) (i j k : ℕ) → new_keys i ≡ Some k → new_keys j ≡ Some k → i ≡ j
 apart_more {conn} {key} {old_keys} a i j k h g = at (is_at (nat_cmp conn) i) (is_at (nat_cmp conn) j) refl refl (sym (a.keys i) ∙ h) (sym (a.keys j) ∙ g)
   where
@@ -57,46 +54,12 @@ apart_more {conn} {key} {old_keys} a i j k h g = at (is_at (nat_cmp conn) i) (is
     at false false s t d e = a.apart i j k d e
 
 -- One key's slot changes, and every other key keeps what it had.
-pub record Changes (conn key : ℕ) (keys : ℕ → Option ℕ) (old new : ℕ → Option Slot) (f : Conn → Conn) : Type 0 where
+pub record Changes (conn key : ℕ) (keys : ℕ → Option ℕ) (old new : ℕ → Option Client) : Type 0 where
   pub found : keys conn ≡ Some key
   pub apart : (i : ℕ) → keys i ≡ Some key → conn ≡ i
-  pub here : option_map conn_of (new key) ≡ option_map (λ slot. f (conn_of slot)) (old key)
   pub others : (k : ℕ) → k ≢ key → new k ≡ old k
 
-mapped_twice : (f : Conn → Conn) (slot : Option Slot) → option_map (λ one. f (conn_of one)) slot ≡ option_map f (option_map conn_of slot)
-mapped_twice f None = refl
-mapped_twice f (Some slot) = refl
-
-changes_other : {conn key : ℕ} {keys : ℕ → Option ℕ} {old new : ℕ → Option Slot} {f : Conn → Conn} → (c : Changes conn key keys old new f) (i : ℕ) (at : Option ℕ) → keys i ≡ at → (conn == i) ≡ false →
-    option_map conn_of (option_and_then new at) ≡ option_map conn_of (option_and_then old at)
+pub changes_other : {conn key : ℕ} {keys : ℕ → Option ℕ} {old new : ℕ → Option Client} → (c : Changes conn key keys old new) (i : ℕ) (at : Option ℕ) → keys i ≡ at → conn ≢ i →
+    option_and_then new at ≡ option_and_then old at
 changes_other c i None e other = refl
-changes_other {conn} {key} c i (Some k) e other =
-    ap (option_map conn_of) (c.others k (λ same. differ (conn == i) refl (c.apart i (e ∙ ap (λ n. Some n) same))))
-  where
-    differ : (t : Bool) → (conn == i) ≡ t → conn ≡ i → ⊥
-    differ true e same = let none : true ≡ false = sym e ∙ other in cc
-    differ false e same = let yes_ : (conn == i) ≡ true = ap (λ n. n == i) same ∙ eq-eqb i i refl in cc
-
-changes_here : {conn key : ℕ} {keys : ℕ → Option ℕ} {old new : ℕ → Option Slot} {f : Conn → Conn} → Changes conn key keys old new f →
-    option_map conn_of (option_and_then new (keys conn)) ≡ option_map f (option_map conn_of (option_and_then old (keys conn)))
-changes_here {key} {old} {new} {f} c =
-    ap (λ at. option_map conn_of (option_and_then new at)) c.found ∙ c.here ∙ mapped_twice f (old key)
-    ∙ sym (ap (λ at. option_map f (option_map conn_of (option_and_then old at))) c.found)
-
--- so one connection changes, and every other stays
-pub one_changes : {conn key : ℕ} {keys : ℕ → Option ℕ} {old new : ℕ → Option Slot} {f : Conn → Conn} → (c : Changes conn key keys old new f) (i : ℕ) →
-    option_map conn_of (option_and_then new (keys i)) ≡ cond (conn == i) (option_map f (option_map conn_of (option_and_then old (keys i)))) (option_map conn_of (option_and_then old (keys i)))
-one_changes {conn} {key} {keys} {old} {new} {f} c i = at (conn == i) refl
-  where
-    at : (t : Bool) → (conn == i) ≡ t → option_map conn_of (option_and_then new (keys i)) ≡ cond t (option_map f (option_map conn_of (option_and_then old (keys i)))) (option_map conn_of (option_and_then old (keys i)))
-    at true e = subst (λ (n : ℕ). option_map conn_of (option_and_then new (keys n)) ≡ option_map f (option_map conn_of (option_and_then old (keys n)))) (eqb-true conn i e) (changes_here c)
-    at false e = changes_other c i (keys i) refl e
-
-same_mapped : (here : Bool) (conn : Option Conn) → cond here (option_map (λ (one : Conn). one) conn) conn ≡ conn
-same_mapped true None = refl
-same_mapped true (Some conn) = refl
-same_mapped false conn = refl
-
-pub none_changes : {conn key : ℕ} {keys : ℕ → Option ℕ} {old new : ℕ → Option Slot} → (c : Changes conn key keys old new (λ (one : Conn). one)) (i : ℕ) →
-    option_map conn_of (option_and_then new (keys i)) ≡ option_map conn_of (option_and_then old (keys i))
-none_changes {conn} {keys} {old} c i = one_changes c i ∙ same_mapped (conn == i) (option_map conn_of (option_and_then old (keys i)))
+changes_other c i (Some k) e other = c.others k (λ same. other (c.apart i (e ∙ ap (λ n. Some n) same)))

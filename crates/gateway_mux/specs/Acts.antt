@@ -1,116 +1,120 @@
--- What is done for the connection whose turn it is (this project's own).
-use Rattle.std.specs.Prelude.{◌≡◌, ℕ, ◌+◌, ◌==◌, Bool, false, is_some, List, [], ◌++◌, drop, Option, Some, None, if◌then◌else◌}
-use Rattle.std.specs.Option.{option_map}
+-- When what was planned is what an event does (this project's own).
+use Rattle.std.specs.Prelude.{◌≡◌, ℕ, ◌+◌, ◌*◌, ◌/◌, ◌%◌, ◌^◌, ◌<◌, true, is_some, length, List, Option, Some, None}
 use Rattle.rtsp_head.specs.Items.{Shape}
+use Rattle.rtsp_head.specs.declared.item.ItemKind.{ItemKind}
+use Rattle.rtsp_head.specs.declared.item.ItemKind.TheVariants as kinds
 use Rattle.rtsp_uri.specs.declared.base.Bases.{Bases}
-use Rattle.head_two.specs.declared.request.Request2.{Request2}
-use Rattle.session_one.specs.declared.parts.Asked.{Asked}
-use Rattle.gate_history.specs.declared.event.Closed.TheVariants.{Nobody, All}
-use Rattle.gate_history.specs.declared.event.UpCause.{UpCause}
-use Rattle.gate_history.specs.declared.event.Outcome.{Outcome}
-use Rattle.gate_history.specs.Decisions.{Decision, answers, forwards}
-use Rattle.gate_history.specs.Machine.{Conn, PrivateEvent, treated}
-use Rattle.gate_history.specs.Follows.{effect_at, spent}
-use Rattle.gate_history.specs.Next.{client_piece, up_piece}
-use Rattle.gateway_mux.specs.declared.act.Ask.{Ask}
+use Rattle.client_slot.specs.Client.{Client}
+use Rattle.gate_machine.specs.declared.why.CloseWhy.{CloseWhy}
+use Rattle.gate_machine.specs.declared.why.CloseWhy.TheVariants.{Ended, BadItem, Slow}
+use Rattle.gate_machine.specs.Events.{PrivateEvent}
+use Rattle.gate_machine.specs.Frames.{channel_in, Half, half_for, channel_for}
+use Rattle.gate_machine.specs.Hearing.{hear}
+use Rattle.gate_machine.specs.Plans.{Comes, IsSound, heard_by, effect_by, IsPlan, IsShortPlan}
+use Rattle.mux_history.specs.Happenings.{Happening, enters, takes, ends, lags, hears, up_ends}
+use Rattle.mux_history.specs.Own.{owner_of, turn, final_in}
+use Rattle.mux_history.specs.Follows.{answer_due}
+use Rattle.mux_history.specs.Shared.{raw_event, number_in}
 use Rattle.gateway_mux.specs.declared.act.Act.{Act}
-use Rattle.gateway_mux.specs.declared.slot.Change.{Change}
-use Rattle.gateway_mux.specs.declared.mux.Mux.{Mux}
-use Rattle.gateway_mux.specs.Seats.{conn_at}
-use Rattle.gateway_mux.specs.Slots.{with_waiting, gone_on, changed}
-use Rattle.gateway_mux.specs.Loans.{owner, HasSpare}
-use Rattle.gateway_mux.specs.Commits.{goes_under, Stays}
-use Rattle.gateway_mux.specs.Short.{IsShort}
+use Rattle.gateway_mux.specs.declared.act.Act.TheVariants.{Nothing, Rises, Falls, Answers, Turns, Ends}
+use Rattle.gateway_mux.specs.declared.said.Said.{Said}
+use Rattle.gateway_mux.specs.declared.turn.Turn.{Turn}
+use Rattle.gateway_mux.specs.Moves.{wrong_in, TakesTurn, IsIdle, IsEndAt}
+use Rattle.gateway_mux.specs.Pictures.{Picture, books_in}
+use Rattle.gateway_mux.specs.Settled.{AreSettled}
+use Rattle.gateway_mux.specs.Short.{IsShortAnswer}
+use Rattle.gateway_mux.specs.Turn.{free_once}
 
--- The bytes for its client, the request that goes up, the number that is settled, and how the connection changes.
-pub record Deed : Type 0 where
-  pub hand : List ℕ
-  pub ask : Option Request2
-  pub settles : Option ℕ
-  pub change : Conn → Conn
+abbrev pub IsBadKind : ItemKind → Type 0
+IsBadKind kinds.Request = ⊥
+IsBadKind kinds.Response = ⊥
+IsBadKind kinds.Frame = ⊥
+IsBadKind (kinds.Bad kind) = Unit {0}
 
-abbrev pub asked_up : Option Ask → Option Request2
-asked_up ask = option_map (λ one. one.request) ask
+-- A connection has its turn: what comes to it is planned, for the next number and the lowest pair that is free then, and
+-- what a final reply settles. The server is due this answer.
+pub record IsPlannedTurn (bases : Bases) (one : Picture) (happening : Happening) (answer : Option (List ℕ)) (it : Turn) : Type 0 where
+  pub client : Client
+  pub raw : PrivateEvent
+  pub comes : Comes
+  pub its_turn : TakesTurn bases one happening it.conn client raw
+  pub answers : answer ≡ answer_due (books_in one) happening
+  pub is_sound : IsSound comes
+  pub says : heard_by bases it.number client comes ≡ hear bases (number_in happening) client raw
+  pub next : it.next ≡ one.issued + 1
+  pub settles : AreSettled (final_in (books_in one) happening) client.session.id it.settled
+  pub plan : IsPlan bases it.next (free_once it.settled one.held) client comes it.plan
+  pub asks : it.asks ≡ is_some (effect_by bases it.number (free_once it.settled one.held) client comes).message
 
-abbrev pub opened : Option Ask → Option Asked
-opened ask = option_map (λ one. one.asked) ask
+pub record IsTurnOfSome (bases : Bases) (one : Picture) (answer : Option (List ℕ)) (it : Turn) : Type 0 where
+  pub happening : Happening
+  pub is_planned : IsPlannedTurn bases one happening answer it
 
-abbrev pub deed_of : Act → Deed
-deed_of act = record { hand = act.hand; ask = asked_up act.ask; settles = act.settles; change = gone_on act.treated act.described (opened act.ask) }
+-- What is said of a turn before its plan: what comes to the connection, and what is settled where that entered.
+pub record IsSaid (bases : Bases) (one : Picture) (happening : Happening) (it : Said) (comes : Comes) : Type 0 where
+  pub raw : PrivateEvent
+  pub turns : turn (books_in one) happening ≡ Some it.conn
+  pub is_raw : raw_event (books_in one) happening ≡ Some raw
+  pub right : wrong_in one happening ≡ None
+  pub answers : it.answer ≡ answer_due (books_in one) happening
+  pub is_sound : IsSound comes
+  pub says : (client : Client) → heard_by bases it.number client comes ≡ hear bases (number_in happening) client raw
+  pub settles : (client : Client) → one.clients it.conn ≡ Some client → AreSettled (final_in (books_in one) happening) client.session.id it.settled
+  pub absent : one.clients it.conn ≡ None → final_in (books_in one) happening ≡ None
 
--- a request waits
-abbrev pub waits : Shape → Deed
-waits shape = record { hand = []; ask = None; settles = None; change = λ conn. with_waiting conn shape }
+-- An event closes a connection.
+abbrev pub IsClosing : ℕ → CloseWhy → Happening → Type 0
+IsClosing conn why (enters i) = ⊥
+IsClosing conn why (takes i shape) = (i ≡ conn) × (why ≡ BadItem) × IsBadKind shape.kind
+IsClosing conn why (ends i) = (i ≡ conn) × (why ≡ Ended)
+IsClosing conn why (lags i) = (i ≡ conn) × (why ≡ Slow)
+IsClosing conn why (hears shape) = ⊥
+IsClosing conn why (up_ends cause) = ⊥
 
--- what a request of a connection without an open request leads to
-abbrev pub act_for : Decision → Act
-act_for (answers text) = record { hand = text; ask = None; treated = 0; described = false; settles = None }
-act_for (forwards request asked) = record { hand = []; ask = Some (record { request = request; asked = asked }); treated = 0; described = false; settles = None }
+-- A frame of a player that is alive goes up, on the channel that its own channel stands for.
+pub record IsRise (one : Picture) (happening : Happening) (channel : ℕ) : Type 0 where
+  pub i : ℕ
+  pub shape : Shape
+  pub client : Client
+  pub half : Half
+  pub comes : happening ≡ takes i shape
+  pub is_frame : shape.kind ≡ kinds.Frame
+  pub is_short : length shape.bytes < 2 ^ 31
+  pub here : one.clients i ≡ Some client
+  pub alive : client.alive ≡ true
+  pub found : half_for (channel_in shape) client.session.tracks ≡ Some half
+  pub is : channel ≡ 2 * half.pair + half.half
 
--- a number is settled, and nothing else happens
-abbrev pub act_settling : Bool → ℕ → Act
-act_settling described number = record { hand = []; ask = None; treated = 0; described = described; settles = Some number }
+-- A frame of the server goes to the connection that its pair was granted to, which is alive, on its player's channel.
+pub record IsFall (one : Picture) (happening : Happening) (conn channel : ℕ) : Type 0 where
+  pub shape : Shape
+  pub client : Client
+  pub comes : happening ≡ hears shape
+  pub is_frame : shape.kind ≡ kinds.Frame
+  pub is_short : length shape.bytes < 2 ^ 31
+  pub owner : owner_of (one.held (channel_in shape / 2)) ≡ Some conn
+  pub here : one.clients conn ≡ Some client
+  pub alive : client.alive ≡ true
+  pub found : channel_for (channel_in shape / 2) (channel_in shape % 2) client.session.tracks ≡ Some channel
 
--- none of the requests that wait was treated yet
-pub record IsBegun (act : Act) : Type 0 where
-  pub none : act.treated ≡ 0
-  pub ask : act.ask ≡ None
+abbrev pub IsAct : Bases → Picture → Happening → Act → Type 0
+IsAct bases one happening Nothing = IsIdle bases one happening None
+IsAct bases one happening (Rises channel) = IsRise one happening channel
+IsAct bases one happening (Falls conn channel) = IsFall one happening conn channel
+IsAct bases one happening (Answers answer) = IsIdle bases one happening (Some answer)
+IsAct bases one happening (Turns answer it) = IsPlannedTurn bases one happening answer it
+IsAct bases one happening (Ends cause) = IsEndAt bases one happening (wrong_in one happening) cause
 
--- After these bytes come the answers to requests that wait, until one goes up.
-pub record IsTreated (bases : Bases) (control : Option (List ℕ)) (first : List ℕ) (waiting : List Shape) (tells : Bool) (number : Option ℕ) (act : Act) : Type 0 where
-  pub hand : act.hand ≡ first ++ (treated bases control waiting).hand
-  pub ask : asked_up act.ask ≡ (treated bases control waiting).ask
-  pub opened : opened act.ask ≡ (treated bases control waiting).open_request
-  pub left : drop act.treated waiting ≡ (treated bases control waiting).waiting
-  pub described : act.described ≡ tells
-  pub settles : act.settles ≡ number
+-- the answer to the server alone
+abbrev pub answers_alone : Option (List ℕ) → Act
+answers_alone None = Nothing
+answers_alone (Some answer) = Answers answer
 
--- whether the number is settled
-abbrev pub settled_at : Option ℕ → ℕ → Bool
-settled_at None g = false
-settled_at (Some number) g = number == g
-
--- It is done for one connection, and every other stays as it was.
-pub record Acts (old new : Mux) (conn : ℕ) (deed : Deed) (outcome : Outcome) : Type 0 where
-  pub hands : outcome ≡ record { to_client = client_piece (Some conn) deed.hand; to_up = up_piece None (old.issued + 1) deed.ask; closed = Nobody; fault = None }
-  pub seats : (i : ℕ) → conn_at new.seats i ≡ (if conn == i then option_map deed.change (conn_at old.seats i) else conn_at old.seats i)
-  pub loans : (g : ℕ) → owner new.loans g ≡ (if goes_under g (old.issued + 1) deed.ask then Some conn else (if settled_at deed.settles g then None else owner old.loans g))
-  pub issued : new.issued ≡ (if is_some deed.ask then 1 else 0) + old.issued
-  pub ended : new.ended ≡ old.ended
-  pub dropped : new.dropped ≡ old.dropped
-  pub bases : new.bases ≡ old.bases
-  pub short : IsShort outcome
-
--- The connection to the server ends, and nothing else changes.
-pub record Ends (old new : Mux) (cause : UpCause) (outcome : Outcome) : Type 0 where
-  pub hands : outcome ≡ record { to_client = None; to_up = None; closed = All; fault = Some cause }
-  pub ended : new.ended ≡ Some cause
-  pub stays : Stays old new
-  pub dropped : new.dropped ≡ old.dropped
-  pub bases : new.bases ≡ old.bases
-  pub short : IsShort outcome
-
--- It is done, unless a request is due and all numbers were used.
-abbrev pub ActedBy : Option UpCause → Mux → Mux → ℕ → Deed → Outcome → Type 0
-ActedBy None old new conn deed outcome = Acts old new conn deed outcome
-ActedBy (Some cause) old new conn deed outcome = Ends old new cause outcome
-
-abbrev pub Acted : Mux → Mux → ℕ → Deed → Outcome → Type 0
-Acted old new conn deed outcome = ActedBy (spent old.issued deed.ask) old new conn deed outcome
-
--- It is what the machine does, and no close.
-pub record Fits (bases : Bases) (state : Option Conn) (event : Option PrivateEvent) (deed : Deed) : Type 0 where
-  pub hand : (effect_at bases state event).hand ≡ deed.hand
-  pub ask : (effect_at bases state event).ask ≡ deed.ask
-  pub close : (effect_at bases state event).close ≡ None
-  pub conn : option_map (λ one. (effect_at bases (Some one) event).conn) state ≡ option_map deed.change state
-
--- A connection changes, and that number is settled.
-pub record GoesOn (old new : Mux) (conn : ℕ) (change : Change) (settles : Option ℕ) : Type 0 where
-  pub seats : (i : ℕ) → conn_at new.seats i ≡ (if conn == i then option_map (changed change) (conn_at old.seats i) else conn_at old.seats i)
-  pub loans : (g : ℕ) → owner new.loans g ≡ (if settled_at settles g then None else owner old.loans g)
-  pub room : HasSpare old.loans → HasSpare new.loans
-  pub issued : new.issued ≡ old.issued
-  pub ended : new.ended ≡ old.ended
-  pub dropped : new.dropped ≡ old.dropped
-  pub bases : new.bases ≡ old.bases
+-- What it hands out is short enough.
+abbrev pub IsShortAct : Act → Type 0
+IsShortAct Nothing = Unit {0}
+IsShortAct (Rises channel) = Unit {0}
+IsShortAct (Falls conn channel) = Unit {0}
+IsShortAct (Answers answer) = IsShortAnswer (Some answer)
+IsShortAct (Turns answer it) = IsShortAnswer answer × IsShortPlan it.plan
+IsShortAct (Ends cause) = Unit {0}

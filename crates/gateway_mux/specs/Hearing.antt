@@ -1,10 +1,9 @@
--- What the server says, as the code has it (this project's own).
-use Rattle.gate_history.specs.Heard as said
-use Rattle.gateway_mux.specs.declared.hear.Heard.{Heard}
-use Rattle.gateway_mux.specs.declared.hear.Heard.TheVariants.{Reply, Ask, Frame, Fault}
+-- What was heard of the server, as a history has it (this project's own).
+use Rattle.mux_history.specs.Heard.{Heard, replies, requests, faults}
+use Rattle.gateway_mux.specs.declared.hear.Heard.{Heard as Said}
+use Rattle.gateway_mux.specs.declared.hear.Heard.TheVariants.{Reply, Ask, Fault}
 
-abbrev pub heard_seen : Heard → said.Heard
-heard_seen (Reply reply) = said.replies reply
-heard_seen (Ask request) = said.requests request
-heard_seen Frame = said.frames
-heard_seen (Fault fault) = said.faults fault
+abbrev pub heard_seen : Said → Heard
+heard_seen (Reply reply) = replies reply
+heard_seen (Ask request) = requests request
+heard_seen (Fault fault) = faults fault

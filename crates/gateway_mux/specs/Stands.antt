@@ -1,34 +1,43 @@
 -- When a multiplexer stands for a history (this project's own).
-use Rattle.std.specs.Prelude.{◌≡◌, ℕ, List, Option, None}
+use Rattle.std.specs.Prelude.{◌≡◌, ℕ, List, Option, Some, None}
 use Rattle.rtsp_uri.specs.declared.base.Bases.{Bases}
-use Rattle.gate_history.specs.History.{Entry, fault_in, standing, asker, issued, dropped_frames}
-use Rattle.gate_history.specs.Follows.{IsHistory, conn_in}
-use Rattle.gate_history.specs.declared.event.UpCause.{UpCause}
+use Rattle.mux_history.specs.declared.event.UpCause.{UpCause}
+use Rattle.mux_history.specs.declared.event.Event.{Event}
+use Rattle.mux_history.specs.Happenings.{Entry, happening_of, fault_in, standing}
+use Rattle.mux_history.specs.Follows.{IsHistory}
+use Rattle.mux_history.specs.Tells.{dropped_frames}
+use Rattle.gateway_mux.specs.declared.connections.Connections.{Connections}
 use Rattle.gateway_mux.specs.declared.mux.Mux.{Mux}
-use Rattle.gateway_mux.specs.Seats.{conn_at}
-use Rattle.gateway_mux.specs.Loans.{owner}
+use Rattle.gateway_mux.specs.declared.mux.Plan.{Plan}
+use Rattle.gateway_mux.specs.Acts.{IsAct, IsShortAct}
+use Rattle.gateway_mux.specs.Pictures.{Picture, picture, IsPictureOf}
+use Rattle.gateway_mux.specs.Seats.{client_at}
 
--- Each connection is as it would be alone after its own events, the open requests are owed to those who asked them, and
--- the last number is that of the last request.
-pub record Books (mux : Mux) (history : List Entry) : Type 0 where
-  pub seats : (i : ℕ) → conn_at mux.seats i ≡ conn_in mux.bases i history
-  pub loans : (g : ℕ) → owner mux.loans g ≡ asker history g
-  pub issued : mux.issued ≡ issued history
+abbrev pub picture_of : Connections → Picture
+picture_of connections = picture connections.seats connections.upstream
 
--- The list is a history, the books are those of its entries before the connection to the server ended, and its end and
--- the count of dropped frames are the history's.
+-- The list is a history; what the multiplexer has of its connections is what it has before the connection to the server
+-- ended; and its end and the count of dropped frames are the history's.
 pub record Stands (mux : Mux) (history : List Entry) : Type 0 where
-  pub is_history : IsHistory mux.bases history
-  pub ended : mux.ended ≡ fault_in history
-  pub dropped : mux.dropped ≡ dropped_frames history
-  pub books : Books mux (standing history)
+  pub is_history : IsHistory mux.connections.bases history
+  pub has_ended : mux.ended ≡ fault_in history
+  pub counts : mux.dropped ≡ dropped_frames history
+  pub is_picture : IsPictureOf mux.connections.bases (picture_of mux.connections) (standing history)
 
--- the number never entered
+-- What was planned for an event is what it does.
+abbrev pub IsActFor : Option UpCause → Mux → Event → Plan → Type 0
+IsActFor (Some cause) mux event plan = Unit {0}
+IsActFor None mux event plan = IsAct mux.connections.bases (picture_of mux.connections) (happening_of event) plan.act × IsShortAct plan.act
+
+abbrev pub IsPlanFor : Mux → Event → Plan → Type 0
+IsPlanFor mux event plan = IsActFor mux.ended mux event plan
+
+-- the number never entered, while the connection to the server stood
 pub record IsFresh (mux : Mux) (conn : ℕ) : Type 0 where
-  pub absent : conn_at mux.seats conn ≡ None
+  pub absent : client_at mux.connections.seats conn ≡ None
 
 abbrev pub bases_of : Mux → Bases
-bases_of mux = mux.bases
+bases_of mux = mux.connections.bases
 
 -- why the connection to the server ended, where it did
 abbrev pub end_of : Mux → Option UpCause

@@ -1,39 +1,39 @@
 //! What the server says.
 ghost use Rattle.std.specs.Prelude.{◌≡◌, false, IsOk, IfOk};
 ghost use Rattle.rtsp_head.specs.Shapes.{shape_of};
-ghost use Rattle.gate_history.specs.Heard.{heard, heard_reply, heard_ask};
+ghost use Rattle.mux_history.specs.Heard.{heard, heard_reply, heard_ask};
+ghost use Rattle.mux_history.specs.Tells.{is_frame};
 ghost use Rattle.gateway_mux.specs.Free.{is_message};
 ghost use Rattle.gateway_mux.specs.Hearing.{heard_seen};
 ghost use Rattle.head_two.specs.Replies.{reply_of_item, ask_of_item};
 
 use gate_bytes::Memory;
-use gate_history::FramingFault;
 use head_two::{Ask2, Reply2, TwoFault, read_ask, read_reply};
+use mux_history::FramingFault;
 use rtsp_head::{Item, ItemKind};
 use std::alloc::Global;
 
-/// An item of the server, as it is taken.
+/// An item of the server that is no frame, as it is taken.
 #[derive(Drop)]
 pub(crate) enum Heard {
     /// A reply to a request that went up.
     Reply(Reply2),
     /// A request of the server's own.
     Ask(Ask2),
-    /// A frame of media.
-    Frame,
     /// Nothing that can be taken, and why.
     Fault(FramingFault),
 }
 
-/// What an item of the server says.
+/// What an item of the server says that is no frame.
 pub(crate) fn hear(alloc: Global, item: &Item) -> Result<Heard, Memory>
+    requires { is_frame item.now.kind ≡ false }
     ensures says { IfOk result (λ said. heard_seen said ≡ heard (shape_of item.now)) }
     ensures free { is_message item.now.kind ≡ false → IsOk result }
 {
     match item.kind {
         ItemKind::Request => hear_ask(alloc, item),
         ItemKind::Response => hear_reply(alloc, item),
-        ItemKind::Frame => Ok(Heard::Frame),
+        ItemKind::Frame => unreachable!(),
         ItemKind::Bad(kind) => Ok(Heard::Fault(FramingFault::Bad(kind))),
     }
 }

@@ -6,15 +6,25 @@
 #![tactic(auto)]
 
 mod act;
-mod decide;
+mod commit;
+mod connections;
+mod frames;
+mod grant;
 mod hear;
-mod loans;
 mod mux;
+mod notice;
 mod outcome;
+mod planning;
+mod said;
 mod seats;
-mod slot;
+mod server;
+mod settled;
+mod tells;
+mod turn;
+mod upstream;
 
-pub use gate_history::{
-    Base, Bases, CloseWhy, Closed, Event, FramingFault, Outcome, ToClient, UpCause,
+pub use mux::{Mux, Plan};
+pub use mux_history::{
+    Base, Bases, CloseWhy, Closed, Event, FramingFault, Outcome, ToClient, ToUp, UpCause,
+    UpMessage, UpWhy,
 };
-pub use mux::Mux;

@@ -1,18 +1,16 @@
 //! The multiplexer.
 ghost use Rattle.std.specs.Prelude.{◌≡◌, true, false, IfOk, OnOk, IsOk, IsSome, IfErr, OnErr, [], List, ◌∷◌};
-ghost use Rattle.gate_history.specs.History.{Happening, Entry, entry_of, entering, standing, drops_here, dropped_frames, is_alive, IsFirstAlive, fault_in};
-ghost use Rattle.gate_history.specs.Follows.{is_busy};
+ghost use Rattle.mux_history.specs.Happenings.{Entry, entry_of, entering, standing, is_alive, fault_in, happening_of};
+ghost use Rattle.mux_history.specs.Tells.{dropped_frames, IsFirstAlive, is_busy, is_frame_item};
 
-use crate::loans::Loans;
+use crate::act::Act;
+use crate::connections::Connections;
 use crate::outcome::nothing;
-use crate::seats::Seats;
 use gate_bytes::Memory;
-use gate_history::{Bases, CloseWhy, Event, Outcome, UpCause};
+use mux_history::{Bases, Event, Outcome, UpCause};
+use rtsp_head::ItemKind;
 use std::alloc::Global;
 
-mod acting;
-mod client;
-mod server;
 #[cfg(test)]
 mod tests;
 
@@ -20,19 +18,21 @@ mod tests;
 /// happened to it.
 #[derive(Drop)]
 pub struct Mux {
-    seats: Seats,
-    loans: Loans,
-    issued: u32,
+    connections: Connections,
     ended: Option<UpCause>,
-    bases: Bases,
     dropped: u64,
 }
 
+/// What an event will do to a multiplexer. All memory for it is taken.
+#[derive(Drop)]
+pub struct Plan {
+    act: Act,
+}
+
 impl Mux {
-    ghost use Rattle.gateway_mux.specs.Stands.{Stands, IsFresh, bases_of, end_of};
-    ghost use Rattle.gateway_mux.specs.Short.{IsShort};
     ghost use Rattle.gateway_mux.specs.Free.{needs_memory};
-    ghost use Rattle.gateway_mux.specs.Seats.{conn_at};
+    ghost use Rattle.gateway_mux.specs.Short.{IsShort};
+    ghost use Rattle.gateway_mux.specs.Stands.{Stands, IsFresh, IsPlanFor, bases_of, end_of};
 
     /// A gateway with these addresses, to which nothing happened.
     pub fn new(alloc: Global, bases: Bases) -> Result<Mux, Memory>
@@ -40,11 +40,8 @@ impl Mux {
         ensures bases { IfOk result (λ mux. bases_of mux ≡ bases) }
     {
         Ok(Mux {
-            seats: Seats::new(alloc),
-            loans: Loans::new(alloc),
-            issued: 0,
+            connections: Connections::new(alloc, bases),
             ended: None,
-            bases,
             dropped: 0,
         })
     }
@@ -61,7 +58,41 @@ impl Mux {
         if self.ended.is_some() {
             return Ok(());
         }
-        self.seats.enter(alloc, conn)
+        self.connections.enter(alloc, conn)
+    }
+
+    /// What an event will do. Nothing changes, and all memory for it is taken. Only a request of a
+    /// client or a message of the server may need memory.
+    pub fn plan(&self, alloc: Global, event: &Event) -> Result<Plan, Memory>
+        ensures plan { IfOk result (IsPlanFor self.now event.now) }
+        ensures free { needs_memory event.now ≡ false → IsOk result }
+    {
+        if self.ended.is_some() {
+            return Ok(Plan { act: Act::Nothing });
+        }
+        Ok(Plan {
+            act: self.connections.plan(alloc, event)?,
+        })
+    }
+
+    /// Carries out the plan for an event: what it hands out is the next entry of the history. It takes
+    /// no memory, and can't be refused.
+    pub fn commit(&mut self, event: Event, plan: Plan) -> Outcome
+        requires { IsPlanFor self.old event plan }
+        ensures stands { (T : List Entry) → Stands self.old T → Stands self.new (entry_of event result ∷ T) }
+        ensures short { IsShort result }
+        ensures bases { bases_of self.new ≡ bases_of self.old }
+    {
+        if self.ended.is_some() {
+            return nothing();
+        }
+        let is_frame = is_frame(&event);
+        let outcome = self.connections.commit(event, plan.act);
+        self.ended = outcome.fault;
+        if is_frame && outcome.to_client.is_none() && outcome.to_up.message.is_none() {
+            self.dropped = self.dropped.saturating_add(1);
+        }
+        outcome
     }
 
     /// Takes an event: what it hands out is the next entry of the history. After `Memory` nothing was
@@ -75,19 +106,9 @@ impl Mux {
         ensures free { needs_memory event ≡ false → IsOk result }
         ensures bases { bases_of self.new ≡ bases_of self.old }
     {
-        if self.ended.is_some() {
-            return Ok(nothing());
-        }
-        match event {
-            Event::Client(conn, item) => match self.take(alloc, conn, item) {
-                Ok(outcome) => Ok(outcome),
-                Err((item, memory)) => Err((Event::Client(conn, item), memory)),
-            },
-            Event::Up(item) => match self.hear(alloc, &item) {
-                Ok(outcome) => Ok(outcome),
-                Err(memory) => Err((Event::Up(item), memory)),
-            },
-            Event::End(conn) => Ok(self.close(conn, CloseWhy::Ended)),
+        match self.plan(alloc, &event) {
+            Ok(plan) => Ok(self.commit(event, plan)),
+            Err(memory) => Err((event, memory)),
         }
     }
 
@@ -95,14 +116,14 @@ impl Mux {
     pub fn alive(&self, conn: u32) -> bool
         ensures { (T : List Entry) → Stands self.now T → result ≡ is_alive conn T }
     {
-        self.ended.is_none() && self.seats.is_open(conn)
+        self.ended.is_none() && self.connections.alive(conn)
     }
 
     /// Whether a request of a connection would wait: it is alive, and another request of it is open.
     pub fn busy(&self, conn: u32) -> bool
         ensures { (T : List Entry) → Stands self.now T → result ≡ is_busy (bases_of self.now) conn T }
     {
-        self.ended.is_none() && self.readiness(conn).is_busy()
+        self.ended.is_none() && self.connections.busy(conn)
     }
 
     /// The first connection from this number on that is alive, or that was alive when the connection
@@ -110,7 +131,7 @@ impl Mux {
     pub fn next_alive(&self, from: u32) -> Option<u32>
         ensures { (T : List Entry) → Stands self.now T → IsFirstAlive from (standing T) result }
     {
-        self.seats.first_open(from)
+        self.connections.next_alive(from)
     }
 
     /// Why the connection to the server ended, where it did.
@@ -132,6 +153,16 @@ impl Mux {
     pub fn bases(&self) -> &Bases
         ensures { result.now ≡ bases_of self.now }
     {
-        &self.bases
+        &self.connections.bases
+    }
+}
+
+/// Whether an event is a frame.
+fn is_frame(event: &Event) -> bool
+    ensures { result ≡ is_frame_item (happening_of event.now) }
+{
+    match event {
+        Event::Client(_, item) | Event::Up(item) => item.kind == ItemKind::Frame,
+        Event::End(_) | Event::Slow(_) | Event::UpEnd(_) => false,
     }
 }

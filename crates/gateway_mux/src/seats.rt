@@ -1,15 +1,15 @@
 //! The connections, in a slab, each under its number.
-ghost use Rattle.std.specs.Prelude.{◌≡◌, ◌≢◌, ◌==◌, ℕ, true, None, Some, OnOk, OnErr, IfErr, IfSome, is_some, if◌then◌else◌, option_map};
+ghost use Rattle.std.specs.Prelude.{◌≡◌, ◌≢◌, ◌==◌, ℕ, true, None, Some, OnOk, OnErr, IfSome, is_some, IsSome, if◌then◌else◌, option_map};
 ghost use Rattle.std.specs.Ordering.{nat_cmp};
 ghost use Rattle.std.specs.BTreeMap.{get};
 ghost use Rattle.slab.specs.Slab.{get as slab_get};
-ghost use Rattle.rtsp_head.specs.Shapes.{shape_of};
-ghost use Rattle.gate_history.specs.Machine.{new_conn};
-ghost use Rattle.gateway_mux.specs.Slots.{conn_of, changed, with_waiting};
+ghost use Rattle.client_slot.specs.Client.{new_client};
+ghost use Rattle.gate_machine.specs.Plans.{IsReady, IsShortPlan, IsShortDone};
+ghost use Rattle.gateway_mux.specs.Carried.{IsCarriedAt};
 
-use crate::slot::{Change, Slot};
+use client_slot::Slot;
 use gate_bytes::Memory;
-use rtsp_head::Item;
+use gate_machine::{Done, Plan};
 use slab::Slab;
 use std::alloc::Global;
 use std::collections::BTreeMap;
@@ -24,13 +24,11 @@ pub(crate) struct Seats {
 }
 
 impl Seats {
-    ghost use Rattle.gateway_mux.specs.Seats.{conn_at, IsNextSeat};
-    ghost use Rattle.gateway_mux.specs.Closes.{stands_open, IsFirstOpen};
-    ghost use Rattle.gateway_mux.specs.Answered.{control_of};
+    ghost use Rattle.gateway_mux.specs.Seats.{client_at, IsNextSeat};
 
     /// No connection. It takes no memory.
     pub fn new(alloc: Global) -> Seats
-        ensures { (i : ℕ) → conn_at result i ≡ None }
+        ensures { (i : ℕ) → client_at result i ≡ None }
     {
         Seats {
             slots: Slab::new(alloc),
@@ -40,17 +38,10 @@ impl Seats {
 
     /// What is kept of a connection; nothing where it never entered.
     pub fn slot(&self, conn: u32) -> Option<&Slot>
-        ensures { option_map (λ slot. conn_of slot.now) result ≡ conn_at self.now conn }
+        ensures { option_map (λ slot. slot.now) result ≡ client_at self.now conn }
     {
         let key = *self.keys.get(&conn)?;
         self.slots.get(key)
-    }
-
-    /// What a connection is about, where that is known.
-    pub fn control(&self, conn: u32) -> Option<&[u8]>
-        ensures { option_map (λ uri. uri.now) result ≡ control_of (conn_at self.now conn) }
-    {
-        self.slot(conn)?.control()
     }
 
     /// The first number from this one on that entered.
@@ -62,91 +53,43 @@ impl Seats {
         Some(*conn)
     }
 
-    /// Whether a connection entered and was not closed.
-    pub fn is_open(&self, conn: u32) -> bool
-        ensures { result ≡ stands_open (conn_at self.now conn) }
-    {
-        match self.slot(conn) {
-            Some(slot) => slot.alive,
-            None => false,
-        }
-    }
-
-    /// The first number from this one on of a connection that was not closed.
-    pub fn first_open(&self, from: u32) -> Option<u32>
-        ensures { IsFirstOpen self.now from result }
-    {
-        let mut at = from;
-        while let Some(conn) = self.next(at) {
-            if self.is_open(conn) {
-                return Some(conn);
-            }
-            at = conn.checked_add(1)?;
-        }
-        None
-    }
-
     /// Adds a connection.
     pub fn enter(&mut self, alloc: Global, conn: u32) -> Result<(), Memory>
-        requires { conn_at self.old conn ≡ None }
-        ensures ok { OnOk result ((i : ℕ) → conn_at self.new i ≡ (if conn == i then Some new_conn else conn_at self.old i)) }
-        ensures err { OnErr result ((i : ℕ) → conn_at self.new i ≡ conn_at self.old i) }
+        requires { client_at self.old conn ≡ None }
+        ensures ok { OnOk result ((i : ℕ) → client_at self.new i ≡ (if conn == i then Some new_client else client_at self.old i)) }
+        ensures err { OnErr result ((i : ℕ) → client_at self.new i ≡ client_at self.old i) }
     {
+        let slot = Slot::new(alloc)?;
         self.slots.reserve(1)?;
         self.keys.insert(conn, self.slots.vacant_key())?;
-        self.slots.insert_reserved(Slot::new(alloc));
+        self.slots.insert_reserved(slot);
         Ok(())
     }
 
-    /// A request of a connection waits.
-    pub fn wait(&mut self, conn: u32, item: Item) -> Result<(), (Item, Memory)>
-        ensures ok { OnOk result ((i : ℕ) → conn_at self.new i ≡ (if conn == i then option_map (λ old. with_waiting old (shape_of item)) (conn_at self.old i) else conn_at self.old i)) }
-        ensures given_back { IfErr result (λ refused. refused.0 ≡ item) }
-        ensures err { OnErr result ((i : ℕ) → conn_at self.new i ≡ conn_at self.old i) }
+    /// Carries out a plan for a connection, by the numbers of its open request and of the next one.
+    pub fn commit(&mut self, conn: u32, plan: Plan, number: u32, next: u32) -> Option<Done>
+        requires { IfSome (client_at self.old conn) (λ client. IsReady client plan) }
+        ensures others { (i : ℕ) → conn ≢ i → client_at self.new i ≡ client_at self.old i }
+        ensures none { client_at self.old conn ≡ None → (result ≡ None) }
+        ensures here { IsSome (client_at self.old conn) → IfSome result (λ done. IsCarriedAt (client_at self.old conn) (client_at self.new conn) plan number next done) }
+        ensures some { IsSome (client_at self.old conn) → IsSome result }
+        ensures short { IsShortPlan plan → IfSome result IsShortDone }
     {
-        let Some(key) = self.keys.get(&conn).copied() else {
-            return Ok(());
-        };
-        match wait_at(&mut self.slots, key, item) {
-            Ok(()) => Ok(()),
-            Err(refused) => Err(refused),
-        }
-    }
-
-    /// Changes a connection.
-    pub fn change(&mut self, conn: u32, change: Change)
-        ensures { (i : ℕ) → conn_at self.new i ≡ (if conn == i then option_map (changed change) (conn_at self.old i) else conn_at self.old i) }
-    {
-        if let Some(key) = self.keys.get(&conn).copied() {
-            change_at(&mut self.slots, key, change);
-        }
+        let key = self.keys.get(&conn).copied()?;
+        commit_at(&mut self.slots, key, plan, number, next)
     }
 }
 
-/// Changes the connection at a key.
-fn change_at(slots: &mut Slab<Slot>, key: usize, change: Change)
-    ensures here { option_map conn_of (slab_get slots.new key) ≡ option_map (λ slot. changed change (conn_of slot)) (slab_get slots.old key) }
+/// Carries out a plan for the connection at a key.
+fn commit_at(slots: &mut Slab<Slot>, key: usize, plan: Plan, number: u32, next: u32) -> Option<Done>
+    requires { IfSome (slab_get slots.old key) (λ client. IsReady client plan) }
+    ensures here { IsSome (slab_get slots.old key) → IfSome result (λ done. IsCarriedAt (slab_get slots.old key) (slab_get slots.new key) plan number next done) }
+    ensures some { IsSome (slab_get slots.old key) → IsSome result }
+    ensures none { slab_get slots.old key ≡ None → (result ≡ None) }
+    ensures short { IsShortPlan plan → IfSome result IsShortDone }
     ensures others { (other : ℕ) → other ≢ key → slab_get slots.new other ≡ slab_get slots.old other }
     ensures held { (other : ℕ) → is_some (slab_get slots.old other) ≡ true → is_some (slab_get slots.new other) ≡ true }
 {
-    if let Some(slot) = slots.get_mut(key) {
-        slot.change(change);
-    }
-}
-
-/// A request of the connection at a key waits.
-fn wait_at(slots: &mut Slab<Slot>, key: usize, item: Item) -> Result<(), (Item, Memory)>
-    ensures ok { OnOk result (option_map conn_of (slab_get slots.new key) ≡ option_map (λ slot. with_waiting (conn_of slot) (shape_of item)) (slab_get slots.old key)) }
-    ensures given_back { IfErr result (λ refused. refused.0 ≡ item) }
-    ensures err { OnErr result (option_map conn_of (slab_get slots.new key) ≡ option_map conn_of (slab_get slots.old key)) }
-    ensures others { (other : ℕ) → other ≢ key → slab_get slots.new other ≡ slab_get slots.old other }
-    ensures held { (other : ℕ) → is_some (slab_get slots.old other) ≡ true → is_some (slab_get slots.new other) ≡ true }
-{
-    match slots.get_mut(key) {
-        Some(slot) => match slot.wait(item) {
-            Ok(()) => Ok(()),
-            Err(refused) => Err(refused),
-        },
-        None => Ok(()),
-    }
+    let slot = slots.get_mut(key)?;
+    Some(plan.commit(slot, number, next))
 }

@@ -1,15 +1,30 @@
-// Connections that enter, ask, are answered and end.
-ghost use Rattle.std.specs.Prelude.{◌≡◌, length, Some, [], IfOk};
-ghost use Rattle.rtsp_head.specs.Items.{first_extent};
+// Connections that enter, ask, hear and end.
+ghost use Rattle.std.specs.Prelude.{[], ◌∷◌, IfOk};
+ghost use Rattle.mux_history.specs.Happenings.{entering};
 ghost use Rattle.gateway_mux.specs.Stands.{Stands};
 
+use super::Mux;
 use crate::*;
-use gate_bytes::{Memory, Text};
-use rtsp_head::{BadKind, Item, ItemKind};
-use rtsp_small::LAST_CSEQ_TWO;
+use gate_bytes::Memory;
+use rtsp_frame::Framer;
+use rtsp_head::Item;
 use rtsp_uri::read_base;
 use std::alloc::Global;
 use std::test::Fail;
+
+// A player asks for a description.
+const DESCRIBE: &[u8] = b"DESCRIBE rtsp://gate.example/m RTSP/1.0\r\nCSeq: 7\r\n\r\n";
+
+// A player asks for a stream on channels 4 and 5.
+const SETUP: &[u8] =
+    b"SETUP rtsp://gate.example/m RTSP/1.0\r\nCSeq: 7\r\nTransport: RTP/AVP/TCP;interleaved=4-5\r\n\r\n";
+
+// The server grants it on channels 0 and 1.
+const GRANT: &[u8] =
+    b"RTSP/2.0 200 OK\r\nCSeq: 2\r\nSession: a\r\nTransport: RTP/AVP/TCP;unicast;interleaved=0-1\r\n\r\n";
+
+// A frame on the second of those channels.
+const FRAME: &[u8] = b"$\x01\0\x02ab";
 
 // A gateway between two addresses.
 fn gateway(alloc: Global) -> Result<Mux, Fail>
@@ -22,108 +37,148 @@ fn gateway(alloc: Global) -> Result<Mux, Fail>
     Ok(Mux::new(alloc, bases)?)
 }
 
-// An item with these bytes, of which so many are its head.
-fn item(alloc: Global, kind: ItemKind, bytes: &[u8], head: usize) -> Result<Item, Memory>
-    requires { first_extent bytes.now ≡ Some (record { skipped = 0; span = record { kind = kind; len = length bytes.now; head = head } }) }
+// One that a connection entered.
+fn entered(alloc: Global, conn: u32) -> Result<Mux, Fail>
+    ensures { IfOk result (λ mux. Stands mux (entering conn ∷ [])) }
 {
-    Ok(Item {
-        kind,
-        bytes: Text::copy(alloc, bytes)?,
-        head,
-    })
+    let mut mux = gateway(alloc)?;
+    mux.enter(alloc, conn)?;
+    Ok(mux)
+}
+
+// The item that stands at the front of these bytes.
+fn item(alloc: Global, bytes: &[u8]) -> Result<Item, Memory> {
+    let mut framer = Framer::new(alloc);
+    framer.feed(alloc, bytes)?;
+    framer.next().ok_or(Memory)
+}
+
+// What happens by these bytes: they come from the player of a connection, which ends where there are
+// none, or else from the server.
+fn event(alloc: Global, conn: Option<u32>, bytes: &[u8]) -> Result<Event, Memory> {
+    match conn {
+        Some(conn) if bytes.is_empty() => Ok(Event::End(conn)),
+        Some(conn) => Ok(Event::Client(conn, item(alloc, bytes)?)),
+        None => Ok(Event::Up(item(alloc, bytes)?)),
+    }
+}
+
+// One step, with memory enough.
+fn stepped(mux: &mut Mux, alloc: Global, event: Event) -> Result<Outcome, Memory> {
+    mux.step(alloc, event).map_err(|refused| refused.1)
+}
+
+// The request that goes up by an outcome; nothing where none does.
+fn request_up(outcome: &Outcome) -> &[u8] {
+    match &outcome.to_up.message {
+        Some(UpMessage::Request(text)) => text.as_bytes(),
+        Some(UpMessage::Frame(_)) | None => b"",
+    }
+}
+
+// What the player of connection 1 is handed; nothing where another is, or none.
+fn handed(outcome: &Outcome) -> &[u8] {
+    match &outcome.to_client {
+        Some(piece) if piece.conn == 1 => piece.bytes.as_bytes(),
+        Some(_) | None => b"",
+    }
 }
 
 #[test]
 fn connections_enter_and_end(rt: HostRuntime) -> Result<(), Fail> {
     let alloc = rt.alloc();
-    let mut mux = gateway(alloc)?;
-    mux.enter(alloc, 7)?;
+    let mut mux = entered(alloc, 7)?;
     mux.enter(alloc, 4)?;
     assert_eq!(rt; mux.next_alive(5), Some(7));
     let rows = [
         (4, Closed::One(4, CloseWhy::Ended), Some(7)),
         (4, Closed::Nobody, Some(7)),
-        (9, Closed::Nobody, Some(7)),
         (7, Closed::One(7, CloseWhy::Ended), None),
     ];
     for (conn, closed, next) in rows {
-        let outcome = mux
-            .step(alloc, Event::End(conn))
-            .map_err(|refused| refused.1)?;
-        assert_eq!(rt; outcome.closed, closed, "{conn}");
-        assert!(rt; outcome.to_client.is_none());
+        let ended = stepped(&mut mux, alloc, Event::End(conn))?;
+        assert_eq!(rt; ended.closed, closed);
         assert!(rt; !mux.alive(conn));
         assert_eq!(rt; mux.next_alive(0), next);
     }
-    assert_eq!(rt; mux.dropped(), 0);
-    assert_eq!(rt;
-        mux.bases().front.text.as_bytes(),
-        b"gate.example".as_slice()
-    );
     Ok(())
 }
 
 #[test]
-fn a_request_goes_up(rt: HostRuntime) -> Result<(), Fail> {
+fn a_plan_is_carried_out(rt: HostRuntime) -> Result<(), Fail> {
     let alloc = rt.alloc();
-    let mut mux = gateway(alloc)?;
-    mux.enter(alloc, 1)?;
-    let describe = item(
-        alloc,
-        ItemKind::Request,
-        b"DESCRIBE rtsp://gate.example/m RTSP/1.0\r\nCSeq: 7\r\n\r\n",
-        52,
-    )?;
-    let outcome = mux
-        .step(alloc, Event::Client(1, describe))
-        .map_err(|refused| refused.1)?;
-    let text = outcome.to_up.ok_or(Memory)?;
+    let mut mux = entered(alloc, 1)?;
+    let event = event(alloc, Some(1), DESCRIBE)?;
+    let plan = mux.plan(alloc, &event)?;
+    let before = mux.busy(1);
+    let asked = mux.commit(event, plan);
+    assert!(rt; !before && mux.busy(1));
     assert_eq!(rt;
-        text.as_bytes(),
+        request_up(&asked),
         b"DESCRIBE rtsp://media.example/m RTSP/2.0\r\nCSeq: 1\r\n\r\n".as_slice()
     );
-    assert!(rt; mux.busy(1));
+    Ok(())
+}
+
+// Who says what, the request that goes up, and what the player is handed: a description that is not
+// found, a frame of nobody's pair, and a session, which is torn down once its player ended.
+#[test]
+fn a_session_is_set_up_and_torn_down(rt: HostRuntime) -> Result<(), Fail> {
+    let alloc = rt.alloc();
+    let mut mux = entered(alloc, 1)?;
+    let rows: [(Option<u32>, &[u8], &[u8], &[u8]); 7] = [
+        (
+            Some(1),
+            DESCRIBE,
+            b"DESCRIBE rtsp://media.example/m RTSP/2.0\r\nCSeq: 1\r\n\r\n",
+            b"",
+        ),
+        (
+            None,
+            b"RTSP/2.0 404 Not Found\r\nCSeq: 1\r\n\r\n",
+            b"",
+            b"RTSP/1.0 404 Not Found\r\nCSeq: 7\r\n\r\n",
+        ),
+        (None, FRAME, b"", b""),
+        (
+            Some(1),
+            SETUP,
+            b"SETUP rtsp://media.example/m RTSP/2.0\r\nCSeq: 2\r\nTransport: RTP/AVP/TCP;unicast;interleaved=0-1\r\nAccept-Ranges: npt, smpte, smpte-30-drop, smpte-25, clock\r\n\r\n",
+            b"",
+        ),
+        (
+            None,
+            GRANT,
+            b"",
+            b"RTSP/1.0 200 OK\r\nCSeq: 7\r\nSession: a\r\nTransport: RTP/AVP/TCP;unicast;interleaved=4-5\r\n\r\n",
+        ),
+        (None, FRAME, b"", b"$\x05\0\x02ab"),
+        (
+            Some(1),
+            b"",
+            b"TEARDOWN rtsp://media.example/m RTSP/2.0\r\nCSeq: 3\r\nSession: a\r\n\r\n",
+            b"",
+        ),
+    ];
+    for (conn, bytes, up, down) in rows {
+        let event = event(alloc, conn, bytes)?;
+        let outcome = stepped(&mut mux, alloc, event)?;
+        assert_eq!(rt; request_up(&outcome), up);
+        assert_eq!(rt; handed(&outcome), down);
+    }
+    assert_eq!(rt; mux.dropped(), 1);
     Ok(())
 }
 
 #[test]
-fn a_bad_item_of_the_server_ends_all(rt: HostRuntime) -> Result<(), Fail> {
+fn the_end_of_the_server_closes_all(rt: HostRuntime) -> Result<(), Fail> {
     let alloc = rt.alloc();
-    let mut mux = gateway(alloc)?;
-    mux.enter(alloc, 1)?;
-    let bad = item(alloc, ItemKind::Bad(BadKind::Start), b"a\r\n\r\n", 5)?;
-    let outcome = mux
-        .step(alloc, Event::Up(bad))
-        .map_err(|refused| refused.1)?;
-    let cause = UpCause::Framing(FramingFault::Bad(BadKind::Start));
-    assert_eq!(rt; outcome.closed, Closed::All);
-    assert_eq!(rt; mux.ended(), Some(cause));
+    let mut mux = entered(alloc, 1)?;
+    let ended = stepped(&mut mux, alloc, Event::UpEnd(UpWhy::ReadFault))?;
+    assert_eq!(rt; ended.closed, Closed::All);
+    assert_eq!(rt; ended.fault, mux.ended());
+    assert_eq!(rt; mux.ended(), Some(UpCause::ReadFault));
     assert_eq!(rt; mux.next_alive(0), Some(1));
     assert!(rt; !mux.alive(1));
-    Ok(())
-}
-
-#[test]
-fn the_last_number_is_used_once(rt: HostRuntime) -> Result<(), Fail> {
-    let alloc = rt.alloc();
-    let mut mux = gateway(alloc)?;
-    mux.enter(alloc, 1)?;
-    mux.enter(alloc, 2)?;
-    mux.issued = LAST_CSEQ_TWO - 1;
-    let rows = [(1, None), (2, Some(UpCause::CseqSpent))];
-    for (conn, cause) in rows {
-        let describe = item(
-            alloc,
-            ItemKind::Request,
-            b"DESCRIBE rtsp://gate.example/m RTSP/1.0\r\nCSeq: 7\r\n\r\n",
-            52,
-        )?;
-        let outcome = mux
-            .step(alloc, Event::Client(conn, describe))
-            .map_err(|refused| refused.1)?;
-        assert_eq!(rt; outcome.fault, cause);
-        assert_eq!(rt; outcome.to_up.is_some(), cause.is_none());
-        assert_eq!(rt; mux.ended(), cause);
-    }
     Ok(())
 }

@@ -1,5 +1,5 @@
-use Rattle.gateway_mux.proofs.OpenLemmas.{first_alive}
+use Rattle.mux_history.specs.Happenings.{standing}
 use Rattle.gateway_mux.proofs.mux.Mux.next_alive.Goals as goal
 
 pub returns : goal.returns
-returns c = λ T s. first_alive c.args.self.now T c.args.from c.first_open.result s c.first_open.ensures
+returns c = λ T stands. c.next_alive.ensures (standing T) stands.is_picture

@@ -1,0 +1,91 @@
+-- The final reply of an event, by whose turn it is.
+use Rattle.std.proofs.Common.{◌≡◌, ◌∙◌, ℕ, nat_lt, not, Bool, true, false, cond, List, Option, Some, None, IfSome, refl, sym, ap, subst}
+use Rattle.std.specs.Prelude.{is_none, ◌&&◌}
+use Rattle.std.specs.Option.{option_map}
+use Rattle.head_two.specs.declared.reply.Reply2.{Reply2}
+use Rattle.session_one.specs.Table.{is_success}
+use Rattle.mux_history.specs.declared.event.UpCause.{UpCause}
+use Rattle.mux_history.specs.declared.event.UpCause.TheVariants.{BadGrant, SessionTaken}
+use Rattle.mux_history.specs.Kinds.{RequestKind, sets_up}
+use Rattle.mux_history.specs.Books.{Opened, Books}
+use Rattle.mux_history.specs.Heard.{Heard as Said, replies, requests, frames, faults, heard}
+use Rattle.mux_history.specs.Happenings.{Happening, enters, takes, ends, lags, hears, up_ends}
+use Rattle.mux_history.specs.Settling.{Final, final_of, id_said}
+use Rattle.mux_history.specs.Own.{heard_turn, turn, heard_final, final_in}
+use Rattle.mux_history.specs.Follows.{is_session_for, is_granted, is_taken, grant_breach, kind_breach}
+use Rattle.gateway_mux.specs.Moves.{wrong_reply, wrong_heard, wrong_in}
+use Rattle.gateway_mux.specs.Pictures.{Picture, books_in}
+use Rattle.gateway_mux.specs.Turn.{session_of_client}
+use Rattle.gateway_mux.proofs.SettledLemmas.{NamesOwn}
+
+-- the final reply is to a request of the connection whose turn it is
+asked_here : (reply : Reply2) (opened : Option Opened) (i : ℕ) → option_map (λ (one : Opened). one.conn) opened ≡ Some i → IfSome (final_of reply opened) (λ final. final.conn ≡ i)
+asked_here reply None i turns = cc
+asked_here reply (Some opened) i turns = by (nat_lt reply.code 200)
+  where
+    conn_is : (a b : ℕ) → Some a ≡ Some b → a ≡ b
+    conn_is a b e = cc
+
+    by : (t : Bool) → IfSome (cond t None (Some (record { number = reply.cseq; conn = opened.conn; kind = opened.kind; success = is_success reply.code; id = id_said reply }))) (λ (final : Final). final.conn ≡ i)
+    by true = tt
+    by false = conn_is opened.conn i turns
+
+heard_here : (books : Books) (said : Said) (i : ℕ) → heard_turn books said ≡ Some i → IfSome (heard_final books said) (λ final. final.conn ≡ i)
+heard_here books (replies reply) i turns = asked_here reply (books.opened reply.cseq) i turns
+heard_here books (requests request) i turns = tt
+heard_here books (frames channel rest) i turns = tt
+heard_here books (faults fault) i turns = tt
+
+pub final_here : (books : Books) (h : Happening) (i : ℕ) → turn books h ≡ Some i → IfSome (final_in books h) (λ final. final.conn ≡ i)
+final_here books (enters conn) i turns = tt
+final_here books (takes conn shape) i turns = tt
+final_here books (ends conn) i turns = tt
+final_here books (lags conn) i turns = tt
+final_here books (hears shape) i turns = heard_here books (heard shape) i turns
+final_here books (up_ends cause) i turns = tt
+
+-- The success of a SETUP names the session of its connection, where nothing is wrong with it.
+both_true : (a b : Bool) → (a && b) ≡ true → b ≡ true
+both_true true b e = e
+both_true false b e = cc
+
+wrong_is_none : (cause : UpCause) → Some cause ≡ None → ⊥
+wrong_is_none cause e = cc
+
+granted_names : (books : Books) (pair i : ℕ) (session : Option (List ℕ)) (reply : Reply2) (t : Bool) → is_granted pair session reply ≡ t → grant_breach books i pair session reply ≡ None → is_session_for session (id_said reply) ≡ true
+granted_names books pair i session reply true e right = both_true _ (is_session_for session (id_said reply)) e
+granted_names books pair i session reply false e right =
+    absurd (wrong_is_none (BadGrant reply.cseq)
+    (sym (ap (λ t. cond (not t) (Some (BadGrant reply.cseq)) (cond (is_none session && is_taken books i (id_said reply)) (Some (SessionTaken reply.cseq)) None)) e) ∙ right))
+
+kind_names : (books : Books) (kind : RequestKind) (i : ℕ) (session : Option (List ℕ)) (reply : Reply2) → kind_breach books kind i session reply ≡ None
+    → (pair : ℕ) → kind ≡ sets_up pair → is_success reply.code ≡ true → is_session_for session (id_said reply) ≡ true
+kind_names books kind i session reply right pair is success =
+    granted_names books pair i session reply (is_granted pair session reply) refl
+    (sym (ap (λ t. cond t (grant_breach books i pair session reply) None) success) ∙ ap (λ one. kind_breach books one i session reply) (sym is) ∙ right)
+
+reply_names : (one : Picture) (reply : Reply2) (opened : Option Opened) (i : ℕ) → option_map (λ (two : Opened). two.conn) opened ≡ Some i → wrong_reply one reply opened ≡ None → NamesOwn (final_of reply opened) (session_of_client (one.clients i))
+reply_names one reply None i turns right = cc
+reply_names one reply (Some opened) i turns right = by (nat_lt reply.code 200)
+  where
+    conn_is : (a b : ℕ) → Some a ≡ Some b → a ≡ b
+    conn_is a b e = cc
+
+    by : (t : Bool) → NamesOwn (cond t None (Some (record { number = reply.cseq; conn = opened.conn; kind = opened.kind; success = is_success reply.code; id = id_said reply }))) (session_of_client (one.clients i))
+    by true = tt
+    by false = λ pair is success. subst (λ (who : ℕ). is_session_for (session_of_client (one.clients who)) (id_said reply) ≡ true) (conn_is opened.conn i turns)
+        (kind_names (books_in one) opened.kind opened.conn (session_of_client (one.clients opened.conn)) reply right pair is success)
+
+heard_names : (one : Picture) (said : Said) (i : ℕ) → heard_turn (books_in one) said ≡ Some i → wrong_heard one said ≡ None → NamesOwn (heard_final (books_in one) said) (session_of_client (one.clients i))
+heard_names one (replies reply) i turns right = reply_names one reply ((books_in one).opened reply.cseq) i turns right
+heard_names one (requests request) i turns right = tt
+heard_names one (frames channel rest) i turns right = tt
+heard_names one (faults fault) i turns right = tt
+
+pub names_own : (one : Picture) (h : Happening) (i : ℕ) → turn (books_in one) h ≡ Some i → wrong_in one h ≡ None → NamesOwn (final_in (books_in one) h) (session_of_client (one.clients i))
+names_own one (enters conn) i turns right = tt
+names_own one (takes conn shape) i turns right = tt
+names_own one (ends conn) i turns right = tt
+names_own one (lags conn) i turns right = tt
+names_own one (hears shape) i turns right = heard_names one (heard shape) i turns right
+names_own one (up_ends cause) i turns right = tt

@@ -1,0 +1,114 @@
+-- What the multiplexer tells of its connections is what its history tells.
+use Rattle.std.proofs.Common.{◌≡◌, ◌∙◌, ℕ, ◌^◌, ◌≤◌, ◌<◌, ◌&&◌, not, Bool, true, false, cond, List, Option, Some, None, refl, sym, ap}
+use Rattle.std.specs.Prelude.{is_some, is_none}
+use Rattle.std.specs.Option.{option_map}
+use Rattle.rtsp_uri.specs.declared.base.Bases.{Bases}
+use Rattle.client_slot.specs.declared.purpose.Purpose.{Purpose}
+use Rattle.client_slot.specs.Client.{Client}
+use Rattle.client_slot.specs.Renumbered.{purpose_under}
+use Rattle.gate_machine.specs.Alone.{Private, is_live, is_empty_list}
+use Rattle.gate_machine.proofs.KeepLemmas.{live_unclosed}
+use Rattle.mux_history.specs.declared.event.UpCause.{UpCause}
+use Rattle.mux_history.specs.Happenings.{Entry, fault_in, entered, shut, is_alive}
+use Rattle.mux_history.specs.Own.{books_of, own}
+use Rattle.mux_history.specs.Follows.{IsHistory}
+use Rattle.mux_history.specs.Shared.{shared}
+use Rattle.mux_history.specs.Tells.{IsFirstAlive, is_busy_private, is_busy}
+use Rattle.mux_history.proofs.CaseLemmas.{not_over}
+use Rattle.mux_history.proofs.HistoryLemmas.{shut_as_alone}
+use Rattle.mux_history.proofs.JoinedLemmas.{alone}
+use Rattle.mux_history.proofs.OverLemmas.{faults_over}
+use Rattle.gateway_mux.specs.Pictures.{Picture, IsPictureOf}
+use Rattle.gateway_mux.specs.Stands.{Stands, picture_of, bases_of}
+use Rattle.gateway_mux.specs.declared.mux.Mux.{Mux}
+use Rattle.gateway_mux.proofs.PictureLemmas.{none_in, client_in}
+use Rattle.gateway_mux.proofs.StandLemmas.{open_picture}
+
+-- whether a connection is alive or busy, where it entered
+abbrev pub is_alive_client : Option Client → Bool
+is_alive_client None = false
+is_alive_client (Some client) = client.alive
+
+abbrev pub is_busy_client : Option Client → Bool
+is_busy_client None = false
+is_busy_client (Some client) = client.alive && is_some client.pending
+
+-- A connection that entered was not closed exactly where the machine alone is live.
+alive_live : (bases : Bases) (T : List Entry) → IsHistory bases T → (i : ℕ) → entered i T ≡ true → is_alive i T ≡ is_live (alone bases T i)
+alive_live bases T history i en =
+    ap (λ t. t && is_empty_list (shut i T)) en ∙ ap is_empty_list (shut_as_alone bases T history i) ∙ sym (live_unclosed bases (own bases i T))
+
+pub alive_in : (bases : Bases) (one : Picture) (T : List Entry) → IsPictureOf bases one T → (i : ℕ) → is_alive i T ≡ is_alive_client (one.clients i)
+alive_in bases one T is i = by (entered i T) refl
+  where
+    by : (t : Bool) → entered i T ≡ t → is_alive i T ≡ is_alive_client (one.clients i)
+    by true e =
+        alive_live bases T is.is_history i e
+        ∙ ap (λ over. not over && (alone bases T i).client.alive) (not_over bases T is.standing i)
+        ∙ sym (ap is_alive_client (client_in bases one T is i e))
+    by false e = ap (λ t. t && is_empty_list (shut i T)) e ∙ sym (ap is_alive_client (none_in bases one T is i e))
+
+-- An open request is open in every numbering.
+pending_same : (pairs : ℕ → ℕ) (pending : Option Purpose) → is_some pending ≡ is_some (option_map (purpose_under pairs) pending)
+pending_same pairs None = refl
+pending_same pairs (Some purpose) = refl
+
+pub busy_in : (bases : Bases) (one : Picture) (T : List Entry) → IsPictureOf bases one T → (i : ℕ) → is_busy bases i T ≡ is_busy_client (one.clients i)
+busy_in bases one T is i = by (entered i T) refl
+  where
+    by : (t : Bool) → entered i T ≡ t → is_busy bases i T ≡ is_busy_client (one.clients i)
+    by true e =
+        ap (λ t. is_busy_private (cond t (Some (alone bases T i)) None)) e
+        ∙ ap (λ over. not over && ((alone bases T i).client.alive && is_some (alone bases T i).client.pending)) (not_over bases T is.standing i)
+        ∙ ap (λ open_now. (alone bases T i).client.alive && open_now) (pending_same ((books_of T).pair_of i) (alone bases T i).client.pending)
+        ∙ sym (ap is_busy_client (client_in bases one T is i e))
+    by false e = ap (λ t. is_busy_private (cond t (Some (alone bases T i)) None)) e ∙ sym (ap is_busy_client (none_in bases one T is i e))
+
+-- The first number from this one on of a connection that is alive.
+abbrev pub IsFirstLive : (ℕ → Option Client) → ℕ → Option ℕ → Type 0
+IsFirstLive clients from None = (i : ℕ) → from ≤ i → i < 2 ^ 32 → is_alive_client (clients i) ≡ false
+IsFirstLive clients from (Some conn) = (from ≤ conn) × (is_alive_client (clients conn) ≡ true) × ((i : ℕ) → from ≤ i → i < conn → is_alive_client (clients i) ≡ false)
+
+pub first_alive : (bases : Bases) (one : Picture) (T : List Entry) → IsPictureOf bases one T → (from : ℕ) (result : Option ℕ) → IsFirstLive one.clients from result → IsFirstAlive from T result
+first_alive bases one T is from None first = λ i low high. alive_in bases one T is i ∙ first i low high
+first_alive bases one T is from (Some conn) first = (first.0, alive_in bases one T is conn ∙ first.1, λ i low high. alive_in bases one T is i ∙ first.2 i low high)
+
+-- After the end of the connection to the server no connection is alive, and none is busy.
+pub alive_over : (bases : Bases) (T : List Entry) (cause : UpCause) → IsHistory bases T → fault_in T ≡ Some cause → (i : ℕ) → is_alive i T ≡ false
+alive_over bases T cause history ended i = by (entered i T) refl
+  where
+    by : (t : Bool) → entered i T ≡ t → is_alive i T ≡ false
+    by true e = alive_live bases T history i e ∙ ap (λ over. not over && (alone bases T i).client.alive) (faults_over bases T history cause ended i e)
+    by false e = ap (λ t. t && is_empty_list (shut i T)) e
+
+pub busy_over : (bases : Bases) (T : List Entry) (cause : UpCause) → IsHistory bases T → fault_in T ≡ Some cause → (i : ℕ) → is_busy bases i T ≡ false
+busy_over bases T cause history ended i = by (entered i T) refl
+  where
+    by : (t : Bool) → entered i T ≡ t → is_busy bases i T ≡ false
+    by true e =
+        ap (λ t. is_busy_private (cond t (Some (alone bases T i)) None)) e
+        ∙ ap (λ over. not over && ((alone bases T i).client.alive && is_some (alone bases T i).client.pending)) (faults_over bases T history cause ended i e)
+    by false e = ap (λ t. is_busy_private (cond t (Some (alone bases T i)) None)) e
+
+-- So a multiplexer tells it, before that end and after it.
+pub told_alive : (mux : Mux) (T : List Entry) → Stands mux T → (i : ℕ) → is_alive i T ≡ (is_none mux.ended && is_alive_client ((picture_of mux.connections).clients i))
+told_alive mux T stands i = by mux.ended refl
+  where
+    by : (ended : Option UpCause) → mux.ended ≡ ended → is_alive i T ≡ (is_none mux.ended && is_alive_client ((picture_of mux.connections).clients i))
+    by None e =
+        alive_in (bases_of mux) (picture_of mux.connections) T (open_picture mux T stands e) i
+        ∙ sym (ap (λ (f : Option UpCause). is_none f && is_alive_client ((picture_of mux.connections).clients i)) e)
+    by (Some cause) e =
+        alive_over (bases_of mux) T cause stands.is_history (sym stands.has_ended ∙ e) i
+        ∙ sym (ap (λ (f : Option UpCause). is_none f && is_alive_client ((picture_of mux.connections).clients i)) e)
+
+pub told_busy : (mux : Mux) (T : List Entry) → Stands mux T → (i : ℕ) → is_busy (bases_of mux) i T ≡ (is_none mux.ended && is_busy_client ((picture_of mux.connections).clients i))
+told_busy mux T stands i = by mux.ended refl
+  where
+    by : (ended : Option UpCause) → mux.ended ≡ ended → is_busy (bases_of mux) i T ≡ (is_none mux.ended && is_busy_client ((picture_of mux.connections).clients i))
+    by None e =
+        busy_in (bases_of mux) (picture_of mux.connections) T (open_picture mux T stands e) i
+        ∙ sym (ap (λ (f : Option UpCause). is_none f && is_busy_client ((picture_of mux.connections).clients i)) e)
+    by (Some cause) e =
+        busy_over (bases_of mux) T cause stands.is_history (sym stands.has_ended ∙ e) i
+        ∙ sym (ap (λ (f : Option UpCause). is_none f && is_busy_client ((picture_of mux.connections).clients i)) e)

@@ -1,0 +1,22 @@
+use Rattle.std.proofs.Common.{◌≡◌, ◌+◌, ℕ, refl, arith}
+use Rattle.gateway_mux.specs.Pictures.{picture}
+use Rattle.gateway_mux.proofs.KeepingLemmas.{keeps_none}
+use Rattle.gateway_mux.proofs.connections.Connections.new.Goals as goal
+
+none_issued : (n : ℕ) → n + 1 ≡ 1 → n ≡ 0
+none_issued n e = grind arith
+
+pub invariant_of-result : goal.invariant_of-result
+invariant_of-result c = record {
+  kept = ∣ keeps_none c.args.bases (picture c.new.result c.starting.result) c.starting.result.requests.spare c.starting.result.sessions.spare
+      (record {
+        is_history = tt;
+        standing = refl;
+        clients = λ i. c.new.ensures i;
+        asker = λ n. c.starting.ensures.open n;
+        held = λ p. c.starting.ensures.held p;
+        holder = λ id. c.starting.ensures.bound id;
+        issued = none_issued c.starting.result.requests.issued c.starting.ensures.issued;
+      })
+      (λ i. c.new.ensures i) (λ p. c.starting.ensures.held p) ∣₁;
+}

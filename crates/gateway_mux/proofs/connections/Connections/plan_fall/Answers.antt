@@ -1,0 +1,24 @@
+use Rattle.std.proofs.Common.{◌≡◌, ◌∙◌, ◌/◌, ◌%◌, Bool, true, false, not, refl, sym, ap}
+use Rattle.rtsp_head.specs.Shapes.{shape_of}
+use Rattle.channel_map.specs.Pairs.{held_at}
+use Rattle.gate_machine.specs.Frames.{channel_for}
+use Rattle.gateway_mux.specs.Pictures.{picture}
+use Rattle.gateway_mux.proofs.SaidLemmas.{idle_fall_dead, idle_fall_none}
+use Rattle.gateway_mux.proofs.connections.Connections.plan_fall.Goals as goal
+
+held_granted : (granted : Bool) → not granted ≡ false → granted ≡ true
+held_granted true e = refl
+held_granted false e = cc
+
+pub returns-then-not-alive-clause-act : goal.returns-then-not-alive-clause-act
+returns-then-not-alive-clause-act c =
+    idle_fall_dead c.args.self.now.bases (picture c.args.self.now.seats c.args.self.now.upstream) (shape_of c.args.item.now) c.in-Some.held c.in-Some-slot.slot.now c.requires
+    (ap (λ channel. held_at (channel / 2) c.args.self.now.upstream.channels) (sym c.channel_of-channel.ensures.channel) ∙ sym c.owner.ensures ∙ c.in-Some.is)
+    (held_granted c.in-Some.held.granted c.if-not-held.false) (sym c.in-Some-slot.ensures) (sym c.alive.ensures ∙ c.if-not-alive.true)
+
+pub returns-in-None-clause-act : goal.returns-in-None-clause-act
+returns-in-None-clause-act c =
+    idle_fall_none c.args.self.now.bases (picture c.args.self.now.seats c.args.self.now.upstream) (shape_of c.args.item.now) c.in-Some.held c.in-Some-slot.slot.now c.requires
+    (ap (λ channel. held_at (channel / 2) c.args.self.now.upstream.channels) (sym c.channel_of-channel.ensures.channel) ∙ sym c.owner.ensures ∙ c.in-Some.is)
+    (held_granted c.in-Some.held.granted c.if-not-held.false) (sym c.in-Some-slot.ensures) (sym c.alive.ensures ∙ c.if-not-alive.false)
+    (ap (λ channel. channel_for (channel / 2) (channel % 2) c.in-Some-slot.slot.now.session.tracks) (sym c.channel_of-channel.ensures.channel) ∙ sym c.channel_for.ensures ∙ c.in-None.is)

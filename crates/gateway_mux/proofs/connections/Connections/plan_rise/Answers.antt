@@ -1,0 +1,49 @@
+use Rattle.std.proofs.Common.{◌∙◌, ◌<◌, ◌≤◌, refl, sym, ap, arith}
+use Rattle.rtsp_head.specs.Shapes.{shape_of}
+use Rattle.channel_map.specs.declared.map.TheConstants.{PAIRS}
+use Rattle.gate_machine.specs.Frames.{half_for}
+use Rattle.gate_machine.specs.Halves.{half_of}
+use Rattle.gateway_mux.specs.Pictures.{picture}
+use Rattle.gateway_mux.proofs.KeepingLemmas.{low_half}
+use Rattle.gateway_mux.proofs.PlanLemmas.{idle_dead, idle_no_half, half_none}
+use Rattle.gateway_mux.proofs.connections.Connections.plan_rise.Goals as goal
+
+pub returns-then-not-alive-clause-act : goal.returns-then-not-alive-clause-act
+returns-then-not-alive-clause-act c =
+    idle_dead c.args.self.now.bases (picture c.args.self.now.seats c.args.self.now.upstream) c.args.conn (shape_of c.args.item.now) c.in-Some.slot.now (sym c.in-Some.ensures) (sym c.alive.ensures ∙ c.if-not-alive.true)
+
+low : (c : goal.After-struct_known-1) → (c.in-Some-half_for.half.pair < PAIRS) × (c.in-Some-half_for.half.half ≤ 1)
+low c =
+    low_half c.args.self.now.bases (picture c.args.self.now.seats c.args.self.now.upstream) c.args.self.now.upstream.requests.spare c.args.self.now.upstream.sessions.spare c.args.conn c.channel_of.result c.in-Some.slot.now
+    (half_of c.in-Some-half_for.half) (sym c.in-Some.ensures) (sym c.in-Some-half_for.ensures) c.args.self.now.kept
+
+pub overflow_mul-result : goal.overflow_mul-result
+overflow_mul-result c = let both = low c in let small : c.in-Some-half_for.half.pair < 128 = both.0 in omega arith
+
+pub overflow_add-result : goal.overflow_add-result
+overflow_add-result c =
+    let both =
+    low_half c.args.self.now.bases (picture c.args.self.now.seats c.args.self.now.upstream) c.args.self.now.upstream.requests.spare c.args.self.now.upstream.sessions.spare c.args.conn c.channel_of.result c.in-Some.slot.now
+    (half_of c.in-Some-half_for.half) (sym c.in-Some.ensures) (sym c.in-Some-half_for.ensures) c.args.self.now.kept in
+    let small : c.in-Some-half_for.half.pair < 128 = both.0 in
+    let one : c.in-Some-half_for.half.half ≤ 1 = both.1 in omega arith
+
+pub returns-in-Some-half_for-clause-act : goal.returns-in-Some-half_for-clause-act
+returns-in-Some-half_for-clause-act c = record {
+  i = c.args.conn;
+  shape = shape_of c.args.item.now;
+  client = c.in-Some.slot.now;
+  half = half_of c.in-Some-half_for.half;
+  comes = refl;
+  is_frame = c.requires;
+  is_short = c.channel_of.ensures.short;
+  here = sym c.in-Some.ensures;
+  alive = sym c.alive.ensures ∙ c.if-not-alive.false;
+  found = ap (λ channel. half_for channel c.in-Some.slot.now.session.tracks) (sym c.channel_of.ensures.channel) ∙ sym c.in-Some-half_for.ensures;
+  is = refl;
+}
+
+pub returns-in-None-clause-act : goal.returns-in-None-clause-act
+returns-in-None-clause-act c =
+    idle_no_half c.args.self.now.bases (picture c.args.self.now.seats c.args.self.now.upstream) c.args.conn (shape_of c.args.item.now) c.in-Some.slot.now (sym c.in-Some.ensures) (sym c.alive.ensures ∙ c.if-not-alive.false) c.requires
+    (ap (λ channel. half_for channel c.in-Some.slot.now.session.tracks) (sym c.channel_of.ensures.channel) ∙ half_none c.half_for.result (half_for c.channel_of.result c.in-Some.slot.now.session.tracks) c.half_for.ensures c.in-None.is)

@@ -1,0 +1,28 @@
+use Rattle.std.proofs.Common.{◌≡◌, ◌∙◌, ◌+◌, ◌≤◌, ℕ, true, false, sym, ap, subst}
+use Rattle.up_books.specs.declared.cseq.TheConstants.{LAST_NUMBER}
+use Rattle.up_books.specs.Numbers.{next_number}
+use Rattle.gateway_mux.specs.Pictures.{picture}
+use Rattle.gateway_mux.specs.Turn.{free_once}
+use Rattle.gateway_mux.proofs.PlanLemmas.{spent_act, turned_act, none_left, one_left}
+use Rattle.gateway_mux.proofs.connections.Connections.turned.Goals.{else-asks-via-then-asks+else-is_none, else-asks-via-else-asks}
+use Rattle.gateway_mux.proofs.connections.Connections.turned.Goals as goal
+
+pub returns-then-is_none-clause-act : goal.returns-then-is_none-clause-act
+returns-then-is_none-clause-act c h comes client said here planned =
+    spent_act c.args.self.now.bases (picture c.args.self.now.seats c.args.self.now.upstream) h c.args.said comes client c.args.plan c.asks-asks.result said here planned
+    (c.asks-asks.ensures c.args.self.now.bases c.args.said.number (c.args.self.now.upstream.requests.issued + 1) (free_once c.args.said.settled (picture c.args.self.now.seats c.args.self.now.upstream).held) client comes planned)
+    c.if-asks.true
+    (none_left (next_number c.args.self.now.upstream.requests.issued) c.next.result c.is_none.result c.next.ensures c.is_none.ensures c.if-is_none.true)
+
+pub returns-clause-act : goal.returns-clause-act
+returns-clause-act c h comes client said here planned =
+    turned_act c.args.self.now.bases (picture c.args.self.now.seats c.args.self.now.upstream) h c.args.said comes client c.args.plan c.asks-asks.result (c.issued.result + 1) (ap (λ n. n + 1) c.issued.ensures.number) said here planned
+    (c.asks-asks.ensures c.args.self.now.bases c.args.said.number (c.args.self.now.upstream.requests.issued + 1) (free_once c.args.said.settled (picture c.args.self.now.seats c.args.self.now.upstream).held) client comes planned)
+    (subst (λ (n : ℕ). n ≤ LAST_NUMBER) c.issued.ensures.number c.issued.ensures.high)
+    (elim c.else-asks.branch [
+      | else-asks-via-then-asks+else-is_none w ↦ λ asks. one_left (next_number c.args.self.now.upstream.requests.issued) w.next.result w.is_none.result w.next.ensures w.is_none.ensures w.if-is_none.false
+      | else-asks-via-else-asks w ↦ λ asks. absurd (true_false (sym asks ∙ w.if-asks.false))
+    ])
+  where
+    true_false : true ≡ false → ⊥
+    true_false e = cc

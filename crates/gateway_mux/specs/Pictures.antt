@@ -1,0 +1,75 @@
+-- What the multiplexer has of its connections while the connection to the server stands, as functions, and when that is
+-- what a history has (this project's own).
+use Rattle.std.specs.Prelude.{◌≡◌, ◌<◌, ℕ, List, Option, None, IsSome}
+use Rattle.std.specs.Option.{option_map}
+use Rattle.rtsp_uri.specs.declared.base.Bases.{Bases}
+use Rattle.channel_map.specs.declared.map.TheConstants.{PAIRS}
+use Rattle.channel_map.specs.declared.map.Held.{Held}
+use Rattle.channel_map.specs.Pairs.{held_at}
+use Rattle.up_books.specs.Ids.{holder_of}
+use Rattle.up_books.specs.Numbers.{asker_of}
+use Rattle.client_slot.specs.Client.{Client}
+use Rattle.mux_history.specs.Books.{Opened, Books}
+use Rattle.mux_history.specs.Happenings.{Entry, fault_in}
+use Rattle.mux_history.specs.Own.{books_of}
+use Rattle.mux_history.specs.Follows.{IsHistory}
+use Rattle.mux_history.specs.Shared.{shared_in}
+use Rattle.gateway_mux.specs.declared.seats.Seats.{Seats}
+use Rattle.gateway_mux.specs.declared.upstream.Upstream.{Upstream}
+use Rattle.gateway_mux.specs.Room.{HasRoom}
+use Rattle.gateway_mux.specs.Seats.{client_at}
+use Rattle.gateway_mux.specs.Turn.{kind_open}
+
+-- the players' connections; who asked each open request; who holds each pair of channels; which connection has each
+-- session; and how many numbers were issued
+pub record Picture : Type 0 where
+  pub clients : ℕ → Option Client
+  pub asker : ℕ → Option ℕ
+  pub held : ℕ → Option Held
+  pub holder : List ℕ → Option ℕ
+  pub issued : ℕ
+
+abbrev pub picture : Seats → Upstream → Picture
+picture seats upstream = record {
+  clients = client_at seats;
+  asker = λ number. asker_of upstream.requests number;
+  held = λ pair. held_at pair upstream.channels;
+  holder = λ id. holder_of upstream.sessions id;
+  issued = upstream.requests.issued;
+}
+
+-- The same as the books of a history. What a connection alone would count is no part of it.
+abbrev pub opened_in : Picture → ℕ → Option Opened
+opened_in picture number = option_map (λ conn. record { conn = conn; kind = kind_open (picture.clients conn) }) (picture.asker number)
+
+abbrev pub books_in : Picture → Books
+books_in picture = record {
+  opened = opened_in picture;
+  held = picture.held;
+  holder = picture.holder;
+  giver = λ number. None;
+  own_number = λ number. 0;
+  own_pair = λ pair. 0;
+  number_of = λ conn own. 0;
+  pair_of = λ conn own. 0;
+  counts = λ conn. 0;
+  issued = picture.issued;
+}
+
+-- The list is a history in which the connection to the server stands, each connection is as it has it, and so are the
+-- numbers of requests, the pairs of channels and the sessions.
+pub record IsPictureOf (bases : Bases) (one : Picture) (history : List Entry) : Type 0 where
+  pub is_history : IsHistory bases history
+  pub standing : fault_in history ≡ None
+  pub clients : (i : ℕ) → one.clients i ≡ shared_in bases i history
+  pub asker : (number : ℕ) → one.asker number ≡ option_map (λ opened. opened.conn) ((books_of history).opened number)
+  pub held : (pair : ℕ) → one.held pair ≡ (books_of history).held pair
+  pub holder : (id : List ℕ) → one.holder id ≡ (books_of history).holder id
+  pub issued : one.issued ≡ (books_of history).issued
+
+-- There is such a history, and the books have room for all that the connections can still ask for.
+pub record IsKept (bases : Bases) (one : Picture) (requests sessions : ℕ) : Type 0 where
+  pub history : List Entry
+  pub is_of : IsPictureOf bases one history
+  pub room : HasRoom one.clients requests sessions
+  pub low : (pair : ℕ) → IsSome (one.held pair) → pair < PAIRS

@@ -1,0 +1,57 @@
+//! Carrying out what an event does.
+ghost use Rattle.std.specs.Prelude.{◌≡◌};
+ghost use Rattle.gate_machine.specs.Plans.{IsShortPlan};
+ghost use Rattle.mux_history.specs.Happenings.{Happening, happening_of};
+
+use crate::act::Act;
+use crate::connections::Connections;
+use crate::frames::on_channel;
+use crate::outcome::{answering, ending, falling, handed, nothing, rising};
+use crate::turn::{Turn, commit_turn};
+use gate_bytes::Text;
+use mux_history::{Event, Outcome};
+
+impl Connections {
+    ghost use Rattle.gateway_mux.specs.Acts.{IsAct, IsPlannedTurn, IsTurnOfSome, IsShortAct};
+    ghost use Rattle.gateway_mux.specs.Moves.{IsCommitted};
+    ghost use Rattle.gateway_mux.specs.Pictures.{picture};
+    ghost use Rattle.gateway_mux.specs.Short.{IsShort, IsShortAnswer};
+
+    /// Carries out what an event does. It takes no memory, and can't be refused.
+    pub fn commit(&mut self, event: Event, act: Act) -> Outcome
+        requires { IsAct self.old.bases (picture self.old.seats self.old.upstream) (happening_of event) act }
+        ensures commits { IsCommitted self.old.bases (picture self.old.seats self.old.upstream) (picture self.new.seats self.new.upstream) (happening_of event) result }
+        ensures short { IsShortAct act → IsShort result }
+        ensures bases { self.new.bases ≡ self.old.bases }
+    {
+        match act {
+            Act::Nothing => nothing(),
+            Act::Rises(channel) => match event {
+                Event::Client(_, item) => rising(on_channel(item, channel)),
+                _ => unreachable!(),
+            },
+            Act::Falls(conn, channel) => match event {
+                Event::Up(item) => falling(conn, on_channel(item, channel)),
+                _ => unreachable!(),
+            },
+            Act::Answers(answer) => answering(Some(answer)),
+            Act::Turns(answer, turn) => self.turn(answer, turn),
+            Act::Ends(cause) => ending(cause),
+        }
+    }
+
+    /// Carries out the turn of a connection, after this answer to the server.
+    fn turn(&mut self, answer: Option<Text>, turn: Turn) -> Outcome
+        requires { IsTurnOfSome self.old.bases (picture self.old.seats self.old.upstream) answer turn }
+        ensures commits { (h : Happening) → IsPlannedTurn self.old.bases (picture self.old.seats self.old.upstream) h answer turn
+            → IsCommitted self.old.bases (picture self.old.seats self.old.upstream) (picture self.new.seats self.new.upstream) h result }
+        ensures short { IsShortAnswer answer → IsShortPlan turn.plan → IsShort result }
+        ensures bases { self.new.bases ≡ self.old.bases }
+    {
+        let conn = turn.conn;
+        match commit_turn(&mut self.seats, &mut self.upstream, turn) {
+            Some(done) => handed(conn, answer, done),
+            None => unreachable!(),
+        }
+    }
+}

@@ -1,0 +1,82 @@
+//! What the server grants to a SETUP.
+ghost use Rattle.std.specs.Prelude.{◌≡◌, ◌<◌, ℕ};
+ghost use Rattle.std.specs.Option.{option_copied};
+ghost use Rattle.up_books.specs.Ids.{holder_of};
+ghost use Rattle.mux_history.specs.Settling.{id_said};
+ghost use Rattle.mux_history.specs.Follows.{grants, is_session_for, is_granted};
+ghost use Rattle.gateway_mux.specs.Granting.{is_taken_by, wrong_grant};
+
+use head_two::Reply2;
+use mux_history::UpCause;
+use rtsp_small::read_session;
+use rtsp_transport::read_grant;
+use up_books::SessionBook;
+
+/// The id of the session that a reply says.
+pub(crate) fn id_said(reply: &Reply2) -> Option<&[u8]>
+    ensures { option_copied result ≡ id_said reply.now }
+{
+    let value = reply.head.field(b"Session")?;
+    Some(read_session(value)?.id)
+}
+
+/// Whether a reply grants a pair of channels.
+fn grants(pair: u8, value: Option<&[u8]>) -> bool
+    requires { pair < 128 }
+    ensures { result ≡ grants pair (option_copied value.entry) }
+{
+    let Some(value) = value else {
+        return false;
+    };
+    match read_grant(value) {
+        Ok(grant) => grant.pair.rtp == 2 * pair && grant.pair.rtcp == 2 * pair + 1,
+        Err(_) => false,
+    }
+}
+
+/// Whether what a reply says is the session of a connection, or a new one where it has none.
+fn is_session_for(session: Option<&[u8]>, said: Option<&[u8]>) -> bool
+    ensures { result ≡ is_session_for (option_copied session.entry) (option_copied said.entry) }
+{
+    let Some(said) = said else {
+        return false;
+    };
+    match session {
+        Some(session) => session == said,
+        None => true,
+    }
+}
+
+/// Whether a session is another connection's.
+fn is_others(sessions: &SessionBook, conn: u32, said: Option<&[u8]>) -> bool
+    ensures { result ≡ is_taken_by (λ id. holder_of sessions.now id) conn (option_copied said.entry) }
+{
+    let Some(id) = said else {
+        return false;
+    };
+    match sessions.owner(id) {
+        Some(owner) => owner != conn,
+        None => false,
+    }
+}
+
+/// What is wrong with the success of a connection's SETUP, where something is.
+pub(crate) fn wrong_grant(
+    sessions: &SessionBook,
+    conn: u32,
+    pair: u8,
+    session: Option<&[u8]>,
+    reply: &Reply2,
+) -> Option<UpCause>
+    requires { pair < 128 }
+    ensures { result ≡ wrong_grant (λ id. holder_of sessions.now id) conn pair (option_copied session.entry) reply.now }
+{
+    let said = id_said(reply);
+    if !grants(pair, reply.head.field(b"Transport")) || !is_session_for(session, said) {
+        return Some(UpCause::BadGrant(reply.cseq));
+    }
+    if session.is_none() && is_others(sessions, conn, said) {
+        return Some(UpCause::SessionTaken(reply.cseq));
+    }
+    None
+}

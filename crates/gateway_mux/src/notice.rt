@@ -1,0 +1,101 @@
+//! Requests of the server.
+ghost use Rattle.std.specs.Prelude.{◌≡◌, codes, option_map};
+ghost use Rattle.std.specs.Option.{option_copied};
+ghost use Rattle.up_books.specs.Ids.{holder_of};
+ghost use Rattle.mux_history.specs.Notices.{field, session_named, notice_of, named_session, held_session, said_reason};
+ghost use Rattle.gateway_mux.specs.NoticesSeen.{notice_seen};
+
+use head_two::Ask2;
+use rtsp_small::{NotifyReason, read_reason, read_session};
+use session_two::Names;
+use up_books::SessionBook;
+
+/// A notify of a session.
+#[derive(Clone, Copy)]
+pub(crate) struct Notice<'a> {
+    /// The connection that has the session.
+    pub conn: u32,
+    /// The session's id.
+    pub id: &'a [u8],
+    /// Why it comes.
+    pub reason: NotifyReason,
+    /// The request that it names.
+    pub names: Names,
+}
+
+/// Why a request of the server is refused.
+#[derive(Clone, Copy, Debug, PartialEq, Eq)]
+pub(crate) enum NoticeRefusal {
+    /// It is no PLAY_NOTIFY.
+    Method,
+    /// It names no session that a connection has.
+    Session,
+    /// It does not say why it comes.
+    NoReason,
+    /// Why it comes is unknown.
+    Reason,
+}
+
+impl NoticeRefusal {
+    ghost use Rattle.std.specs.Prelude.{true};
+    ghost use Rattle.rtsp_status.specs.Reasons.{has_reason};
+    ghost use Rattle.gateway_mux.specs.NoticesSeen.{refusal_code};
+
+    /// The code that it is refused with.
+    pub fn code(self) -> u16
+        ensures code { result ≡ refusal_code self }
+        ensures reason { has_reason result ≡ true }
+    {
+        match self {
+            NoticeRefusal::Method => 501,
+            NoticeRefusal::Session => 454,
+            NoticeRefusal::NoReason => 400,
+            NoticeRefusal::Reason => 465,
+        }
+    }
+}
+
+/// What a request of the server tells, or why it is refused.
+pub(crate) fn read_notice<'a>(
+    sessions: &SessionBook,
+    ask: &'a Ask2,
+) -> Result<Notice<'a>, NoticeRefusal>
+    ensures { notice_seen result ≡ notice_of (λ id. holder_of sessions.now id) ask.now }
+{
+    if ask.method.as_bytes() != b"PLAY_NOTIFY".as_slice() {
+        return Err(NoticeRefusal::Method);
+    }
+    let Some(id) = session(ask) else {
+        return Err(NoticeRefusal::Session);
+    };
+    let Some(conn) = sessions.owner(id) else {
+        return Err(NoticeRefusal::Session);
+    };
+    told(ask, id, conn)
+}
+
+/// The session that it names.
+fn session(ask: &Ask2) -> Option<&[u8]>
+    ensures { option_copied result ≡ session_named ask.now }
+{
+    let value = ask.head.field(b"Session")?;
+    Some(read_session(value)?.id)
+}
+
+/// What it tells the connection that has the session.
+fn told<'a>(ask: &'a Ask2, id: &'a [u8], conn: u32) -> Result<Notice<'a>, NoticeRefusal>
+    ensures { notice_seen result ≡ said_reason ask.now id.now conn (field ask.now (codes "Notify-Reason")) }
+{
+    let Some(value) = ask.head.field(b"Notify-Reason") else {
+        return Err(NoticeRefusal::NoReason);
+    };
+    let Some(reason) = read_reason(value) else {
+        return Err(NoticeRefusal::Reason);
+    };
+    Ok(Notice {
+        conn,
+        id,
+        reason,
+        names: Names::read(ask.head.field(b"Request-Status")),
+    })
+}

@@ -1,0 +1,148 @@
+//! What events of players do.
+ghost use Rattle.std.specs.Prelude.{◌≡◌, ◌+◌, false, IsOk, IfOk, Some};
+ghost use Rattle.rtsp_head.specs.Shapes.{shape_of};
+ghost use Rattle.rtsp_head.specs.declared.item.ItemKind.TheVariants.{Frame};
+ghost use Rattle.client_slot.specs.Client.{Client};
+ghost use Rattle.gate_machine.specs.Plans.{Comes, IsSound, incoming_seen, IsPlan, IsShortPlan};
+ghost use Rattle.mux_history.specs.Happenings.{Happening, takes, happening_of, cause_of};
+
+use crate::act::Act;
+use crate::connections::Connections;
+use crate::frames::channel_of;
+use crate::said::Said;
+use crate::turn::Turn;
+use gate_bytes::Memory;
+use gate_machine::{CloseWhy, Incoming, Plan, half_for, plan, plan_close};
+use mux_history::{Event, UpCause, UpWhy};
+use rtsp_head::{Item, ItemKind};
+use std::alloc::Global;
+
+impl Connections {
+    ghost use Rattle.gateway_mux.specs.Acts.{IsAct, IsSaid, IsClosing, IsShortAct};
+    ghost use Rattle.gateway_mux.specs.Free.{is_client_request, needs_memory};
+    ghost use Rattle.gateway_mux.specs.Pictures.{picture};
+    ghost use Rattle.gateway_mux.specs.Short.{IsShortAnswer};
+    ghost use Rattle.gateway_mux.specs.Turn.{free_once};
+
+    /// What an event does. Nothing changes, and all memory for it is taken.
+    pub fn plan(&self, alloc: Global, event: &Event) -> Result<Act, Memory>
+        ensures act { IfOk result (IsAct self.now.bases (picture self.now.seats self.now.upstream) (happening_of event.now)) }
+        ensures short { IfOk result IsShortAct }
+        ensures free { needs_memory event.now ≡ false → IsOk result }
+    {
+        match event {
+            Event::Client(conn, item) => self.plan_item(alloc, *conn, item),
+            Event::Up(item) => self.plan_heard(alloc, item),
+            Event::End(conn) => Ok(self.plan_close(alloc, *conn, CloseWhy::Ended)),
+            Event::Slow(conn) => Ok(self.plan_close(alloc, *conn, CloseWhy::Slow)),
+            Event::UpEnd(why) => Ok(Act::Ends(cause_of(*why))),
+        }
+    }
+
+    /// What an item of a player does.
+    fn plan_item(&self, alloc: Global, conn: u32, item: &Item) -> Result<Act, Memory>
+        ensures act { IfOk result (IsAct self.now.bases (picture self.now.seats self.now.upstream) (takes conn (shape_of item.now))) }
+        ensures short { IfOk result IsShortAct }
+        ensures free { is_client_request item.now.kind ≡ false → IsOk result }
+    {
+        match item.kind {
+            ItemKind::Request => {
+                self.plan_turn(alloc, Said::alone(conn), &Incoming::Request(item))
+            }
+            ItemKind::Response => Ok(Act::Nothing),
+            ItemKind::Frame => Ok(self.plan_rise(conn, item)),
+            ItemKind::Bad(_) => Ok(self.plan_close(alloc, conn, CloseWhy::BadItem)),
+        }
+    }
+
+    /// What a frame of a player does.
+    fn plan_rise(&self, conn: u32, item: &Item) -> Act
+        requires { item.now.kind ≡ Frame }
+        ensures act { IsAct self.now.bases (picture self.now.seats self.now.upstream) (takes conn (shape_of item.now)) result }
+        ensures short { IsShortAct result }
+    {
+        let Some(slot) = self.seats.slot(conn) else {
+            return Act::Nothing;
+        };
+        if !slot.alive() {
+            return Act::Nothing;
+        }
+        match half_for(slot, channel_of(item)) {
+            Some(half) => Act::Rises(2 * half.pair + half.half),
+            None => Act::Nothing,
+        }
+    }
+
+    /// What the close of a connection does. It takes no memory.
+    fn plan_close(&self, alloc: Global, conn: u32, why: CloseWhy) -> Act
+        ensures act { (h : Happening) → IsClosing conn why h → IsAct self.now.bases (picture self.now.seats self.now.upstream) h result }
+        ensures short { IsShortAct result }
+    {
+        match self.seats.slot(conn) {
+            Some(slot) => self.turned(Said::alone(conn), plan_close(alloc, slot, why)),
+            None => Act::Nothing,
+        }
+    }
+
+    /// What the turn of a connection does.
+    pub fn plan_turn(
+        &self,
+        alloc: Global,
+        said: Said,
+        incoming: &Incoming<'_>,
+    ) -> Result<Act, Memory>
+        requires sound { IsSound (incoming_seen incoming.now) }
+        requires short { IsShortAnswer said.answer }
+        ensures act { (h : Happening) → IsSaid self.now.bases (picture self.now.seats self.now.upstream) h said (incoming_seen incoming.now) → IfOk result (IsAct self.now.bases (picture self.now.seats self.now.upstream) h) }
+        ensures short { IfOk result IsShortAct }
+    {
+        let Some(slot) = self.seats.slot(said.conn) else {
+            return Ok(said.answers());
+        };
+        let next = self.upstream.requests.issued() + 1;
+        let pair = self.upstream.free_once(&said.settled);
+        let plan = plan(alloc, &self.bases, slot, next, pair, incoming)?;
+        Ok(self.turned(said, plan))
+    }
+
+    /// What the turn of a connection with this plan does. Where a request is due and no number is
+    /// left, the connection to the server ends.
+    fn turned(&self, said: Said, plan: Plan) -> Act
+        ensures act { (h : Happening) (comes : Comes) (client : Client) → IsSaid self.now.bases (picture self.now.seats self.now.upstream) h said comes → (picture self.now.seats self.now.upstream).clients said.conn ≡ Some client
+            → IsPlan self.now.bases (self.now.upstream.requests.issued + 1) (free_once said.settled (picture self.now.seats self.now.upstream).held) client comes plan
+            → IsAct self.now.bases (picture self.now.seats self.now.upstream) h result }
+        ensures short { IsShortAnswer said.answer → IsShortPlan plan → IsShortAct result }
+    {
+        let asks = plan.asks();
+        if asks && self.upstream.requests.next().is_none() {
+            return Act::Ends(UpCause::CseqSpent);
+        }
+        let Said {
+            conn,
+            number,
+            settled,
+            answer,
+        } = said;
+        let turn = Turn {
+            conn,
+            number,
+            next: self.upstream.requests.issued() + 1,
+            settled,
+            plan,
+            asks,
+        };
+        Act::Turns(answer, turn)
+    }
+}
+
+/// The cause of an end that no item of the server caused.
+fn cause_of(why: UpWhy) -> UpCause
+    ensures { result ≡ cause_of why }
+{
+    match why {
+        UpWhy::Ended => UpCause::Ended,
+        UpWhy::ReadFault => UpCause::ReadFault,
+        UpWhy::WriteFault => UpCause::WriteFault,
+        UpWhy::UpFull => UpCause::UpFull,
+    }
+}

@@ -1,0 +1,164 @@
+//! What items of the server do.
+ghost use Rattle.std.specs.Prelude.{◌≡◌, true, false, Some, IsOk, IfOk};
+ghost use Rattle.gateway_mux.specs.Short.{IsShortAnswer};
+ghost use Rattle.std.specs.Option.{option_copied};
+ghost use Rattle.rtsp_head.specs.Items.{Shape};
+ghost use Rattle.rtsp_head.specs.Shapes.{shape_of};
+ghost use Rattle.rtsp_head.specs.declared.item.ItemKind.TheVariants.{Frame};
+ghost use Rattle.rtsp_status.specs.Reasons.{has_reason};
+ghost use Rattle.client_slot.specs.Purposes.{purpose_seen};
+ghost use Rattle.head_two.specs.Answers.{answer_text};
+ghost use Rattle.mux_history.specs.Happenings.{hears};
+ghost use Rattle.mux_history.specs.Heard.{replies, requests, heard};
+
+use crate::act::Act;
+use crate::connections::Connections;
+use crate::frames::channel_of;
+use crate::grant::wrong_grant;
+use crate::hear::{Heard, hear};
+use crate::notice::read_notice;
+use crate::said::Said;
+use crate::settled::what_settles;
+use client_slot::Pending;
+use gate_bytes::{Memory, Text};
+use gate_machine::{Incoming, channel_for};
+use head_two::{Ask2, Reply2, write_answer};
+use mux_history::UpCause;
+use rtsp_head::{Item, ItemKind};
+use session_one::is_success;
+use std::alloc::Global;
+
+/// The most bytes of an answer, so that it and a request behind it have a length of 32 bits.
+const LONGEST_ANSWER: usize = 0x7fff_ffff;
+
+impl Connections {
+    ghost use Rattle.mux_history.specs.Follows.{kind_breach};
+    ghost use Rattle.mux_history.specs.Shared.{kind_pending};
+    ghost use Rattle.gateway_mux.specs.Acts.{IsAct, IsShortAct};
+    ghost use Rattle.gateway_mux.specs.Free.{is_message};
+    ghost use Rattle.gateway_mux.specs.Granting.{IsLowPurpose};
+    ghost use Rattle.gateway_mux.specs.Pictures.{picture, books_in};
+    ghost use Rattle.gateway_mux.specs.Turn.{session_of_client};
+
+    /// What an item of the server does.
+    pub fn plan_heard(&self, alloc: Global, item: &Item) -> Result<Act, Memory>
+        ensures act { IfOk result (IsAct self.now.bases (picture self.now.seats self.now.upstream) (hears (shape_of item.now))) }
+        ensures short { IfOk result IsShortAct }
+        ensures free { is_message item.now.kind ≡ false → IsOk result }
+    {
+        if item.kind == ItemKind::Frame {
+            return Ok(self.plan_fall(item));
+        }
+        match hear(alloc, item)? {
+            Heard::Reply(reply) => self.plan_reply(alloc, &reply),
+            Heard::Ask(ask) => self.plan_ask(alloc, &ask),
+            Heard::Fault(fault) => Ok(Act::Ends(UpCause::Framing(fault))),
+        }
+    }
+
+    /// What a frame of the server does.
+    fn plan_fall(&self, item: &Item) -> Act
+        requires { item.now.kind ≡ Frame }
+        ensures act { IsAct self.now.bases (picture self.now.seats self.now.upstream) (hears (shape_of item.now)) result }
+        ensures short { IsShortAct result }
+    {
+        let channel = channel_of(item);
+        let Some(held) = self.upstream.channels.owner(channel) else {
+            return Act::Nothing;
+        };
+        if !held.granted {
+            return Act::Nothing;
+        }
+        let Some(slot) = self.seats.slot(held.conn) else {
+            return Act::Nothing;
+        };
+        if !slot.alive() {
+            return Act::Nothing;
+        }
+        match channel_for(slot, channel / 2, channel % 2) {
+            Some(channel) => Act::Falls(held.conn, channel),
+            None => Act::Nothing,
+        }
+    }
+
+    /// What a reply of the server does.
+    fn plan_reply(&self, alloc: Global, reply: &Reply2) -> Result<Act, Memory>
+        ensures act { (shape : Shape) → heard shape ≡ replies reply.now → IfOk result (IsAct self.now.bases (picture self.now.seats self.now.upstream) (hears shape)) }
+        ensures short { IfOk result IsShortAct }
+    {
+        let Some(conn) = self.upstream.requests.owner(reply.cseq) else {
+            return Ok(Act::Ends(UpCause::UnknownReply(reply.cseq)));
+        };
+        let Some(slot) = self.seats.slot(conn) else {
+            unreachable!();
+        };
+        let Some(pending) = slot.pending() else {
+            unreachable!();
+        };
+        let session = slot.session();
+        if let Some(cause) = self.breach(conn, pending, session, reply) {
+            return Ok(Act::Ends(cause));
+        }
+        let settled = if reply.code < 200 {
+            None
+        } else {
+            Some(what_settles(alloc, conn, pending, session, reply)?)
+        };
+        let said = Said {
+            number: reply.cseq,
+            settled,
+            ..Said::alone(conn)
+        };
+        self.plan_turn(alloc, said, &Incoming::Reply(reply))
+    }
+
+    /// What is wrong with a reply to the open request of a connection, which has this session.
+    fn breach(
+        &self,
+        conn: u32,
+        pending: Pending<'_>,
+        session: Option<&[u8]>,
+        reply: &Reply2,
+    ) -> Option<UpCause>
+        requires { IsLowPurpose (purpose_seen pending) }
+        ensures { result ≡ kind_breach (books_in (picture self.now.seats self.now.upstream)) (kind_pending (Some (purpose_seen pending.entry))) conn (option_copied session.entry) reply.now }
+    {
+        match pending {
+            Pending::Client(_, Some(track)) if is_success(reply.code) => {
+                wrong_grant(&self.upstream.sessions, conn, track.pair, session, reply)
+            }
+            _ => None,
+        }
+    }
+
+    /// What a request of the server does.
+    fn plan_ask(&self, alloc: Global, ask: &Ask2) -> Result<Act, Memory>
+        ensures act { (shape : Shape) → heard shape ≡ requests ask.now → IfOk result (IsAct self.now.bases (picture self.now.seats self.now.upstream) (hears shape)) }
+        ensures short { IfOk result IsShortAct }
+    {
+        match read_notice(&self.upstream.sessions, ask) {
+            Ok(notice) => {
+                let said = Said {
+                    answer: Some(answer(alloc, 200, ask.cseq, Some(notice.id))?),
+                    ..Said::alone(notice.conn)
+                };
+                self.plan_turn(alloc, said, &Incoming::Notice(notice.reason, notice.names))
+            }
+            Err(refusal) => Ok(Act::Answers(answer(alloc, refusal.code(), ask.cseq, None)?)),
+        }
+    }
+}
+
+/// The answer to a request of the server. A longer one is not given, as if there were no memory for it.
+fn answer(alloc: Global, code: u16, cseq: u32, session: Option<&[u8]>) -> Result<Text, Memory>
+    requires { has_reason code ≡ true }
+    ensures text { IfOk result (λ text. text ≡ answer_text code cseq (option_copied session.entry)) }
+    ensures short { IfOk result (λ text. IsShortAnswer (Some text)) }
+{
+    let text = write_answer(alloc, code, cseq, session)?;
+    if text.len() <= LONGEST_ANSWER {
+        Ok(text)
+    } else {
+        Err(Memory)
+    }
+}

@@ -1,0 +1,44 @@
+//! What can be told of the connections.
+ghost use Rattle.std.specs.Prelude.{◌≡◌, ℕ, List};
+ghost use Rattle.mux_history.specs.Happenings.{Entry, is_alive};
+ghost use Rattle.mux_history.specs.Tells.{IsFirstAlive, is_busy};
+
+use crate::connections::Connections;
+
+impl Connections {
+    ghost use Rattle.gateway_mux.specs.Pictures.{picture, IsPictureOf};
+
+    /// Whether a connection entered, and was not closed.
+    pub fn alive(&self, conn: u32) -> bool
+        ensures { (T : List Entry) → IsPictureOf self.now.bases (picture self.now.seats self.now.upstream) T → result ≡ is_alive conn T }
+    {
+        match self.seats.slot(conn) {
+            Some(slot) => slot.alive(),
+            None => false,
+        }
+    }
+
+    /// Whether a connection is alive and has a request open.
+    pub fn busy(&self, conn: u32) -> bool
+        ensures { (T : List Entry) → IsPictureOf self.now.bases (picture self.now.seats self.now.upstream) T → result ≡ is_busy self.now.bases conn T }
+    {
+        match self.seats.slot(conn) {
+            Some(slot) => slot.alive() && slot.busy(),
+            None => false,
+        }
+    }
+
+    /// The first connection from this number on that is alive.
+    pub fn next_alive(&self, from: u32) -> Option<u32>
+        ensures { (T : List Entry) → IsPictureOf self.now.bases (picture self.now.seats self.now.upstream) T → IsFirstAlive from T result }
+    {
+        let mut from = from;
+        while let Some(conn) = self.seats.next(from) {
+            if self.alive(conn) {
+                return Some(conn);
+            }
+            from = conn.checked_add(1)?;
+        }
+        None
+    }
+}

@@ -1,0 +1,82 @@
+//! The turn of a connection.
+ghost use Rattle.std.specs.Prelude.{◌≡◌, ◌≢◌, ◌+◌, ◌<◌, ℕ, true, List, Option, Some, None, is_some, IsSome, IfSome, IfOk};
+ghost use Rattle.channel_map.specs.Pairs.{held_at};
+ghost use Rattle.client_slot.specs.Client.{Client};
+ghost use Rattle.up_books.specs.Ids.{holder_of};
+ghost use Rattle.up_books.specs.Numbers.{asker_of, next_number};
+ghost use Rattle.gate_machine.specs.Plans.{IsReady, IsShortPlan, IsShortDone};
+ghost use Rattle.gateway_mux.specs.Carried.{IsCarriedAt};
+ghost use Rattle.gateway_mux.specs.Seats.{client_at};
+ghost use Rattle.gateway_mux.specs.Settled.{CanSettle, binds, unbinds, asker_settled, held_settled, holder_settled};
+ghost use Rattle.gateway_mux.specs.Upstream.{held_lent};
+ghost use Rattle.gateway_mux.specs.Turn.{session_of_client, asks_pair, asker_lent, issued_then, one_if, free_once};
+
+use crate::seats::Seats;
+use crate::settled::Settled;
+use crate::upstream::Upstream;
+use client_slot::Pending;
+use gate_machine::{Done, Plan};
+
+/// What is planned for a connection: what the server's reply settles, and what the connection does.
+#[derive(Drop)]
+pub(crate) struct Turn {
+    /// The connection.
+    pub conn: u32,
+    /// The number of its open request, which a reply answers.
+    pub number: u32,
+    /// The number of the next request.
+    pub next: u32,
+    /// What a final reply settles.
+    pub settled: Option<Settled>,
+    /// What the connection does.
+    pub plan: Plan,
+    /// Whether a request goes up.
+    pub asks: bool,
+}
+
+/// Carries out what is planned for a connection. It takes no memory, and can't be refused.
+pub(crate) fn commit_turn(seats: &mut Seats, upstream: &mut Upstream, turn: Turn) -> Option<Done>
+    requires ready { IfSome (client_at seats.old turn.conn) (λ client. IsReady client turn.plan) }
+    requires settles { IfSome turn.settled (CanSettle (λ n. asker_of upstream.old.requests n) (λ p. held_at p upstream.old.channels) (λ id. holder_of upstream.old.sessions id) upstream.old.sessions.spare turn.conn (session_of_client (client_at seats.old turn.conn))) }
+    requires room { turn.asks ≡ true → turn.settled ≡ None → 0 < upstream.old.requests.spare }
+    requires left { turn.asks ≡ true → IsSome (next_number upstream.old.requests.issued) }
+    ensures done { IsSome (client_at seats.old turn.conn) → IfSome result (λ done. IsCarriedAt (client_at seats.old turn.conn) (client_at seats.new turn.conn) turn.plan turn.number turn.next done) }
+    ensures some { IsSome (client_at seats.old turn.conn) → IsSome result }
+    ensures short { IsShortPlan turn.plan → IfSome result IsShortDone }
+    ensures others { (i : ℕ) → turn.conn ≢ i → client_at seats.new i ≡ client_at seats.old i }
+    ensures issued { IsSome result → upstream.new.requests.issued ≡ issued_then turn.asks upstream.old.requests.issued }
+    ensures room { IsSome result → upstream.new.requests.spare + one_if turn.asks ≡ upstream.old.requests.spare + one_if (is_some turn.settled) }
+    ensures spare { IsSome result → upstream.new.sessions.spare + one_if (binds turn.settled) ≡ upstream.old.sessions.spare + one_if (unbinds turn.settled (session_of_client (client_at seats.old turn.conn))) }
+    ensures asked { IsSome result → (n : ℕ) → asker_of upstream.new.requests n ≡ asker_lent turn.asks turn.conn (upstream.old.requests.issued + 1) n (asker_settled turn.settled n (asker_of upstream.old.requests n)) }
+    ensures held { IsSome result → (p : ℕ) → held_at p upstream.new.channels ≡ held_lent turn.asks (asks_pair (client_at seats.new turn.conn)) turn.conn (free_once turn.settled (λ q. held_at q upstream.old.channels)) p (held_settled turn.settled p (held_at p upstream.old.channels)) }
+    ensures holder { IsSome result → (id : List ℕ) → holder_of upstream.new.sessions id ≡ holder_settled turn.settled turn.conn id (holder_of upstream.old.sessions id) }
+{
+    let Turn {
+        conn,
+        number,
+        next,
+        settled,
+        plan,
+        asks,
+    } = turn;
+    let slot = seats.slot(conn)?;
+    upstream.settle_where(conn, slot.session(), settled);
+    let done = seats.commit(conn, plan, number, next)?;
+    if asks {
+        upstream.issue(conn, is_for_a_pair(seats, conn));
+    }
+    Some(done)
+}
+
+/// Whether the open request of a connection asks for a pair of channels.
+fn is_for_a_pair(seats: &Seats, conn: u32) -> bool
+    ensures { result ≡ asks_pair (client_at seats.now conn) }
+{
+    let Some(slot) = seats.slot(conn) else {
+        return false;
+    };
+    match slot.pending() {
+        Some(Pending::Client(_, Some(_))) => true,
+        Some(_) | None => false,
+    }
+}

@@ -1,0 +1,145 @@
+//! The one connection to the server.
+ghost use Rattle.std.specs.Prelude.{◌≡◌, ◌==◌, ◌+◌, ◌<◌, ◌≤◌, ℕ, List, true, None, Some, is_some, is_none, IsSome, IfSome, OnOk, OnErr, if◌then◌else◌};
+ghost use Rattle.std.specs.Option.{option_copied};
+ghost use Rattle.channel_map.specs.Pairs.{held_at, is_free, lowest_free};
+ghost use Rattle.up_books.specs.Ids.{holder_of};
+ghost use Rattle.up_books.specs.Numbers.{asker_of, next_number};
+ghost use Rattle.up_books.specs.declared.cseq.TheConstants.{LAST_NUMBER};
+ghost use Rattle.gateway_mux.specs.Settled.{held_by, holder_by, IsOwnSession, CanSettle, is_freed, binds, unbinds, asker_settled, held_settled, holder_settled};
+ghost use Rattle.gateway_mux.specs.Turn.{free_once, one_if};
+ghost use Rattle.gateway_mux.specs.Upstream.{reserved_by};
+
+use crate::settled::Settled;
+use channel_map::{ChannelMap, Freed};
+use gate_bytes::{Memory, Text};
+use std::alloc::Global;
+use up_books::{CseqBook, SessionBook, Spent, Taken};
+
+/// What is kept of the connection to the server: its open requests, its sessions, and its pairs of
+/// channels.
+#[derive(Drop)]
+pub(crate) struct Upstream {
+    pub requests: CseqBook,
+    pub sessions: SessionBook,
+    pub channels: ChannelMap,
+}
+
+impl Upstream {
+    /// Nothing is open, bound or held, and `first` is the next number. It takes no memory.
+    pub fn starting(alloc: Global, first: u32) -> Upstream
+        requires low { 0 < first }
+        requires high { first ≤ LAST_NUMBER }
+        ensures issued { result.requests.issued + 1 ≡ first }
+        ensures open { (n : ℕ) → asker_of result.requests n ≡ None }
+        ensures bound { (id : List ℕ) → holder_of result.sessions id ≡ None }
+        ensures held { (p : ℕ) → held_at p result.channels ≡ None }
+    {
+        Upstream {
+            requests: CseqBook::starting(alloc, first),
+            sessions: SessionBook::new(alloc),
+            channels: ChannelMap::new(),
+        }
+    }
+
+    /// Settles what the final reply to a request of a connection settles, which had this session.
+    pub fn settle(&mut self, conn: u32, session: Option<&[u8]>, settled: Settled)
+        requires { CanSettle (λ n. asker_of self.old.requests n) (λ p. held_at p self.old.channels) (λ id. holder_of self.old.sessions id) self.old.sessions.spare conn (option_copied session) settled }
+        ensures issued { self.new.requests.issued ≡ self.old.requests.issued }
+        ensures open { (n : ℕ) → asker_of self.new.requests n ≡ (if n == settled.number then None else asker_of self.old.requests n) }
+        ensures room { self.new.requests.spare ≡ self.old.requests.spare + 1 }
+        ensures spare { self.new.sessions.spare + one_if (is_some settled.bound) ≡ self.old.sessions.spare + one_if (is_freed settled.bound settled.freed (option_copied session.entry)) }
+        ensures held { (p : ℕ) → held_at p self.new.channels ≡ held_by settled.granted settled.freed p (held_at p self.old.channels) }
+        ensures holder { (id : List ℕ) → holder_of self.new.sessions id ≡ holder_by settled.bound settled.freed conn id (holder_of self.old.sessions id) }
+    {
+        let asker = self.requests.settle(settled.number);
+        settle_channels(&mut self.channels, settled.granted, settled.freed);
+        settle_sessions(
+            &mut self.sessions,
+            conn,
+            session,
+            settled.bound,
+            settled.freed,
+        );
+    }
+
+    /// Settles what the final reply to a request of a connection settles, where one came.
+    pub fn settle_where(&mut self, conn: u32, session: Option<&[u8]>, settled: Option<Settled>)
+        requires { IfSome settled (CanSettle (λ n. asker_of self.old.requests n) (λ p. held_at p self.old.channels) (λ id. holder_of self.old.sessions id) self.old.sessions.spare conn (option_copied session)) }
+        ensures issued { self.new.requests.issued ≡ self.old.requests.issued }
+        ensures open { (n : ℕ) → asker_of self.new.requests n ≡ asker_settled settled n (asker_of self.old.requests n) }
+        ensures room { self.new.requests.spare ≡ (if is_some settled then self.old.requests.spare + 1 else self.old.requests.spare) }
+        ensures spare { self.new.sessions.spare + one_if (binds settled) ≡ self.old.sessions.spare + one_if (unbinds settled (option_copied session.entry)) }
+        ensures held { (p : ℕ) → held_at p self.new.channels ≡ held_settled settled p (held_at p self.old.channels) }
+        ensures holder { (id : List ℕ) → holder_of self.new.sessions id ≡ holder_settled settled conn id (holder_of self.old.sessions id) }
+    {
+        if let Some(settled) = settled {
+            self.settle(conn, session, settled);
+        }
+    }
+
+    /// The lowest pair of channels that is free once that is settled.
+    pub fn free_once(&self, settled: &Option<Settled>) -> Option<u8>
+        ensures free { result ≡ free_once settled.now (λ p. held_at p self.now.channels) }
+        ensures low { IfSome result (λ pair. pair < 128) }
+    {
+        match settled {
+            Some(settled) if settled.granted.is_none() => self.channels.free_after(settled.freed),
+            _ => self.channels.free_after(Freed::Nothing),
+        }
+    }
+
+    /// Issues the next number to a request of a connection, and reserves the lowest pair of channels
+    /// that is free, where it asks for one.
+    pub fn issue(&mut self, conn: u32, reserves: bool)
+        requires room { 0 < self.old.requests.spare }
+        requires left { IsSome (next_number self.old.requests.issued) }
+        ensures sessions { self.new.sessions ≡ self.old.sessions }
+        ensures issued { self.new.requests.issued ≡ self.old.requests.issued + 1 }
+        ensures open { (n : ℕ) → asker_of self.new.requests n ≡ (if n == self.old.requests.issued + 1 then Some conn else asker_of self.old.requests n) }
+        ensures room { self.new.requests.spare + 1 ≡ self.old.requests.spare }
+        ensures held { (p : ℕ) → held_at p self.new.channels ≡ reserved_by reserves conn (lowest_free (λ pair. is_free (held_at pair self.old.channels))) p (held_at p self.old.channels) }
+    {
+        match self.requests.issue(conn) {
+            Ok(_) => {}
+            Err(Spent) => unreachable!(),
+        }
+        if reserves {
+            let pair = self.channels.reserve(conn);
+        }
+    }
+}
+
+/// Settles the pairs of channels: one is granted, or some are freed.
+fn settle_channels(channels: &mut ChannelMap, granted: Option<u8>, freed: Freed)
+    requires { IfSome granted (λ pair. IsSome (held_at pair channels.old)) }
+    ensures { (p : ℕ) → held_at p channels.new ≡ held_by granted freed p (held_at p channels.old) }
+{
+    match granted {
+        Some(pair) => channels.grant(pair),
+        None => channels.free(freed),
+    }
+}
+
+/// Settles the sessions: a new one is bound, or that of the connection goes with its pairs.
+fn settle_sessions(
+    sessions: &mut SessionBook,
+    conn: u32,
+    session: Option<&[u8]>,
+    bound: Option<Text>,
+    freed: Freed,
+)
+    requires spare { IsSome bound → 0 < sessions.old.spare }
+    requires fresh { IfSome bound (λ id. holder_of sessions.old id ≡ None) }
+    requires owned { IsOwnSession (λ id. holder_of sessions.old id) freed conn (option_copied session) }
+    ensures spare { sessions.new.spare + one_if (is_some bound) ≡ sessions.old.spare + one_if (is_freed bound freed (option_copied session.entry)) }
+    ensures holder { (id : List ℕ) → holder_of sessions.new id ≡ holder_by bound freed conn id (holder_of sessions.old id) }
+{
+    match (bound, freed, session) {
+        (Some(id), _, _) => match sessions.bind(id, conn) {
+            Ok(()) => {}
+            Err(_) => unreachable!(),
+        },
+        (None, Freed::Granted(_), Some(id)) => sessions.free(id),
+        (None, _, _) => {}
+    }
+}
