@@ -1,15 +1,17 @@
 -- Who has_entered is told by what happened.
-use Rattle.std.proofs.Common.{◌≡◌, ℕ, Bool, true, false, ◌==◌, ◌&&◌, ◌||◌, List, [], ◌∷◌, ◌++◌, refl, sym, ◌∙◌, ap, map}
+use Rattle.std.proofs.Common.{◌≡◌, ℕ, Bool, true, false, ◌==◌, ◌&&◌, ◌||◌, List, [], ◌∷◌, ◌++◌, Option, None, Some, refl, sym, ◌∙◌, ap, map}
 use Rattle.std.specs.Prelude.{is_none}
 use Rattle.rtsp_head.specs.Items.{Shape}
-use Rattle.gate_history.specs.History.{Happening, History, fault_in, enters_here, happened, entered as history_entered}
+use Rattle.mux_history.specs.Happenings.{Happening, Entry as PastEntry, fault_in, enters_here, happened, entered as history_entered}
 use Rattle.gate_transcript.specs.declared.entry.Entry.{Entry}
 use Rattle.gate_transcript.specs.declared.entry.EntryKind.{EntryKind}
-use Rattle.gate_transcript.specs.declared.entry.EntryKind.TheVariants.{Enter, Client, Upstream, End}
+use Rattle.gate_transcript.specs.declared.entry.EntryKind.TheVariants.{Enter, Client, Upstream, End, Slow, UpEnd}
+use Rattle.gate_transcript.specs.declared.entry.UpEndReason.{UpEndReason}
+use Rattle.gate_transcript.specs.Bodies.{end_reason_in}
 use Rattle.gate_transcript.specs.Transcript.{is_enter, has_entered}
 use Rattle.rtspgate.specs.declared.streams.Speaker.{Speaker}
 use Rattle.rtspgate.specs.declared.streams.Speaker.TheVariants as speaker
-use Rattle.rtspgate.specs.Events.{new_items, stream_of, said_by, events_by, events_of}
+use Rattle.rtspgate.specs.Events.{new_items, stream_of, said_by, up_end_told, events_by, events_of}
 
 abbrev any_enters : ℕ → List Happening → Bool
 any_enters i [] = false
@@ -35,7 +37,7 @@ neither : (here open_still has_entered : Bool) → here ≡ false → has_entere
 neither true open_still has_entered e f = cc
 neither false open_still has_entered e f = f
 
-never_entered : (i : ℕ) (T : History) → any_enters i (happened T) ≡ false → history_entered i T ≡ false
+never_entered : (i : ℕ) (T : List PastEntry) → any_enters i (happened T) ≡ false → history_entered i T ≡ false
 never_entered i [] none = refl
 never_entered i (e ∷ T) none =
     let parts = sym (any-append i (happened T) (e.happening ∷ [])) ∙ none in
@@ -51,6 +53,10 @@ none_enters : (i : ℕ) (who : Speaker) (shapes : List Shape) → any_enters i (
 none_enters i who [] = refl
 none_enters i who (s ∷ shapes) = ap (λ b. b || any_enters i (map (said_by who) shapes)) (item_enters i who s) ∙ none_enters i who shapes
 
+up_end_enters : (i : ℕ) (reason : Option UpEndReason) → any_enters i (up_end_told reason) ≡ false
+up_end_enters i None = refl
+up_end_enters i (Some reason) = refl
+
 told_enters : (i : ℕ) (kind : EntryKind) (entry : Entry) (earlier : List Entry) → any_enters i (events_by kind entry earlier) ≡ (is_enter kind && entry.conn == i)
 told_enters i Enter entry earlier = at (entry.conn == i)
   where
@@ -60,6 +66,8 @@ told_enters i Enter entry earlier = at (entry.conn == i)
 told_enters i Client entry earlier = none_enters i (speaker.Client entry.conn) (new_items (stream_of (speaker.Client entry.conn) earlier) entry.body)
 told_enters i Upstream entry earlier = none_enters i speaker.Server (new_items (stream_of speaker.Server earlier) entry.body)
 told_enters i End entry earlier = refl
+told_enters i Slow entry earlier = refl
+told_enters i UpEnd entry earlier = up_end_enters i (end_reason_in entry.body)
 
 swap_or : (a b : Bool) → (a || b) ≡ (b || a)
 swap_or true true = refl
@@ -76,5 +84,5 @@ entered_events i (e ∷ entries) =
     ∙ swap_or (has_entered i entries) (is_enter e.kind && e.conn == i)
 
 -- a connection that never has_entered by an entry never has_entered in their history
-pub entered_never : (i : ℕ) (T : History) (entries : List Entry) → happened T ≡ events_of entries → has_entered i entries ≡ false → history_entered i T ≡ false
+pub entered_never : (i : ℕ) (T : List PastEntry) (entries : List Entry) → happened T ≡ events_of entries → has_entered i entries ≡ false → history_entered i T ≡ false
 entered_never i T entries same none = never_entered i T (ap (any_enters i) same ∙ entered_events i entries ∙ none)

@@ -2,12 +2,12 @@
 use Rattle.std.proofs.Common.{◌≡◌, ℕ, Bool, true, false, not, List, [], ◌∷◌, ◌++◌, Option, Some, None, Ok, Err, refl, sym, ◌∙◌, ap}
 use Rattle.std.proofs.lemmas.List.{append_assoc, append-nil}
 use Rattle.rtsp_uri.specs.declared.base.Bases.{Bases}
-use Rattle.gate_history.specs.History.{Happening, History, happened}
+use Rattle.mux_history.specs.Happenings.{Happening, Entry as PastEntry, happened}
 use Rattle.gateway_mux.specs.declared.mux.Mux.{Mux}
 use Rattle.gateway_mux.specs.Stands.{Stands}
 use Rattle.gate_transcript.specs.declared.entry.Entry.{Entry}
 use Rattle.gate_transcript.specs.declared.entry.EntryKind.{EntryKind}
-use Rattle.gate_transcript.specs.declared.entry.EntryKind.TheVariants.{Enter, Client, Upstream, End}
+use Rattle.gate_transcript.specs.declared.entry.EntryKind.TheVariants.{Enter, Client, Upstream, End, Slow, UpEnd}
 use Rattle.gate_transcript.specs.declared.fault.EntryFault.{EntryFault}
 use Rattle.gate_transcript.specs.declared.fault.EntryFault.TheVariants as entry_fault
 use Rattle.gate_transcript.specs.declared.fault.BadEntry.{BadEntry}
@@ -27,7 +27,7 @@ use Rattle.rtspgate.proofs.EnteredLemmas.{entered_never}
 use Rattle.rtspgate.proofs.RunLemmas.{happened-append, grows_on, grows_on_in_part}
 use Rattle.rtspgate.proofs.StandingLemmas.{not_entered_fresh, stood}
 
-fresh_by : (kind : EntryKind) (mux : Mux) (history : History) (entries : List Entry) (conn : ℕ) → Stands mux history → happened history ≡ events_of entries
+fresh_by : (kind : EntryKind) (mux : Mux) (history : List PastEntry) (entries : List Entry) (conn : ℕ) → Stands mux history → happened history ≡ events_of entries
     → may_come (λ c. has_entered c entries) kind conn ≡ true → EntersFresh kind mux conn
 fresh_by Enter mux history entries conn stands told may =
     not_entered_fresh mux history stands conn (entered_never conn history entries told (not_true (has_entered conn entries) may))
@@ -38,6 +38,8 @@ fresh_by Enter mux history entries conn stands told may =
 fresh_by Client mux history entries conn stands told may = tt
 fresh_by Upstream mux history entries conn stands told may = tt
 fresh_by End mux history entries conn stands told may = tt
+fresh_by Slow mux history entries conn stands told may = tt
+fresh_by UpEnd mux history entries conn stands told may = tt
 
 -- a connection that enters by the next entry is new
 pub enters_fresh : (bases : Bases) (reader next : EntryReader) (streams : Streams) (mux : Mux) (bytes : List ℕ) (before now : Option (List ℕ)) (e : Entry)
@@ -104,7 +106,7 @@ so_far_faulted bases reader next streams mux bytes before now (entry_fault.Bad b
 so_far_faulted bases reader next streams mux bytes before now entry_fault.Memory s says = so_far_interrupted bases reader streams mux bytes before now s
 
 -- an interruption within an entry
-tells_part : (next : EntryReader) (bytes : List ℕ) (entries : List Entry) (e : Entry) (history more : History)
+tells_part : (next : EntryReader) (bytes : List ℕ) (entries : List Entry) (e : Entry) (history more : List PastEntry)
     → ReadsSo next bytes (e ∷ entries) → happened history ≡ events_of entries → ToldInPart (happened more) (events_by e.kind e entries)
     → TellsFront bytes (more ++ history)
 tells_part next bytes entries e history more reads told part =

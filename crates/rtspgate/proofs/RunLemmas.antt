@@ -5,24 +5,26 @@ use Rattle.gate_outside.specs.Contents.{Grows, GrowsByFront}
 use Rattle.gate_outside.proofs.Fronts.{grows_twice}
 use Rattle.rtsp_head.specs.Items.{Shape, items_of}
 use Rattle.rtsp_frame.specs.Framing.{Held}
-use Rattle.gate_history.specs.declared.event.Event.{Event}
-use Rattle.gate_history.specs.declared.event.Outcome.{Outcome}
-use Rattle.gate_history.specs.History.{Happening, History, ends, happened, happening_of, entry_of, entering}
+use Rattle.mux_history.specs.declared.event.Event.{Event}
+use Rattle.mux_history.specs.declared.event.Outcome.{Outcome}
+use Rattle.mux_history.specs.Happenings.{Happening, ends, lags, up_ends, Entry as PastEntry, happened, happening_of, entry_of, entering}
 use Rattle.gateway_mux.specs.declared.mux.Mux.{Mux}
 use Rattle.gateway_mux.specs.Stands.{Stands, bases_of}
 use Rattle.gate_transcript.specs.declared.entry.Entry.{Entry}
 use Rattle.gate_transcript.specs.declared.entry.EntryKind.{EntryKind}
-use Rattle.gate_transcript.specs.declared.entry.EntryKind.TheVariants.{Enter, Client, Upstream, End}
+use Rattle.gate_transcript.specs.declared.entry.EntryKind.TheVariants.{Enter, Client, Upstream, End, Slow, UpEnd}
+use Rattle.gate_transcript.specs.declared.entry.UpEndReason.{UpEndReason}
+use Rattle.gate_transcript.specs.Bodies.{end_reason_in}
 use Rattle.rtspgate.specs.declared.streams.Streams.{Streams}
 use Rattle.rtspgate.specs.declared.streams.Speaker.{Speaker}
 use Rattle.rtspgate.specs.declared.streams.Speaker.TheVariants as speaker
 use Rattle.rtspgate.specs.declared.run.ProcessFault.{ProcessFault}
 use Rattle.rtspgate.specs.declared.run.ProcessFault.TheVariants.{Sink, Memory}
-use Rattle.rtspgate.specs.Events.{speaks, stream_of, said_by, events_by}
+use Rattle.rtspgate.specs.Events.{speaks, stream_of, said_by, why_of, up_end_told, events_by}
 use Rattle.rtspgate.specs.Framers.{FramerFed}
 use Rattle.rtspgate.specs.Streams.{framer_at}
 use Rattle.rtspgate.specs.Written.{records, records_after, records_of}
-use Rattle.rtspgate.specs.Runs.{Advances, WritesAfter, EventTaken, TakesEvent, TakesItems, TakesSome, TakesBytes, IsFront, StreamsFit, ToldBy, TakesEntry}
+use Rattle.rtspgate.specs.Runs.{Advances, WritesAfter, EventTaken, TakesEvent, TakesItems, TakesSome, TakesBytes, IsFront, StreamsFit, ToldBy, TakesEntry, TakesUpEnd}
 use Rattle.rtspgate.proofs.RecordLemmas.{then_writes}
 use Rattle.rtspgate.proofs.TellLemmas.{silent, told_items, told_nothing, told_client, told_server}
 
@@ -31,32 +33,32 @@ grows_nothing None = refl
 grows_nothing (Some bytes) = ap (λ (l : List ℕ). let told : Option (List ℕ) = Some l in told) (sym (append-nil bytes))
 
 -- histories, one after another
-pub happened-append : (one other : History) → happened (one ++ other) ≡ happened other ++ happened one
+pub happened-append : (one other : List PastEntry) → happened (one ++ other) ≡ happened other ++ happened one
 happened-append [] other = sym (append-nil (happened other))
 happened-append (e ∷ one) other =
     ap (λ (l : List Happening). l ++ (e.happening ∷ [])) (happened-append one other) ∙ append_assoc (happened other) (happened one) (e.happening ∷ [])
 
-pub records-append : (one other : History) → records (one ++ other) ≡ records other ++ records_after other one
+pub records-append : (one other : List PastEntry) → records (one ++ other) ≡ records other ++ records_after other one
 records-append [] other = sym (append-nil (records other))
 records-append (e ∷ one) other =
     ap (λ (l : List ℕ). l ++ records_of e.outcome (one ++ other)) (records-append one other)
     ∙ append_assoc (records other) (records_after other one) (records_of e.outcome (one ++ other))
 
-records_after-append : (T one other : History) → records_after T (other ++ one) ≡ records_after T one ++ records_after (one ++ T) other
+records_after-append : (T one other : List PastEntry) → records_after T (other ++ one) ≡ records_after T one ++ records_after (one ++ T) other
 records_after-append T one [] = sym (append-nil (records_after T one))
 records_after-append T one (e ∷ other) =
     ap (λ (l : List ℕ). l ++ records_of e.outcome ((other ++ one) ++ T)) (records_after-append T one other)
     ∙ append_assoc (records_after T one) (records_after (one ++ T) other) (records_of e.outcome ((other ++ one) ++ T))
-    ∙ ap (λ (h : History). records_after T one ++ (records_after (one ++ T) other ++ records_of e.outcome h)) (append_assoc other one T)
+    ∙ ap (λ (h : List PastEntry). records_after T one ++ (records_after (one ++ T) other ++ records_of e.outcome h)) (append_assoc other one T)
 
-pub advances_twice : (before between now : Mux) (one other : History) → Advances before between one → Advances between now other → Advances before now (other ++ one)
+pub advances_twice : (before between now : Mux) (one other : List PastEntry) → Advances before between one → Advances between now other → Advances before now (other ++ one)
 advances_twice before between now one other first next =
     record {
-      stands = λ T s. subst (λ (l : History). Stands now l) (sym (append_assoc other one T)) (next.stands (one ++ T) (first.stands T s));
+      stands = λ T s. subst (λ (l : List PastEntry). Stands now l) (sym (append_assoc other one T)) (next.stands (one ++ T) (first.stands T s));
       bases = next.bases ∙ first.bases;
     }
 
-writes_twice : (T : History) (before between now : Option (List ℕ)) (one other : History) (r : Result (Unit {0}) ProcessFault)
+writes_twice : (T : List PastEntry) (before between now : Option (List ℕ)) (one other : List PastEntry) (r : Result (Unit {0}) ProcessFault)
     → Grows before between (records_after T one) → WritesAfter between now (one ++ T) other r → WritesAfter before now T (other ++ one) r
 writes_twice T before between now one other (Ok u) first next =
     subst (λ (l : List ℕ). Grows before now l) (sym (records_after-append T one other))
@@ -69,19 +71,19 @@ writes_twice T before between now one other (Err Memory) first next =
     (grows_twice before between now (records_after T one) (records_after (one ++ T) other) first next)
 
 -- what a multiplexer that stands for a history wrote after it is what all of the longer history writes
-pub grows_on : (before between now : Option (List ℕ)) (T more : History) → Grows before between (records T) → Grows between now (records_after T more)
+pub grows_on : (before between now : Option (List ℕ)) (T more : List PastEntry) → Grows before between (records T) → Grows between now (records_after T more)
     → Grows before now (records (more ++ T))
 grows_on before between now T more first next =
     subst (λ (l : List ℕ). Grows before now l) (sym (records-append more T)) (grows_twice before between now (records T) (records_after T more) first next)
 
-pub grows_on_in_part : (before between now : Option (List ℕ)) (T more : History) → Grows before between (records T) → GrowsByFront between now (records_after T more)
+pub grows_on_in_part : (before between now : Option (List ℕ)) (T more : List PastEntry) → Grows before between (records T) → GrowsByFront between now (records_after T more)
     → GrowsByFront before now (records (more ++ T))
 grows_on_in_part before between now T more first next =
     subst (λ (l : List ℕ). GrowsByFront before now l) (sym (records-append more T))
     (then_writes {T = Unit {0}} {E = Unit {0}} before between now (records T) (records_after T more) (Err tt) first next)
 
 -- one event
-pub untaken : (before now : Mux) (happening : Happening) (written : Option (List ℕ)) → ((T : History) → Stands before T → Stands now T) → bases_of now ≡ bases_of before
+pub untaken : (before now : Mux) (happening : Happening) (written : Option (List ℕ)) → ((T : List PastEntry) → Stands before T → Stands now T) → bases_of now ≡ bases_of before
     → TakesEvent before now happening written written (Err Memory)
 untaken before now happening written kept based = record {
   more = [];
@@ -91,7 +93,7 @@ untaken before now happening written kept based = record {
 }
 
 pub taken : (before now : Mux) (event : Event) (outcome : Outcome) (written_before written_now : Option (List ℕ))
-    → ((T : History) → Stands before T → Stands now (entry_of event outcome ∷ T)) → bases_of now ≡ bases_of before → ((happening : Happening) (T : History) → Stands now (record { happening = happening; outcome = outcome } ∷ T) → Grows written_before written_now (records_of outcome T))
+    → ((T : List PastEntry) → Stands before T → Stands now (entry_of event outcome ∷ T)) → bases_of now ≡ bases_of before → ((happening : Happening) (T : List PastEntry) → Stands now (record { happening = happening; outcome = outcome } ∷ T) → Grows written_before written_now (records_of outcome T))
     → TakesEvent before now (happening_of event) written_before written_now (Ok tt)
 taken before now event outcome written_before written_now steps based grown = record {
   more = entry_of event outcome ∷ [];
@@ -101,7 +103,7 @@ taken before now event outcome written_before written_now steps based grown = re
 }
 
 pub taken_in_part : (before now : Mux) (event : Event) (outcome : Outcome) (written_before written_now : Option (List ℕ))
-    → ((T : History) → Stands before T → Stands now (entry_of event outcome ∷ T)) → bases_of now ≡ bases_of before → ((happening : Happening) (T : History) → Stands now (record { happening = happening; outcome = outcome } ∷ T) → GrowsByFront written_before written_now (records_of outcome T))
+    → ((T : List PastEntry) → Stands before T → Stands now (entry_of event outcome ∷ T)) → bases_of now ≡ bases_of before → ((happening : Happening) (T : List PastEntry) → Stands now (record { happening = happening; outcome = outcome } ∷ T) → GrowsByFront written_before written_now (records_of outcome T))
     → TakesEvent before now (happening_of event) written_before written_now (Err Sink)
 taken_in_part before now event outcome written_before written_now steps based grown = record {
   more = entry_of event outcome ∷ [];
@@ -267,7 +269,7 @@ end_silent (speaker.Client i) conn = refl
 end_silent speaker.Server conn = refl
 
 pub takes_enter : (streams : Streams) (before now : Mux) (entry : Entry) (written : Option (List ℕ)) → entry.kind ≡ Enter
-    → ((T : History) → Stands before T → Stands now (entering entry.conn ∷ T)) → bases_of now ≡ bases_of before
+    → ((T : List PastEntry) → Stands before T → Stands now (entering entry.conn ∷ T)) → bases_of now ≡ bases_of before
     → TakesEntry streams streams before now entry written written (Ok tt)
 takes_enter streams before now entry written kind steps based = record {
   more = entering entry.conn ∷ [];
@@ -280,7 +282,7 @@ takes_enter streams before now entry written kind steps based = record {
 }
 
 -- an entering that was not taken
-pub takes_no_enter : (streams : Streams) (before now : Mux) (entry : Entry) (written : Option (List ℕ)) → ((T : History) → Stands before T → Stands now T) → bases_of now ≡ bases_of before
+pub takes_no_enter : (streams : Streams) (before now : Mux) (entry : Entry) (written : Option (List ℕ)) → ((T : List PastEntry) → Stands before T → Stands now T) → bases_of now ≡ bases_of before
     → TakesEntry streams streams before now entry written written (Err Memory)
 takes_no_enter streams before now entry written kept based = record {
   more = [];
@@ -289,27 +291,79 @@ takes_no_enter streams before now entry written kept based = record {
   told = λ earlier fit. record { more = events_by entry.kind entry earlier; whole = refl };
 }
 
-told_end : (streams : Streams) (entry : Entry) (earlier : List Entry) (told : List Happening) (result : Result (Unit {0}) ProcessFault) → entry.kind ≡ End
-    → StreamsFit streams earlier → EventTaken (ends entry.conn) told result → ToldBy result streams entry earlier told
-told_end streams entry earlier told (Ok u) kind fit event = (
-  no_bytes streams entry earlier (λ who. ap (λ (k : EntryKind). speaks who k entry.conn) kind ∙ end_silent who entry.conn) fit,
-  event ∙ ap (λ (k : EntryKind). events_by k entry earlier) (sym kind),
-)
-told_end streams entry earlier told (Err Sink) kind fit event = record {
-  more = [];
-  whole = append-nil told ∙ event ∙ ap (λ (k : EntryKind). events_by k entry earlier) (sym kind);
-}
-told_end streams entry earlier told (Err Memory) kind fit event = record {
+slow_silent : (who : Speaker) (conn : ℕ) → speaks who Slow conn ≡ false
+slow_silent (speaker.Client i) conn = refl
+slow_silent speaker.Server conn = refl
+
+up_end_silent : (who : Speaker) (conn : ℕ) → speaks who UpEnd conn ≡ false
+up_end_silent (speaker.Client i) conn = refl
+up_end_silent speaker.Server conn = refl
+
+-- an entry that has no bytes and is one event
+told_event : (streams : Streams) (entry : Entry) (earlier : List Entry) (happening : Happening) (told : List Happening) (result : Result (Unit {0}) ProcessFault)
+    → ((who : Speaker) → speaks who entry.kind entry.conn ≡ false) → happening ∷ [] ≡ events_by entry.kind entry earlier
+    → StreamsFit streams earlier → EventTaken happening told result → ToldBy result streams entry earlier told
+told_event streams entry earlier happening told (Ok u) none tells fit event = (no_bytes streams entry earlier none fit, event ∙ tells)
+told_event streams entry earlier happening told (Err Sink) none tells fit event = record { more = []; whole = append-nil told ∙ event ∙ tells }
+told_event streams entry earlier happening told (Err Memory) none tells fit event = record {
   more = events_by entry.kind entry earlier;
   whole = ap (λ (l : List Happening). l ++ events_by entry.kind entry earlier) event;
+}
+
+takes_event : (streams : Streams) (before now : Mux) (entry : Entry) (happening : Happening) (written_before written_now : Option (List ℕ)) (result : Result (Unit {0}) ProcessFault)
+    → ((who : Speaker) → speaks who entry.kind entry.conn ≡ false) → ((earlier : List Entry) → happening ∷ [] ≡ events_by entry.kind entry earlier)
+    → TakesEvent before now happening written_before written_now result
+    → TakesEntry streams streams before now entry written_before written_now result
+takes_event streams before now entry happening written_before written_now result none tells event = record {
+  more = event.more;
+  advances = event.advances;
+  written = event.written;
+  told = λ earlier fit. told_event streams entry earlier happening (happened event.more) result none (tells earlier) fit event.told;
 }
 
 pub takes_end : (streams : Streams) (before now : Mux) (entry : Entry) (written_before written_now : Option (List ℕ)) (result : Result (Unit {0}) ProcessFault) → entry.kind ≡ End
     → TakesEvent before now (ends entry.conn) written_before written_now result
     → TakesEntry streams streams before now entry written_before written_now result
-takes_end streams before now entry written_before written_now result kind event = record {
-  more = event.more;
-  advances = event.advances;
-  written = event.written;
-  told = λ earlier fit. told_end streams entry earlier (happened event.more) result kind fit event.told;
+takes_end streams before now entry written_before written_now result kind event =
+    takes_event streams before now entry (ends entry.conn) written_before written_now result
+    (λ who. ap (λ (k : EntryKind). speaks who k entry.conn) kind ∙ end_silent who entry.conn)
+    (λ earlier. ap (λ (k : EntryKind). events_by k entry earlier) (sym kind)) event
+
+pub takes_slow : (streams : Streams) (before now : Mux) (entry : Entry) (written_before written_now : Option (List ℕ)) (result : Result (Unit {0}) ProcessFault) → entry.kind ≡ Slow
+    → TakesEvent before now (lags entry.conn) written_before written_now result
+    → TakesEntry streams streams before now entry written_before written_now result
+takes_slow streams before now entry written_before written_now result kind event =
+    takes_event streams before now entry (lags entry.conn) written_before written_now result
+    (λ who. ap (λ (k : EntryKind). speaks who k entry.conn) kind ∙ slow_silent who entry.conn)
+    (λ earlier. ap (λ (k : EntryKind). events_by k entry earlier) (sym kind)) event
+
+-- the end of the connection to the server: an entry whose body has no reason tells nothing
+takes_nothing : (streams : Streams) (mux : Mux) (entry : Entry) (written : Option (List ℕ)) → ((who : Speaker) → speaks who entry.kind entry.conn ≡ false)
+    → ((earlier : List Entry) → [] ≡ events_by entry.kind entry earlier) → TakesEntry streams streams mux mux entry written written (Ok tt)
+takes_nothing streams mux entry written none tells = record {
+  more = [];
+  advances = record { stands = λ T s. s; bases = refl };
+  written = λ T s. grows_nothing written;
+  told = λ earlier fit. (no_bytes streams entry earlier none fit, tells earlier);
 }
+
+takes_up_end_by : (streams : Streams) (before now : Mux) (entry : Entry) (reason : Option UpEndReason) (written_before written_now : Option (List ℕ)) (result : Result (Unit {0}) ProcessFault)
+    → ((who : Speaker) → speaks who entry.kind entry.conn ≡ false) → ((earlier : List Entry) → up_end_told reason ≡ events_by entry.kind entry earlier)
+    → TakesUpEnd before now reason written_before written_now result
+    → TakesEntry streams streams before now entry written_before written_now result
+takes_up_end_by streams before now entry None written_before written_now result none tells event =
+    subst (λ (r : Result (Unit {0}) ProcessFault). TakesEntry streams streams before now entry written_before written_now r) (sym event.2)
+    (subst (λ (w : Option (List ℕ)). TakesEntry streams streams before now entry written_before w (Ok tt)) (sym event.1)
+    (subst (λ (m : Mux). TakesEntry streams streams before m entry written_before written_before (Ok tt)) (sym event.0)
+    (takes_nothing streams before entry written_before none tells)))
+takes_up_end_by streams before now entry (Some reason) written_before written_now result none tells event =
+    takes_event streams before now entry (up_ends (why_of reason)) written_before written_now result none tells event
+
+pub takes_up_end : (streams streams_now : Streams) (before now : Mux) (entry : Entry) (written_before written_now : Option (List ℕ)) (result : Result (Unit {0}) ProcessFault) → entry.kind ≡ UpEnd
+    → streams_now ≡ streams → TakesUpEnd before now (end_reason_in entry.body) written_before written_now result
+    → TakesEntry streams streams_now before now entry written_before written_now result
+takes_up_end streams streams_now before now entry written_before written_now result kind same event =
+    subst (λ (s : Streams). TakesEntry streams s before now entry written_before written_now result) (sym same)
+    (takes_up_end_by streams before now entry (end_reason_in entry.body) written_before written_now result
+    (λ who. ap (λ (k : EntryKind). speaks who k entry.conn) kind ∙ up_end_silent who entry.conn)
+    (λ earlier. ap (λ (k : EntryKind). events_by k entry earlier) (sym kind)) event)

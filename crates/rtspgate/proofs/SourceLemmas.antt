@@ -6,7 +6,7 @@ use Rattle.std.proofs.lemmas.List.{append_assoc, append-nil, length-append, take
 use Rattle.std.proofs.Math.Seq.{take-append-add, take-append_seam}
 use Rattle.gate_outside.specs.Contents.{Reads, TakesFront}
 use Rattle.rtsp_uri.specs.declared.base.Bases.{Bases}
-use Rattle.gate_history.specs.History.{History, happened}
+use Rattle.mux_history.specs.Happenings.{Entry as PastEntry, happened}
 use Rattle.gateway_mux.specs.declared.mux.Mux.{Mux}
 use Rattle.gateway_mux.specs.Stands.{Stands, bases_of}
 use Rattle.gate_transcript.specs.declared.entry.Entry.{Entry}
@@ -104,7 +104,7 @@ past bytes long =
     ap (λ b. cond b (ends_by (reading bytes).fault) (cut_by_limit (reading (take limit bytes)).fault)) (lt-leb (length bytes) limit long)
 
 -- at the end of the source
-whole_end : (all left : Option (List ℕ)) (bytes : List ℕ) (history : History) (entries : List Entry) → TakenFrom all left bytes → IsAtEnd left → length bytes ≤ limit
+whole_end : (all left : Option (List ℕ)) (bytes : List ℕ) (history : List PastEntry) (entries : List Entry) → TakenFrom all left bytes → IsAtEnd left → length bytes ≤ limit
     → GivenWhole bytes entries → happened history ≡ events_of entries
     → IfSome all (λ whole. (ends_by (reading bytes).fault ≡ ends_as whole) × (happened history ≡ events_of (reading (take limit whole)).entries))
 whole_end None left bytes history entries taken at_end short given told = tt
@@ -162,7 +162,7 @@ lasting_ends bytes left bad entries false e short stops =
       sym (ap (λ (r : Reading). r.entries) reads),
     )
 
-fault_ends : (all left : Option (List ℕ)) (bytes : List ℕ) (history : History) (entries : List Entry) (bad : BadEntry) → TakenFrom all left bytes → length bytes ≤ limit
+fault_ends : (all left : Option (List ℕ)) (bytes : List ℕ) (history : List PastEntry) (entries : List Entry) (bad : BadEntry) → TakenFrom all left bytes → length bytes ≤ limit
     → StopsAt bad bytes entries → happened history ≡ events_of entries
     → IfSome all (λ whole. (BadTranscript bad.place bad.kind ≡ ends_as whole) × (happened history ≡ events_of (reading (take limit whole)).entries))
 fault_ends None left bytes history entries bad taken short stops told = tt
@@ -209,7 +209,7 @@ unfinished_cut (Some bad) bytes long may = at bad.kind may
     at Length never = absurd never
     at Cut open_still = refl
 
-too_long_ends : (all left : Option (List ℕ)) (bytes : List ℕ) (history : History) (entries : List Entry) → TakenFrom all left bytes → IfSome left (λ l. 0 < length l) → length bytes ≡ limit → 8 ≤ length bytes
+too_long_ends : (all left : Option (List ℕ)) (bytes : List ℕ) (history : List PastEntry) (entries : List Entry) → TakenFrom all left bytes → IfSome left (λ l. 0 < length l) → length bytes ≡ limit → 8 ≤ length bytes
     → GivenWhole bytes entries → happened history ≡ events_of entries
     → IfSome all (λ whole. (TooLong ≡ ends_as whole) × (happened history ≡ events_of (reading (take limit whole)).entries))
 too_long_ends None left bytes history entries taken more full long given told = tt

@@ -1,70 +1,69 @@
 -- A history before the connection to the server ended.
-use Rattle.std.proofs.Common.{◌≡◌, ℕ, Bool, true, false, cond, ◌&&◌, ◌||◌, [], ◌∷◌, Option, None, Some, refl, sym, ◌∙◌, ap, subst}
-use Rattle.std.specs.Prelude.{is_some, is_none}
-use Rattle.std.specs.Option.{option_or}
+use Rattle.std.proofs.Common.{◌≡◌, ℕ, Bool, true, false, cond, [], ◌∷◌, List, Option, None, Some, refl, sym, ◌∙◌, ap, subst}
+use Rattle.std.specs.Prelude.{is_some, is_none, ◌&&◌, ◌||◌}
+use Rattle.std.specs.Option.{option_or, option_map}
 use Rattle.rtsp_uri.specs.declared.base.Bases.{Bases}
-use Rattle.gate_history.specs.declared.event.UpCause.{UpCause}
-use Rattle.gate_history.specs.declared.event.Closed.{Closed}
-use Rattle.gate_history.specs.declared.event.Closed.TheVariants.{Nobody, One, All}
-use Rattle.gate_history.specs.Machine.{Conn, conn_after}
-use Rattle.gate_history.specs.History.{Entry, History, fault_in, standing, entered, enters_here, own, is_all}
-use Rattle.gate_history.specs.Follows.{IsHistory, Follows, breach_by, effect}
-use Rattle.gate_history.specs.History.{turn, issued}
+use Rattle.mux_history.specs.declared.event.UpCause.{UpCause}
+use Rattle.mux_history.specs.declared.event.Closed.{Closed}
+use Rattle.mux_history.specs.declared.event.Closed.TheVariants.{Nobody, One, All}
+use Rattle.gate_machine.specs.Alone.{Private, private_after}
+use Rattle.mux_history.specs.Own.{books_of, own}
+use Rattle.mux_history.specs.Happenings.{Entry, fault_in, standing, enters_here, entered, is_all}
+use Rattle.mux_history.specs.Follows.{IsHistory, Follows, said_breach, spent, effect}
+use Rattle.mux_history.specs.Shared.{shared}
 use Rattle.gateway_mux.specs.declared.mux.Mux.{Mux}
 use Rattle.gateway_mux.specs.Stands.{Stands, IsFresh, bases_of}
 use Rattle.rtspgate.specs.Written.{closed_records}
 
 -- while it stands, that is all of the history
-standing_open : (T : History) → fault_in T ≡ None → standing T ≡ T
+standing_open : (T : List Entry) → fault_in T ≡ None → standing T ≡ T
 standing_open [] whole = refl
-standing_open (e ∷ T) whole = ap (λ (f : Option UpCause). let all : History = e ∷ T in cond (is_some f) (standing T) all) whole
+standing_open (e ∷ T) whole = ap (λ (f : Option UpCause). let all : List Entry = e ∷ T in cond (is_some f) (standing T) all) whole
 
 -- the entry that ends it comes after all that stands
-ends_after : (bases : Bases) (T : History) (e : Entry) (fault : Option UpCause) → fault_in T ≡ fault
-    → e.outcome.fault ≡ cond (is_some fault) None (breach_by (turn T e.happening) (issued T) e.happening (effect bases T e.happening).ask)
+ends_after : (T : List Entry) (e : Entry) (fault why : Option UpCause) → fault_in T ≡ fault → e.outcome.fault ≡ cond (is_some fault) None why
     → is_some e.outcome.fault ≡ true → standing (e ∷ T) ≡ T
-ends_after bases T e None open_still told some =
-    ap (λ (f : Option UpCause). let all : History = e ∷ T in cond (is_some (option_or f e.outcome.fault)) (standing T) all) open_still
-    ∙ ap (λ (b : Bool). let all : History = e ∷ T in cond b (standing T) all) some
+ends_after T e None why open_still told some =
+    ap (λ (f : Option UpCause). let all : List Entry = e ∷ T in cond (is_some (option_or f e.outcome.fault)) (standing T) all) open_still
+    ∙ ap (λ (b : Bool). let all : List Entry = e ∷ T in cond b (standing T) all) some
     ∙ standing_open T open_still
-ends_after bases T e (Some cause) over told some =
+ends_after T e (Some cause) why over told some =
     let none : is_some e.outcome.fault ≡ false = ap is_some told in cc
 
-standing_before : (bases : Bases) (T : History) (e : Entry) → Follows bases T e → is_all e.outcome.closed ≡ true → standing (e ∷ T) ≡ T
+standing_before : (bases : Bases) (T : List Entry) (e : Entry) → Follows bases T e → is_all e.outcome.closed ≡ true → standing (e ∷ T) ≡ T
 standing_before bases T e follows all =
-    ends_after bases T e (fault_in T) refl follows.fault (sym follows.all ∙ all)
+    ends_after T e (fault_in T) (option_or (said_breach bases T e.happening) (spent (books_of T).issued (effect bases T e.happening).message)) refl follows.fault (sym follows.all ∙ all)
 
-closed_by : (closed : Closed) (one other : History) → (is_all closed ≡ true → one ≡ other) → closed_records closed one ≡ closed_records closed other
+closed_by : (closed : Closed) (one other : List Entry) → (is_all closed ≡ true → one ≡ other) → closed_records closed one ≡ closed_records closed other
 closed_by Nobody one other same = refl
 closed_by (One conn why) one other same = refl
 closed_by All one other same = ap (closed_records All) (same refl)
 
 -- those that were alive when it ended are those that were alive before the event
-pub closed_same : (bases : Bases) (T : History) (e : Entry) → Follows bases T e → closed_records e.outcome.closed (standing (e ∷ T)) ≡ closed_records e.outcome.closed T
-closed_same bases T e follows = closed_by e.outcome.closed (standing (e ∷ T)) T (standing_before bases T e follows)
+pub closed_same : (mux : Mux) (T : List Entry) (e : Entry) → Stands mux (e ∷ T) → closed_records e.outcome.closed (standing (e ∷ T)) ≡ closed_records e.outcome.closed T
+closed_same mux T e stands = closed_by e.outcome.closed (standing (e ∷ T)) T (standing_before (bases_of mux) T e stands.is_history.1)
 
 -- who never entered is new to the multiplexer
-or_false : (a b : Bool) → (a || b) ≡ false → b ≡ false
-or_false true b e = cc
-or_false false b e = e
+absent_before : (here en : Bool) → (here || en) ≡ false → en ≡ false
+absent_before true en e = cc
+absent_before false en e = e
 
-entered_part : (i : ℕ) (over : Bool) (stands all : History) → entered i stands ≡ false → entered i all ≡ false → entered i (cond over stands all) ≡ false
-entered_part i true stands all less more = less
-entered_part i false stands all less more = more
+absent_by : (e : Entry) (T : List Entry) (conn : ℕ) (t : Bool) → entered conn (e ∷ T) ≡ false → entered conn (standing T) ≡ false → entered conn (cond t (standing T) (e ∷ T)) ≡ false
+absent_by e T conn true never before = before
+absent_by e T conn false never before = never
 
-entered_standing : (i : ℕ) (T : History) → entered i T ≡ false → entered i (standing T) ≡ false
-entered_standing i [] never = refl
-entered_standing i (e ∷ T) never =
-    entered_part i (is_some (fault_in (e ∷ T))) (standing T) (e ∷ T)
-    (entered_standing i T (or_false (enters_here i e.happening && is_none (fault_in T)) (entered i T) never)) never
+standing_absent : (T : List Entry) (conn : ℕ) → entered conn T ≡ false → entered conn (standing T) ≡ false
+standing_absent [] conn never = refl
+standing_absent (e ∷ T) conn never =
+    absent_by e T conn (is_some (fault_in (e ∷ T))) never (standing_absent T conn (absent_before (enters_here conn e.happening && is_none (fault_in T)) (entered conn T) never))
 
-pub not_entered_fresh : (mux : Mux) (T : History) → Stands mux T → (conn : ℕ) → entered conn T ≡ false → IsFresh mux conn
+pub not_entered_fresh : (mux : Mux) (T : List Entry) → Stands mux T → (conn : ℕ) → entered conn T ≡ false → IsFresh mux conn
 not_entered_fresh mux T stands conn never = record {
-  absent =
-      stands.books.seats conn
-      ∙ ap (λ (b : Bool). let none : Option Conn = None in cond b (Some (conn_after (bases_of mux) (own conn (standing T)))) none) (entered_standing conn T never);
+  absent = stands.is_picture.clients conn
+      ∙ ap (λ t. option_map (λ (private : Private). shared (books_of (standing T)) conn private.client) (cond t (Some (private_after (bases_of mux) (own (bases_of mux) conn (standing T)))) None))
+      (standing_absent T conn never);
 }
 
 -- the list is a history for the bases of the multiplexer
-pub stood : (bases : Bases) (mux : Mux) (T : History) → Stands mux T → bases_of mux ≡ bases → IsHistory bases T
+pub stood : (bases : Bases) (mux : Mux) (T : List Entry) → Stands mux T → bases_of mux ≡ bases → IsHistory bases T
 stood bases mux T stands based = subst (λ (b : Bases). IsHistory b T) based stands.is_history

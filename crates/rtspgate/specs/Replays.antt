@@ -4,8 +4,8 @@ use Rattle.gate_outside.specs.Causes.{Rose}
 use Rattle.gate_outside.specs.Contents.{Grows, GrowsByFront}
 use Rattle.gate_outside.specs.declared.Failed.{Failed}
 use Rattle.rtsp_uri.specs.declared.base.Bases.{Bases}
-use Rattle.gate_history.specs.History.{History, happened}
-use Rattle.gate_history.specs.Follows.{IsHistory}
+use Rattle.mux_history.specs.Happenings.{Entry as PastEntry, happened}
+use Rattle.mux_history.specs.Follows.{IsHistory}
 use Rattle.gateway_mux.specs.declared.mux.Mux.{Mux}
 use Rattle.gateway_mux.specs.Stands.{Stands, bases_of}
 use Rattle.gate_transcript.specs.declared.entry.Entry.{Entry}
@@ -65,7 +65,7 @@ pub record TakesWithin (most : ℕ) (all left : Option (List ℕ)) : Type 0 wher
 -- The replay so far: the reader gave these entries, they were processed, and the records of their history written.
 pub record ReplayedSoFar (bases : Bases) (reader : EntryReader) (streams : Streams) (mux : Mux) (bytes : List ℕ) (before now : Option (List ℕ)) : Type 0 where
   pub entries : List Entry
-  pub history : History
+  pub history : List PastEntry
   pub reads : ReadsSo reader bytes entries
   pub fit : StreamsFit streams entries
   pub stands : Stands mux history
@@ -80,7 +80,7 @@ pub record SomeSoFar (reader : EntryReader) (streams : Streams) (mux : Mux) (now
   pub so_far : ReplayedSoFar bases reader streams mux bytes before now
 
 -- What happened is the first part of what the whole entries of some front of the bytes tell.
-pub record TellsFront (bytes : List ℕ) (history : History) : Type 0 where
+pub record TellsFront (bytes : List ℕ) (history : List PastEntry) : Type 0 where
   pub front : List ℕ
   pub rest : List ℕ
   pub whole : front ++ rest ≡ bytes
@@ -88,13 +88,13 @@ pub record TellsFront (bytes : List ℕ) (history : History) : Type 0 where
 
 -- A replay that was interrupted: by want of memory, between two events, or by the sink, in one event's records.
 pub record IsInterrupted (bases : Bases) (bytes : List ℕ) (before now : Option (List ℕ)) : Type 0 where
-  pub history : History
+  pub history : List PastEntry
   pub is_history : IsHistory bases history
   pub tells : TellsFront bytes history
   pub grown : Grows before now (records history)
 
 pub record IsInterruptedInPart (bases : Bases) (bytes : List ℕ) (before now : Option (List ℕ)) : Type 0 where
-  pub history : History
+  pub history : List PastEntry
   pub is_history : IsHistory bases history
   pub tells : TellsFront bytes history
   pub grown : GrowsByFront before now (records history)
@@ -132,7 +132,7 @@ IsAtEnd now = IfSome now (λ left. left ≡ [])
 -- told, the status that its bytes have, and the events that the whole entries tell which stand within the limit and
 -- before the first fault.
 pub record EndsReplay (bases : Bases) (status : Status) (all before now : Option (List ℕ)) : Type 0 where
-  pub history : History
+  pub history : List PastEntry
   pub is_history : IsHistory bases history
   pub grown : Grows before now (records history)
   pub ends : IfSome all (λ bytes. (status ≡ ends_as bytes) × (happened history ≡ events_of (reading (take limit bytes)).entries))
@@ -142,7 +142,7 @@ pub record EndsReplay (bases : Bases) (status : Status) (all before now : Option
 pub record EndsBySourceFault (bases : Bases) (all left before now : Option (List ℕ)) : Type 0 where
   pub bytes : List ℕ
   pub taken : TakenFrom all left bytes
-  pub history : History
+  pub history : List PastEntry
   pub is_history : IsHistory bases history
   pub grown : Grows before now (records history)
   pub told : happened history ≡ events_of (reading bytes).entries

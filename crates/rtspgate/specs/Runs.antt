@@ -1,44 +1,45 @@
 -- What processing events and entries does: which entries the history gains, and what of their records was written
 -- (this project's own).
-use Rattle.std.specs.Prelude.{◌≡◌, ◌≢◌, ℕ, ◌≤◌, List, [], ◌∷◌, ◌++◌, map, Option, Result, Ok, Err}
+use Rattle.std.specs.Prelude.{◌≡◌, ◌≢◌, ℕ, ◌≤◌, List, [], ◌∷◌, ◌++◌, map, Option, Some, None, Result, Ok, Err}
 use Rattle.gate_outside.specs.Causes.{Rose}
 use Rattle.gate_outside.specs.Contents.{Grows, GrowsByFront}
 use Rattle.rtsp_head.specs.Items.{Shape, items_of}
 use Rattle.rtsp_frame.specs.Framing.{Held}
-use Rattle.gate_history.specs.History.{Happening, History, happened}
+use Rattle.mux_history.specs.Happenings.{Happening, up_ends, Entry as PastEntry, happened}
 use Rattle.gateway_mux.specs.declared.mux.Mux.{Mux}
 use Rattle.gateway_mux.specs.Stands.{Stands, IsFresh, bases_of}
 use Rattle.gate_transcript.specs.declared.entry.Entry.{Entry}
 use Rattle.gate_transcript.specs.declared.entry.EntryKind.{EntryKind}
-use Rattle.gate_transcript.specs.declared.entry.EntryKind.TheVariants.{Enter, Client, Upstream, End}
+use Rattle.gate_transcript.specs.declared.entry.EntryKind.TheVariants.{Enter, Client, Upstream, End, Slow, UpEnd}
 use Rattle.rtspgate.specs.declared.streams.Streams.{Streams}
 use Rattle.rtspgate.specs.declared.streams.Speaker.{Speaker}
 use Rattle.rtspgate.specs.declared.run.ProcessFault.{ProcessFault}
 use Rattle.rtspgate.specs.declared.run.ProcessFault.TheVariants.{Sink, Memory}
-use Rattle.rtspgate.specs.Events.{stream_of, said_by, events_with, events_by}
+use Rattle.gate_transcript.specs.declared.entry.UpEndReason.{UpEndReason}
+use Rattle.rtspgate.specs.Events.{stream_of, said_by, why_of, events_with, events_by}
 use Rattle.rtspgate.specs.Framers.{FramerFed}
 use Rattle.rtspgate.specs.Streams.{framer_at}
 use Rattle.rtspgate.specs.Written.{records_after}
 
 -- the multiplexer stands for some history
 pub record StandsForSome (mux : Mux) : Type 0 where
-  pub history : History
+  pub history : List PastEntry
   pub stands : Stands mux history
 
 -- The multiplexer stands for the longer history, whichever history it stood for, and has the same bases.
-pub record Advances (before now : Mux) (more : History) : Type 0 where
-  pub stands : (T : History) → Stands before T → Stands now (more ++ T)
+pub record Advances (before now : Mux) (more : List PastEntry) : Type 0 where
+  pub stands : (T : List PastEntry) → Stands before T → Stands now (more ++ T)
   pub bases : bases_of now ≡ bases_of before
 
 -- After these entries, what was written is the records of more of them, or, where the sink failed, a front of those.
-abbrev pub WritesAfter : Option (List ℕ) → Option (List ℕ) → History → History → Result (Unit {0}) ProcessFault → Type 0
+abbrev pub WritesAfter : Option (List ℕ) → Option (List ℕ) → List PastEntry → List PastEntry → Result (Unit {0}) ProcessFault → Type 0
 WritesAfter before now earlier more (Ok u) = Grows before now (records_after earlier more)
 WritesAfter before now earlier more (Err Sink) = GrowsByFront before now (records_after earlier more)
 WritesAfter before now earlier more (Err Memory) = Grows before now (records_after earlier more)
 
 -- So it is whichever history the multiplexer stood for.
-abbrev pub WritesHistory : Mux → Option (List ℕ) → Option (List ℕ) → History → Result (Unit {0}) ProcessFault → Type 0
-WritesHistory mux before now more result = (T : History) → Stands mux T → WritesAfter before now T more result
+abbrev pub WritesHistory : Mux → Option (List ℕ) → Option (List ℕ) → List PastEntry → Result (Unit {0}) ProcessFault → Type 0
+WritesHistory mux before now more result = (T : List PastEntry) → Stands mux T → WritesAfter before now T more result
 
 -- The sink's count of faults has not fallen, and where the sink is said to have failed it rose.
 abbrev pub SinkRose : ℕ → ℕ → Result (Unit {0}) ProcessFault → Type 0
@@ -57,7 +58,7 @@ EventTaken happening told (Err Sink) = told ≡ happening ∷ []
 EventTaken happening told (Err Memory) = told ≡ []
 
 pub record TakesEvent (before now : Mux) (happening : Happening) (written_before written_now : Option (List ℕ)) (result : Result (Unit {0}) ProcessFault) : Type 0 where
-  pub more : History
+  pub more : List PastEntry
   pub told : EventTaken happening (happened more) result
   pub advances : Advances before now more
   pub written : WritesHistory before written_before written_now more result
@@ -75,7 +76,7 @@ FedBy (Err fault) framer stream given = IsFront given (items_of stream)
 -- Some whole items of a speaker were taken, one event each: in all they and those that the framer gave before are the
 -- first of its stream's items.
 pub record TakesItems (streams_before streams_now : Streams) (before now : Mux) (speaker : Speaker) (written_before written_now : Option (List ℕ)) (result : Result (Unit {0}) ProcessFault) : Type 0 where
-  pub more : History
+  pub more : List PastEntry
   pub shapes : List Shape
   pub told : happened more ≡ map (said_by speaker) shapes
   pub advances : Advances before now more
@@ -85,11 +86,11 @@ pub record TakesItems (streams_before streams_now : Streams) (before now : Mux) 
 
 -- The same, while the framer may still have items to give.
 pub record TakesSome (streams_before streams_now : Streams) (before now : Mux) (speaker : Speaker) (written_before written_now : Option (List ℕ)) : Type 0 where
-  pub more : History
+  pub more : List PastEntry
   pub shapes : List Shape
   pub told : happened more ≡ map (said_by speaker) shapes
   pub advances : Advances before now more
-  pub grown : (T : History) → Stands before T → Grows written_before written_now (records_after T more)
+  pub grown : (T : List PastEntry) → Stands before T → Grows written_before written_now (records_after T more)
   pub fed : (stream : List ℕ) (given : List Shape) → FramerFed (framer_at streams_before speaker) stream given → FramerFed (framer_at streams_now speaker) stream (given ++ shapes)
   pub others : (who : Speaker) → who ≢ speaker → framer_at streams_now who ≡ framer_at streams_before who
 
@@ -112,9 +113,14 @@ abbrev pub ToldWith : Result (Unit {0}) ProcessFault → Streams → Speaker →
 ToldWith (Ok u) streams speaker piece earlier told = FitsWith streams speaker piece earlier × (told ≡ events_with speaker piece earlier)
 ToldWith (Err fault) streams speaker piece earlier told = ToldInPart told (events_with speaker piece earlier)
 
+-- The connection to the server ended, where a reason was told.
+abbrev pub TakesUpEnd : Mux → Mux → Option UpEndReason → Option (List ℕ) → Option (List ℕ) → Result (Unit {0}) ProcessFault → Type 0
+TakesUpEnd before now None written_before written_now result = (now ≡ before) × (written_now ≡ written_before) × (result ≡ Ok tt)
+TakesUpEnd before now (Some reason) written_before written_now result = TakesEvent before now (up_ends (why_of reason)) written_before written_now result
+
 -- A piece of a speaker's bytes was taken, whichever entries came before it.
 pub record TakesBytes (streams_before streams_now : Streams) (before now : Mux) (speaker : Speaker) (piece : List ℕ) (written_before written_now : Option (List ℕ)) (result : Result (Unit {0}) ProcessFault) : Type 0 where
-  pub more : History
+  pub more : List PastEntry
   pub advances : Advances before now more
   pub written : WritesHistory before written_before written_now more result
   pub told : (earlier : List Entry) → StreamsFit streams_before earlier → ToldWith result streams_now speaker piece earlier (happened more)
@@ -126,7 +132,7 @@ ToldBy (Err fault) streams entry earlier told = ToldInPart told (events_by entry
 
 -- An entry was processed, whichever entries came before it.
 pub record TakesEntry (streams_before streams_now : Streams) (before now : Mux) (entry : Entry) (written_before written_now : Option (List ℕ)) (result : Result (Unit {0}) ProcessFault) : Type 0 where
-  pub more : History
+  pub more : List PastEntry
   pub advances : Advances before now more
   pub written : WritesHistory before written_before written_now more result
   pub told : (earlier : List Entry) → StreamsFit streams_before earlier → ToldBy result streams_now entry earlier (happened more)
@@ -137,3 +143,5 @@ EntersFresh Enter mux conn = IsFresh mux conn
 EntersFresh Client mux conn = Unit {0}
 EntersFresh Upstream mux conn = Unit {0}
 EntersFresh End mux conn = Unit {0}
+EntersFresh Slow mux conn = Unit {0}
+EntersFresh UpEnd mux conn = Unit {0}

@@ -1,17 +1,21 @@
 //! The records of one event's outcome: the bytes for a client, those for the server, the closes, and the cause.
-ghost use Rattle.std.specs.Prelude.{◌≡◌, ◌<◌, ◌^◌, ◌∷◌, IfSome, length};
+ghost use Rattle.std.specs.Prelude.{◌≡◌, ◌<◌, ◌^◌, [], ◌∷◌, ◌++◌, List, IfSome, length, unwrap_or, decimal};
 ghost use Rattle.gate_outside.specs.Causes.{HasCause};
 ghost use Rattle.gate_outside.specs.Contents.{WritesAll};
-ghost use Rattle.gate_history.specs.History.{Happening, History, standing};
+ghost use Rattle.mux_history.specs.Happenings.{Happening, Entry, standing};
 ghost use Rattle.gateway_mux.specs.Stands.{Stands};
 ghost use Rattle.rtspgate.specs.Runs.{StandsForSome};
-ghost use Rattle.gateway_mux.specs.Short.{IsShort};
-ghost use Rattle.rtspgate.specs.Written.{close_byte, bad_name, framing_name, piece_record, up_record, close_record, ends, closed_records, cause_record, fault_record, records_of};
+ghost use Rattle.gateway_mux.specs.Short.{IsShort, length_of, message_length, up_length};
+ghost use Rattle.rtspgate.specs.Written.{close_byte, bad_name, framing_name, piece_record, up_message_text, up_record, close_record, ends, closed_records, cause_record, fault_record, records_of};
+ghost use Rattle.rtspgate.specs.declared.records.TheConstants.{FAULT_BYTE};
+ghost use Rattle.rtspgate.specs.Records.{record_text};
 
 use crate::records::{RecordKind, write_parted_record, write_record};
 use gate_bytes::Text;
 use gate_outside::{Failed, Sink};
-use gateway_mux::{CloseWhy, Closed, FramingFault, Mux, Outcome, ToClient, UpCause};
+use gateway_mux::{
+    CloseWhy, Closed, FramingFault, Mux, Outcome, ToClient, ToUp, UpCause, UpMessage,
+};
 use rtsp_head::BadKind;
 
 /// The byte that tells of a connection that its own end closed.
@@ -20,6 +24,9 @@ pub const END_CLOSE: u8 = b'E';
 /// The byte that tells of a connection that a Bad item closed.
 pub const BAD_ITEM_CLOSE: u8 = b'B';
 
+/// The byte that tells of a connection whose client took its bytes too slowly.
+pub const SLOW_CLOSE: u8 = b'S';
+
 /// The byte that tells of a connection that the end of the connection to the server closed.
 pub const UPSTREAM_CLOSE: u8 = b'U';
 
@@ -27,7 +34,7 @@ pub const UPSTREAM_CLOSE: u8 = b'U';
 pub fn write_outcome<K: Sink>(sink: &mut K, mux: &Mux, outcome: &Outcome) -> Result<(), Failed>
     requires stands { StandsForSome mux.now }
     requires short { IsShort outcome.now }
-    ensures bytes { (happening : Happening) (earlier : History) → Stands mux.now (record { happening = happening; outcome = outcome.now } ∷ earlier)
+    ensures bytes { (happening : Happening) (earlier : List Entry) → Stands mux.now (record { happening = happening; outcome = outcome.now } ∷ earlier)
         → WritesAll (K.written sink.old) (K.written sink.new) (records_of outcome.now earlier) result }
     ensures cause { HasCause (K.faults sink.old) (K.faults sink.new) result }
 {
@@ -55,22 +62,47 @@ fn write_piece<K: Sink>(sink: &mut K, piece: &Option<ToClient>) -> Result<(), Fa
     }
 }
 
-/// Writes the record of a text that was handed to the server.
-fn write_up<K: Sink>(sink: &mut K, text: &Option<Text>) -> Result<(), Failed>
-    requires { IfSome text.now (λ t. length t < 2 ^ 32) }
-    ensures bytes { WritesAll (K.written sink.old) (K.written sink.new) (up_record text.now) result }
+/// Writes the record of all that was handed to the server: the answer, and the message after it.
+fn write_up<K: Sink>(sink: &mut K, up: &ToUp) -> Result<(), Failed>
+    requires { up_length up.now < 2 ^ 32 }
+    ensures bytes { WritesAll (K.written sink.old) (K.written sink.new) (up_record up.now) result }
     ensures cause { HasCause (K.faults sink.old) (K.faults sink.new) result }
 {
-    match text {
-        Some(text) => write_record(sink, RecordKind::HandedUp, 0, text.as_bytes()),
-        None => Ok(()),
+    if up.answer.is_none() && up.message.is_none() {
+        return Ok(());
+    }
+    let answer = answer_bytes(&up.answer);
+    let message = message_bytes(&up.message);
+    write_parted_record(sink, RecordKind::HandedUp, 0, answer, message)
+}
+
+/// The bytes of an answer to the server; none where there is no answer.
+fn answer_bytes(answer: &Option<Text>) -> &[u8]
+    ensures bytes { result.now ≡ unwrap_or answer.now [] }
+    ensures size { length result.now ≡ length_of answer.now }
+{
+    match answer {
+        Some(text) => text.as_bytes(),
+        None => b"",
+    }
+}
+
+/// The bytes of a message to the server; none where there is no message.
+fn message_bytes(message: &Option<UpMessage>) -> &[u8]
+    ensures bytes { result.now ≡ up_message_text message.now }
+    ensures size { length result.now ≡ message_length message.now }
+{
+    match message {
+        Some(UpMessage::Request(text)) => text.as_bytes(),
+        Some(UpMessage::Frame(text)) => text.as_bytes(),
+        None => b"",
     }
 }
 
 /// Writes the records of the connections that were closed.
 fn write_closed<K: Sink>(sink: &mut K, mux: &Mux, closed: Closed) -> Result<(), Failed>
     requires { StandsForSome mux.now }
-    ensures bytes { (T : History) → Stands mux.now T → WritesAll (K.written sink.old) (K.written sink.new) (closed_records closed (standing T)) result }
+    ensures bytes { (T : List Entry) → Stands mux.now T → WritesAll (K.written sink.old) (K.written sink.new) (closed_records closed (standing T)) result }
     ensures cause { HasCause (K.faults sink.old) (K.faults sink.new) result }
 {
     match closed {
@@ -91,7 +123,7 @@ fn write_close<K: Sink>(sink: &mut K, conn: u32, why: CloseWhy) -> Result<(), Fa
 /// Writes the closes of all connections that were alive when the connection to the server ended, by rising number.
 fn write_ends<K: Sink>(sink: &mut K, mux: &Mux) -> Result<(), Failed>
     requires { StandsForSome mux.now }
-    ensures bytes { (T : History) → Stands mux.now T → WritesAll (K.written sink.old) (K.written sink.new) (ends (standing T)) result }
+    ensures bytes { (T : List Entry) → Stands mux.now T → WritesAll (K.written sink.old) (K.written sink.new) (ends (standing T)) result }
     ensures cause { HasCause (K.faults sink.old) (K.faults sink.new) result }
 {
     let mut from = 0;
@@ -114,6 +146,7 @@ fn close_byte(why: CloseWhy) -> u8
     match why {
         CloseWhy::Ended => END_CLOSE,
         CloseWhy::BadItem => BAD_ITEM_CLOSE,
+        CloseWhy::Slow => SLOW_CLOSE,
         CloseWhy::Upstream => UPSTREAM_CLOSE,
     }
 }
@@ -138,13 +171,26 @@ fn write_cause<K: Sink>(sink: &mut K, cause: UpCause) -> Result<(), Failed>
         UpCause::Framing(fault) => {
             write_parted_record(sink, RecordKind::Fault, 0, b"Framing ", framing_name(fault))
         }
-        UpCause::UnknownReply(number) => {
-            let mut buffer = itoa::Buffer::new();
-            let digits = buffer.format(number).as_bytes();
-            write_parted_record(sink, RecordKind::Fault, 0, b"UnknownReply ", digits)
-        }
+        UpCause::UnknownReply(number) => write_numbered(sink, b"UnknownReply ", number),
+        UpCause::BadGrant(number) => write_numbered(sink, b"BadGrant ", number),
+        UpCause::SessionTaken(number) => write_numbered(sink, b"SessionTaken ", number),
         UpCause::CseqSpent => write_record(sink, RecordKind::Fault, 0, b"CseqSpent"),
+        UpCause::UpFull => write_record(sink, RecordKind::Fault, 0, b"UpFull"),
+        UpCause::Ended => write_record(sink, RecordKind::Fault, 0, b"Ended"),
+        UpCause::ReadFault => write_record(sink, RecordKind::Fault, 0, b"ReadFault"),
+        UpCause::WriteFault => write_record(sink, RecordKind::Fault, 0, b"WriteFault"),
     }
+}
+
+/// Writes the record of a cause that has a number.
+fn write_numbered<K: Sink>(sink: &mut K, name: &[u8], number: u32) -> Result<(), Failed>
+    requires { length name.now < 2 ^ 31 }
+    ensures bytes { WritesAll (K.written sink.old) (K.written sink.new) (record_text FAULT_BYTE 0 (name.now ++ decimal number)) result }
+    ensures cause { HasCause (K.faults sink.old) (K.faults sink.new) result }
+{
+    let mut buffer = itoa::Buffer::new();
+    let digits = buffer.format(number).as_bytes();
+    write_parted_record(sink, RecordKind::Fault, 0, name, digits)
 }
 
 /// The name of what is wrong with an item of the server.
@@ -210,7 +256,13 @@ mod tests {
             (UpCause::Framing(FramingFault::Cseq), "Framing Cseq"),
             (UpCause::UnknownReply(0), "UnknownReply 0"),
             (UpCause::UnknownReply(999_999_999), "UnknownReply 999999999"),
+            (UpCause::BadGrant(1), "BadGrant 1"),
+            (UpCause::SessionTaken(20), "SessionTaken 20"),
             (UpCause::CseqSpent, "CseqSpent"),
+            (UpCause::UpFull, "UpFull"),
+            (UpCause::Ended, "Ended"),
+            (UpCause::ReadFault, "ReadFault"),
+            (UpCause::WriteFault, "WriteFault"),
         ];
         for (cause, text) in rows {
             let told = text_of(rt.alloc(), cause)?;
@@ -223,6 +275,7 @@ mod tests {
     fn each_close_has_its_byte(rt: HostRuntime) {
         assert_eq!(rt; close_byte(CloseWhy::Ended), b'E');
         assert_eq!(rt; close_byte(CloseWhy::BadItem), b'B');
+        assert_eq!(rt; close_byte(CloseWhy::Slow), b'S');
         assert_eq!(rt; close_byte(CloseWhy::Upstream), b'U');
     }
 }

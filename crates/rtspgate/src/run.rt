@@ -1,16 +1,16 @@
 //! Processing events: the multiplexer takes each one, and its records are written before the next.
 ghost use Rattle.std.specs.Prelude.{◌≡◌, ◌≤◌, ℕ, List, []};
 ghost use Rattle.rtsp_head.specs.Shapes.{shape_of};
-ghost use Rattle.gate_history.specs.History.{happening_of};
-ghost use Rattle.rtspgate.specs.Events.{said_by};
+ghost use Rattle.mux_history.specs.Happenings.{happening_of};
+ghost use Rattle.rtspgate.specs.Events.{said_by, why_of};
 ghost use Rattle.rtspgate.specs.Runs.{StandsForSome, TakesEvent, TakesItems, TakesBytes, SinkCause};
 
 use crate::outcomes::write_outcome;
 use crate::streams::{Speaker, Streams};
 use gate_bytes::Memory;
 use gate_outside::{Failed, Sink};
-use gate_transcript::{Entry, EntryKind};
-use gateway_mux::{Event, Mux};
+use gate_transcript::{Entry, EntryKind, UpEndReason, end_reason_in};
+use gateway_mux::{Event, Mux, UpWhy};
 use rtsp_frame::Item;
 use std::alloc::Global;
 
@@ -65,6 +65,18 @@ fn said_by(speaker: Speaker, item: Item) -> Event
     }
 }
 
+/// Why the connection to the server ends, by the reason of an entry.
+fn why_of(reason: UpEndReason) -> UpWhy
+    ensures { result ≡ why_of reason }
+{
+    match reason {
+        UpEndReason::Ended => UpWhy::Ended,
+        UpEndReason::ReadFault => UpWhy::ReadFault,
+        UpEndReason::WriteFault => UpWhy::WriteFault,
+        UpEndReason::Full => UpWhy::UpFull,
+    }
+}
+
 /// Takes all whole items of a speaker that were not taken yet.
 fn take_items<K: Sink>(
     alloc: Global,
@@ -94,7 +106,8 @@ impl Run {
     ghost use Rattle.rtspgate.specs.declared.streams.Speaker.{Speaker};
     ghost use Rattle.rtspgate.specs.Framers.{FramerFed};
     ghost use Rattle.rtspgate.specs.Streams.{framer_at};
-    ghost use Rattle.rtspgate.specs.Runs.{TakesEntry, EntersFresh};
+    ghost use Rattle.rtspgate.specs.Runs.{TakesEntry, TakesUpEnd, EntersFresh};
+    ghost use Rattle.gate_transcript.specs.Bodies.{end_reason_in};
 
     /// The state before the first entry.
     pub fn new(alloc: Global, mux: Mux) -> Run
@@ -107,7 +120,8 @@ impl Run {
         }
     }
 
-    /// Processes one entry: a connection enters, bytes of its client or of the server come, or it ends.
+    /// Processes one entry: a connection enters, bytes of its client or of the server come, it ends or lags, or the
+    /// connection to the server ends.
     pub fn take<K: Sink>(
         &mut self,
         alloc: Global,
@@ -128,6 +142,26 @@ impl Run {
             EntryKind::Client => self.take_bytes(alloc, sink, Speaker::Client(entry.conn), bytes),
             EntryKind::Upstream => self.take_bytes(alloc, sink, Speaker::Server, bytes),
             EntryKind::End => happen(alloc, &mut self.mux, sink, Event::End(entry.conn)),
+            EntryKind::Slow => happen(alloc, &mut self.mux, sink, Event::Slow(entry.conn)),
+            EntryKind::UpEnd => self.end_up(alloc, sink, bytes),
+        }
+    }
+
+    /// The connection to the server ends, for the reason that these bytes tell.
+    fn end_up<K: Sink>(
+        &mut self,
+        alloc: Global,
+        sink: &mut K,
+        bytes: &[u8],
+    ) -> Result<(), ProcessFault>
+        requires { StandsForSome self.old.mux }
+        ensures takes { TakesUpEnd self.old.mux self.new.mux (end_reason_in bytes.now) (K.written sink.old) (K.written sink.new) result }
+        ensures streams { self.new.streams ≡ self.old.streams }
+        ensures cause { SinkCause (K.faults sink.old) (K.faults sink.new) result }
+    {
+        match end_reason_in(bytes) {
+            Some(reason) => happen(alloc, &mut self.mux, sink, Event::UpEnd(why_of(reason))),
+            None => Ok(()),
         }
     }
 
@@ -184,15 +218,26 @@ mod tests {
             },
         )?;
         mux.enter(alloc, 1)?;
-        let reply = b"RTSP/2.0 200 OK\r\nCSeq: 1\r\n\r\n".as_slice();
+        let setup =
+            b"SETUP rtsp://gate.example/m RTSP/1.0\r\nCSeq: 1\r\nTransport: RTP/AVP/TCP\r\n\r\n";
+        let grant =
+            b"RTSP/2.0 200 OK\r\nCSeq: 1\r\nSession: a\r\nTransport: RTP/AVP/TCP;interleaved=0-1\r\n\r\n";
+        let reply = b"RTSP/2.0 200 OK\r\nCSeq: 3\r\n\r\n";
+        let client = Speaker::Client(1);
         let rows = [
-            (Speaker::Client(1), b"$\x01\0\x03abc$\x02\0\0".as_slice(), 2),
+            (client, b"$\x01\0\x03abc$\x02\0\0".as_slice(), 2),
             (Speaker::Server, b"$\0\0\x01z", 3),
-            (Speaker::Client(1), b"hello\r\n\r\n", 3),
-            (Speaker::Client(1), b"$\0\0\x01z", 4),
-            (Speaker::Server, reply, 4),
-            (Speaker::Client(1), b"$\0\0\x01z", 4),
+            (client, setup, 3),
             (Speaker::Server, b"$\0\0\x01z", 4),
+            (Speaker::Server, grant, 4),
+            (Speaker::Server, b"$\0\0\x01z", 4),
+            (client, b"$\x01\0\x03abc$\x02\0\0", 5),
+            (client, b"hello\r\n\r\n", 5),
+            (Speaker::Server, b"$\0\0\x01z", 6),
+            (client, b"$\0\0\x01z", 7),
+            (Speaker::Server, reply, 7),
+            (client, b"$\0\0\x01z", 7),
+            (Speaker::Server, b"$\0\0\x01z", 7),
         ];
         for (speaker, bytes, wanted) in rows {
             let dropped = dropped_after(alloc, &mut mux, speaker, bytes)?;

@@ -1,4 +1,5 @@
-//! What is large and still replayed: the longest transcript, many connections, and many requests that wait.
+//! What is large and still replayed: the longest transcript, many connections, many requests that wait, and as many
+//! pairs of channels as there are.
 
 use super::{ANSWER, replayed, script};
 use crate::replay::LONGEST_TRANSCRIPT;
@@ -10,6 +11,10 @@ use std::test::Fail;
 
 // A player's first request.
 const OPTIONS: &[u8] = b"OPTIONS * RTSP/1.0\r\nCSeq: 1\r\n\r\n";
+
+// A player asks for a track.
+const SETUP: &[u8] =
+    b"SETUP rtsp://gate.example/m RTSP/1.0\r\nCSeq: 1\r\nTransport: RTP/AVP/TCP\r\n\r\n";
 
 // Appends an entry.
 fn push_entry(text: &mut Text, kind: u8, conn: u32, body: &[u8]) -> Result<(), Fail> {
@@ -122,6 +127,42 @@ fn a_hundred_requests_wait_and_are_answered(rt: HostRuntime) -> Result<(), Fail>
         answers.push_slice(ANSWER.get(9..).unwrap_or(b""))?;
     }
     push_entry(&mut wanted, b'T', 1, answers.as_bytes())?;
+    let (status, records) = told(alloc, text)?;
+    assert_eq!(rt; status, Status::Done);
+    assert_eq!(rt; records.as_bytes(), wanted.as_bytes());
+    Ok(())
+}
+
+// The request for a track as it goes up under this number, on these channels.
+fn setup_up(alloc: Global, number: u32, rtp: u32, rtcp: u32) -> Result<String, Fail> {
+    let ranges = "npt, smpte, smpte-30-drop, smpte-25, clock";
+    Ok(format!(in alloc;
+        "SETUP rtsp://media.example/m RTSP/2.0\r\nCSeq: {number}\r\nTransport: RTP/AVP/TCP;unicast;interleaved={rtp}-{rtcp}\r\nAccept-Ranges: {ranges}\r\n\r\n"
+    )?)
+}
+
+#[test]
+fn a_track_needs_one_of_128_pairs_of_channels(rt: HostRuntime) -> Result<(), Fail> {
+    let alloc = rt.alloc();
+    let mut text = Text::copy(alloc, &MAGIC)?;
+    let mut wanted = Text::new(alloc);
+    for pair in 0u32..128 {
+        push_entry(&mut text, ENTER_BYTE, pair, b"")?;
+        push_entry(&mut text, CLIENT_BYTE, pair, SETUP)?;
+        let up = setup_up(alloc, pair + 1, 2 * pair, 2 * pair + 1)?;
+        push_entry(&mut wanted, b'Y', 0, up.as_bytes())?;
+    }
+    push_entry(&mut text, ENTER_BYTE, 128, b"")?;
+    push_entry(&mut text, CLIENT_BYTE, 128, SETUP)?;
+    let full = b"RTSP/1.0 453 Not Enough Bandwidth\r\nCSeq: 1\r\n\r\n";
+    push_entry(&mut wanted, b'T', 128, full)?;
+    let refusal = b"RTSP/2.0 404 Not Found\r\nCSeq: 4\r\n\r\n";
+    push_entry(&mut text, UPSTREAM_BYTE, 0, refusal)?;
+    let refused = b"RTSP/1.0 404 Not Found\r\nCSeq: 1\r\n\r\n";
+    push_entry(&mut wanted, b'T', 3, refused)?;
+    push_entry(&mut text, CLIENT_BYTE, 128, SETUP)?;
+    let up = setup_up(alloc, 129, 6, 7)?;
+    push_entry(&mut wanted, b'Y', 0, up.as_bytes())?;
     let (status, records) = told(alloc, text)?;
     assert_eq!(rt; status, Status::Done);
     assert_eq!(rt; records.as_bytes(), wanted.as_bytes());

@@ -37,8 +37,8 @@ pub fn read_case(alloc: Global, text: &str) -> Result<Case<'_>, Fail> {
             "magic" if rest == "none" => case.transcript.clear(),
             "magic" => {}
             "raw" => push_body(alloc, &mut case.transcript, rest)?,
-            "O" | "A" | "E" => push_line(alloc, &mut case.transcript, kind, conn, body)?,
-            "U" => push_line(alloc, &mut case.transcript, kind, "0", rest)?,
+            "O" | "A" | "E" | "S" => push_line(alloc, &mut case.transcript, kind, conn, body)?,
+            "U" | "Z" => push_line(alloc, &mut case.transcript, kind, "0", rest)?,
             "T" | "C" => push_line(alloc, &mut case.records, kind, conn, body)?,
             "Y" | "F" => push_line(alloc, &mut case.records, kind, "0", rest)?,
             _ => Err(Unreadable)?,

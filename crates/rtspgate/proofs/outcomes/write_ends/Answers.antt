@@ -1,6 +1,6 @@
 use Rattle.std.proofs.Common.{◌≡◌, suc, subst, arith}
 use Rattle.gate_outside.specs.Contents.{Grows}
-use Rattle.gate_history.specs.History.{standing}
+use Rattle.mux_history.specs.Happenings.{standing}
 use Rattle.rtspgate.specs.Written.{ends_below}
 use Rattle.rtspgate.proofs.RunLemmas.{grows_nothing}
 use Rattle.rtspgate.proofs.OutcomeLemmas.{end_more, end_fails, end_last, end_full}

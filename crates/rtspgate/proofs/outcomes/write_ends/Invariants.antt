@@ -1,6 +1,6 @@
-use Rattle.std.proofs.Common.{◌≤◌, ◌<◌, ◌-◌, ◌^◌}
+use Rattle.std.proofs.Common.{List, ◌≤◌, ◌<◌, ◌-◌, ◌^◌}
 use Rattle.gate_outside.specs.Contents.{Grows}
-use Rattle.gate_history.specs.History.{History, standing}
+use Rattle.mux_history.specs.Happenings.{Entry, standing}
 use Rattle.gateway_mux.specs.Stands.{Stands}
 use Rattle.rtspgate.specs.Written.{ends_below}
 use Rattle.rtspgate.proofs.outcomes.write_ends.Given as goal
@@ -8,7 +8,7 @@ use Rattle.rtspgate.proofs.outcomes.write_ends.Given as goal
 -- the closes of the connections below a number were written, and the sink's count of faults has not fallen
 abbrev pub invariant-loop-conn : goal.invariant-loop-conn
 invariant-loop-conn g l = record {
-  written : (T : History) → Stands l.mux T → Grows (g.K.Sink.written l.fn.sink) (g.K.Sink.written l.sink) (ends_below l.from (standing T));
+  written : (T : List Entry) → Stands l.mux T → Grows (g.K.Sink.written l.fn.sink) (g.K.Sink.written l.sink) (ends_below l.from (standing T));
   low : l.from < 2 ^ 32;
   later : g.K.Sink.faults l.fn.sink ≤ g.K.Sink.faults l.sink;
 }

@@ -1,7 +1,6 @@
-use Rattle.gate_history.specs.History.{Entry}
+use Rattle.mux_history.specs.Happenings.{Entry}
 use Rattle.std.proofs.Common.{◌∷◌, List, ℕ, subst}
 use Rattle.gate_outside.specs.Contents.{Grows, GrowsByFront}
-use Rattle.gateway_mux.specs.Stands.{bases_of}
 use Rattle.rtspgate.specs.Written.{piece_record, up_record, closed_records, fault_record}
 use Rattle.rtspgate.proofs.StandingLemmas.{closed_same}
 use Rattle.rtspgate.proofs.OutcomeLemmas.{fails_at_first, fails_at_second, fails_at_third, writes_last}
@@ -25,7 +24,7 @@ returns-in_default-write_closed-clause-bytes g c = λ happening T s.
     fails_at_third (g.K.Sink.written c.args.sink.now) (g.K.Sink.written c.write_piece.new.sink) (g.K.Sink.written c.write_up.new.sink) (g.K.Sink.written c.write_closed.new.sink)
     (piece_record c.args.outcome.now.to_client) (up_record c.args.outcome.now.to_up) (closed_records c.args.outcome.now.closed T) (fault_record c.args.outcome.now.fault)
     c.in-Ok.ensures.bytes c.in-Ok-write_up.ensures.bytes
-    (subst (λ (l : List ℕ). GrowsByFront (g.K.Sink.written c.write_up.new.sink) (g.K.Sink.written c.write_closed.new.sink) l) (closed_same (bases_of c.args.mux.now) T entry s.is_history.1)
+    (subst (λ (l : List ℕ). GrowsByFront (g.K.Sink.written c.write_up.new.sink) (g.K.Sink.written c.write_closed.new.sink) l) (closed_same c.args.mux.now T entry s)
     (c.in_default-write_closed.ensures.bytes (entry ∷ T) s))
 
 pub returns-clause-bytes : goal.returns-clause-bytes
@@ -34,6 +33,6 @@ returns-clause-bytes g c = λ happening T s.
     writes_last (g.K.Sink.written c.args.sink.now) (g.K.Sink.written c.write_piece.new.sink) (g.K.Sink.written c.write_up.new.sink) (g.K.Sink.written c.write_closed.new.sink) (g.K.Sink.written c.write_fault.new.sink)
     (piece_record c.args.outcome.now.to_client) (up_record c.args.outcome.now.to_up) (closed_records c.args.outcome.now.closed T) (fault_record c.args.outcome.now.fault) c.write_fault.result
     c.in-Ok.ensures.bytes c.in-Ok-write_up.ensures.bytes
-    (subst (λ (l : List ℕ). Grows (g.K.Sink.written c.write_up.new.sink) (g.K.Sink.written c.write_closed.new.sink) l) (closed_same (bases_of c.args.mux.now) T entry s.is_history.1)
+    (subst (λ (l : List ℕ). Grows (g.K.Sink.written c.write_up.new.sink) (g.K.Sink.written c.write_closed.new.sink) l) (closed_same c.args.mux.now T entry s)
     (c.in-Ok-write_closed.ensures.bytes (entry ∷ T) s))
     c.write_fault.ensures.bytes

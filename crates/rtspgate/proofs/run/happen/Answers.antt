@@ -1,5 +1,5 @@
 use Rattle.std.proofs.Common.{◌∷◌}
-use Rattle.gate_history.specs.History.{happening_of, entry_of}
+use Rattle.mux_history.specs.Happenings.{happening_of, entry_of}
 use Rattle.rtspgate.proofs.RunLemmas.{untaken, taken, taken_in_part}
 use Rattle.rtspgate.proofs.run.happen.Goals as goal
 

@@ -1,7 +1,7 @@
 use Rattle.std.proofs.Common.{◌++◌, Ok, Err, arith, subst}
 use Rattle.std.proofs.lemmas.Result.{err_from_is_err_and}
 use Rattle.rtsp_head.specs.Shapes.{shape_of}
-use Rattle.gate_history.specs.History.{Happening}
+use Rattle.mux_history.specs.Happenings.{Happening}
 use Rattle.rtspgate.specs.Runs.{TakesEvent}
 use Rattle.rtspgate.proofs.RunLemmas.{takes_none, takes_one_more, takes_to_fault}
 use Rattle.rtspgate.proofs.run.take_items.Goals as goal

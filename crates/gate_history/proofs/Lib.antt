@@ -1,5 +1,0 @@
-pub mod HistoryLemmas
-pub mod SoundLemmas
-pub mod OverLemmas
-pub mod NextLemmas
-pub mod AliveLemmas
