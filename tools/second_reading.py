@@ -3,218 +3,88 @@
 It shares nothing with the program, so `tools/compare` can hold the two against each other. It is no part of the
 program and nothing is proved of it; where the two differ, one of them reads the document wrongly.
 """
-import re
+from dataclasses import dataclass, field
 
-FRONT, UP = b"gate.example", b"media.example"
-DEFAULT_PORT = 554
-MOST_HEAD, MOST_BODY, MOST_HEADERS = 8192, 65536, 64
+from second_bytes import (FRONT, METHODS, NOTIFY_REASONS, PUBLIC, REASONS, TOKEN, UP, Stream, granted, info_of, message,
+                          named_number, parts_of, range_of, reply, rewrite, scale_of, session_of, swap, told_code,
+                          transport, trim, wanted)
 
-TOKEN = re.compile(rb"[A-Za-z0-9!#$%&'*+\-.^_`|~]+")
-URI = re.compile(rb"(?i:rtsp://)([A-Za-z0-9._~\-]+|\[[0-9A-Fa-f:.]+\])(?::([0-9]{1,5}))?((?:[/?][\x21-\x7e]*)?)")
-METHODS = (b"OPTIONS", b"DESCRIBE", b"SETUP", b"PLAY", b"PAUSE", b"TEARDOWN", b"GET_PARAMETER", b"SET_PARAMETER")
-PUBLIC = b", ".join(METHODS)
-REASONS = {
-    200: b"OK", 400: b"Bad Request", 403: b"Forbidden", 404: b"Not Found", 405: b"Method Not Allowed",
-    406: b"Not Acceptable", 408: b"Request Time-out", 410: b"Gone", 411: b"Length Required",
-    412: b"Precondition Failed", 413: b"Request Entity Too Large", 414: b"Request-URI Too Large",
-    415: b"Unsupported Media Type", 451: b"Parameter Not Understood", 452: b"Conference Not Found",
-    453: b"Not Enough Bandwidth", 454: b"Session Not Found", 455: b"Method Not Valid in This State",
-    456: b"Header Field Not Valid for Resource", 457: b"Invalid Range", 458: b"Parameter Is Read-Only",
-    459: b"Aggregate operation not allowed", 460: b"Only aggregate operation allowed",
-    461: b"Unsupported transport", 462: b"Destination unreachable", 500: b"Internal Server Error",
-    501: b"Not Implemented", 502: b"Bad Gateway", 503: b"Service Unavailable", 504: b"Gateway Time-out",
-    505: b"RTSP Version not supported", 551: b"Option not supported",
-}
+MOST_PAIRS, MOST_TRACKS, MOST_PLAYS, MOST_NUMBERS = 128, 8, 8, 999_999_999
+
+ACCEPT_RANGES = b"npt, smpte, smpte-30-drop, smpte-25, clock"
+ANSWERS = {**REASONS, 465: b"Notification Reason Unknown"}
+UPWARD_BODIES = (b"GET_PARAMETER", b"SET_PARAMETER")
+ANYWHERE = (b"OPTIONS", b"DESCRIBE", b"GET_PARAMETER", b"SET_PARAMETER")
+NEXT = {("Init", b"SETUP"): "Ready", ("Ready", b"SETUP"): "Ready", ("Ready", b"PLAY"): "Playing",
+        ("Playing", b"PLAY"): "Playing", ("Playing", b"PAUSE"): "Ready", ("Ready", b"TEARDOWN"): "Init",
+        ("Playing", b"TEARDOWN"): "Init"}
+WHY_ENDED = {b"E": b"Ended", b"R": b"ReadFault", b"W": b"WriteFault", b"Q": b"UpFull"}
 
 
-def trim(text):
-    return text.strip(b" \t")
+class Breach(Exception):
+    """Why the connection to the server ends."""
 
 
-class Fault(Exception):
-    """Why a head can't be read."""
+@dataclass
+class Track:
+    """A track: the URI that went up, the player's pair, and the number of the shared pair."""
+    uri: bytes
+    pair: tuple
+    shared: int
 
 
-class Head:
-    """A head that can be read: the first line's parts, and the headers with their values trimmed."""
-
-    def __init__(self, raw):
-        lines = [line[:-1] if line.endswith(b"\r") else line for line in raw.split(b"\n")[:-2]]
-        self.read_first(lines[0])
-        self.headers = []
-        for line in lines[1:]:
-            self.read_further(line)
-        self.headers = [(name, trim(value)) for name, value in self.headers]
-
-    def read_first(self, line):
-        if b"\r" in line or b"\0" in line:
-            raise Fault("Control")
-        self.is_request = not line.startswith(b"RTSP/")
-        parts = line.split(b" ") if self.is_request else line.split(b" ", 2)
-        if self.is_request:
-            if len(parts) != 3 or not all(parts) or not parts[2].startswith(b"RTSP/"):
-                raise Fault("Start")
-            self.method, self.uri, self.version = parts
-        else:
-            if len(parts) < 2 or not re.fullmatch(rb"[1-9][0-9]{2}", parts[1]):
-                raise Fault("Start")
-            self.version, self.code = parts[0], int(parts[1])
-
-    def read_further(self, line):
-        if b"\r" in line or b"\0" in line:
-            raise Fault("Control")
-        name, colon, value = line.partition(b":")
-        if line[:1] in (b" ", b"\t"):
-            if not self.headers:
-                raise Fault("Colon")
-            name, above = self.headers.pop()
-            self.headers.append((name, above + b" " + trim(line)))
-        elif not colon:
-            raise Fault("Colon")
-        elif not TOKEN.fullmatch(name):
-            raise Fault("Name")
-        elif len(self.headers) >= MOST_HEADERS:
-            raise Fault("Many")
-        else:
-            self.headers.append((name, trim(value)))
-
-    def field(self, wanted):
-        """The value of the first header of a name."""
-        return next((value for name, value in self.headers if name.lower() == wanted.lower()), None)
-
-    def number(self, digits):
-        """CSeq, where it has 1 to so many digits."""
-        value = self.field(b"CSeq")
-        return int(value) if value is not None and re.fullmatch(rb"[0-9]{1,%d}" % digits, value) else None
+@dataclass
+class Play:
+    """A PLAY that waits, as it goes up."""
+    uri: bytes
+    range: bytes
+    scale: bytes
 
 
-class Stream:
-    """A stream of bytes, cut into items: ("frame",), ("bad", kind) or ("message", head, body)."""
-
-    def __init__(self):
-        self.left, self.is_dead = b"", False
-
-    def feed(self, piece):
-        """The items that are whole now."""
-        self.left += piece
-        while not self.is_dead:
-            self.left = re.sub(rb"\A(?:\r?\n)+", b"", self.left)
-            item, size = self.first()
-            if item is None:
-                return
-            self.left, self.is_dead = self.left[size:], item[0] == "bad"
-            yield item
-
-    def first(self):
-        if self.left.startswith(b"$"):
-            size = 4 + int.from_bytes(self.left[2:4], "big")
-            return (("frame",), size) if len(self.left) >= max(size, 4) else (None, 0)
-        end = re.search(rb"(?:\A|\n)\r?\n", self.left)
-        if end is None or end.end() > MOST_HEAD:
-            return (("bad", "Head"), 0) if len(self.left) >= MOST_HEAD else (None, 0)
-        try:
-            head = Head(self.left[:end.end()])
-        except Fault as fault:
-            return ("bad", str(fault)), 0
-        length = head.field(b"Content-Length")
-        if length is not None and not re.fullmatch(rb"[0-9]{1,10}", length):
-            return ("bad", "Length"), 0
-        size = int(length or 0)
-        if size > MOST_BODY:
-            return ("bad", "Body"), 0
-        whole = end.end() + size
-        return (("message", head, self.left[end.end():whole]), whole) if len(self.left) >= whole else (None, 0)
+@dataclass
+class Open:
+    """The open request: a player's with its own number, a released PLAY, or a closing TEARDOWN."""
+    why: str
+    method: bytes
+    uri: bytes
+    number: int = 0
+    cseq: int = None
+    is_named: bool = False
+    track: Track = None
 
 
-def parts_of(uri):
-    """Host, port and rest of a URI."""
-    found = URI.fullmatch(uri)
-    port = int(found[2] or DEFAULT_PORT) if found else None
-    return (found[1], port, found[3]) if found and port <= 65535 else None
-
-
-def swap(one, other, uri):
-    """The URI with the authority `other` in the place of `one`, and every other text as it was."""
-    parts = parts_of(uri)
-    is_ours = parts is not None and parts[0].lower() == one and parts[1] == DEFAULT_PORT
-    return b"rtsp://" + other + parts[2] if is_ours else uri
-
-
-def rewrite(body):
-    """A session description under the gateway's address."""
-    *ended, last = body.split(b"\n")
-    lines = [(line[:-1], b"\r\n") if line.endswith(b"\r") else (line, b"\n") for line in ended] + [(last, b"")]
-    begin = b"a=control:"
-    return b"".join((begin + swap(UP, FRONT, line[10:]) if line.startswith(begin) else line) + end
-                    for line, end in lines)
-
-
-def split_unquoted(value, mark):
-    """The parts between marks outside of double quotes."""
-    parts, is_quoted = [b""], False
-    for byte in (value[at:at + 1] for at in range(len(value))):
-        is_quoted ^= byte == b'"'
-        if byte == mark and not is_quoted:
-            parts.append(b"")
-        else:
-            parts[-1] += byte
-    return parts, is_quoted
-
-
-def fits(alternative):
-    """Whether an alternative of Transport can be given to a player."""
-    protocol, *parameters = [trim(part) for part in split_unquoted(alternative, b";")[0]]
-    values = {}
-    for parameter in parameters:
-        name, equals, value = parameter.partition(b"=")
-        if equals:
-            values.setdefault(name.lower(), value)
-    mode = values.get(b"mode", b"PLAY")
-    if len(mode) > 1 and mode[:1] == mode[-1:] == b'"':
-        mode = mode[1:-1]
-    channels = re.fullmatch(rb"([0-9]{1,3})(?:-([0-9]{1,3}))?", values.get(b"interleaved", b"0-1"))
-    if channels is None:
-        return False
-    rtp = int(channels[1])
-    rtcp = int(channels[2]) if channels[2] is not None else rtp + 1
-    return (protocol.upper() == b"RTP/AVP/TCP" and b"multicast" not in [one.lower() for one in parameters]
-            and mode.upper() == b"PLAY" and max(rtp, rtcp) <= 255 and rtp != rtcp)
-
-
-def has_channels(value):
-    """Whether an alternative of a Transport field fits."""
-    alternatives, is_open = split_unquoted(value or b"", b",")
-    return bool(value) and not is_open and any(map(fits, alternatives))
-
-
-def told_code(code):
-    """The code that a player is told."""
-    if 200 <= code <= 299:
-        return 200
-    if code in REASONS:
-        return code
-    others = {401: 403, 407: 403, 463: 403, 464: 503, 553: 503, 465: 500, 466: 500, 470: 502, 471: 502, 472: 502}
-    return others.get(code, {4: 400, 5: 500}.get(code // 100, 502))
-
-
-def message(start, number, headers=(), body=b""):
-    """The text of a message; headers without a value are left out."""
-    lines = [start] + [name + b": " + value for name, value in
-                       [(b"CSeq", None if number is None else b"%d" % number), *headers,
-                        (b"Content-Length", b"%d" % len(body) if body else None)] if value is not None]
-    return b"".join(line + b"\r\n" for line in lines) + b"\r\n" + body
-
-
-def reply(code, number, headers=(), body=b""):
-    return message(b"RTSP/1.0 %d %s" % (code, REASONS[code]), number, headers, body)
-
-
+@dataclass
 class Connection:
     """What the gateway keeps of a player."""
+    is_alive: bool
+    stream: Stream = field(default_factory=Stream)
+    state: str = "Init"
+    session: bytes = None
+    control: bytes = None
+    tracks: list = field(default_factory=list)
+    running: int = None
+    plays: list = field(default_factory=list)
+    asked: Open = None
+    waiting: list = field(default_factory=list)
 
-    def __init__(self, is_alive):
-        self.stream, self.is_alive = Stream(), is_alive
-        self.asked, self.waiting, self.control = None, [], b"*"
+    def has_track(self, uri):
+        return any(track.uri == uri for track in self.tracks)
+
+    def pair_for(self, want):
+        """The pair that a player gets: what it wants, or the lowest that is free."""
+        taken = {channel for track in self.tracks for channel in track.pair}
+        if want == "any":
+            return next((a, a + 1) for a in range(0, 255, 2) if not {a, a + 1} & taken)
+        return None if want is None or set(want) & taken else want
+
+    def ended(self):
+        """The session ends."""
+        self.session, self.control, self.tracks, self.running, self.plays = None, None, [], None, []
+        self.state = "Init"
+
+    def stopped(self):
+        """No PLAY runs, and none waits."""
+        self.running, self.plays, self.state = None, [], "Ready"
 
 
 class Gateway:
@@ -222,133 +92,301 @@ class Gateway:
 
     def __init__(self):
         self.connections, self.server, self.loans = {}, Stream(), {}
-        self.issued, self.is_over, self.records = 0, False, []
+        self.held, self.issued, self.is_over, self.records = set(), 0, False, []
 
     def take(self, kind, number, body=b""):
         """Takes an entry of a transcript."""
         if kind == b"O":
             self.connections[number] = Connection(not self.is_over)
-        elif kind == b"E":
-            self.close(number, b"E")
         elif kind == b"A":
             for item in self.connections[number].stream.feed(body):
-                self.take_item(number, item)
-        else:
+                self.event(self.take_item, number, item)
+        elif kind == b"U":
             for item in self.server.feed(body):
-                self.hear(item)
+                self.event(self.hear, item)
+        elif kind == b"Z":
+            self.event(self.fail, WHY_ENDED[body])
+        else:
+            self.event(self.close, number, kind)
 
-    def record(self, number=0, hand=b"", up=b""):
-        self.records += [(b"T", number, hand)] * bool(hand) + [(b"Y", 0, up)] * bool(up)
+    def event(self, what, *of):
+        """Takes an event, and records what it hands out."""
+        if self.is_over:
+            return
+        alive = [number for number, player in sorted(self.connections.items()) if player.is_alive]
+        try:
+            number, hand, up, closed = what(*of)
+        except Breach as breach:
+            self.is_over = True
+            for number in alive:
+                self.connections[number].is_alive = False
+            self.records += [(b"C", number, b"U") for number in alive] + [(b"F", 0, breach.args[0])]
+            return
+        told = [(b"T", number, hand), (b"Y", 0, up), (b"C", number, closed)]
+        self.records += [record for record in told if record[2]]
+
+    def fail(self, cause):
+        raise Breach(cause)
+
+    def take_item(self, number, item):
+        """An item of a client: the connection, bytes for it, bytes for the server, and why it is closed."""
+        player = self.connections[number]
+        if not player.is_alive:
+            return number, b"", b"", b""
+        if item[0] == "bad":
+            return self.close(number, b"B")
+        if item[0] == "frame":
+            return number, b"", frame_up(player, item[1]), b""
+        if not item[1].is_request:
+            return number, b"", b"", b""
+        player.waiting.append(item)
+        return number, *self.go_on(number), b""
 
     def close(self, number, why):
         player = self.connections[number]
-        if player.is_alive:
-            player.is_alive, player.waiting = False, []
-            self.records.append((b"C", number, why))
+        if not player.is_alive:
+            return number, b"", b"", b""
+        player.is_alive, player.waiting, player.plays = False, [], []
+        return number, *self.go_on(number), why
 
-    def end(self, cause):
-        """The connection to the server ends, for all."""
-        self.is_over = True
-        for number in sorted(self.connections):
-            self.close(number, b"U")
-        self.records.append((b"F", 0, cause))
-
-    def take_item(self, number, item):
-        player = self.connections[number]
-        if item[0] == "bad":
-            self.close(number, b"B")
-        elif player.is_alive and item[0] == "message" and item[1].is_request:
-            player.waiting.append(item)
-            self.record(number, *self.treat(number, player))
-
-    def treat(self, number, player):
-        """Treats what waits until a request goes up: the bytes for the player, and those for the server."""
-        hand = b""
-        while player.waiting and player.asked is None:
-            _, head, body = player.waiting.pop(0)
-            cseq = head.number(19)
-            code, headers = refusal_of(head, cseq)
-            if code is None and head.method == b"OPTIONS":
-                code, headers = 200, [(b"Public", PUBLIC)]
-            if code is not None:
-                hand += reply(code, cseq, headers)
-                continue
-            uri = player.control if head.uri == b"*" else swap(FRONT, UP, head.uri)
-            player.asked = head.method, cseq, uri
-            self.issued += 1
-            self.loans[self.issued] = number
-            return hand, sent_up(head, uri, self.issued, body)
+    def go_on(self, number):
+        """What comes next, where no request is open: bytes for the player, and bytes for the server."""
+        player, hand = self.connections[number], b""
+        while player.asked is None:
+            if not player.is_alive:
+                is_closing = player.session is not None
+                return hand, self.send(number, Open("closing", b"TEARDOWN", player.control)) if is_closing else b""
+            if player.running is None and player.plays:
+                return hand, self.release(number)
+            if not player.waiting:
+                break
+            answer, up = self.treat(number, *player.waiting.pop(0)[1:])
+            hand += answer
+            if up:
+                return hand, up
         return hand, b""
 
+    def send(self, number, asked, headers=(), body=b""):
+        """Sends a request up, with the shared number and the headers that it has besides Session."""
+        if self.issued == MOST_NUMBERS:
+            raise Breach(b"CseqSpent")
+        player = self.connections[number]
+        self.issued += 1
+        self.loans[self.issued] = number
+        asked.number, player.asked = self.issued, asked
+        has_session = asked.is_named or asked.why != "player"
+        method = b"SET_PARAMETER" if asked.method == b"OPTIONS" else asked.method
+        named = (b"Session", player.session if has_session else None)
+        return message(method + b" " + asked.uri + b" RTSP/2.0", self.issued, [named, *headers], body)
+
+    def release(self, number):
+        """Sends the first PLAY that waits."""
+        play = self.connections[number].plays.pop(0)
+        return self.send(number, Open("released", b"PLAY", play.uri), [(b"Range", play.range), (b"Scale", play.scale)])
+
+    def treat(self, number, head, body):
+        """A request: an answer, or what goes up."""
+        player, cseq = self.connections[number], head.number(19)
+        uri = player.control or b"*" if head.uri == b"*" else swap(FRONT, UP, head.uri)
+        code, headers = refusal_of(head, cseq, player, uri, len(self.held))
+        if code is None:
+            code, headers = answer_of(head, player, uri)
+        if code is not None:
+            return reply(code, cseq, headers), b""
+        is_named = head.field(b"Session") is not None
+        asked = Open("player", head.method, uri, cseq=cseq, is_named=is_named)
+        if head.method == b"SETUP":
+            shared = min(set(range(MOST_PAIRS)) - self.held)
+            self.held.add(shared)
+            asked.track = Track(uri, player.pair_for(wanted(head.field(b"Transport"))), shared)
+        body = body if head.method in UPWARD_BODIES else b""
+        return b"", self.send(number, asked, headers_up(head, asked, body), body)
+
     def hear(self, item):
-        """Takes an item of the server."""
-        if self.is_over or item[0] == "frame":
-            return
+        """An item of the server."""
+        if item[0] == "frame":
+            return self.frame_down(item[1])
         if item[0] == "bad":
-            return self.end(b"Framing " + item[1].encode())
+            raise Breach(b"Framing " + item[1].encode())
         _, head, body = item
         number = head.number(9)
-        if head.version != b"RTSP/2.0" or number is None:
-            self.end(b"Framing Version" if head.version != b"RTSP/2.0" else b"Framing Cseq")
-        elif head.is_request:
-            self.record(up=message(b"RTSP/2.0 501 Not Implemented", number))
-        elif number not in self.loans:
-            self.end(b"UnknownReply %d" % number)
-        elif head.code >= 200:
-            self.answer(self.loans.pop(number), head, body)
+        if head.version != b"RTSP/2.0":
+            raise Breach(b"Framing Version")
+        if number is None:
+            raise Breach(b"Framing Cseq")
+        if head.is_request:
+            return self.notice(head, number)
+        if number not in self.loans:
+            raise Breach(b"UnknownReply %d" % number)
+        if head.code < 200:
+            return 0, b"", b"", b""
+        return self.settle(self.loans[number], head, body)
 
-    def answer(self, number, head, body):
+    def frame_down(self, frame):
+        """A frame of the server, under the player's channel."""
+        shared, half = divmod(frame[1], 2)
+        for number, player in self.connections.items():
+            for track in player.tracks:
+                if track.shared == shared and player.is_alive:
+                    return number, frame[:1] + bytes([track.pair[half]]) + frame[2:], b"", b""
+        return 0, b"", b"", b""
+
+    def holder(self, name):
+        """The connection of a session."""
+        return next((number for number, player in self.connections.items() if player.session == name), None)
+
+    def notice(self, head, number):
+        """A request of the server: its answer, and what it leads to."""
+        read, reason = session_of(head.field(b"Session")), head.field(b"Notify-Reason")
+        holder = self.holder(read[0]) if read else None
+        rules = ((head.method != b"PLAY_NOTIFY", 501), (holder is None, 454), (reason is None, 400),
+                 (reason is not None and reason.lower() not in NOTIFY_REASONS, 465))
+        code = next((code for applies, code in rules if applies), 200)
+        answer = message(b"RTSP/2.0 %d %s" % (code, ANSWERS[code]), number,
+                         [(b"Session", read[0] if code == 200 else None)])
+        if code != 200 or reason.lower() != b"end-of-stream":
+            return 0, b"", answer, b""
+        player, named = self.connections[holder], named_number(head.field(b"Request-Status"))
+        if player.running is None or named not in (None, player.running):
+            return 0, b"", answer, b""
+        player.running = None
+        player.state = player.state if player.plays else "Ready"
+        hand, up = self.go_on(holder)
+        return holder, hand, answer + up, b""
+
+    def settle(self, number, head, body):
         """A final reply to the open request of a connection."""
         player = self.connections[number]
-        method, cseq, uri = player.asked
+        asked, is_success = player.asked, 200 <= head.code <= 299
+        grant = self.grant_of(number, head) if asked.track and is_success else None
+        is_told = player.is_alive and asked.why == "player"
+        hand = reply_down(asked, player.session, grant, head, body) if is_told else b""
+        del self.loans[asked.number]
         player.asked = None
-        if 200 <= head.code <= 299 and method == b"DESCRIBE":
-            player.control = uri
-        if player.is_alive:
-            hand, up = self.treat(number, player)
-            self.record(number, reply_down(method, cseq, head, body) + hand, up)
+        self.change(player, asked, is_success, grant)
+        more, up = self.go_on(number)
+        return number, hand + more, up, b""
+
+    def grant_of(self, number, head):
+        """The session's id, its timeout and the source that a success of SETUP grants."""
+        player = self.connections[number]
+        shared, session = player.asked.track.shared, session_of(head.field(b"Session"))
+        grant = granted(head.field(b"Transport"))
+        if not session or not grant or grant[0] != (2 * shared, 2 * shared + 1) or \
+                player.session not in (None, session[0]):
+            raise Breach(b"BadGrant %d" % player.asked.number)
+        if player.session is None and self.holder(session[0]) is not None:
+            raise Breach(b"SessionTaken %d" % player.asked.number)
+        return session[0], session[1], grant[1]
+
+    def change(self, player, asked, is_success, grant):
+        """What a final reply changes."""
+        is_end = asked.why == "closing" or (asked.method == b"TEARDOWN" and is_success)
+        if is_success:
+            player.state = NEXT.get((player.state, asked.method), player.state)
+        if is_end:
+            self.held -= {track.shared for track in player.tracks}
+            player.ended()
+        elif asked.method == b"SETUP" and is_success:
+            player.session, player.control = grant[0], player.control or asked.uri
+            player.tracks.append(asked.track)
+        elif asked.method == b"SETUP":
+            self.held.remove(asked.track.shared)
+        elif asked.method == b"DESCRIBE" and is_success and player.session is None:
+            player.control = asked.uri
+        elif asked.method == b"PLAY" and is_success:
+            player.running, player.control = asked.number, asked.uri
+        elif asked.method == b"PAUSE" and is_success:
+            player.running, player.plays = None, []
+        elif asked.why == "released":
+            player.stopped()
 
 
-def refusal_of(head, cseq):
-    """The code of the first rule that refuses a request of a player without a session, and its headers."""
+def frame_up(player, frame):
+    """A client's frame under the shared channel, or nothing."""
+    for track in player.tracks:
+        if frame[1] in track.pair:
+            return frame[:1] + bytes([2 * track.shared + track.pair.index(frame[1])]) + frame[2:]
+    return b""
+
+
+def refusal_of(head, cseq, player, uri, held):
+    """The code of the first rule that refuses a request, and the headers of the refusal."""
+    method, named, said = head.method, head.field(b"Session"), head.field(b"Range")
     required = head.field(b"Require") or head.field(b"Proxy-Require")
-    may_ask_all = head.method in (b"OPTIONS", b"GET_PARAMETER", b"SET_PARAMETER")
-    needs_session = head.method in (b"PLAY", b"PAUSE", b"TEARDOWN")
-    is_setup = head.method == b"SETUP"
+    may_ask_all = method in (b"OPTIONS", b"GET_PARAMETER", b"SET_PARAMETER")
+    of_streams, is_setup = method in (b"PLAY", b"PAUSE", b"TEARDOWN"), method == b"SETUP"
+    id_of = (session_of(named) or (None,))[0]
+    pair = player.pair_for(wanted(head.field(b"Transport")))
     rules = (
-        (not TOKEN.fullmatch(head.method), 400), (head.version != b"RTSP/1.0", 505), (cseq is None, 400),
-        (head.method not in METHODS, 501), (bool(required), 551),
+        (not TOKEN.fullmatch(method), 400), (head.version != b"RTSP/1.0", 505), (cseq is None, 400),
+        (method not in METHODS, 501), (bool(required), 551),
         (parts_of(head.uri) is None and not (head.uri == b"*" and may_ask_all), 400),
-        (head.field(b"Session") is not None or needs_session, 454),
-        (is_setup and not has_channels(head.field(b"Transport")), 461), (is_setup, 501),
+        (named is not None and (id_of is None or id_of != player.session), 454), (named is None and of_streams, 454),
+        (method not in ANYWHERE and (player.state, method) not in NEXT, 455),
+        (is_setup and ((named is None and player.session is not None) or player.has_track(uri)), 455),
+        (of_streams and player.has_track(uri) and len(player.tracks) >= 2, 460), (is_setup and pair is None, 461),
+        (method == b"PLAY" and said is not None and range_of(said) is None, 457),
+        (method == b"PAUSE" and said is not None, 457), (is_setup and held == MOST_PAIRS, 453),
+        (is_setup and len(player.tracks) == MOST_TRACKS, 503),
+        (method == b"PLAY" and said is not None and player.state == "Playing" and len(player.plays) == MOST_PLAYS, 503),
     )
     code = next((code for applies, code in rules if applies), None)
     return code, [(b"Unsupported", required)] if code == 551 else []
 
 
-def sent_up(head, uri, number, body):
-    """A request as it goes up."""
-    is_described = head.method == b"DESCRIBE"
-    body = body if head.method in (b"GET_PARAMETER", b"SET_PARAMETER") else b""
-    return message(head.method + b" " + uri + b" RTSP/2.0", number, [
+def answer_of(head, player, uri):
+    """The gateway's own answer to a request that passes, or nothing where it goes up. A PLAY may wait then."""
+    if head.method == b"OPTIONS" and head.field(b"Session") is None:
+        return 200, [(b"Public", PUBLIC)]
+    if head.method != b"PLAY" or player.state != "Playing":
+        return None, []
+    span = range_of(head.field(b"Range"))
+    if span is not None:
+        player.plays.append(Play(uri, span, scale_of(head.field(b"Scale"))))
+    return 200, [(b"Session", player.session), (b"Range", span)]
+
+
+def headers_up(head, asked, body):
+    """The headers of a player's request as it goes up, behind Session."""
+    is_described, is_play, track = asked.method == b"DESCRIBE", asked.method == b"PLAY", asked.track
+    return [
         (b"Accept", head.field(b"Accept") if is_described else None),
+        (b"Transport", transport((2 * track.shared, 2 * track.shared + 1)) if track else None),
+        (b"Accept-Ranges", ACCEPT_RANGES if track else None),
+        (b"Range", range_of(head.field(b"Range")) if is_play else None),
+        (b"Scale", scale_of(head.field(b"Scale")) if is_play else None),
         (b"Content-Type", head.field(b"Content-Type") if body else None),
         (b"Content-Encoding", head.field(b"Content-Encoding") if body else None),
-    ], body)
+    ]
 
 
-def reply_down(method, cseq, head, body):
+def session_down(asked, session, grant):
+    """The Session field of a success."""
+    if grant:
+        return grant[0] + (b"" if grant[1] is None else b";timeout=%d" % grant[1])
+    return session if asked.is_named and asked.method != b"TEARDOWN" else None
+
+
+def reply_down(asked, session, grant, head, body):
     """The server's reply as its player gets it."""
     if not 200 <= head.code <= 299:
-        return reply(told_code(head.code), cseq,
+        return reply(told_code(head.code), asked.cseq,
                      [(b"Unsupported", head.field(b"Unsupported") if head.code == 551 else None)])
-    is_described = method == b"DESCRIBE"
+    method, is_described = asked.method, asked.method == b"DESCRIBE"
     body = body if is_described or method == b"GET_PARAMETER" else b""
     base, kind, encoding = (head.field(name) if body else None
                             for name in (b"Content-Base", b"Content-Type", b"Content-Encoding"))
     if is_described and encoding is None and trim((kind or b"").split(b";")[0]).lower() == b"application/sdp":
         body = rewrite(body)
-    return reply(200, cseq, [
+    is_play = method == b"PLAY"
+    return reply(200, asked.cseq, [
+        (b"Session", session_down(asked, session, grant)),
+        (b"Transport", transport(asked.track.pair, grant[2]) if grant else None),
+        (b"Range", range_of(head.field(b"Range")) if method in (b"PLAY", b"PAUSE") else None),
+        (b"Scale", scale_of(head.field(b"Scale")) if is_play else None),
+        (b"RTP-Info", info_of(head.field(b"RTP-Info")) if is_play else None),
+        (b"Public", PUBLIC if method == b"OPTIONS" else None),
         (b"Content-Base", swap(UP, FRONT, base) if base is not None and is_described else None),
         (b"Content-Type", kind), (b"Content-Encoding", encoding),
     ], body)
