@@ -4,7 +4,7 @@ PREFIX ?= /usr/local
 PROGRAM := crates/rtspgate/out/rtspgate
 REPLAY := replay rtsp://gate.example rtsp://media.example
 SOURCES := crates.txt $(shell find crates -name out -prune -o \( -name '*.rt' -o -name '*.antt' \) -print)
-EXAMPLES := players options describe
+EXAMPLES := sessions players options describe
 
 .PHONY: all demo try test check bench install examples clean
 
@@ -18,18 +18,18 @@ $(PROGRAM): $(SOURCES)
 	cd crates/rtspgate && printf 'RTSPGW1\n' | rt run -- $(REPLAY)
 	touch $@
 
-# Replays what three players send first, and shows the records as text.
+# Replays the sessions of two players, and shows the records as text.
 demo: $(PROGRAM)
 	@mkdir -p examples/out
-	$(PROGRAM) $(REPLAY) < examples/players.rtspgw > examples/out/players.records
-	tools/transcript records < examples/out/players.records
+	$(PROGRAM) $(REPLAY) < examples/sessions.rtspgw > examples/out/sessions.records
+	tools/transcript records < examples/out/sessions.records
 
 # The same half a minute after a fresh clone, before any proof: the program is compiled with checks, and nothing of it
 # is kept.
 try:
 	@mkdir -p examples/out
-	cd crates/rtspgate && rt try -- $(REPLAY) < ../../examples/players.rtspgw > ../../examples/out/players.records
-	tools/transcript records < examples/out/players.records
+	cd crates/rtspgate && rt try -- $(REPLAY) < ../../examples/sessions.rtspgw > ../../examples/out/sessions.records
+	tools/transcript records < examples/out/sessions.records
 
 test:
 	rt ci
