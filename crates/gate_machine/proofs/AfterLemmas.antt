@@ -21,7 +21,7 @@ use Rattle.gate_machine.specs.declared.treat.Progress.{Progress}
 use Rattle.gate_machine.specs.Going.{go}
 use Rattle.gate_machine.specs.Treating.{given, decision_on, treated}
 use Rattle.gate_machine.specs.Plans.{requests, IsPlan}
-use Rattle.gate_machine.specs.Progresses.{progressed, with_queued, ahead, joined, IsFilled, IsTreated}
+use Rattle.gate_machine.specs.Progresses.{progressed, with_queued, ahead, with_progress, IsFilled, IsTreated}
 use Rattle.gate_machine.specs.declared.sight.Showing.{Showing}
 use Rattle.gate_machine.specs.Sights.{Sight, sight, sight_of, due_in, given_by}
 use Rattle.gate_machine.specs.Onward.{IsFinished, IsShown, Onward}
@@ -44,7 +44,7 @@ treated_shown bases next pair full slot client seen first progress streams chang
     let judged : IsTreated (given_by bases full (sight client.session)) client.waiting first progress = subst (λ (one : Sight). IsTreated (given_by bases full one) client.waiting first progress) (sym shown.session) waits in
     let all : IsTreated (given bases (is_none pair) client) client.waiting first progress = subst (λ b. IsTreated (given bases b client) client.waiting first progress) is judged in
     treat_onward bases next pair client client.waiting first progress streams change plan (shown.alive ∙ lives) shown.idle (due_seen client seen shown.idle shown.session ∙ due)
-    (ap (λ (left : List Shape). joined progress (given bases (is_none pair) client) left) (sym (append-nil (drop progress.treated client.waiting)))
+    (ap (λ (left : List Shape). with_progress progress (given bases (is_none pair) client) left) (sym (append-nil (drop progress.treated client.waiting)))
     ∙ all.way.leads []
     ∙ ap (λ (waiting : List Shape). ahead first [] (treated waiting (given bases (is_none pair) client))) (append-nil client.waiting))
     (λ none. ap (λ n. drop n client.waiting) (all.all none) ∙ drop-length client.waiting)
@@ -58,7 +58,7 @@ pub treated_before : (bases : Bases) (next : ℕ) (pair : Option ℕ) (client : 
     IsFinished next pair streams change progress plan → Onward next pair (after_waiting (shape ∷ []) client) [] plan (go bases pair (after_waiting (shape ∷ []) client))
 treated_before bases next pair client shape progress streams change plan lives idle due all goes room finished =
     treat_onward bases next pair (after_waiting (shape ∷ []) client) (client.waiting ++ shape ∷ []) [] progress streams change plan lives idle due
-    (ap (λ (left : List Shape). joined progress (given bases (is_none pair) client) left) (drop-append-le progress.treated client.waiting (shape ∷ []) all.way.within) ∙ all.way.leads (shape ∷ []))
+    (ap (λ (left : List Shape). with_progress progress (given bases (is_none pair) client) left) (drop-append-le progress.treated client.waiting (shape ∷ []) all.way.within) ∙ all.way.leads (shape ∷ []))
     (λ none. let clash : true ≡ false = sym goes ∙ ap is_some none in cc)
     all.way.filled
     room
@@ -74,10 +74,10 @@ treated_with bases next pair client shape progress more streams change plan live
     let empty : drop progress.treated client.waiting ≡ [] = ap (λ n. drop n client.waiting) (all.all none) ∙ drop-length client.waiting in
     let gone : drop more.treated client.waiting ≡ [] = ap (λ n. drop n client.waiting) (same_treated judged progress more shape is) ∙ empty in
     treat_onward bases next pair client (client.waiting ++ shape ∷ []) [] more streams change plan lives idle due
-    (ap (λ (left : List Shape). joined more judged left) gone
-    ∙ ap (λ (one : Progress). joined one judged []) is
+    (ap (λ (left : List Shape). with_progress more judged left) gone
+    ∙ ap (λ (one : Progress). with_progress one judged []) is
     ∙ sym (joined_step progress judged shape [] none)
-    ∙ ap (λ (left : List Shape). joined progress judged (left ++ shape ∷ [])) (sym empty)
+    ∙ ap (λ (left : List Shape). with_progress progress judged (left ++ shape ∷ [])) (sym empty)
     ∙ all.way.leads (shape ∷ []))
     (λ finished_now. gone)
     filled

@@ -33,7 +33,7 @@ due_idle : (pending : Option Purpose) (running : Option ℕ) (queue : List Play)
 due_idle None running queue play due = refl
 due_idle (Some purpose) running queue play due = cc
 
-release_by : (free : Option ℕ) (play : Option Play) (client : Client) → changes.due_play client ≡ play → Asks free client.pending (going.release_at play client)
+release_by : (free : Option ℕ) (play : Option Play) (client : Client) → changes.due_play client ≡ play → Asks free client.pending (going.released_with play client)
 release_by free None client due = refl
 release_by free (Some play) client due = record {
   before = due_idle client.pending client.session.running client.session.queue play due;
@@ -85,13 +85,13 @@ treated_as [] given = tt
 treated_as (shape ∷ more) given = treated_by (decision_on given shape) given more (treated more) (decision_speaks given shape) (treated_as more)
 
 open_by : (request : Request2) (asked : Asked) (pair : Option ℕ) (channels : Option Pair) → IsGoingBy (is_none pair) request asked channels
-    → IsAskedAs (purposes.Client asked (going.track_of asked.uri pair channels)) request (going.pair_for channels pair)
+    → IsAskedAs (purposes.Client asked (going.track_of asked.uri pair channels)) request (going.pair_if_wanted channels pair)
 open_by request asked None None speaks = (refl, speaks.0, speaks.1)
 open_by request asked (Some pair) None speaks = (refl, speaks.0, speaks.1)
 open_by request asked None (Some channels) speaks = let full : true ≡ false = speaks.2 in cc
 open_by request asked (Some pair) (Some channels) speaks = (refl, speaks.0, speaks.1)
 
-free_by : (pair : Option ℕ) (channels : Option Pair) → IsFreeFor pair (going.pair_for channels pair)
+free_by : (pair : Option ℕ) (channels : Option Pair) → IsFreeFor pair (going.pair_if_wanted channels pair)
 free_by pair None = tt
 free_by None (Some channels) = tt
 free_by (Some pair) (Some channels) = refl

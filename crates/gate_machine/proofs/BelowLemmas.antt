@@ -29,12 +29,12 @@ use Rattle.client_slot.specs.Renumbered.{track_under, purpose_under, client_unde
 use Rattle.gate_machine.specs.declared.why.CloseWhy.{CloseWhy}
 use Rattle.gate_machine.specs.declared.why.CloseWhy.TheVariants as why
 use Rattle.gate_machine.specs.Bounds.{IsWithin, IsNumberBelow, ArePairsBelow, IsTrackBelow, IsPurposeBelow, IsBelow, IsOpened}
-use Rattle.gate_machine.specs.Effects.{Message, asks, carries, Effect}
+use Rattle.gate_machine.specs.Effects.{Outgoing, asks, carries, Effect}
 use Rattle.gate_machine.specs.Events.{PrivateEvent, arrive, answer, note, media, end, slow, up_end}
 use Rattle.gate_machine.specs.Frames.{channel_in, behind_channel, Half, half_for, channel_for}
 use Rattle.gate_machine.specs.Treating.{given, Going, Treated, treated}
 use Rattle.gate_machine.specs.Going as going
-use Rattle.gate_machine.specs.Hearing.{Next, rests, releases, goes_on, Heard, idles, closes, carry, take_item, take, new_id, settle_at, take_note, give, take_media, hear}
+use Rattle.gate_machine.specs.Hearing.{Next, rests, releases, goes_on, Hearing, idles, closes, carry, take_item, take, new_id, settle_at, take_note, give, take_media, hear}
 use Rattle.gate_machine.specs.Step.{going_on, step}
 use Rattle.gate_machine.specs.Alone.{Private, pair_unless, pair_alone, effect_while, asked_in, private_after}
 
@@ -147,7 +147,7 @@ settle_numbered : (bases : Bases) (n : ℕ) (pending : Option Purpose) (told : T
 settle_numbered bases n None told ssrc client numbered = numbered
 settle_numbered bases n (Some purpose) told ssrc client numbered = reply_numbered n told.code (new_id purpose client.session.id told) client numbered
 
-answer_numbered : (n : ℕ) (early : Bool) (client : Client) (heard : Heard) → IsNumbered n client → IsNumbered n heard.effect.client → IsNumbered n (cond early (idles client) heard).effect.client
+answer_numbered : (n : ℕ) (early : Bool) (client : Client) (heard : Hearing) → IsNumbered n client → IsNumbered n heard.effect.client → IsNumbered n (cond early (idles client) heard).effect.client
 answer_numbered n true client heard numbered later = numbered
 answer_numbered n false client heard numbered later = later
 
@@ -187,7 +187,7 @@ release_by n (Some play) client numbered =
     let more : IsBelow (n + 1) client = below_more n (n + 1) client (omega arith) numbered.0 in
     (record { running = more.running; tracks = more.tracks; pending = tt }, omega arith)
 
-release_gone : (n : ℕ) (play : Option Play) (client : Client) → IsNumbered n client → IsGone n (going.release_at play client)
+release_gone : (n : ℕ) (play : Option Play) (client : Client) → IsNumbered n client → IsGone n (going.released_with play client)
 release_gone n None client numbered = rests_gone n client numbered
 release_gone n (Some play) client numbered = release_by n (changes.due_play client) client numbered
 
@@ -239,7 +239,7 @@ going_gone bases n pair releases client free numbered = release_gone n (changes.
 going_gone bases n pair goes_on client free numbered = at_gone bases n pair client.pending client free numbered
 
 -- Where an event by itself sends a message up, that is a frame, and nothing else goes up.
-abbrev pub IsMute : Next → Option Message → Type 0
+abbrev pub IsMute : Next → Option Outgoing → Type 0
 IsMute next None = Unit {0}
 IsMute next (Some (asks request pair)) = ⊥
 IsMute rests (Some (carries pair half rest)) = Unit {0}
@@ -269,7 +269,7 @@ settle_mute : (bases : Bases) (n : ℕ) (pending : Option Purpose) (told : Told)
 settle_mute bases n None told ssrc client = tt
 settle_mute bases n (Some purpose) told ssrc client = tt
 
-answer_mute : (early : Bool) (client : Client) (heard : Heard) → IsMute heard.next heard.effect.message → IsMute (cond early (idles client) heard).next (cond early (idles client) heard).effect.message
+answer_mute : (early : Bool) (client : Client) (heard : Hearing) → IsMute heard.next heard.effect.message → IsMute (cond early (idles client) heard).next (cond early (idles client) heard).effect.message
 answer_mute true client heard mute = tt
 answer_mute false client heard mute = mute
 
@@ -295,7 +295,7 @@ hear_mute bases n client end = closes_mute client.alive why.Ended client
 hear_mute bases n client slow = closes_mute client.alive why.Slow client
 hear_mute bases n client up_end = tt
 
-mute_asked : (bases : Bases) (pair : Option ℕ) (next : Next) (message : Option Message) (client : Client) → IsMute next message
+mute_asked : (bases : Bases) (pair : Option ℕ) (next : Next) (message : Option Outgoing) (client : Client) → IsMute next message
     → asked_in (going_on bases pair next client).message ≡ asked_in (option_or message (going_on bases pair next client).message)
 mute_asked bases pair next None client mute = refl
 mute_asked bases pair next (Some (asks request named)) client mute = absurd mute
@@ -305,7 +305,7 @@ mute_asked bases pair goes_on (Some (carries one half rest)) client mute = absur
 
 step_gone : (bases : Bases) (n : ℕ) (pair : Option ℕ) (client : Client) (event : PrivateEvent) → IsNumberBelow (n + 1) pair → IsNumbered n client → IsGone n (step bases n pair client event)
 step_gone bases n pair client event free numbered =
-    let heard : Heard = hear bases n client event in
+    let heard : Hearing = hear bases n client event in
     subst (λ (more : ℕ). IsNumbered (n + more) (going_on bases pair heard.next heard.effect.client).client)
     (mute_asked bases pair heard.next heard.effect.message heard.effect.client (hear_mute bases n client event))
     (going_gone bases n pair heard.next heard.effect.client free (hear_numbered bases n client event numbered))

@@ -20,7 +20,7 @@ use Rattle.gate_machine.specs.Effects.{Effect, then_effect}
 use Rattle.gate_machine.specs.Events.{PrivateEvent}
 use Rattle.gate_machine.specs.Treating.{given, one_queued, fits_memory, decision_on, Going, Treated, with_answer, with_play, treated_first, treated}
 use Rattle.gate_machine.specs.Going as going
-use Rattle.gate_machine.specs.Hearing.{Next, rests, releases, goes_on, Heard, hear}
+use Rattle.gate_machine.specs.Hearing.{Next, rests, releases, goes_on, Hearing, hear}
 use Rattle.gate_machine.specs.Step.{going_on, step}
 
 either_false : (a b : Bool) → (a || b) ≡ false → (a ≡ false) × (b ≡ false)
@@ -109,5 +109,5 @@ going_unmarked bases p goes_on client none = go_unmarked bases p client none
 pub step_unmarked : (bases : Bases) (number p : ℕ) (client : Client) (event : PrivateEvent) → has_setup (hear bases number client event).effect.client.waiting ≡ false
     → step bases number None client event ≡ step bases number (Some p) client event
 step_unmarked bases number p client event none =
-    let heard : Heard = hear bases number client event in
+    let heard : Hearing = hear bases number client event in
     ap (λ (later : Effect). then_effect heard.effect later) (going_unmarked bases p heard.next heard.effect.client none)

@@ -18,7 +18,7 @@ use Rattle.client_slot.specs.Client.{Client}
 use Rattle.client_slot.specs.Changes as changes
 use Rattle.gate_machine.specs.declared.why.CloseWhy.{CloseWhy}
 use Rattle.gate_machine.specs.declared.why.CloseWhy.TheVariants as why
-use Rattle.gate_machine.specs.Effects.{Message, asks, carries}
+use Rattle.gate_machine.specs.Effects.{Outgoing, asks, carries}
 use Rattle.gate_machine.specs.Events.{PrivateEvent, arrive, answer, note, media, end, slow, up_end}
 use Rattle.gate_machine.specs.Frames.{channel_in, behind_channel, Half, half_for, channel_for}
 use Rattle.gate_machine.specs.Treating.{given, Going, Treated, treated}
@@ -43,7 +43,7 @@ release_at_steady : (play : Option Play) (client : Client) → IsSteady client (
 release_at_steady None client = steady client
 release_at_steady (Some play) client = record { tracks = refl; id = refl; alive = refl }
 
-release_steady_by : (play : Option Play) (client : Client) → IsSteady client (going.release_at play client).client
+release_steady_by : (play : Option Play) (client : Client) → IsSteady client (going.released_with play client).client
 release_steady_by None client = steady client
 release_steady_by (Some play) client = release_at_steady (changes.due_play client) client
 
@@ -98,7 +98,7 @@ abbrev pub SuitsOpen : Bool → Option Purpose → Type 0
 SuitsOpen alive None = Unit {0}
 SuitsOpen alive (Some purpose) = Suits alive purpose
 
-abbrev pub SuitsBy : Bool → Option Message → Option Purpose → Type 0
+abbrev pub SuitsBy : Bool → Option Outgoing → Option Purpose → Type 0
 SuitsBy alive None new = Unit {0}
 SuitsBy alive (Some (asks request pair)) new = SuitsOpen alive new
 SuitsBy alive (Some (carries pair half rest)) new = Unit {0}
@@ -111,7 +111,7 @@ due_open : (alive : Bool) (pending : Option Purpose) (running : Option ℕ) (que
 due_open alive None running queue play due = tt
 due_open alive (Some purpose) running queue play due = cc
 
-release_suits : (play : Option Play) (client : Client) → changes.due_play client ≡ play → SuitsBy client.alive (going.release_at play client).message (going.release_at play client).client.pending
+release_suits : (play : Option Play) (client : Client) → changes.due_play client ≡ play → SuitsBy client.alive (going.released_with play client).message (going.released_with play client).client.pending
 release_suits None client due = tt
 release_suits (Some play) client due =
     released_suits client.alive (changes.due_play client) client (due_open client.alive client.pending client.session.running client.session.queue play due)

@@ -17,12 +17,12 @@ use Rattle.client_slot.specs.Client.{Client}
 use Rattle.client_slot.specs.Changes as changes
 use Rattle.gate_machine.specs.declared.why.CloseWhy.{CloseWhy}
 use Rattle.gate_machine.specs.declared.why.CloseWhy.TheVariants as why
-use Rattle.gate_machine.specs.Effects.{Message, Effect, stays}
+use Rattle.gate_machine.specs.Effects.{Outgoing, Effect, stays}
 use Rattle.gate_machine.specs.Events.{PrivateEvent, arrive, answer, note, media, end, slow, up_end}
 use Rattle.gate_machine.specs.Frames.{channel_in, behind_channel, Half, half_for, channel_for}
 use Rattle.gate_machine.specs.Treating.{given, Going, Treated, treated}
 use Rattle.gate_machine.specs.Going as going
-use Rattle.gate_machine.specs.Hearing.{Next, rests, releases, goes_on, Heard, idles, closes, carry, take_item, take, settle_at, take_note, give, take_media, hear}
+use Rattle.gate_machine.specs.Hearing.{Next, rests, releases, goes_on, Hearing, idles, closes, carry, take_item, take, settle_at, take_note, give, take_media, hear}
 use Rattle.gate_machine.specs.Step.{going_on, step}
 use Rattle.gate_machine.specs.Alone.{Private, is_live, pair_alone, effect_while, effect_alone, is_up_end, or_else, private_next, private_after, effect_after, piece, hand, sent_up, shut_alone, is_empty_list}
 
@@ -35,7 +35,7 @@ release_alive : (play : Option Play) (client : Client) → (changes.release_at p
 release_alive None client = refl
 release_alive (Some play) client = refl
 
-release_at_quiet : (play : Option Play) (client : Client) → IsQuiet client.alive (going.release_at play client)
+release_at_quiet : (play : Option Play) (client : Client) → IsQuiet client.alive (going.released_with play client)
 release_at_quiet None client = record { alive = refl; close = refl }
 release_at_quiet (Some play) client = record { alive = release_alive (changes.due_play client) client; close = refl }
 
@@ -79,7 +79,7 @@ going_on_quiet bases pair releases client = release_at_quiet (changes.due_play c
 going_on_quiet bases pair goes_on client = go_at_quiet bases pair client.pending client
 
 -- What an event does by itself leaves a connection alive exactly where it does not close it.
-abbrev IsKept : Bool → Heard → Type 0
+abbrev IsKept : Bool → Hearing → Type 0
 IsKept alive heard = heard.effect.client.alive ≡ (alive && is_none heard.effect.close)
 
 and_kept : (alive : Bool) → alive ≡ (alive && true)
@@ -108,7 +108,7 @@ settle_kept : (bases : Bases) (number : ℕ) (pending : Option Purpose) (told : 
 settle_kept bases number None told ssrc client = and_kept client.alive
 settle_kept bases number (Some purpose) told ssrc client = and_kept client.alive
 
-answer_by : (early : Bool) (client : Client) (heard : Heard) → IsKept client.alive heard → IsKept client.alive (cond early (idles client) heard)
+answer_by : (early : Bool) (client : Client) (heard : Hearing) → IsKept client.alive heard → IsKept client.alive (cond early (idles client) heard)
 answer_by true client heard kept = and_kept client.alive
 answer_by false client heard kept = kept
 
@@ -141,7 +141,7 @@ or_none (Some one) = refl
 pub step_alive : (bases : Bases) (number : ℕ) (pair : Option ℕ) (client : Client) (event : PrivateEvent)
     → (step bases number pair client event).client.alive ≡ (client.alive && is_none (step bases number pair client event).close)
 step_alive bases number pair client event =
-    let heard : Heard = hear bases number client event in
+    let heard : Hearing = hear bases number client event in
     let quiet : IsQuiet heard.effect.client.alive (going_on bases pair heard.next heard.effect.client) = going_on_quiet bases pair heard.next heard.effect.client in
     quiet.alive ∙ hear_kept bases number client event
     ∙ ap (λ (close : Option CloseWhy). client.alive && is_none close) (sym (ap (option_or heard.effect.close) quiet.close ∙ or_none heard.effect.close))
@@ -264,7 +264,7 @@ pub ends_hand : (bases : Bases) (events : List PrivateEvent) → hand bases (up_
 ends_hand bases events = ap (λ (text : List ℕ). piece text ++ hand bases events) (end_hand bases (private_after bases events))
 
 pub ends_up : (bases : Bases) (events : List PrivateEvent) → sent_up bases (up_end ∷ events) ≡ sent_up bases events
-ends_up bases events = ap (λ (message : Option Message). option_to_list message ++ sent_up bases events) (end_up bases (private_after bases events))
+ends_up bases events = ap (λ (message : Option Outgoing). option_to_list message ++ sent_up bases events) (end_up bases (private_after bases events))
 
 pub ends_shut : (bases : Bases) (events : List PrivateEvent) → shut_alone bases (up_end ∷ events) ≡ cond (is_live (private_after bases events)) (why.Upstream ∷ []) [] ++ shut_alone bases events
 ends_shut bases events = ap (λ (closed : List CloseWhy). closed ++ shut_alone bases events) (end_close bases (private_after bases events))

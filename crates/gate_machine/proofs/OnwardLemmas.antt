@@ -23,7 +23,7 @@ use Rattle.gate_machine.specs.declared.treat.Progress.{Progress}
 use Rattle.gate_machine.specs.Going as going
 use Rattle.gate_machine.specs.Treating.{given, Treated, treated}
 use Rattle.gate_machine.specs.Plans.{ArePlaced, IsReadyUp, without, risen, risen_text, is_up}
-use Rattle.gate_machine.specs.Progresses.{going_of, with_queued, ahead, joined_at, joined, IsFilled}
+use Rattle.gate_machine.specs.Progresses.{going_of, with_queued, ahead, joined_at, with_progress, IsFilled}
 use Rattle.gate_machine.specs.Sights.{Sight, sight, due_in}
 use Rattle.gate_machine.specs.Spelled.{spelled}
 use Rattle.gate_machine.specs.Onward.{leave_up, up_for, IsPlacedUp, IsFinished, Onward}
@@ -38,7 +38,7 @@ still_onward next pair client change first = record { client_then = refl; hand =
 
 -- The PLAY that is due goes up.
 pub due_onward : (next : ℕ) (pair : Option ℕ) (client : Client) (change : Change) (first text : List ℕ) (play : Play) → text ≡ request_text next (play_up client.session.id play) →
-    Onward next pair client first (still change first (ups.Due text)) (going.release_at (Some play) client)
+    Onward next pair client first (still change first (ups.Due text)) (going.released_with (Some play) client)
 due_onward next pair client change first text play is = record {
   client_then = refl;
   hand = sym (append-nil first);
@@ -142,7 +142,7 @@ finished_is next pair streams change progress plan finished =
 -- It is what the machine does with all requests that wait, for a connection of which so many are known to be left.
 pub treat_onward : (bases : Bases) (next : ℕ) (pair : Option ℕ) (base : Client) (all : List Shape) (first : List ℕ) (progress : Progress) (streams : ℕ) (change : Change) (plan : Plan) →
     base.alive ≡ true → base.pending ≡ None → changes.due_play base ≡ None →
-    joined progress (given bases (is_none pair) base) (drop progress.treated base.waiting) ≡ ahead first [] (treated all (given bases (is_none pair) base)) → (progress.going ≡ None → drop progress.treated base.waiting ≡ []) →
+    with_progress progress (given bases (is_none pair) base) (drop progress.treated base.waiting) ≡ ahead first [] (treated all (given bases (is_none pair) base)) → (progress.going ≡ None → drop progress.treated base.waiting ≡ []) →
     IsFilled (length base.session.queue) progress → (streams < MOST_TRACKS → length base.session.tracks < MOST_TRACKS) → IsFinished next pair streams change progress plan →
     Onward next pair base first plan (going.go bases pair (record base { waiting = all }))
 treat_onward bases next pair base all first progress streams change plan lives idle due leads none filled room finished =

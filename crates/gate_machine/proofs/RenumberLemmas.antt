@@ -22,12 +22,12 @@ use Rattle.client_slot.specs.Renumbered.{track_under, purpose_under, client_unde
 use Rattle.client_slot.proofs.RenumberLemmas.{reply_under, note_under, due_under, release_under, closing_under}
 use Rattle.gate_machine.specs.declared.why.CloseWhy.{CloseWhy}
 use Rattle.gate_machine.specs.declared.why.CloseWhy.TheVariants as why
-use Rattle.gate_machine.specs.Effects.{Message, asks, Effect, stays, sends, hands, then_effect}
+use Rattle.gate_machine.specs.Effects.{Outgoing, asks, Effect, stays, sends, hands, then_effect}
 use Rattle.gate_machine.specs.Events.{PrivateEvent, arrive, answer, note, media, end, slow, up_end}
 use Rattle.gate_machine.specs.Frames.{channel_in, behind_channel, Half, half_on, half_for, player_channel, channel_for}
 use Rattle.gate_machine.specs.Treating.{given, Going, Treated, treated}
 use Rattle.gate_machine.specs.Going as going
-use Rattle.gate_machine.specs.Hearing.{Next, rests, releases, goes_on, Heard, idles, closes, carry, take_item, take, new_id, reply_hand, settled, settle_at, take_answer, take_note, give, take_media, hear}
+use Rattle.gate_machine.specs.Hearing.{Next, rests, releases, goes_on, Hearing, idles, closes, carry, take_item, take, new_id, reply_hand, settled, settle_at, take_answer, take_note, give, take_media, hear}
 use Rattle.gate_machine.specs.Renumbered.{message_under, effect_under, event_under, AreTracksApart, IsToldApart}
 use Rattle.gate_machine.specs.Step.{going_on, heard_step, step}
 use Rattle.gate_machine.proofs.BlindLemmas.{treated_under}
@@ -38,7 +38,7 @@ track_same pairs uri None channels = refl
 track_same pairs uri (Some pair) None = refl
 track_same pairs uri (Some pair) (Some channels) = refl
 
-pair_same : (pairs : ℕ → ℕ) (channels : Option Pair) (pair : Option ℕ) → going.pair_for channels (option_map pairs pair) ≡ option_map pairs (going.pair_for channels pair)
+pair_same : (pairs : ℕ → ℕ) (channels : Option Pair) (pair : Option ℕ) → going.pair_if_wanted channels (option_map pairs pair) ≡ option_map pairs (going.pair_if_wanted channels pair)
 pair_same pairs None pair = refl
 pair_same pairs (Some channels) pair = refl
 
@@ -54,7 +54,7 @@ goes_at_under : (numbers pairs : ℕ → ℕ) (one : Option Going) (pair : Optio
     → going.goes_at one (option_map pairs pair) hand (client_under numbers pairs client) ≡ effect_under numbers pairs (going.goes_at one pair hand client)
 goes_at_under numbers pairs None pair hand client = refl
 goes_at_under numbers pairs (Some one) pair hand client =
-    ap (λ (track : Option Track). record { client = record (client_under numbers pairs client) { pending = Some (purposes.Client one.asked track) }; hand = hand; message = Some (asks one.request (going.pair_for one.channels (option_map pairs pair))); close = None })
+    ap (λ (track : Option Track). record { client = record (client_under numbers pairs client) { pending = Some (purposes.Client one.asked track) }; hand = hand; message = Some (asks one.request (going.pair_if_wanted one.channels (option_map pairs pair))); close = None })
     (track_same pairs one.asked.uri pair one.channels)
     ∙ ap (λ (named : Option ℕ). record { client = record (client_under numbers pairs client) { pending = Some (purposes.Client one.asked (option_map (track_under pairs) (going.track_of one.asked.uri pair one.channels))) }; hand = hand; message = Some (asks one.request named); close = None })
     (pair_same pairs one.channels pair)
@@ -71,7 +71,7 @@ treat_under numbers pairs bases pair client =
     ∙ ap (λ all. going.goes_with all (option_map pairs pair) (client_under numbers pairs client)) (treated_under pairs client.waiting (given bases (is_none pair) client))
     ∙ goes_with_under numbers pairs (treated client.waiting (given bases (is_none pair) client)) pair client
 
-release_at_under : (numbers pairs : ℕ → ℕ) (play : Option Play) (client : Client) → going.release_at play (client_under numbers pairs client) ≡ effect_under numbers pairs (going.release_at play client)
+release_at_under : (numbers pairs : ℕ → ℕ) (play : Option Play) (client : Client) → going.released_with play (client_under numbers pairs client) ≡ effect_under numbers pairs (going.released_with play client)
 release_at_under numbers pairs None client = refl
 release_at_under numbers pairs (Some play) client = ap (sends _) (sym (release_under numbers pairs client))
 
@@ -80,7 +80,7 @@ due_same numbers pairs client = due_under numbers pairs client.pending client.se
 
 release_same : (numbers pairs : ℕ → ℕ) (client : Client) → going.release (client_under numbers pairs client) ≡ effect_under numbers pairs (going.release client)
 release_same numbers pairs client =
-    ap (λ play. going.release_at play (client_under numbers pairs client)) (due_same numbers pairs client) ∙ release_at_under numbers pairs (due_play client) client
+    ap (λ play. going.released_with play (client_under numbers pairs client)) (due_same numbers pairs client) ∙ release_at_under numbers pairs (due_play client) client
 
 leave_at_under : (numbers pairs : ℕ → ℕ) (id : Option (List ℕ)) (client : Client) → going.leave_at id (client_under numbers pairs client) ≡ effect_under numbers pairs (going.leave_at id client)
 leave_at_under numbers pairs None client = refl
@@ -110,7 +110,7 @@ going_on_under numbers pairs bases pair releases client = release_same numbers p
 going_on_under numbers pairs bases pair goes_on client = go_at_under numbers pairs bases pair client.pending client
 
 -- what an event does by itself
-abbrev heard_under : (ℕ → ℕ) → (ℕ → ℕ) → Heard → Heard
+abbrev heard_under : (ℕ → ℕ) → (ℕ → ℕ) → Hearing → Hearing
 heard_under numbers pairs heard = record { effect = effect_under numbers pairs heard.effect; next = heard.next }
 
 closes_under : (numbers pairs : ℕ → ℕ) (alive : Bool) (why : CloseWhy) (client : Client) → closes alive why (client_under numbers pairs client) ≡ heard_under numbers pairs (closes alive why client)
@@ -177,7 +177,7 @@ settle_at_under : (numbers pairs : ℕ → ℕ) (bases : Bases) (number : ℕ) (
 settle_at_under numbers pairs bases number None told ssrc client = refl
 settle_at_under numbers pairs bases number (Some purpose) told ssrc client = settled_under numbers pairs bases number purpose told ssrc client
 
-answer_by : (numbers pairs : ℕ → ℕ) (early : Bool) (client : Client) (moved heard : Heard) → moved ≡ heard_under numbers pairs heard
+answer_by : (numbers pairs : ℕ → ℕ) (early : Bool) (client : Client) (moved heard : Hearing) → moved ≡ heard_under numbers pairs heard
     → cond early (idles (client_under numbers pairs client)) moved ≡ heard_under numbers pairs (cond early (idles client) heard)
 answer_by numbers pairs true client moved heard same = refl
 answer_by numbers pairs false client moved heard same = same
@@ -225,15 +225,15 @@ hear_under numbers pairs bases number client end apart = closes_under numbers pa
 hear_under numbers pairs bases number client slow apart = closes_under numbers pairs client.alive why.Slow client
 hear_under numbers pairs bases number client up_end apart = refl
 
-message_same : (pairs : ℕ → ℕ) (first second : Option Message) → option_or (option_map (message_under pairs) first) (option_map (message_under pairs) second) ≡ option_map (message_under pairs) (option_or first second)
+message_same : (pairs : ℕ → ℕ) (first second : Option Outgoing) → option_or (option_map (message_under pairs) first) (option_map (message_under pairs) second) ≡ option_map (message_under pairs) (option_or first second)
 message_same pairs None second = refl
 message_same pairs (Some message) second = refl
 
 then_under : (numbers pairs : ℕ → ℕ) (first second : Effect) → then_effect (effect_under numbers pairs first) (effect_under numbers pairs second) ≡ effect_under numbers pairs (then_effect first second)
 then_under numbers pairs first second =
-    ap (λ (message : Option Message). record (effect_under numbers pairs (then_effect first second)) { message = message }) (message_same pairs first.message second.message)
+    ap (λ (message : Option Outgoing). record (effect_under numbers pairs (then_effect first second)) { message = message }) (message_same pairs first.message second.message)
 
-heard_step_under : (numbers pairs : ℕ → ℕ) (bases : Bases) (pair : Option ℕ) (heard : Heard)
+heard_step_under : (numbers pairs : ℕ → ℕ) (bases : Bases) (pair : Option ℕ) (heard : Hearing)
     → heard_step bases (option_map pairs pair) (heard_under numbers pairs heard) ≡ effect_under numbers pairs (heard_step bases pair heard)
 heard_step_under numbers pairs bases pair heard =
     ap (then_effect (effect_under numbers pairs heard.effect)) (going_on_under numbers pairs bases pair heard.next heard.effect.client)

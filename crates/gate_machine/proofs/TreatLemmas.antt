@@ -15,7 +15,7 @@ use Rattle.gate_machine.specs.declared.treat.Upward.{Upward}
 use Rattle.gate_machine.specs.declared.treat.Progress.{Progress}
 use Rattle.gate_machine.specs.Treating.{Going, Treated, decision_on, treated_first, treated}
 use Rattle.gate_machine.specs.Plans.{ArePlaced}
-use Rattle.gate_machine.specs.Progresses.{begun, progressed, with_queued, ahead, joined_at, joined, IsFilled, IsOnTheWay}
+use Rattle.gate_machine.specs.Progresses.{begun, progressed, with_queued, ahead, joined_at, with_progress, IsFilled, IsOnTheWay}
 
 pub not_going : (going : Option Upward) → is_some going ≡ false → going ≡ None
 not_going None is = refl
@@ -38,7 +38,7 @@ with_parts hand plays later = record later { hand = hand; plays = plays }
 
 -- One is treated: what becomes of all stays.
 by_decision : (progress : Progress) (given : Given) (more : List Shape) (decision : Decision) → progress.going ≡ None →
-    ahead progress.hand progress.plays (treated_first decision (with_queued progress.queued given) more (treated more)) ≡ joined (progressed decision progress) given more
+    ahead progress.hand progress.plays (treated_first decision (with_queued progress.queued given) more (treated more)) ≡ with_progress (progressed decision progress) given more
 by_decision progress given more (Answer text) none =
     let later = treated more (with_queued progress.queued given) in
     ap (λ (hand : List ℕ). with_parts hand (progress.plays ++ later.plays) later) (sym (append_assoc progress.hand text later.hand))
@@ -58,7 +58,7 @@ by_decision progress given more (Setup request asked channels) none =
     ∙ ap (λ (plays : List Play). record { hand = progress.hand; plays = plays; going = up; left = more }) (append-nil progress.plays)
 
 pub joined_step : (progress : Progress) (given : Given) (shape : Shape) (more : List Shape) → progress.going ≡ None →
-    joined progress given (shape ∷ more) ≡ joined (progressed (decision_on (with_queued progress.queued given) shape) progress) given more
+    with_progress progress given (shape ∷ more) ≡ with_progress (progressed (decision_on (with_queued progress.queued given) shape) progress) given more
 joined_step progress given shape more none =
     ap (λ (going : Option Upward). joined_at going progress.hand progress.plays progress.queued given (shape ∷ more)) none
     ∙ by_decision progress given more (decision_on (with_queued progress.queued given) shape) none
@@ -89,10 +89,10 @@ pub way_goes_on : (given : Given) (waiting : List Shape) (first : List ℕ) (old
 way_goes_on given waiting first old new shape way none found is filled = record {
   within = let within = slice_get_within waiting old.treated shape found in let same = same_treated given old new shape is in omega (arith, within, same);
   leads = λ more.
-      ap (λ n. joined new given (drop (n + 1) waiting ++ more)) (same_treated given old new shape is)
-      ∙ ap (λ (one : Progress). joined one given (drop (old.treated + 1) waiting ++ more)) is
+      ap (λ n. with_progress new given (drop (n + 1) waiting ++ more)) (same_treated given old new shape is)
+      ∙ ap (λ (one : Progress). with_progress one given (drop (old.treated + 1) waiting ++ more)) is
       ∙ sym (joined_step old given shape (drop (old.treated + 1) waiting ++ more) none)
-      ∙ ap (λ (left : List Shape). joined old given (left ++ more)) (sym (next_waits waiting old.treated shape found))
+      ∙ ap (λ (left : List Shape). with_progress old given (left ++ more)) (sym (next_waits waiting old.treated shape found))
       ∙ way.leads more;
   filled = record { counted = filled.counted; placed = filled.placed };
 }

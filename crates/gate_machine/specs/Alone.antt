@@ -6,7 +6,7 @@ use Rattle.rtsp_uri.specs.declared.base.Bases.{Bases}
 use Rattle.client_slot.specs.Client.{Client, new_client}
 use Rattle.gate_machine.specs.declared.why.CloseWhy.{CloseWhy}
 use Rattle.gate_machine.specs.declared.why.CloseWhy.TheVariants.{Upstream}
-use Rattle.gate_machine.specs.Effects.{Message, asks, carries, Effect, stays}
+use Rattle.gate_machine.specs.Effects.{Outgoing, asks, carries, Effect, stays}
 use Rattle.gate_machine.specs.Events.{PrivateEvent, arrive, answer, note, media, end, slow, up_end}
 use Rattle.gate_machine.specs.Step.{step}
 
@@ -56,7 +56,7 @@ is_up_end up_end = true
 is_up_end event = false
 
 -- one request more, where a message is one
-abbrev pub asked_in : Option Message → ℕ
+abbrev pub asked_in : Option Outgoing → ℕ
 asked_in None = 0
 asked_in (Some (asks request pair)) = 1
 asked_in (Some (carries pair half rest)) = 0
@@ -89,7 +89,7 @@ abbrev pub hand : Bases → List PrivateEvent → List (List ℕ)
 hand bases [] = []
 hand bases (event ∷ events) = piece (effect_after bases events event).hand ++ hand bases events
 
-abbrev pub sent_up : Bases → List PrivateEvent → List Message
+abbrev pub sent_up : Bases → List PrivateEvent → List Outgoing
 sent_up bases [] = []
 sent_up bases (event ∷ events) = option_to_list (effect_after bases events event).message ++ sent_up bases events
 

@@ -9,7 +9,7 @@ use Rattle.translate_up.specs.Setups.{is_setup_item}
 use Rattle.translate_up.specs.Upward.{method_up}
 use Rattle.client_slot.specs.declared.purpose.Purpose.{Purpose}
 use Rattle.client_slot.specs.declared.purpose.Purpose.TheVariants as purposes
-use Rattle.gate_machine.specs.Effects.{Message, asks, carries, Effect}
+use Rattle.gate_machine.specs.Effects.{Outgoing, asks, carries, Effect}
 
 -- A SETUP has the pair of its stream, and nothing else has one.
 abbrev pub IsAskedAs : Purpose → Request2 → Option ℕ → Type 0
@@ -35,7 +35,7 @@ pub record IsAsked (free : Option ℕ) (request : Request2) (pair : Option ℕ) 
 
 -- By the pair that is free, what was open before, the message, and what is open after it: nothing goes up, and what is
 -- open is as before; or a request goes up where none was open, and is open then.
-abbrev pub AsksBy : Option ℕ → Option Purpose → Option Message → Option Purpose → Type 0
+abbrev pub AsksBy : Option ℕ → Option Purpose → Option Outgoing → Option Purpose → Type 0
 AsksBy free old None new = new ≡ old
 AsksBy free old (Some (asks request pair)) new = IsAsked free request pair old new
 AsksBy free old (Some (carries pair half rest)) new = ⊥

@@ -7,15 +7,15 @@ use Rattle.gate_machine.specs.declared.why.CloseWhy.{CloseWhy}
 
 -- A message to the server: a request, and a SETUP with the pair of channels that it asks for, which is none of its
 -- headers yet; or a frame on a half of a pair, all of it behind its channel.
-pub data Message : Type 0 where
-  asks : (request : Request2) → (pair : Option ℕ) → Message
-  carries : (pair half : ℕ) → (rest : List ℕ) → Message
+pub data Outgoing : Type 0 where
+  asks : (request : Request2) → (pair : Option ℕ) → Outgoing
+  carries : (pair half : ℕ) → (rest : List ℕ) → Outgoing
 
 -- the connection then, the bytes that its client is handed, the message that goes up, and the close
 pub record Effect : Type 0 where
   pub client : Client
   pub hand : List ℕ
-  pub message : Option Message
+  pub message : Option Outgoing
   pub close : Option CloseWhy
 
 -- nothing but that the connection is so
@@ -23,7 +23,7 @@ abbrev pub stays : Client → Effect
 stays client = record { client = client; hand = []; message = None; close = None }
 
 -- the connection is so, and a message goes up
-abbrev pub sends : Message → Client → Effect
+abbrev pub sends : Outgoing → Client → Effect
 sends message client = record { client = client; hand = []; message = Some message; close = None }
 
 -- the connection is so, and its client is handed bytes

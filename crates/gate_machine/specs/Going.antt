@@ -15,12 +15,12 @@ use Rattle.gate_machine.specs.Effects.{asks, Effect, stays, sends}
 use Rattle.gate_machine.specs.Treating.{given, Going, Treated, treated}
 
 -- The PLAY that is due goes up, where one is.
-abbrev pub release_at : Option Play → Client → Effect
-release_at None client = stays client
-release_at (Some play) client = sends (asks (play_up client.session.id play) None) (after_release client)
+abbrev pub released_with : Option Play → Client → Effect
+released_with None client = stays client
+released_with (Some play) client = sends (asks (play_up client.session.id play) None) (after_release client)
 
 abbrev pub release : Client → Effect
-release client = release_at (due_play client) client
+release client = released_with (due_play client) client
 
 -- The closing TEARDOWN goes up, where there is a session.
 abbrev pub leave_at : Option (List ℕ) → Client → Effect
@@ -35,9 +35,9 @@ abbrev pub track_of : List ℕ → Option ℕ → Option Pair → Option Track
 track_of uri pair channels = option_and_then (λ pair. option_map (λ client. record { uri = uri; client = client; pair = pair }) channels) pair
 
 -- the pair of channels that it asks for
-abbrev pub pair_for : Option Pair → Option ℕ → Option ℕ
-pair_for None pair = None
-pair_for (Some channels) pair = pair
+abbrev pub pair_if_wanted : Option Pair → Option ℕ → Option ℕ
+pair_if_wanted None pair = None
+pair_if_wanted (Some channels) pair = pair
 
 -- PLAYs wait, in their order
 abbrev pub after_plays : List Play → Client → Client
@@ -50,7 +50,7 @@ goes_at None pair hand client = record { client = client; hand = hand; message =
 goes_at (Some going) pair hand client = record {
   client = after_asking going.asked (track_of going.asked.uri pair going.channels) client;
   hand = hand;
-  message = Some (asks going.request (pair_for going.channels pair));
+  message = Some (asks going.request (pair_if_wanted going.channels pair));
   close = None;
 }
 
@@ -62,7 +62,7 @@ abbrev pub treat : Bases → Option ℕ → Client → Effect
 treat bases pair client = goes_with (treated client.waiting (given bases (is_none pair) client)) pair client
 
 abbrev pub go_due : Bases → Option ℕ → Option Play → Client → Effect
-go_due bases pair (Some play) client = release_at (Some play) client
+go_due bases pair (Some play) client = released_with (Some play) client
 go_due bases pair None client = treat bases pair client
 
 abbrev pub go_idle : Bases → Option ℕ → Bool → Client → Effect

@@ -32,32 +32,32 @@ pub data Next : Type 0 where
   goes_on : Next
 
 -- what the event does by itself, and what may go up then
-pub record Heard : Type 0 where
+pub record Hearing : Type 0 where
   pub effect : Effect
   pub next : Next
 
-abbrev pub idles : Client → Heard
+abbrev pub idles : Client → Hearing
 idles client = record { effect = stays client; next = rests }
 
 -- A connection closes, where it is alive.
-abbrev pub closes : Bool → CloseWhy → Client → Heard
+abbrev pub closes : Bool → CloseWhy → Client → Hearing
 closes false why client = idles client
 closes true why client = record { effect = record { client = after_close client; hand = []; message = None; close = Some why }; next = goes_on }
 
 -- a frame of the player goes up on the half that its channel stands for
-abbrev pub carry : Option Half → List ℕ → Client → Heard
+abbrev pub carry : Option Half → List ℕ → Client → Hearing
 carry None rest client = idles client
 carry (Some half) rest client = record { effect = sends (carries half.pair half.half rest) client; next = rests }
 
 -- An item of the player of a connection that is alive: a request waits; a response has no effect; an item that can't be
 -- read closes.
-abbrev pub take_item : ItemKind → Shape → Client → Heard
+abbrev pub take_item : ItemKind → Shape → Client → Hearing
 take_item Request shape client = record { effect = stays (after_waiting (shape ∷ []) client); next = goes_on }
 take_item Response shape client = idles client
 take_item Frame shape client = carry (half_for (channel_in shape) client.session.tracks) (behind_channel shape) client
 take_item (Bad kind) shape client = closes true BadItem client
 
-abbrev pub take : Bool → Shape → Client → Heard
+abbrev pub take : Bool → Shape → Client → Hearing
 take false shape client = idles client
 take true shape client = take_item shape.kind shape client
 
@@ -100,36 +100,36 @@ abbrev pub reply_hand : Bases → Purpose → Told → Option ℕ → Client →
 reply_hand bases purpose told ssrc client = if client.alive then reply_for bases purpose told ssrc client else []
 
 -- The final reply to the open request, which went up with a number.
-abbrev pub settled : Bases → ℕ → Purpose → Told → Option ℕ → Client → Heard
+abbrev pub settled : Bases → ℕ → Purpose → Told → Option ℕ → Client → Hearing
 settled bases number purpose told ssrc client =
     let after = after_reply number told.code (new_id purpose client.session.id told) client in
     record { effect = hands (reply_hand bases purpose told ssrc after) after; next = goes_on }
 
-abbrev pub settle_at : Bases → ℕ → Option Purpose → Told → Option ℕ → Client → Heard
+abbrev pub settle_at : Bases → ℕ → Option Purpose → Told → Option ℕ → Client → Hearing
 settle_at bases number None told ssrc client = idles client
 settle_at bases number (Some purpose) told ssrc client = settled bases number purpose told ssrc client
 
 -- A reply with a code below 200 is not the final one, and has no effect.
-abbrev pub take_answer : Bases → ℕ → Told → Option ℕ → Client → Heard
+abbrev pub take_answer : Bases → ℕ → Told → Option ℕ → Client → Hearing
 take_answer bases number told ssrc client = if nat_lt told.code 200 then idles client else settle_at bases number client.pending told ssrc client
 
 -- The notify of the end of what plays counts, and no other one does (RFC 7826, 13.5.1).
-abbrev pub take_note : NotifyReason → Names → Client → Heard
+abbrev pub take_note : NotifyReason → Names → Client → Hearing
 take_note EndOfStream names client = record { effect = stays (after_note names client); next = releases }
 take_note MediaProperties names client = idles client
 take_note ScaleChange names client = idles client
 
 -- a frame of the server, where its pair is that of a stream of a connection that is alive
-abbrev pub give : Option ℕ → List ℕ → Client → Heard
+abbrev pub give : Option ℕ → List ℕ → Client → Hearing
 give None rest client = idles client
 give (Some channel) rest client = record { effect = hands (frame_text channel rest) client; next = rests }
 
-abbrev pub take_media : Bool → ℕ → ℕ → List ℕ → Client → Heard
+abbrev pub take_media : Bool → ℕ → ℕ → List ℕ → Client → Hearing
 take_media false pair half rest client = idles client
 take_media true pair half rest client = give (channel_for pair half client.session.tracks) rest client
 
 -- What an event does by itself. The number is that of the open request.
-abbrev pub hear : Bases → ℕ → Client → PrivateEvent → Heard
+abbrev pub hear : Bases → ℕ → Client → PrivateEvent → Hearing
 hear bases number client (arrive shape full) = take client.alive shape client
 hear bases number client (answer told ssrc full) = take_answer bases number told ssrc client
 hear bases number client (note reason names) = take_note reason names client

@@ -11,7 +11,7 @@ use Rattle.gate_machine.specs.declared.parts.Plan.{Plan}
 use Rattle.gate_machine.specs.declared.treat.Upward.{Upward}
 use Rattle.gate_machine.specs.declared.treat.Progress.{Progress}
 use Rattle.gate_machine.specs.Effects.{Effect}
-use Rattle.gate_machine.specs.Going.{track_of, pair_for, after_plays, go}
+use Rattle.gate_machine.specs.Going.{track_of, pair_if_wanted, after_plays, go}
 use Rattle.gate_machine.specs.Plans.{ArePlaced, IsReadyUp, without, risen, risen_text, is_up}
 use Rattle.gate_machine.specs.Sights.{Sight, sight}
 use Rattle.gate_machine.specs.Spelled.{text_up, spelled}
@@ -24,7 +24,7 @@ leave_up (Some id) = ups.Leave
 -- a request that goes up, with its text
 abbrev pub up_for : ℕ → Option ℕ → Option Upward → Up
 up_for next pair None = ups.Nothing
-up_for next pair (Some one) = ups.Ask (text_up next pair (pair_for one.channels pair) one.request) one.asked (track_of one.asked.uri pair one.channels)
+up_for next pair (Some one) = ups.Ask (text_up next pair (pair_if_wanted one.channels pair) one.request) one.asked (track_of one.asked.uri pair one.channels)
 
 -- Its URI is short, and its stream has a place beside so many.
 abbrev pub IsPlacedUp : ℕ → Up → Type 0

@@ -29,7 +29,7 @@ use Rattle.gate_machine.specs.declared.parts.Plan.{Plan}
 use Rattle.gate_machine.specs.declared.parts.Done.{Done}
 use Rattle.gate_machine.specs.Effects.{Effect}
 use Rattle.gate_machine.specs.Going.{after_plays}
-use Rattle.gate_machine.specs.Hearing.{Heard, take, take_answer, take_note, closes}
+use Rattle.gate_machine.specs.Hearing.{Hearing, take, take_answer, take_note, closes}
 use Rattle.gate_machine.specs.Step.{heard_step}
 use Rattle.gate_machine.specs.Spelled.{source_said, spelled}
 
@@ -46,14 +46,14 @@ incoming_seen (comings.Reply reply) = replies reply.now
 incoming_seen (comings.Notice reason names) = notes reason names
 
 -- An item that comes as a request is one.
-abbrev pub IsSound : Comes → Type 0
-IsSound (requests shape) = shape.kind ≡ kinds.Request
-IsSound (replies reply) = Unit {0}
-IsSound (notes reason names) = Unit {0}
-IsSound (shuts why) = Unit {0}
+abbrev pub CanCome : Comes → Type 0
+CanCome (requests shape) = shape.kind ≡ kinds.Request
+CanCome (replies reply) = Unit {0}
+CanCome (notes reason names) = Unit {0}
+CanCome (shuts why) = Unit {0}
 
 -- what the event does by itself, by the number of the open request
-abbrev pub heard_by : Bases → ℕ → Client → Comes → Heard
+abbrev pub heard_by : Bases → ℕ → Client → Comes → Hearing
 heard_by bases number client (requests shape) = take client.alive shape client
 heard_by bases number client (replies reply) = take_answer bases number (told_by reply) (source_said reply) client
 heard_by bases number client (notes reason names) = take_note reason names client

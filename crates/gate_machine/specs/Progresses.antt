@@ -36,8 +36,8 @@ abbrev pub joined_at : Option Upward → List ℕ → List Play → ℕ → Give
 joined_at None hand plays queued given left = ahead hand plays (treated left (with_queued queued given))
 joined_at (Some one) hand plays queued given left = record { hand = hand; plays = plays; going = Some (going_of one); left = left }
 
-abbrev pub joined : Progress → Given → List Shape → Treated
-joined progress given left = joined_at progress.going progress.hand progress.plays progress.queued given left
+abbrev pub with_progress : Progress → Given → List Shape → Treated
+with_progress progress given left = joined_at progress.going progress.hand progress.plays progress.queued given left
 
 -- The PLAYs have places where so many wait already, and all that wait are counted.
 pub record IsFilled (queue : ℕ) (progress : Progress) : Type 0 where
@@ -47,7 +47,7 @@ pub record IsFilled (queue : ℕ) (progress : Progress) : Type 0 where
 -- So many of those that wait were treated, and what becomes of all is the same whatever comes after them.
 pub record IsOnTheWay (given : Given) (waiting : List Shape) (first : List ℕ) (progress : Progress) : Type 0 where
   pub within : progress.treated ≤ length waiting
-  pub leads : (more : List Shape) → joined progress given (drop progress.treated waiting ++ more) ≡ ahead first [] (treated (waiting ++ more) given)
+  pub leads : (more : List Shape) → with_progress progress given (drop progress.treated waiting ++ more) ≡ ahead first [] (treated (waiting ++ more) given)
   pub filled : IsFilled given.queued progress
 
 -- They are treated until one goes up.

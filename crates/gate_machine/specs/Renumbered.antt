@@ -5,10 +5,10 @@ use Rattle.std.specs.Option.{option_map}
 use Rattle.session_one.specs.declared.parts.Track.{Track}
 use Rattle.client_slot.specs.Client.{Client}
 use Rattle.client_slot.specs.Renumbered.{client_under, names_under, AreToldApart}
-use Rattle.gate_machine.specs.Effects.{Message, asks, carries, Effect}
+use Rattle.gate_machine.specs.Effects.{Outgoing, asks, carries, Effect}
 use Rattle.gate_machine.specs.Events.{PrivateEvent, arrive, answer, note, media, end, slow, up_end}
 
-abbrev pub message_under : (ℕ → ℕ) → Message → Message
+abbrev pub message_under : (ℕ → ℕ) → Outgoing → Outgoing
 message_under pairs (asks request pair) = asks request (option_map pairs pair)
 message_under pairs (carries pair half rest) = carries (pairs pair) half rest
 

@@ -10,28 +10,28 @@ use Rattle.head_two.specs.declared.reply.Reply2.{Reply2}
 use Rattle.head_two.specs.declared.request.Request2.{Request2}
 use Rattle.head_two.specs.Requests.{request_text}
 use Rattle.translate_up.specs.Upward.{with_transport}
-use Rattle.gate_machine.specs.Effects.{Message, asks, carries}
+use Rattle.gate_machine.specs.Effects.{Outgoing, asks, carries}
 
 -- the channels of a pair
 abbrev pub channels : ℕ → Pair
 channels pair = record { rtp = 2 * pair; rtcp = 2 * pair + 1 }
 
 -- a SETUP with the pair that it asks for
-abbrev pub with_pair : Option ℕ → Option ℕ → Request2 → Request2
-with_pair None free request = request
-with_pair (Some number) None request = request
-with_pair (Some number) (Some pair) request = with_transport (channels pair) request
+abbrev pub over_pair : Option ℕ → Option ℕ → Request2 → Request2
+over_pair None free request = request
+over_pair (Some number) None request = request
+over_pair (Some number) (Some pair) request = with_transport (channels pair) request
 
 -- The text of a request with its number: a SETUP has the lowest pair that is free.
 abbrev pub text_up : ℕ → Option ℕ → Option ℕ → Request2 → List ℕ
-text_up number free named request = request_text number (with_pair named free request)
+text_up number free named request = request_text number (over_pair named free request)
 
 -- the text of a message that is a request
-abbrev pub text_of : ℕ → Option ℕ → Message → Option (List ℕ)
+abbrev pub text_of : ℕ → Option ℕ → Outgoing → Option (List ℕ)
 text_of number free (asks request named) = Some (text_up number free named request)
 text_of number free (carries pair half rest) = None
 
-abbrev pub spelled : ℕ → Option ℕ → Option Message → Option (List ℕ)
+abbrev pub spelled : ℕ → Option ℕ → Option Outgoing → Option (List ℕ)
 spelled number free None = None
 spelled number free (Some message) = text_of number free message
 

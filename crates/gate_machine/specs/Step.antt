@@ -7,14 +7,14 @@ use Rattle.client_slot.specs.Client.{Client}
 use Rattle.gate_machine.specs.Effects.{Effect, stays, then_effect}
 use Rattle.gate_machine.specs.Events.{PrivateEvent}
 use Rattle.gate_machine.specs.Going.{release, go}
-use Rattle.gate_machine.specs.Hearing.{Next, rests, releases, goes_on, Heard, hear}
+use Rattle.gate_machine.specs.Hearing.{Next, rests, releases, goes_on, Hearing, hear}
 
 abbrev pub going_on : Bases → Option ℕ → Next → Client → Effect
 going_on bases pair rests client = stays client
 going_on bases pair releases client = release client
 going_on bases pair goes_on client = go bases pair client
 
-abbrev pub heard_step : Bases → Option ℕ → Heard → Effect
+abbrev pub heard_step : Bases → Option ℕ → Hearing → Effect
 heard_step bases pair heard = then_effect heard.effect (going_on bases pair heard.next heard.effect.client)
 
 -- by the number of the open request, and by the lowest pair of channels that is free, where one is

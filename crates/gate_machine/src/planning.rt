@@ -1,6 +1,6 @@
 //! Plans are made.
 ghost use Rattle.std.specs.Prelude.{◌<◌, IfOk, IfSome};
-ghost use Rattle.gate_machine.specs.Plans.{incoming_seen, IsSound, IsPlan, IsShortUp, IsShortPlan};
+ghost use Rattle.gate_machine.specs.Plans.{incoming_seen, CanCome, IsPlan, IsShortUp, IsShortPlan};
 
 use crate::ends::plan_notice;
 use crate::incoming::Incoming;
@@ -29,7 +29,7 @@ pub fn plan(
     pair: Option<u8>,
     incoming: &Incoming<'_>,
 ) -> Result<Plan, Memory>
-    requires sound { IsSound (incoming_seen incoming.now) }
+    requires sound { CanCome (incoming_seen incoming.now) }
     requires pair { IfSome pair (λ one. one < 128) }
     ensures plan { IfOk result (IsPlan bases.now next pair slot.now (incoming_seen incoming.now)) }
     ensures short { IfOk result IsShortPlan }
@@ -51,7 +51,7 @@ fn plan_any(
     pair: Option<u8>,
     incoming: &Incoming<'_>,
 ) -> Result<Plan, Memory>
-    requires sound { IsSound (incoming_seen incoming.now) }
+    requires sound { CanCome (incoming_seen incoming.now) }
     requires pair { IfSome pair (λ one. one < 128) }
     ensures { IfOk result (IsPlan bases.now next pair slot.now (incoming_seen incoming.now)) }
 {

@@ -4,7 +4,7 @@ ghost use Rattle.rtsp_head.specs.Shapes.{shape_of};
 ghost use Rattle.client_slot.specs.declared.limits.TheConstants.{MOST_WAITING};
 ghost use Rattle.client_slot.specs.Changes.{due_play};
 ghost use Rattle.gate_machine.specs.declared.parts.Change.TheVariants as changes;
-ghost use Rattle.gate_machine.specs.Plans.{requests, IsSound, IsPlan};
+ghost use Rattle.gate_machine.specs.Plans.{requests, CanCome, IsPlan};
 
 use crate::onward::{due_text, finished, idle, still};
 use crate::parts::{Change, Plan, Up};
@@ -26,7 +26,7 @@ pub(crate) fn plan_request(
     pair: Option<u8>,
     item: &Item,
 ) -> Result<Plan, Memory>
-    requires sound { IsSound (requests (shape_of item.now)) }
+    requires sound { CanCome (requests (shape_of item.now)) }
     requires pair { IfSome pair (λ one. one < 128) }
     ensures { IfOk result (IsPlan bases.now next pair slot.now (requests (shape_of item.now))) }
 {
@@ -81,7 +81,7 @@ fn treat_request(
     pair: Option<u8>,
     item: &Item,
 ) -> Result<Plan, Memory>
-    requires sound { IsSound (requests (shape_of item.now)) }
+    requires sound { CanCome (requests (shape_of item.now)) }
     requires pair { IfSome pair (λ one. one < 128) }
     requires alive { slot.now.alive ≡ true }
     requires idle { slot.now.pending ≡ None }

@@ -22,8 +22,8 @@ abbrev pub magic : List ℕ
 magic = codes "RTSPGW1" ++ lf ∷ []
 
 -- the kind that a byte names
-abbrev pub kind_of : ℕ → Option EntryKind
-kind_of b =
+abbrev pub entry_kind : ℕ → Option EntryKind
+entry_kind b =
     if b == ENTER_BYTE then Some Enter
     else (if b == CLIENT_BYTE then Some Client
     else (if b == UPSTREAM_BYTE then Some Upstream
@@ -57,7 +57,7 @@ may_come has UpEnd conn = conn == 0
 -- the head that a kind byte and the eight bytes after it spell, where the byte names a kind
 abbrev pub entry_head : ℕ → List ℕ → Option Head
 entry_head b bytes =
-    option_map (λ kind. record { kind = kind; conn = from_be_bytes w32 (take 4 bytes); size = from_be_bytes w32 (take 4 (drop 4 bytes)) }) (kind_of b)
+    option_map (λ kind. record { kind = kind; conn = from_be_bytes w32 (take 4 bytes); size = from_be_bytes w32 (take 4 (drop 4 bytes)) }) (entry_kind b)
 
 -- the head, or its fault: first of the kind, then of the connection, then of the length
 abbrev pub sound_head : (ℕ → Bool) → Option Head → Result Head BadEntryKind

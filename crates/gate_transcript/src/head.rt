@@ -2,7 +2,7 @@
 ghost use Rattle.std.specs.Prelude.{◌≡◌, ◌≤◌, ◌-◌, length, take, drop};
 ghost use Rattle.std.specs.Int.{w32, from_be_bytes};
 ghost use Rattle.gate_transcript.specs.Connections.{has};
-ghost use Rattle.gate_transcript.specs.Transcript.{kind_of, may_come, entry_head, sound_head, first_head};
+ghost use Rattle.gate_transcript.specs.Transcript.{entry_kind, may_come, entry_head, sound_head, first_head};
 ghost use Rattle.gate_transcript.specs.Bodies.{may_have_length, is_body};
 
 use crate::connections::Connections;
@@ -114,7 +114,7 @@ fn entry_head(kind: u8, bytes: &[u8]) -> Option<Head>
     requires { HEAD_LENGTH - 1 ≤ length bytes.now }
     ensures { result ≡ entry_head kind bytes.now }
 {
-    let kind = kind_of(kind)?;
+    let kind = entry_kind(kind)?;
     Some(Head {
         kind,
         conn: first_number(bytes),
@@ -123,8 +123,8 @@ fn entry_head(kind: u8, bytes: &[u8]) -> Option<Head>
 }
 
 /// The kind that a byte names.
-fn kind_of(byte: u8) -> Option<EntryKind>
-    ensures { result ≡ kind_of byte }
+fn entry_kind(byte: u8) -> Option<EntryKind>
+    ensures { result ≡ entry_kind byte }
 {
     match byte {
         ENTER_BYTE => Some(EntryKind::Enter),

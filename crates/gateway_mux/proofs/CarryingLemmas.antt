@@ -12,7 +12,7 @@ use Rattle.client_slot.specs.Client.{new_client}
 use Rattle.gate_bytes.specs.declared.memory.Memory.{Memory}
 use Rattle.gate_machine.specs.declared.parts.Done.{Done}
 use Rattle.gate_machine.specs.Asking.{AsksBy}
-use Rattle.gate_machine.specs.Effects.{Message, asks, carries}
+use Rattle.gate_machine.specs.Effects.{Outgoing, asks, carries}
 use Rattle.gate_machine.specs.Plans.{heard_by, effect_by}
 use Rattle.mux_history.specs.declared.event.Event.{Event}
 use Rattle.mux_history.specs.declared.event.Event.TheVariants.{Client, Up, End, Slow, UpEnd}
@@ -42,7 +42,7 @@ never_enters (Slow conn) i = refl
 never_enters (UpEnd why) i = refl
 
 -- A number is left where a request goes up.
-number_left : (issued : ℕ) (free : Option ℕ) (old pending : Option Purpose) (message : Option Message) → AsksBy free old message pending → spent issued message ≡ None → is_some message ≡ true → IsSome (next_number issued)
+number_left : (issued : ℕ) (free : Option ℕ) (old pending : Option Purpose) (message : Option Outgoing) → AsksBy free old message pending → spent issued message ≡ None → is_some message ≡ true → IsSome (next_number issued)
 number_left issued free old pending None by_it left some = cc
 number_left issued free old pending (Some (asks request named)) by_it left some = by (nat_lt issued 999999999) refl left (issued == LAST_NUMBER) refl
   where

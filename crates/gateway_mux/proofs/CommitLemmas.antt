@@ -9,7 +9,7 @@ use Rattle.client_slot.specs.Client.{Client}
 use Rattle.gate_machine.specs.declared.parts.Done.{Done}
 use Rattle.gate_machine.specs.declared.parts.Plan.{Plan}
 use Rattle.gate_machine.specs.Asking.{AsksBy}
-use Rattle.gate_machine.specs.Effects.{Message, asks, carries, Effect}
+use Rattle.gate_machine.specs.Effects.{Outgoing, asks, carries, Effect}
 use Rattle.gate_machine.specs.Hearing.{hear}
 use Rattle.gate_machine.specs.Plans.{Comes, heard_by, effect_by, IsPlan, Does}
 use Rattle.gate_machine.specs.Spelled.{spelled}
@@ -22,7 +22,7 @@ use Rattle.mux_history.specs.Next.{client_piece, one_closed}
 use Rattle.mux_history.specs.Settling.{free_in}
 use Rattle.mux_history.specs.Own.{final_in, settled_by}
 use Rattle.mux_history.specs.Follows.{answer_due}
-use Rattle.mux_history.specs.Shared.{raw_up, number_in, outcome_by}
+use Rattle.mux_history.specs.Shared.{raw_up, number_heard, outcome_by}
 use Rattle.gateway_mux.specs.declared.settled.Settled.{Settled}
 use Rattle.gateway_mux.specs.declared.turn.Turn.{Turn}
 use Rattle.gateway_mux.specs.Acts.{IsPlannedTurn}
@@ -60,7 +60,7 @@ effect_of bases one it client comes = effect_by bases it.number (free_once it.se
 pub effect_is : (bases : Bases) (one : Picture) (h : Happening) (answer : Option (List ℕ)) (it : Turn) → (its : IsPlannedTurn bases one h answer it) → effect_of bases one it its.client its.comes ≡ step_in bases one h its.client its.raw
 effect_is bases one h answer it its =
     ap (λ said. heard_step bases (free_once it.settled one.held) said) its.says
-    ∙ ap (λ free. heard_step bases free (hear bases (number_in h) its.client its.raw)) (free_by one h its.client.session.id it.settled its.settles)
+    ∙ ap (λ free. heard_step bases free (hear bases (number_heard h) its.client its.raw)) (free_by one h its.client.session.id it.settled its.settles)
 
 -- whether a request goes up
 pub goes : (bases : Bases) (one : Picture) (h : Happening) (answer : Option (List ℕ)) (it : Turn) → (its : IsPlannedTurn bases one h answer it) → it.asks ≡ is_some (effect_of bases one it its.client its.comes).message
@@ -132,7 +132,7 @@ turn_is_after bases one after T h answer it done is its turned =
             by (Some conn) = refl
 
 -- The text that goes up is that of the message.
-spelled_is : (number : ℕ) (free pair : Option ℕ) (old pending : Option Purpose) (message : Option Message) → AsksBy pair old message pending → option_map Request (spelled number free message) ≡ option_map (raw_up number free) message
+spelled_is : (number : ℕ) (free pair : Option ℕ) (old pending : Option Purpose) (message : Option Outgoing) → AsksBy pair old message pending → option_map Request (spelled number free message) ≡ option_map (raw_up number free) message
 spelled_is number free pair old pending None by_it = refl
 spelled_is number free pair old pending (Some (asks request named)) by_it = refl
 spelled_is number free pair old pending (Some (carries one half rest)) by_it = absurd by_it

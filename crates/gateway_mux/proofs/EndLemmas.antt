@@ -6,7 +6,7 @@ use Rattle.rtsp_head.specs.Items.{Shape}
 use Rattle.rtsp_uri.specs.declared.base.Bases.{Bases}
 use Rattle.client_slot.specs.Client.{Client}
 use Rattle.gate_machine.specs.Alone.{effect_alone}
-use Rattle.gate_machine.specs.Effects.{Message, asks, carries, Effect}
+use Rattle.gate_machine.specs.Effects.{Outgoing, asks, carries, Effect}
 use Rattle.gate_machine.specs.Events.{PrivateEvent}
 use Rattle.gate_machine.specs.Renumbered.{message_under}
 use Rattle.gate_machine.specs.Step.{step}
@@ -20,7 +20,7 @@ use Rattle.mux_history.specs.Happenings.{Happening, enters, takes, ends, lags, h
 use Rattle.mux_history.specs.Own.{turn, final_in, settled_by, books_of, notice_event, heard_event, event_by}
 use Rattle.mux_history.specs.Follows.{said_breach, spent, effect_of_turn, effect, breach, up_due, IsHistory}
 use Rattle.mux_history.specs.Next.{outcome_with, next}
-use Rattle.mux_history.specs.Shared.{shared, notice_raw, heard_raw, raw_event, number_in}
+use Rattle.mux_history.specs.Shared.{shared, notice_raw, heard_raw, raw_event, number_heard}
 use Rattle.mux_history.proofs.AgreeLemmas.{joined, effect_present}
 use Rattle.mux_history.proofs.CaseLemmas.{not_over}
 use Rattle.mux_history.proofs.JoinedLemmas.{alone, AreJoined, IsStep, IsTurnStep, turn_step}
@@ -66,12 +66,12 @@ own_comes bases T i h raw is = by (own_event bases T i h) refl
 pub step_same : (bases : Bases) (one : Picture) (T : List Entry) (h : Happening) (i : ℕ) (client : Client) (raw : PrivateEvent) → IsPictureOf bases one T → client ≡ shared (books_of T) i (alone bases T i).client
     → step_in bases one h client raw ≡ raw_step_of bases T i h raw
 step_same bases one T h i client raw is here =
-    ap (λ (free : Option ℕ). step bases (number_in h) free client raw)
+    ap (λ (free : Option ℕ). step bases (number_heard h) free client raw)
     (free_same (settled_by (books_in one) h) (settled_by (books_of T) h) (settled_same (books_in one) (books_of T) h (same_books bases one T is)))
-    ∙ ap (λ (now : Client). step bases (number_in h) (free_in (settled_by (books_of T) h)) now raw) here
+    ∙ ap (λ (now : Client). step bases (number_heard h) (free_in (settled_by (books_of T) h)) now raw) here
 
 -- A message takes a number in every numbering, or in none.
-spent_same : (issued : ℕ) (pairs : ℕ → ℕ) (message : Option Message) → spent issued (option_map (message_under pairs) message) ≡ spent issued message
+spent_same : (issued : ℕ) (pairs : ℕ → ℕ) (message : Option Outgoing) → spent issued (option_map (message_under pairs) message) ≡ spent issued message
 spent_same issued pairs None = refl
 spent_same issued pairs (Some (asks request named)) = refl
 spent_same issued pairs (Some (carries pair half rest)) = refl

@@ -12,7 +12,7 @@ use Rattle.mux_history.specs.Heard.{Heard as Said, replies, requests, frames, fa
 use Rattle.mux_history.specs.Happenings.{Happening, enters, takes, ends, lags, hears, up_ends}
 use Rattle.mux_history.specs.Settling.{Final, final_of, id_said}
 use Rattle.mux_history.specs.Own.{heard_turn, turn, heard_final, final_in}
-use Rattle.mux_history.specs.Follows.{is_session_for, is_granted, is_taken, grant_breach, kind_breach}
+use Rattle.mux_history.specs.Follows.{is_session_for, is_granted, is_held_elsewhere, grant_breach, kind_breach}
 use Rattle.gateway_mux.specs.Moves.{wrong_reply, wrong_heard, wrong_in}
 use Rattle.gateway_mux.specs.Pictures.{Picture, books_in}
 use Rattle.gateway_mux.specs.Turn.{session_of_client}
@@ -56,7 +56,7 @@ granted_names : (books : Books) (pair i : ℕ) (session : Option (List ℕ)) (re
 granted_names books pair i session reply true e right = both_true _ (is_session_for session (id_said reply)) e
 granted_names books pair i session reply false e right =
     absurd (wrong_is_none (BadGrant reply.cseq)
-    (sym (ap (λ t. cond (not t) (Some (BadGrant reply.cseq)) (cond (is_none session && is_taken books i (id_said reply)) (Some (SessionTaken reply.cseq)) None)) e) ∙ right))
+    (sym (ap (λ t. cond (not t) (Some (BadGrant reply.cseq)) (cond (is_none session && is_held_elsewhere books i (id_said reply)) (Some (SessionTaken reply.cseq)) None)) e) ∙ right))
 
 kind_names : (books : Books) (kind : RequestKind) (i : ℕ) (session : Option (List ℕ)) (reply : Reply2) → kind_breach books kind i session reply ≡ None
     → (pair : ℕ) → kind ≡ sets_up pair → is_success reply.code ≡ true → is_session_for session (id_said reply) ≡ true

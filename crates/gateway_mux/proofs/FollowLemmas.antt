@@ -19,7 +19,7 @@ use Rattle.mux_history.specs.Happenings.{Happening, enters, takes, ends, lags, h
 use Rattle.mux_history.specs.Own.{turn, heard_final, settled_by, lends_where, notice_event, heard_event, event_of, books_of}
 use Rattle.mux_history.specs.Follows.{spent, answer_due}
 use Rattle.mux_history.specs.Next.{next}
-use Rattle.mux_history.specs.Shared.{shared, shared_in, raw_up, notice_raw, heard_raw, raw_event, number_in, kind_gone, outcome_by}
+use Rattle.mux_history.specs.Shared.{shared, shared_in, raw_up, notice_raw, heard_raw, raw_event, number_heard, kind_gone, outcome_by}
 use Rattle.mux_history.specs.Turns.{client_alone, step_by_books, IsItsTurn, IsSteppedBy}
 use Rattle.mux_history.proofs.JoinedLemmas.{alone}
 use Rattle.mux_history.proofs.TurnLawLemmas.{stepped}
@@ -61,8 +61,8 @@ no_entering books (up_ends cause) i j e = refl
 step_same : (bases : Bases) (one : Picture) (T : List Entry) (h : Happening) (i : ℕ) (client : Client) (raw : PrivateEvent) → AreSame (books_in one) (books_of T) → client ≡ shared (books_of T) i (alone bases T i).client
     → step_in bases one h client raw ≡ step_by_books bases T i h raw
 step_same bases one T h i client raw same is_client =
-    ap (λ free. step bases (number_in h) free client raw) (free_same (settled_by (books_in one) h) (settled_by (books_of T) h) (settled_same (books_in one) (books_of T) h same))
-    ∙ ap (λ who. step bases (number_in h) (free_in (settled_by (books_of T) h)) who raw) is_client
+    ap (λ free. step bases (number_heard h) free client raw) (free_same (settled_by (books_in one) h) (settled_by (books_of T) h) (settled_same (books_in one) (books_of T) h same))
+    ∙ ap (λ who. step bases (number_heard h) (free_in (settled_by (books_of T) h)) who raw) is_client
 
 -- and so is what it hands out
 outcome_same : (a b : Books) (h : Happening) (i : ℕ) (effect : Effect) → AreSame a b → outcome_by a h i effect ≡ outcome_by b h i effect

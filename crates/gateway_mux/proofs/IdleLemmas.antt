@@ -19,7 +19,7 @@ use Rattle.mux_history.specs.Happenings.{Happening, Entry, fault_in, enters_here
 use Rattle.mux_history.specs.Own.{turn, final_in, settled_by, lends_where, has_shut, books_of, own}
 use Rattle.mux_history.specs.Follows.{event_in, effect_at, effect_of_turn, said_breach, spent, effect, breach, answer_due, message_due, up_due, IsHistory}
 use Rattle.mux_history.specs.Next.{outcome_with, next}
-use Rattle.mux_history.specs.Shared.{shared, shared_in, raw_event, number_in, kind_gone, outcome_by}
+use Rattle.mux_history.specs.Shared.{shared, shared_in, raw_event, number_heard, kind_gone, outcome_by}
 use Rattle.mux_history.specs.Turns.{IsSteppedBy}
 use Rattle.mux_history.proofs.AgreeLemmas.{books_with, books_next, alone_with, event_for, alone_next}
 use Rattle.mux_history.proofs.CaseLemmas.{nobody_settles}
@@ -98,7 +98,7 @@ still_absent bases T h i history standing said settles_none turns absent =
 
 -- It is the turn of a connection that entered and hears nothing: the law of a turn tells what is after it.
 still_heard : (bases : Bases) (T : List Entry) (h : Happening) (i : ℕ) (raw : PrivateEvent) → IsHistory bases T → fault_in T ≡ None → said_breach bases T h ≡ None → final_in (books_of T) h ≡ None → turn (books_of T) h ≡ Some i → entered i T ≡ true
-    → raw_event (books_of T) h ≡ Some raw → hear bases (number_in h) (shared (books_of T) i (alone bases T i).client) raw ≡ idles (shared (books_of T) i (alone bases T i).client) → IsStill bases T h
+    → raw_event (books_of T) h ≡ Some raw → hear bases (number_heard h) (shared (books_of T) i (alone bases T i).client) raw ≡ idles (shared (books_of T) i (alone bases T i).client) → IsStill bases T h
 still_heard bases T h i raw history standing said settles_none turns en is_raw idle =
     let comes = own_comes bases T i h raw is_raw in
     let made : raw_step_of bases T i h raw ≡ stays (shared (books_of T) i (alone bases T i).client) = ap (heard_step bases (free_in (settled_by (books_of T) h))) idle in
@@ -169,7 +169,7 @@ still_at bases one T h answer i (Some client) is idle turns here at =
     let there = entered_in bases one T is i client here in
     still_heard bases T h i at.raw is.is_history is.standing (sym (wrong_same bases one T is h) ∙ idle.said) (sym (final_same (books_in one) (books_of T) h same) ∙ idle.settles)
     (sym (turn_same (books_in one) (books_of T) h same) ∙ turns) there.0 (sym (raw_same (books_in one) (books_of T) h same) ∙ at.is_raw)
-    (subst (λ (now : Client). hear bases (number_in h) now at.raw ≡ idles now) there.1 at.idle)
+    (subst (λ (now : Client). hear bases (number_heard h) now at.raw ≡ idles now) there.1 at.idle)
 
 still_by : (bases : Bases) (one : Picture) (T : List Entry) (h : Happening) (answer : Option (List ℕ)) (who : Option ℕ) → IsPictureOf bases one T → IsIdle bases one h answer → turn (books_in one) h ≡ who → IsIdleTurn bases one h who → IsStill bases T h
 still_by bases one T h answer None is idle turns at =

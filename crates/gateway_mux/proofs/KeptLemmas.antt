@@ -10,13 +10,13 @@ use Rattle.client_slot.specs.declared.purpose.Purpose.{Purpose}
 use Rattle.client_slot.specs.Client.{Client, new_client}
 use Rattle.gate_machine.specs.declared.parts.Done.{Done}
 use Rattle.gate_machine.specs.Asking.{IsOpenAs, AsksBy}
-use Rattle.gate_machine.specs.Effects.{Message, asks, carries, Effect}
+use Rattle.gate_machine.specs.Effects.{Outgoing, asks, carries, Effect}
 use Rattle.gate_machine.specs.Plans.{heard_by}
 use Rattle.mux_history.specs.Happenings.{Happening, Entry}
 use Rattle.mux_history.specs.Next.{next}
 use Rattle.mux_history.specs.Own.{final_in}
 use Rattle.mux_history.specs.Settling.{Final, holder_left}
-use Rattle.mux_history.specs.Shared.{number_in}
+use Rattle.mux_history.specs.Shared.{number_heard}
 use Rattle.gateway_mux.specs.declared.settled.Settled.{Settled}
 use Rattle.gateway_mux.specs.declared.turn.Turn.{Turn}
 use Rattle.gateway_mux.specs.Acts.{IsPlannedTurn}
@@ -40,14 +40,14 @@ pending_kept : (bases : Bases) (one : Picture) (h : Happening) (answer : Option 
     → (heard_by bases it.number its.client its.comes).effect.client.pending ≡ its.client.pending
 pending_kept bases one h answer it its none =
     ap (λ said. said.effect.client.pending) its.says
-    ∙ hearing_keeps bases (books_in one) (number_in h) it.conn its.client h its.raw its.its_turn.turns its.its_turn.is_raw (none_final (final_in (books_in one) h) its.client.session.id it.settled its.settles none)
+    ∙ hearing_keeps bases (books_in one) (number_heard h) it.conn its.client h its.raw its.its_turn.turns its.its_turn.is_raw (none_final (final_in (books_in one) h) its.client.session.id it.settled its.settles none)
 
 -- A request goes up where none was open, and one is open then.
 open_some : (pending : Option Purpose) (request : Request2) (named : Option ℕ) → IsOpenAs pending request named → IsSome pending
 open_some None request named is = absurd is
 open_some (Some purpose) request named is = refl
 
-asked_idle : (pair : Option ℕ) (old new : Option Purpose) (message : Option Message) → AsksBy pair old message new → IsSome message → old ≡ None
+asked_idle : (pair : Option ℕ) (old new : Option Purpose) (message : Option Outgoing) → AsksBy pair old message new → IsSome message → old ≡ None
 asked_idle pair old new None is some = cc
 asked_idle pair old new (Some (asks request named)) is some = is.before
 asked_idle pair old new (Some (carries half_pair half rest)) is some = absurd is
@@ -75,7 +75,7 @@ one_at_most : (t : Bool) → one_if t ≤ 1
 one_at_most true = omega arith
 one_at_most false = omega arith
 
-fewer_idle : (pair : Option ℕ) (before old new : Option Purpose) (message : Option Message) (going settles : Bool) → going ≡ is_some message → AsksBy pair old message new → (settles ≡ false → old ≡ before)
+fewer_idle : (pair : Option ℕ) (before old new : Option Purpose) (message : Option Outgoing) (going settles : Bool) → going ≡ is_some message → AsksBy pair old message new → (settles ≡ false → old ≡ before)
     → one_if (is_none new) + one_if going ≤ one_if (is_none before) + one_if settles
 fewer_idle pair before old new None going settles is asked kept =
     subst (λ (t : Bool). one_if (is_none new) + one_if t ≤ one_if (is_none before) + one_if settles) (sym is) (by settles kept)

@@ -18,7 +18,7 @@ use Rattle.mux_history.specs.Heard.{Heard, replies, requests, frames, faults, he
 use Rattle.mux_history.specs.Happenings.{Happening, enters, takes, ends, lags, hears, up_ends, Entry, fault_in, entered}
 use Rattle.mux_history.specs.Settling.{id_said}
 use Rattle.mux_history.specs.Own.{books_of, own}
-use Rattle.mux_history.specs.Follows.{private_in, is_granted, is_others, is_taken, grant_breach, kind_breach, session_in, reply_breach, heard_breach, said_breach}
+use Rattle.mux_history.specs.Follows.{private_in, is_granted, is_others, is_held_elsewhere, grant_breach, kind_breach, session_of_private, reply_breach, heard_breach, said_breach}
 use Rattle.mux_history.specs.Joined.{kind_for, opened_for, IsOpenFor, IsJoined}
 use Rattle.mux_history.specs.Shared.{shared, shared_in, kind_pending}
 use Rattle.mux_history.proofs.AgreeLemmas.{joined}
@@ -117,7 +117,7 @@ same_books bases one T is = record {
 }
 
 -- What is wrong is the same.
-taken_same : (a b : Books) (i : ℕ) (id : Option (List ℕ)) → AreSame a b → is_taken a i id ≡ is_taken b i id
+taken_same : (a b : Books) (i : ℕ) (id : Option (List ℕ)) → AreSame a b → is_held_elsewhere a i id ≡ is_held_elsewhere b i id
 taken_same a b i None same = refl
 taken_same a b i (Some id) same = ap (is_others i) (same.holder id)
 
@@ -129,10 +129,10 @@ kind_breach_same a b tears_down i session reply same = refl
 kind_breach_same a b closes i session reply same = refl
 kind_breach_same a b plain i session reply same = refl
 
-session_same : (bases : Bases) (one : Picture) (T : List Entry) → IsPictureOf bases one T → (i : ℕ) → session_of_client (one.clients i) ≡ session_in (private_in bases i T)
+session_same : (bases : Bases) (one : Picture) (T : List Entry) → IsPictureOf bases one T → (i : ℕ) → session_of_client (one.clients i) ≡ session_of_private (private_in bases i T)
 session_same bases one T is i = ap session_of_client (is.clients i) ∙ by (private_in bases i T)
   where
-    by : (private : Option Private) → session_of_client (option_map (λ (one : Private). shared (books_of T) i one.client) private) ≡ session_in private
+    by : (private : Option Private) → session_of_client (option_map (λ (one : Private). shared (books_of T) i one.client) private) ≡ session_of_private private
     by None = refl
     by (Some private) = refl
 

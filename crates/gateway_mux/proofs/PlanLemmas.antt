@@ -15,7 +15,7 @@ use Rattle.gate_machine.specs.declared.parts.Plan.{Plan}
 use Rattle.gate_machine.specs.declared.why.CloseWhy.{CloseWhy}
 use Rattle.gate_machine.specs.declared.why.CloseWhy.TheVariants.{BadItem}
 use Rattle.gate_machine.specs.Asking.{AsksBy}
-use Rattle.gate_machine.specs.Effects.{Message, asks, carries, Effect}
+use Rattle.gate_machine.specs.Effects.{Outgoing, asks, carries, Effect}
 use Rattle.gate_machine.specs.Events.{arrive, end, slow}
 use Rattle.gate_machine.specs.Frames.{channel_in, behind_channel, Half, half_for}
 use Rattle.gate_machine.specs.declared.frames.StreamHalf.{StreamHalf}
@@ -27,7 +27,7 @@ use Rattle.mux_history.specs.declared.event.UpCause.{UpCause}
 use Rattle.mux_history.specs.declared.event.UpCause.TheVariants.{CseqSpent}
 use Rattle.mux_history.specs.Happenings.{Happening, enters, takes, ends, lags, hears, up_ends}
 use Rattle.mux_history.specs.Follows.{spent}
-use Rattle.mux_history.specs.Shared.{number_in}
+use Rattle.mux_history.specs.Shared.{number_heard}
 use Rattle.gateway_mux.specs.declared.said.Said.{Said}
 use Rattle.gateway_mux.specs.Acts.{IsPlannedTurn, IsSaid, IsClosing, IsBadKind, IsAct, answers_alone}
 use Rattle.gateway_mux.specs.Moves.{wrong_in, step_in, IsIdleAt, IsIdleTurn, IsIdle, IsEndAt}
@@ -153,10 +153,10 @@ effect_said : (bases : Bases) (one : Picture) (h : Happening) (it : Said) (comes
     → effect_by bases it.number (free_once it.settled one.held) client comes ≡ step_in bases one h client said.raw
 effect_said bases one h it comes client said here =
     ap (λ heard. heard_step bases (free_once it.settled one.held) heard) (said.says client)
-    ∙ ap (λ free. heard_step bases free (hear bases (number_in h) client said.raw)) (free_by one h client.session.id it.settled (said.settles client here))
+    ∙ ap (λ free. heard_step bases free (hear bases (number_heard h) client said.raw)) (free_by one h client.session.id it.settled (said.settles client here))
 
 -- The numbers are spent, or one is left.
-spent_at : (issued : ℕ) (free : Option ℕ) (old pending : Option Purpose) (message : Option Message) → AsksBy free old message pending → is_some message ≡ true → next_number issued ≡ None → spent issued message ≡ Some CseqSpent
+spent_at : (issued : ℕ) (free : Option ℕ) (old pending : Option Purpose) (message : Option Outgoing) → AsksBy free old message pending → is_some message ≡ true → next_number issued ≡ None → spent issued message ≡ Some CseqSpent
 spent_at issued free old pending None by_it some none = cc
 spent_at issued free old pending (Some (asks request named)) by_it some none = by (issued == LAST_NUMBER) refl none
   where
@@ -165,7 +165,7 @@ spent_at issued free old pending (Some (asks request named)) by_it some none = b
     by false e none = cc
 spent_at issued free old pending (Some (carries pair half rest)) by_it some none = absurd by_it
 
-left_at : (issued : ℕ) (message : Option Message) → issued ≤ LAST_NUMBER → (is_some message ≡ true → IsSome (next_number issued)) → spent issued message ≡ None
+left_at : (issued : ℕ) (message : Option Outgoing) → issued ≤ LAST_NUMBER → (is_some message ≡ true → IsSome (next_number issued)) → spent issued message ≡ None
 left_at issued None low left = refl
 left_at issued (Some (asks request named)) low left = by (issued == LAST_NUMBER) refl (left refl)
   where

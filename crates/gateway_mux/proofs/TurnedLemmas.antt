@@ -16,9 +16,9 @@ use Rattle.client_slot.specs.declared.purpose.Purpose.{Purpose}
 use Rattle.client_slot.specs.declared.purpose.Purpose.TheVariants as purposes
 use Rattle.client_slot.specs.Client.{Client}
 use Rattle.gate_machine.specs.Asking.{IsAsked, IsOpenAs, IsFreeFor, AsksBy}
-use Rattle.gate_machine.specs.Effects.{Message, asks, carries}
+use Rattle.gate_machine.specs.Effects.{Outgoing, asks, carries}
 use Rattle.gate_machine.specs.Hearing.{take_item, take, settle_at}
-use Rattle.gate_machine.specs.Plans.{Comes, requests, replies, notes, shuts, IsSound, heard_by, effect_by}
+use Rattle.gate_machine.specs.Plans.{Comes, requests, replies, notes, shuts, CanCome, heard_by, effect_by}
 use Rattle.gate_machine.specs.Spelled.{source_said}
 use Rattle.gate_machine.specs.Step.{going_on}
 use Rattle.gate_machine.proofs.AskLemmas.{going_asks}
@@ -39,7 +39,7 @@ take_mute : (alive : Bool) (shape : Shape) (client : Client) → shape.kind ≡ 
 take_mute true shape client is = item_mute shape.kind shape client is
 take_mute false shape client is = refl
 
-pub comes_mute : (bases : Bases) (number : ℕ) (client : Client) (comes : Comes) → IsSound comes → (heard_by bases number client comes).effect.message ≡ None
+pub comes_mute : (bases : Bases) (number : ℕ) (client : Client) (comes : Comes) → CanCome comes → (heard_by bases number client comes).effect.message ≡ None
 comes_mute bases number client (requests shape) sound = take_mute client.alive shape client sound
 comes_mute bases number client (replies reply) sound =
     answer_none (nat_lt (told_by reply).code 200) client (settle_at bases number client.pending (told_by reply) (source_said reply) client) (settle_none bases number client.pending (told_by reply) (source_said reply) client)
@@ -47,15 +47,15 @@ comes_mute bases number client (notes reason names) sound = note_none reason nam
 comes_mute bases number client (shuts why) sound = closes_none client.alive why client
 
 -- A request that goes up is open then, and none was before.
-pub effect_asks : (bases : Bases) (number : ℕ) (pair : Option ℕ) (client : Client) (comes : Comes) → IsSound comes
+pub effect_asks : (bases : Bases) (number : ℕ) (pair : Option ℕ) (client : Client) (comes : Comes) → CanCome comes
     → AsksBy pair (heard_by bases number client comes).effect.client.pending (effect_by bases number pair client comes).message (effect_by bases number pair client comes).client.pending
 effect_asks bases number pair client comes sound =
-    subst (λ (first : Option Message). AsksBy pair (heard_by bases number client comes).effect.client.pending (option_or first (going_on bases pair (heard_by bases number client comes).next (heard_by bases number client comes).effect.client).message) (effect_by bases number pair client comes).client.pending)
+    subst (λ (first : Option Outgoing). AsksBy pair (heard_by bases number client comes).effect.client.pending (option_or first (going_on bases pair (heard_by bases number client comes).next (heard_by bases number client comes).effect.client).message) (effect_by bases number pair client comes).client.pending)
     (sym (comes_mute bases number client comes sound))
     (going_asks bases pair (heard_by bases number client comes).next (heard_by bases number client comes).effect.client)
 
 -- Who asked each open request.
-pub asker_by : (i n : ℕ) (settled : Books) (free : Option ℕ) (old pending : Option Purpose) (message : Option Message) (goes : Bool) (asker : Option ℕ) → goes ≡ is_some message → AsksBy free old message pending
+pub asker_by : (i n : ℕ) (settled : Books) (free : Option ℕ) (old pending : Option Purpose) (message : Option Outgoing) (goes : Bool) (asker : Option ℕ) → goes ≡ is_some message → AsksBy free old message pending
     → asker ≡ option_map (λ (one : Opened). one.conn) (settled.opened n)
     → asker_lent goes i (settled.issued + 1) n asker ≡ option_map (λ (one : Opened). one.conn) ((lends_where (Some i) (kind_gone message pending) settled).opened n)
 asker_by i n settled free old pending None goes asker is by_it same = ap (λ t. asker_lent t i (settled.issued + 1) n asker) is ∙ same
@@ -68,13 +68,13 @@ asker_by i n settled free old pending (Some (asks request named)) goes asker is 
     by false = refl
 asker_by i n settled free old pending (Some (carries pair half rest)) goes asker is by_it same = absurd by_it
 
-pub issued_by : (i : ℕ) (settled : Books) (free : Option ℕ) (old pending : Option Purpose) (message : Option Message) (goes : Bool) → goes ≡ is_some message → AsksBy free old message pending
+pub issued_by : (i : ℕ) (settled : Books) (free : Option ℕ) (old pending : Option Purpose) (message : Option Outgoing) (goes : Bool) → goes ≡ is_some message → AsksBy free old message pending
     → issued_then goes settled.issued ≡ (lends_where (Some i) (kind_gone message pending) settled).issued
 issued_by i settled free old pending None goes is by_it = ap (λ t. issued_then t settled.issued) is
 issued_by i settled free old pending (Some (asks request named)) goes is by_it = ap (λ t. issued_then t settled.issued) is
 issued_by i settled free old pending (Some (carries pair half rest)) goes is by_it = absurd by_it
 
-pub holder_by_message : (i : ℕ) (settled : Books) (pending : Option Purpose) (message : Option Message) (id : List ℕ) → settled.holder id ≡ (lends_where (Some i) (kind_gone message pending) settled).holder id
+pub holder_by_message : (i : ℕ) (settled : Books) (pending : Option Purpose) (message : Option Outgoing) (id : List ℕ) → settled.holder id ≡ (lends_where (Some i) (kind_gone message pending) settled).holder id
 holder_by_message i settled pending None id = refl
 holder_by_message i settled pending (Some (asks request named)) id = refl
 holder_by_message i settled pending (Some (carries pair half rest)) id = refl
@@ -110,7 +110,7 @@ reserved : (i p : ℕ) (free asked : Option ℕ) (held : Option Held) → ((q : 
 reserved i p free None held is_free = refl
 reserved i p free (Some q) held is_free = ap (λ (lowest : Option ℕ). taken_by i lowest p held) (is_free q refl) ∙ taken i p q held
 
-pub held_by_message : (i p : ℕ) (settled : Books) (free : Option ℕ) (old pending : Option Purpose) (message : Option Message) (goes reserves : Bool) (held : Option Held) → goes ≡ is_some message
+pub held_by_message : (i p : ℕ) (settled : Books) (free : Option ℕ) (old pending : Option Purpose) (message : Option Outgoing) (goes reserves : Bool) (held : Option Held) → goes ≡ is_some message
     → reserves ≡ is_some (pair_asked (kind_pending pending)) → AsksBy free old message pending → held ≡ settled.held p
     → held_lent goes reserves i free p held ≡ (lends_where (Some i) (kind_gone message pending) settled).held p
 held_by_message i p settled free old pending None goes reserves held is takes by_it same = ap (λ t. held_lent t reserves i free p held) is ∙ same

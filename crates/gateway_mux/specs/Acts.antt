@@ -10,11 +10,11 @@ use Rattle.gate_machine.specs.declared.why.CloseWhy.TheVariants.{Ended, BadItem,
 use Rattle.gate_machine.specs.Events.{PrivateEvent}
 use Rattle.gate_machine.specs.Frames.{channel_in, Half, half_for, channel_for}
 use Rattle.gate_machine.specs.Hearing.{hear}
-use Rattle.gate_machine.specs.Plans.{Comes, IsSound, heard_by, effect_by, IsPlan, IsShortPlan}
+use Rattle.gate_machine.specs.Plans.{Comes, CanCome, heard_by, effect_by, IsPlan, IsShortPlan}
 use Rattle.mux_history.specs.Happenings.{Happening, enters, takes, ends, lags, hears, up_ends}
 use Rattle.mux_history.specs.Own.{owner_of, turn, final_in}
 use Rattle.mux_history.specs.Follows.{answer_due}
-use Rattle.mux_history.specs.Shared.{raw_event, number_in}
+use Rattle.mux_history.specs.Shared.{raw_event, number_heard}
 use Rattle.gateway_mux.specs.declared.act.Act.{Act}
 use Rattle.gateway_mux.specs.declared.act.Act.TheVariants.{Nothing, Rises, Falls, Answers, Turns, Ends}
 use Rattle.gateway_mux.specs.declared.said.Said.{Said}
@@ -39,8 +39,8 @@ pub record IsPlannedTurn (bases : Bases) (one : Picture) (happening : Happening)
   pub comes : Comes
   pub its_turn : TakesTurn bases one happening it.conn client raw
   pub answers : answer ≡ answer_due (books_in one) happening
-  pub is_sound : IsSound comes
-  pub says : heard_by bases it.number client comes ≡ hear bases (number_in happening) client raw
+  pub is_sound : CanCome comes
+  pub says : heard_by bases it.number client comes ≡ hear bases (number_heard happening) client raw
   pub next : it.next ≡ one.issued + 1
   pub settles : AreSettled (final_in (books_in one) happening) client.session.id it.settled
   pub plan : IsPlan bases it.next (free_once it.settled one.held) client comes it.plan
@@ -57,8 +57,8 @@ pub record IsSaid (bases : Bases) (one : Picture) (happening : Happening) (it : 
   pub is_raw : raw_event (books_in one) happening ≡ Some raw
   pub right : wrong_in one happening ≡ None
   pub answers : it.answer ≡ answer_due (books_in one) happening
-  pub is_sound : IsSound comes
-  pub says : (client : Client) → heard_by bases it.number client comes ≡ hear bases (number_in happening) client raw
+  pub is_sound : CanCome comes
+  pub says : (client : Client) → heard_by bases it.number client comes ≡ hear bases (number_heard happening) client raw
   pub settles : (client : Client) → one.clients it.conn ≡ Some client → AreSettled (final_in (books_in one) happening) client.session.id it.settled
   pub absent : one.clients it.conn ≡ None → final_in (books_in one) happening ≡ None
 

@@ -21,7 +21,7 @@ use Rattle.mux_history.specs.Happenings.{Happening, enters, takes, ends, lags, h
 use Rattle.mux_history.specs.Own.{turn, final_in, settled_by, lends_where}
 use Rattle.mux_history.specs.Follows.{kind_breach, spent, answer_due}
 use Rattle.mux_history.specs.Next.{client_piece, one_closed, next}
-use Rattle.mux_history.specs.Shared.{raw_event, number_in, kind_gone}
+use Rattle.mux_history.specs.Shared.{raw_event, number_heard, kind_gone}
 use Rattle.gateway_mux.specs.Pictures.{Picture, books_in, IsPictureOf}
 use Rattle.gateway_mux.specs.Turn.{session_of_client}
 
@@ -46,7 +46,7 @@ wrong_in one (up_ends cause) = Some (cause_of cause)
 
 -- the step of a connection that entered
 abbrev pub step_in : Bases → Picture → Happening → Client → PrivateEvent → Effect
-step_in bases one happening client raw = step bases (number_in happening) (free_in (settled_by (books_in one) happening)) client raw
+step_in bases one happening client raw = step bases (number_heard happening) (free_in (settled_by (books_in one) happening)) client raw
 
 -- The turn of a connection that entered, with the event that comes to it, and nothing wrong.
 pub record TakesTurn (bases : Bases) (one : Picture) (happening : Happening) (i : ℕ) (client : Client) (raw : PrivateEvent) : Type 0 where
@@ -76,7 +76,7 @@ IsAfterTurn bases one after happening i client raw = IsAfterStep one after happe
 pub record HearsNothing (bases : Bases) (one : Picture) (happening : Happening) (client : Client) : Type 0 where
   pub raw : PrivateEvent
   pub is_raw : raw_event (books_in one) happening ≡ Some raw
-  pub idle : hear bases (number_in happening) client raw ≡ idles client
+  pub idle : hear bases (number_heard happening) client raw ≡ idles client
 
 abbrev pub IsIdleAt : Bases → Picture → Happening → Option Client → Type 0
 IsIdleAt bases one happening None = Unit {0}

@@ -5,9 +5,9 @@ use Rattle.mux_history.specs.declared.event.ToUp.{ToUp}
 use Rattle.mux_history.specs.declared.event.UpMessage.{UpMessage}
 use Rattle.mux_history.specs.declared.event.UpMessage.TheVariants.{Request, Frame}
 
-abbrev pub length_of : Option (List ℕ) → ℕ
-length_of None = 0
-length_of (Some text) = length text
+abbrev pub piece_length : Option (List ℕ) → ℕ
+piece_length None = 0
+piece_length (Some text) = length text
 
 abbrev pub message_length : Option UpMessage → ℕ
 message_length None = 0
@@ -16,11 +16,11 @@ message_length (Some (Frame text)) = length text
 
 -- what the server is handed, in bytes
 abbrev pub up_length : ToUp → ℕ
-up_length up = length_of up.answer + message_length up.message
+up_length up = piece_length up.answer + message_length up.message
 
 -- An answer, with a request behind it, fits into 32 bits.
 abbrev pub IsShortAnswer : Option (List ℕ) → Type 0
-IsShortAnswer answer = length_of answer < 2 ^ 31
+IsShortAnswer answer = piece_length answer < 2 ^ 31
 
 -- The lengths of what a client is handed, and of all that the server is handed, fit into 32 bits.
 pub record IsShort (outcome : Outcome) : Type 0 where

@@ -2,7 +2,7 @@
 ghost use Rattle.std.specs.Prelude.{◌≡◌, codes, option_map};
 ghost use Rattle.std.specs.Option.{option_copied};
 ghost use Rattle.up_books.specs.Ids.{holder_of};
-ghost use Rattle.mux_history.specs.Notices.{field, session_named, notice_of, named_session, held_session, said_reason};
+ghost use Rattle.mux_history.specs.Notices.{notice_field, session_named, notice_of, named_session, held_session, said_reason};
 ghost use Rattle.gateway_mux.specs.NoticesSeen.{notice_seen};
 
 use head_two::Ask2;
@@ -84,7 +84,7 @@ fn session(ask: &Ask2) -> Option<&[u8]>
 
 /// What it tells the connection that has the session.
 fn told<'a>(ask: &'a Ask2, id: &'a [u8], conn: u32) -> Result<Notice<'a>, NoticeRefusal>
-    ensures { notice_seen result ≡ said_reason ask.now id.now conn (field ask.now (codes "Notify-Reason")) }
+    ensures { notice_seen result ≡ said_reason ask.now id.now conn (notice_field ask.now (codes "Notify-Reason")) }
 {
     let Some(value) = ask.head.field(b"Notify-Reason") else {
         return Err(NoticeRefusal::NoReason);

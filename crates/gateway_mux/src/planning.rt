@@ -3,7 +3,7 @@ ghost use Rattle.std.specs.Prelude.{◌≡◌, ◌+◌, false, IsOk, IfOk, Some}
 ghost use Rattle.rtsp_head.specs.Shapes.{shape_of};
 ghost use Rattle.rtsp_head.specs.declared.item.ItemKind.TheVariants.{Frame};
 ghost use Rattle.client_slot.specs.Client.{Client};
-ghost use Rattle.gate_machine.specs.Plans.{Comes, IsSound, incoming_seen, IsPlan, IsShortPlan};
+ghost use Rattle.gate_machine.specs.Plans.{Comes, CanCome, incoming_seen, IsPlan, IsShortPlan};
 ghost use Rattle.mux_history.specs.Happenings.{Happening, takes, happening_of, cause_of};
 
 use crate::act::Act;
@@ -91,7 +91,7 @@ impl Connections {
         said: Said,
         incoming: &Incoming<'_>,
     ) -> Result<Act, Memory>
-        requires sound { IsSound (incoming_seen incoming.now) }
+        requires sound { CanCome (incoming_seen incoming.now) }
         requires short { IsShortAnswer said.answer }
         ensures act { (h : Happening) → IsSaid self.now.bases (picture self.now.seats self.now.upstream) h said (incoming_seen incoming.now) → IfOk result (IsAct self.now.bases (picture self.now.seats self.now.upstream) h) }
         ensures short { IfOk result IsShortAct }

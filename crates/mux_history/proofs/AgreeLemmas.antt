@@ -5,7 +5,7 @@ use Rattle.std.specs.Option.{option_map, option_to_list}
 use Rattle.std.proofs.lemmas.Bool.{eq-eqb, eqb-true}
 use Rattle.rtsp_uri.specs.declared.base.Bases.{Bases}
 use Rattle.gate_machine.specs.Alone.{Private, private_after, asked_in, is_live, effect_alone, is_empty_list}
-use Rattle.gate_machine.specs.Effects.{Message, Effect}
+use Rattle.gate_machine.specs.Effects.{Outgoing, Effect}
 use Rattle.gate_machine.specs.Events.{PrivateEvent}
 use Rattle.gate_machine.proofs.BelowLemmas.{alone_numbered}
 use Rattle.gate_machine.proofs.KeepLemmas.{live_unclosed}
@@ -27,7 +27,7 @@ use Rattle.mux_history.proofs.SoundLemmas.{sound_new}
 use Rattle.mux_history.proofs.TurnLemmas.{HasGone}
 
 -- the books after what happened, by whose turn it is, by the message that goes up, and by whether its connection has shut
-abbrev pub books_with : Books → Happening → Option ℕ → Option Message → Bool → Books
+abbrev pub books_with : Books → Happening → Option ℕ → Option Outgoing → Bool → Books
 books_with books h who message shut =
     lends_where who (kind_of (message_due books (settled_by books h) who message) (free_in (settled_by books h)) shut) (settled_by books h)
 
@@ -50,7 +50,7 @@ pub alone_next : (bases : Bases) (T : List Entry) (e : Entry) (j : ℕ) → faul
 alone_next bases T e j standing = ap (private_after bases) (own_quiet bases T e j (both_none (fault_in T) e.outcome.fault standing).1)
 
 -- Joined after what happened, by whose turn it is.
-abbrev AreJoinedWith : Bases → List Entry → Happening → Option ℕ → Option Message → Bool → Type 0
+abbrev AreJoinedWith : Bases → List Entry → Happening → Option ℕ → Option Outgoing → Bool → Type 0
 AreJoinedWith bases T h who message shut =
     AreSound (books_with (books_of T) h who message shut)
     × ((j : ℕ) → IsJoined (books_with (books_of T) h who message shut) j (alone_with bases (own bases j T) (event_for bases T h who j)).client (alone_with bases (own bases j T) (event_for bases T h who j)).count)
@@ -65,7 +65,7 @@ quiet_joined : (bases : Bases) (books : Books) (j : ℕ) (events : List PrivateE
 quiet_joined bases books j events en event e joined = subst (λ (p : Private). IsJoined books j p.client p.count) (sym (no_event bases events en event e)) joined
 
 -- It is nobody's turn.
-nobody_joined : (bases : Bases) (T : List Entry) (h : Happening) (message : Option Message) (shut : Bool) → AreJoined bases T → final_in (books_of T) h ≡ None → AreJoinedWith bases T h None message shut
+nobody_joined : (bases : Bases) (T : List Entry) (h : Happening) (message : Option Outgoing) (shut : Bool) → AreJoined bases T → final_in (books_of T) h ≡ None → AreJoinedWith bases T h None message shut
 nobody_joined bases T h message shut joined none =
     let same : settled_by (books_of T) h ≡ books_of T = ap (λ final. settles final (books_of T)) none in (
       subst (λ (b : Books). AreSound b) (sym same) joined.0,
@@ -74,11 +74,11 @@ nobody_joined bases T h message shut joined none =
     )
 
 -- It is the turn of a connection, and nothing comes of it.
-idle_joined : (bases : Bases) (T : List Entry) (h : Happening) (i : ℕ) (message : Option Message) (shut : Bool) → AreJoined bases T → final_in (books_of T) h ≡ None → message ≡ None → ((j : ℕ) → alone_with bases (own bases j T) (event_for bases T h (Some i) j) ≡ alone bases T j)
+idle_joined : (bases : Bases) (T : List Entry) (h : Happening) (i : ℕ) (message : Option Outgoing) (shut : Bool) → AreJoined bases T → final_in (books_of T) h ≡ None → message ≡ None → ((j : ℕ) → alone_with bases (own bases j T) (event_for bases T h (Some i) j) ≡ alone bases T j)
     → AreJoinedWith bases T h (Some i) message shut
 idle_joined bases T h i message shut joined none silent quiet =
     let same : books_with (books_of T) h (Some i) message shut ≡ books_of T =
-    ap (λ (m : Option Message). books_with (books_of T) h (Some i) m shut) silent ∙ ap (λ final. settles final (books_of T)) none in (
+    ap (λ (m : Option Outgoing). books_with (books_of T) h (Some i) m shut) silent ∙ ap (λ final. settles final (books_of T)) none in (
       subst (λ (b : Books). AreSound b) (sym same) joined.0,
       λ j. subst (λ (b : Books). IsJoined b j (alone_with bases (own bases j T) (event_for bases T h (Some i) j)).client (alone_with bases (own bases j T) (event_for bases T h (Some i) j)).count) (sym same)
           (subst (λ (p : Private). IsJoined (books_of T) j p.client p.count) (sym (quiet j)) (joined.1 j)),

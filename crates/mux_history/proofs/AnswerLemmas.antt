@@ -22,12 +22,12 @@ use Rattle.client_slot.specs.declared.purpose.Purpose.{Purpose}
 use Rattle.client_slot.specs.declared.purpose.Purpose.TheVariants as purposes
 use Rattle.client_slot.specs.Changes.{session_after}
 use Rattle.client_slot.specs.Client.{Client}
-use Rattle.gate_machine.specs.Hearing.{Heard, idles, session_told, new_id_at, new_id, settled, settle_at, take_answer}
+use Rattle.gate_machine.specs.Hearing.{Hearing, idles, session_told, new_id_at, new_id, settled, settle_at, take_answer}
 use Rattle.mux_history.specs.declared.event.UpCause.TheVariants.{BadGrant, SessionTaken}
 use Rattle.mux_history.specs.Kinds.{tears_down, plain}
 use Rattle.mux_history.specs.Books.{Opened, Books}
 use Rattle.mux_history.specs.Settling.{Final, final_of, id_said, bound_by, is_id, settles}
-use Rattle.mux_history.specs.Follows.{grants, is_session_for, is_granted, is_others, is_taken, grant_breach, kind_breach}
+use Rattle.mux_history.specs.Follows.{grants, is_session_for, is_granted, is_others, is_held_elsewhere, grant_breach, kind_breach}
 use Rattle.mux_history.specs.Joined.{kind_for, IsPurpose, opened_for, IsOpenFor, IsJoined}
 use Rattle.mux_history.proofs.OtherLemmas.{IsHeldKind, IsFinal}
 use Rattle.mux_history.proofs.SettleLemmas.{final_to, SaysSession, SaysFor, own_settled}
@@ -38,16 +38,16 @@ told_session reply = ap (option_and_then session_of) (untransported_field (own_f
 
 -- A grant that is right.
 abbrev RightGrant : Books → ℕ → ℕ → Option (List ℕ) → Reply2 → Type 0
-RightGrant books i pair session reply = (is_session_for session (id_said reply) ≡ true) × ((is_none session && is_taken books i (id_said reply)) ≡ false)
+RightGrant books i pair session reply = (is_session_for session (id_said reply) ≡ true) × ((is_none session && is_held_elsewhere books i (id_said reply)) ≡ false)
 
 both_true : (a b : Bool) → (a && b) ≡ true → b ≡ true
 both_true true b e = e
 both_true false b e = cc
 
 right_grant : (books : Books) (i pair : ℕ) (session : Option (List ℕ)) (reply : Reply2) → grant_breach books i pair session reply ≡ None → RightGrant books i pair session reply
-right_grant books i pair session reply none = by (is_granted pair session reply) (is_none session && is_taken books i (id_said reply)) refl refl none
+right_grant books i pair session reply none = by (is_granted pair session reply) (is_none session && is_held_elsewhere books i (id_said reply)) refl refl none
   where
-    by : (granted others : Bool) → is_granted pair session reply ≡ granted → (is_none session && is_taken books i (id_said reply)) ≡ others
+    by : (granted others : Bool) → is_granted pair session reply ≡ granted → (is_none session && is_held_elsewhere books i (id_said reply)) ≡ others
         → cond (not granted) (Some (BadGrant reply.cseq)) (cond others (Some (SessionTaken reply.cseq)) None) ≡ None → RightGrant books i pair session reply
     by true true g o e = cc
     by true false g o e = (both_true (grants pair (field_of reply.head.headers (codes "Transport"))) (is_session_for session (id_said reply)) g, o)
@@ -69,7 +69,7 @@ says_session (Some session) None new e is = cc
 says_session (Some session) (Some id) new e is = (ap (λ one. Some one) (sym (same_id session id e)), is)
 
 -- nobody else has it
-says_own : (books : Books) (i : ℕ) (session said : Option (List ℕ)) → is_session_for session said ≡ true → (is_none session && is_taken books i said) ≡ false → IfSome session (λ id. books.holder id ≡ Some i)
+says_own : (books : Books) (i : ℕ) (session said : Option (List ℕ)) → is_session_for session said ≡ true → (is_none session && is_held_elsewhere books i said) ≡ false → IfSome session (λ id. books.holder id ≡ Some i)
     → (id : List ℕ) (j : ℕ) → is_id said id ≡ true → books.holder id ≡ Some j → j ≡ i
 says_own books i None None e other holds id j is here = cc
 says_own books i None (Some said) e other holds id j is here = own_one (books.holder said) other (ap books.holder (sym (same_id id said is)) ∙ here)
@@ -132,7 +132,7 @@ held_kind books i (purposes.Released play) purpose = tt
 held_kind books i purposes.Closing purpose = tt
 
 -- The connection that asked, and the final reply, as they are then.
-abbrev pub IsAnswered : Books → ℕ → ℕ → Option Final → Heard → Type 0
+abbrev pub IsAnswered : Books → ℕ → ℕ → Option Final → Hearing → Type 0
 IsAnswered books i count final heard = IsJoined (settles final books) i heard.effect.client count × IfSome final (λ one. IsFinal books one × (one.conn ≡ i))
 
 purpose_answered : (bases : Bases) (books : Books) (i count : ℕ) (client : Client) (reply : Reply2) (ssrc : Option ℕ) (purpose : Purpose) → IsJoined books i client count → client.pending ≡ Some purpose

@@ -14,7 +14,7 @@ use Rattle.client_slot.specs.Client.{Client}
 use Rattle.gate_machine.specs.Alone.{Private, private_after, pair_alone, asked_in, effect_while, effect_alone}
 use Rattle.gate_machine.specs.Asking.{IsOpenAs, IsFreeFor, AsksBy}
 use Rattle.gate_machine.specs.Bounds.{ArePairsBelow}
-use Rattle.gate_machine.specs.Effects.{Message, asks, carries, Effect}
+use Rattle.gate_machine.specs.Effects.{Outgoing, asks, carries, Effect}
 use Rattle.gate_machine.specs.Events.{PrivateEvent, arrive, answer, note, media, end, slow, up_end}
 use Rattle.gate_machine.specs.Frames.{frame_text}
 use Rattle.gate_machine.specs.Hearing.{Next, rests, releases, goes_on, hear}
@@ -27,7 +27,7 @@ use Rattle.mux_history.specs.declared.event.ToUp.{ToUp}
 use Rattle.mux_history.specs.declared.event.UpMessage.{UpMessage}
 use Rattle.mux_history.specs.declared.event.UpMessage.TheVariants.{Request, Frame}
 use Rattle.mux_history.specs.declared.event.UpCause.{UpCause}
-use Rattle.mux_history.specs.Asked.{up_for, asked_up, spelled_for, spelled_up}
+use Rattle.mux_history.specs.Asked.{asked_for, asked_up, spelled_for, spelled_up}
 use Rattle.mux_history.specs.Kinds.{RequestKind, sets_up, kind_of_text, kind_of}
 use Rattle.mux_history.specs.Books.{Books, pair_asked, lends}
 use Rattle.mux_history.specs.Settling.{Final, settles, free_in}
@@ -63,7 +63,7 @@ while_carries false bases p end below = step_below bases p.count (Some (p.count 
 while_carries false bases p slow below = step_below bases p.count (Some (p.count + 1)) p.client slow below
 while_carries false bases p up_end below = tt
 
-message_alike : (one other : Books) (i n : ℕ) (message : Option Message) → AreAlike one other i (n + asked_in message) → CarriesBelow n message
+message_alike : (one other : Books) (i n : ℕ) (message : Option Outgoing) → AreAlike one other i (n + asked_in message) → CarriesBelow n message
     → option_map (spelled_for one i (n + 1)) message ≡ option_map (spelled_for other i (n + 1)) message
 message_alike one other i n None alike below = refl
 message_alike one other i n (Some (asks request named)) alike below =
@@ -99,7 +99,7 @@ spelled_quiet bases books i events false event over = refl
 spelled_quiet bases books i events true event over = spelled_over bases books i events event (over refl)
 
 -- A request that names a pair is a SETUP, and a pair is free.
-abbrev IsNamed : Option ℕ → Option Message → Type 0
+abbrev IsNamed : Option ℕ → Option Outgoing → Type 0
 IsNamed free None = Unit {0}
 IsNamed free (Some (asks request None)) = Unit {0}
 IsNamed free (Some (asks request (Some mine))) = (p : ℕ) × (free ≡ Some p) × (request.method ≡ method_name methods.Setup)
@@ -114,12 +114,12 @@ open_named (Some p) next request (Some mine) (Some (purposes.Client asked (Some 
 open_named free next request (Some mine) (Some (purposes.Released play)) (none, more) is_free = cc
 open_named free next request (Some mine) (Some purposes.Closing) (none, more) is_free = cc
 
-going_named : (free : Option ℕ) (next : ℕ) (old : Option Purpose) (message : Option Message) (new : Option Purpose) → AsksBy (pair_where free next) old message new → IsNamed free message
+going_named : (free : Option ℕ) (next : ℕ) (old : Option Purpose) (message : Option Outgoing) (new : Option Purpose) → AsksBy (pair_where free next) old message new → IsNamed free message
 going_named free next old None new h = tt
 going_named free next old (Some (asks request named)) new h = open_named free next request named new h.after h.named
 going_named free next old (Some (carries pair half rest)) new h = tt
 
-first_named : (after : Next) (first : Option Message) (bases : Bases) (free : Option ℕ) (next : ℕ) (client : Client) → IsMute after first → IsNamed free (option_or first (going_on bases (pair_where free next) after client).message)
+first_named : (after : Next) (first : Option Outgoing) (bases : Bases) (free : Option ℕ) (next : ℕ) (client : Client) → IsMute after first → IsNamed free (option_or first (going_on bases (pair_where free next) after client).message)
 first_named after None bases free next client mute =
     going_named free next client.pending (going_on bases (pair_where free next) after client).message (going_on bases (pair_where free next) after client).client.pending (going_asks bases (pair_where free next) after client)
 first_named rests (Some (asks request named)) bases free next client mute = absurd mute
@@ -132,7 +132,7 @@ step_named bases number free next client event =
     first_named (hear bases number client event).next (hear bases number client event).effect.message bases free next (hear bases number client event).effect.client (hear_mute bases number client event)
 
 -- The message that goes up is spelled in the number and the pair that it is given.
-message_asked : (books : Books) (final : Option Final) (i n : ℕ) (shut : Bool) (message : Option Message) → n ≡ books.counts i → IsNamed (free_in (settles final books)) message
+message_asked : (books : Books) (final : Option Final) (i n : ℕ) (shut : Bool) (message : Option Outgoing) → n ≡ books.counts i → IsNamed (free_in (settles final books)) message
     → option_map (message_up books (settles final books) i) message
     ≡ option_map (spelled_for (lends_where (Some i) (kind_of (option_map (message_up books (settles final books) i) message) (free_in (settles final books)) shut) (settles final books)) i (n + 1)) message
 message_asked books final i n shut None counted named = refl
@@ -164,7 +164,7 @@ other_alike books final i j n (Some kind) e = (λ k le. sym (number_same (settle
 abbrev pub IsSpelled : Bases → List Entry → ℕ → Type 0
 IsSpelled bases T i = asked_up i T ≡ spelled_up (books_of T) i bases (own bases i T)
 
-abbrev IsSpelledWith : Bases → List Entry → Happening → ℕ → Option ℕ → Option Message → Bool → Type 0
+abbrev IsSpelledWith : Bases → List Entry → Happening → ℕ → Option ℕ → Option Outgoing → Bool → Type 0
 IsSpelledWith bases T h i who message shut =
     cond (is_turn i who) (option_to_list (message_due (books_of T) (settled_by (books_of T) h) who message)) [] ++ asked_up i T
     ≡ spelled_up (books_with (books_of T) h who message shut) i bases (option_to_list (event_for bases T h who i) ++ own bases i T)
@@ -191,7 +191,7 @@ turn_spelled bases T h i shut history standing before turns said = by (entered i
     now : IsJoined (books_of T) i (alone bases T i).client (alone bases T i).count
     now = (joined bases T history standing).1 i
 
-    quiet : (message : Option Message) → message ≡ None → event_for bases T h (Some i) i ≡ None → IsSpelledWith bases T h i (Some i) message shut
+    quiet : (message : Option Outgoing) → message ≡ None → event_for bases T h (Some i) i ≡ None → IsSpelledWith bases T h i (Some i) message shut
     quiet message silent none =
         kept bases T i (cond (i == i) (option_to_list (option_map (message_up (books_of T) (settled_by (books_of T) h) i) message)) []) (books_with (books_of T) h (Some i) message shut) (event_for bases T h (Some i) i) (either_empty (i == i) (option_map (message_up (books_of T) (settled_by (books_of T) h) i) message) (ap (option_map (message_up (books_of T) (settled_by (books_of T) h) i)) silent)) none
         (own_alike (books_of T) (final_in (books_of T) h) i (alone bases T i).count (kind_of (option_map (message_up (books_of T) (settled_by (books_of T) h) i) message) (free_in (settled_by (books_of T) h)) shut) now.counted) before
@@ -204,7 +204,7 @@ turn_spelled bases T h i shut history standing before turns said = by (entered i
     by true (Some event) en is =
         let made : IsStep bases (books_of T) (final_in (books_of T) h) i (alone bases T i) event =
         subst (λ (one : Option PrivateEvent). IsTurnStep bases (books_of T) i (alone bases T i) one (final_in (books_of T) h)) is (turn_step bases T i h now en turns said) in
-        let message : Option Message = (effect_alone bases (alone bases T i) event).message in
+        let message : Option Outgoing = (effect_alone bases (alone bases T i) event).message in
         let after : Books = books_with (books_of T) h (Some i) message shut in
         let named : IsNamed (free_in (settled_by (books_of T) h)) message =
         subst (λ (done : Effect). IsNamed (free_in (settled_by (books_of T) h)) done.message) (sym (step_is bases (books_of T) (final_in (books_of T) h) i (alone bases T i) event (not_over bases T standing i) made))
@@ -230,7 +230,7 @@ who_spelled bases T e i (Some j) history standing before turns = by (j == i) ref
         subst (λ (k : ℕ). IsSpelledWith bases T e.happening i (Some k) (effect_of_turn bases T (Some k) e.happening).message (has_shut (Some k) (e ∷ T))) (sym conn)
         (turn_spelled bases T e.happening i (has_shut (Some i) (e ∷ T)) history.0 (both_none (fault_in T) e.outcome.fault standing).0 before (turns ∙ ap (λ k. Some k) conn) (said_right bases T e history.1 standing))
     by false same =
-        let message : Option Message = (effect_of_turn bases T (Some j) e.happening).message in
+        let message : Option Outgoing = (effect_of_turn bases T (Some j) e.happening).message in
         let apart : (i == j) ≡ false = differs i j (λ one. true_is_false (sym (eq-eqb j i (sym one)) ∙ same)) in
         kept bases T i (cond (j == i) (option_to_list (option_map (message_up (books_of T) (settled_by (books_of T) e.happening) j) message)) []) (books_with (books_of T) e.happening (Some j) message (has_shut (Some j) (e ∷ T))) (event_for bases T e.happening (Some j) i) (ap (λ t. cond t (option_to_list (option_map (message_up (books_of T) (settled_by (books_of T) e.happening) j) message)) []) same)
         (either_none (entered i T) (cond (j == i) (own_event bases T i e.happening) None) (ap (λ t. cond {A = Option PrivateEvent} t (own_event bases T i e.happening) None) same))
@@ -244,7 +244,7 @@ standing_next : (bases : Bases) (T : List Entry) (e : Entry) (i : ℕ) → IsHis
 standing_next bases T e i history standing before =
     let quiet : e.outcome.fault ≡ None = (both_none (fault_in T) e.outcome.fault standing).1 in
     let up : e.outcome.to_up ≡ up_due bases T e.happening = history.1.spelled ∙ ap (λ (fault : Option UpCause). cond (is_some fault) nothing_up (up_due bases T e.happening)) standing in
-    ap (λ (one : ToUp). up_for i (turn (books_of T) e.happening) one ++ asked_up i T) up
+    ap (λ (one : ToUp). asked_for i (turn (books_of T) e.happening) one ++ asked_up i T) up
     ∙ who_spelled bases T e i (turn (books_of T) e.happening) history standing before refl
     ∙ ap (λ (books : Books). spelled_up books i bases (option_to_list (event_for bases T e.happening (turn (books_of T) e.happening) i) ++ own bases i T)) (sym (books_next bases T e history.1 standing))
     ∙ ap (spelled_up (books_of (e ∷ T)) i bases) (sym (own_quiet bases T e i quiet))
@@ -266,7 +266,7 @@ ended_next : (bases : Bases) (T : List Entry) (e : Entry) (i : ℕ) (cause : UpC
 ended_next bases T e i cause history ended before =
     let up : e.outcome.to_up ≡ nothing_up = history.1.spelled ∙ ap (λ (fault : Option UpCause). cond (is_some fault) nothing_up (up_due bases T e.happening)) ended in
     let books : books_of (e ∷ T) ≡ books_of T = ap (λ (fault : Option UpCause). cond (is_some fault) (books_of T) (books_after (books_of T) T e)) ended in
-    ap (λ (one : ToUp). up_for i (turn (books_of T) e.happening) one ++ asked_up i T) up
+    ap (λ (one : ToUp). asked_for i (turn (books_of T) e.happening) one ++ asked_up i T) up
     ∙ ap (λ here. here ++ asked_up i T) (either_empty (is_turn i (turn (books_of T) e.happening)) None refl)
     ∙ before
     ∙ sym (over_next bases T e i cause e.outcome.fault history ended refl)

@@ -6,9 +6,9 @@ use Rattle.translate_down.specs.Replies.{told_by}
 use Rattle.client_slot.specs.Client.{Client}
 use Rattle.gate_machine.specs.Alone.{Private, private_after, is_up_end, asked_in, effect_alone}
 use Rattle.gate_machine.specs.Bounds.{ArePairsBelow}
-use Rattle.gate_machine.specs.Effects.{Message, asks, carries, Effect}
+use Rattle.gate_machine.specs.Effects.{Outgoing, asks, carries, Effect}
 use Rattle.gate_machine.specs.Events.{PrivateEvent, answer}
-use Rattle.gate_machine.specs.Hearing.{Next, rests, releases, goes_on, Heard, hear}
+use Rattle.gate_machine.specs.Hearing.{Next, rests, releases, goes_on, Hearing, hear}
 use Rattle.gate_machine.specs.Step.{going_on, heard_step, step}
 use Rattle.gate_machine.proofs.BelowLemmas.{IsMute, hear_mute, IsNumbered, hear_numbered}
 use Rattle.gate_machine.proofs.HoldLemmas.{hear_still, going_steady}
@@ -18,7 +18,7 @@ use Rattle.mux_history.specs.Settling.{Final, final_of, settles, free_in}
 use Rattle.mux_history.specs.Happenings.{Happening, Entry, entered, shut}
 use Rattle.gate_machine.specs.Spelled.{source_said}
 use Rattle.mux_history.specs.Own.{turn, final_in, lends_where, books_of, own}
-use Rattle.mux_history.specs.Follows.{private_in, said_breach, kind_breach, session_in, message_up}
+use Rattle.mux_history.specs.Follows.{private_in, said_breach, kind_breach, session_of_private, message_up}
 use Rattle.mux_history.specs.Joined.{IsJoined, AreSound}
 use Rattle.mux_history.proofs.AnswerLemmas.{IsAnswered, answered}
 use Rattle.mux_history.proofs.CaseLemmas.{IsCase, turn_case, alone_steps}
@@ -37,13 +37,13 @@ abbrev pub AreJoined : Bases → List Entry → Type 0
 AreJoined bases T = AreSound (books_of T) × ((i : ℕ) → IsJoined (books_of T) i (alone bases T i).client (alone bases T i).count)
 
 -- What goes up in all, by what was heard.
-heard_gone : (bases : Bases) (earlier books : Books) (i count : ℕ) (heard : Heard) (shut : Bool) → IsMute heard.next heard.effect.message → IsJoined books i heard.effect.client count → ArePairsBelow count heard.effect.client.session.tracks
+heard_gone : (bases : Bases) (earlier books : Books) (i count : ℕ) (heard : Hearing) (shut : Bool) → IsMute heard.next heard.effect.message → IsJoined books i heard.effect.client count → ArePairsBelow count heard.effect.client.session.tracks
     → shut ≡ not heard.effect.client.alive
     → HasGone books i (heard_step bases (pair_where (free_in books) (count + 1)) heard).client count
     (kind_of (option_map (message_up earlier books i) (heard_step bases (pair_where (free_in books) (count + 1)) heard).message) (free_in books) shut) (asked_in (heard_step bases (pair_where (free_in books) (count + 1)) heard).message)
 heard_gone bases earlier books i count heard shut mute joined below closed = by heard.next heard.effect.message mute
   where
-    by : (next : Next) (message : Option Message) → IsMute next message
+    by : (next : Next) (message : Option Outgoing) → IsMute next message
         → HasGone books i (going_on bases (pair_where (free_in books) (count + 1)) next heard.effect.client).client count
         (kind_of (option_map (message_up earlier books i) (option_or message (going_on bases (pair_where (free_in books) (count + 1)) next heard.effect.client).message)) (free_in books) shut)
         (asked_in (option_or message (going_on bases (pair_where (free_in books) (count + 1)) next heard.effect.client).message))
@@ -123,8 +123,8 @@ is_step bases T i h p event final joined here right (inr (inl (one, is, plain, u
       plain = up;
     })
 is_step bases T i h p event final joined here right (inr (inr (reply, opened, full, is_open, conn, is, is_final, mark, breaches))) =
-    let session : session_in (private_in bases opened.conn T) ≡ p.client.session.id = ap (λ j. session_in (private_in bases j T)) conn ∙ ap session_in here in
-    let wrong : kind_breach (books_of T) opened.kind opened.conn (session_in (private_in bases opened.conn T)) reply ≡ None = sym (breaches bases T refl) ∙ right in
+    let session : session_of_private (private_in bases opened.conn T) ≡ p.client.session.id = ap (λ j. session_of_private (private_in bases j T)) conn ∙ ap session_of_private here in
+    let wrong : kind_breach (books_of T) opened.kind opened.conn (session_of_private (private_in bases opened.conn T)) reply ≡ None = sym (breaches bases T refl) ∙ right in
     let now : IsAnswered (books_of T) i p.count (final_of reply (Some opened)) (hear bases p.count p.client (answer (told_by reply) (source_said reply) full)) =
     answered bases (books_of T) i p.count p.client reply opened (source_said reply) joined is_open conn (ap (λ id. kind_breach (books_of T) opened.kind opened.conn id reply) (sym session) ∙ wrong) in
     subst (λ (some : Option PrivateEvent). IsTurnStep bases (books_of T) i p some final) (sym is)

@@ -15,7 +15,7 @@ use Rattle.gate_machine.specs.Asking.{IsAskedAs}
 use Rattle.gate_machine.proofs.HoldLemmas.{Suits}
 use Rattle.mux_history.specs.Kinds.{sets_up, tears_down, plain, kind_of_text}
 use Rattle.mux_history.specs.Books.{Books}
-use Rattle.gate_machine.specs.Spelled.{with_pair}
+use Rattle.gate_machine.specs.Spelled.{over_pair}
 use Rattle.mux_history.proofs.LendLemmas.{IsLentFor}
 
 -- a request with a method
@@ -38,8 +38,8 @@ kind_by : (number : ℕ) (request : Request2) (free : Option ℕ) (shut : Bool) 
 kind_by number request free shut method e = ap (λ m. kind_of_text (request_text number (asking m request)) free shut) e
 
 -- a SETUP asks for the pair that is free
-pub setup_asks : (number : ℕ) (request : Request2) (p : ℕ) (shut : Bool) (own : ℕ) → request.method ≡ method_name methods.Setup → kind_of_text (request_text number (with_pair (Some own) (Some p) request)) (Some p) shut ≡ sets_up p
-setup_asks number request p shut own e = kind_by number (with_pair (Some own) (Some p) request) (Some p) shut (method_name methods.Setup) e
+pub setup_asks : (number : ℕ) (request : Request2) (p : ℕ) (shut : Bool) (own : ℕ) → request.method ≡ method_name methods.Setup → kind_of_text (request_text number (over_pair (Some own) (Some p) request)) (Some p) shut ≡ sets_up p
+setup_asks number request p shut own e = kind_by number (over_pair (Some own) (Some p) request) (Some p) shut (method_name methods.Setup) e
 
 -- the pair that is free is held by nobody
 abbrev pub IsFreePair : Books → Option ℕ → Type 0
@@ -53,10 +53,10 @@ IsNamedBy next free (Some own) = (p : ℕ) × (free ≡ Some p) × (own ≡ next
 
 -- What goes up is lent for its purpose.
 pub kind_lent : (books : Books) (count number : ℕ) (request : Request2) (own free : Option ℕ) (shut : Bool) (purpose : Purpose) → IsAskedAs purpose request own → IsNamedBy (count + 1) free own → IsFreePair books free
-    → Suits (cond shut false true) purpose → IsLentFor books count (kind_of_text (request_text number (with_pair own free request)) free shut) purpose
+    → Suits (cond shut false true) purpose → IsLentFor books count (kind_of_text (request_text number (over_pair own free request)) free shut) purpose
 kind_lent books count number request own free true (purposes.Client asked track) is named is_free suits = cc
 kind_lent books count number request own free false (purposes.Client asked None) (none, method, plain_method) named is_free suits = (
-  ap (λ one. kind_of_text (request_text number (with_pair one free request)) free false) none
+  ap (λ one. kind_of_text (request_text number (over_pair one free request)) free false) none
       ∙ kind_by number request free false (method_name (method_up asked.method)) method
       ∙ plain_kind asked.method number request free plain_method,
   plain_method,
@@ -65,17 +65,17 @@ kind_lent books count number request own free false (purposes.Client asked (Some
     let here : (p : ℕ) × (free ≡ Some p) × (track.pair ≡ count + 1) = subst (λ (one : Option ℕ). IsNamedBy (count + 1) free one) some named in
     let (p, is, next) = here in (
       p,
-      ap (λ one. kind_of_text (request_text number (with_pair one free request)) free false) some
-          ∙ ap (λ one. kind_of_text (request_text number (with_pair (Some track.pair) one request)) one false) is
+      ap (λ one. kind_of_text (request_text number (over_pair one free request)) free false) some
+          ∙ ap (λ one. kind_of_text (request_text number (over_pair (Some track.pair) one request)) one false) is
           ∙ setup_asks number request p false track.pair method,
       subst (λ (one : Option ℕ). IsFreePair books one) is is_free,
       next,
       setup,
     )
 kind_lent books count number request own free shut (purposes.Released play) (none, method) named is_free suits =
-    ap (λ one. kind_of_text (request_text number (with_pair one free request)) free shut) none
+    ap (λ one. kind_of_text (request_text number (over_pair one free request)) free shut) none
     ∙ kind_by number request free shut (method_name methods.Play) method
 kind_lent books count number request own free false purposes.Closing (none, method) named is_free suits = cc
 kind_lent books count number request own free true purposes.Closing (none, method) named is_free suits =
-    ap (λ one. kind_of_text (request_text number (with_pair one free request)) free true) none
+    ap (λ one. kind_of_text (request_text number (over_pair one free request)) free true) none
     ∙ kind_by number request free true (codes "TEARDOWN") method

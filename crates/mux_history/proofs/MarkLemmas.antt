@@ -19,7 +19,7 @@ use Rattle.gate_machine.specs.Alone.{pair_unless, pair_alone}
 use Rattle.gate_machine.specs.Asking.{has_setup}
 use Rattle.gate_machine.specs.Events.{PrivateEvent, arrive, answer, note, media, end, slow, up_end}
 use Rattle.gate_machine.specs.Frames.{channel_in, behind_channel, Half, half_for, channel_for}
-use Rattle.gate_machine.specs.Hearing.{Heard, idles, closes, carry, take_item, take, settle_at, give, take_media, hear}
+use Rattle.gate_machine.specs.Hearing.{Hearing, idles, closes, carry, take_item, take, settle_at, give, take_media, hear}
 use Rattle.gate_machine.specs.Step.{heard_step, step}
 use Rattle.gate_machine.proofs.FullLemmas.{step_unmarked}
 
@@ -53,7 +53,7 @@ settle_waits : (bases : Bases) (number : ℕ) (pending : Option Purpose) (told :
 settle_waits bases number None told ssrc client h = h
 settle_waits bases number (Some purpose) told ssrc client h = h
 
-answer_waits : (early : Bool) (client : Client) (heard : Heard) → has_setup client.waiting ≡ false → has_setup heard.effect.client.waiting ≡ false → has_setup (cond early (idles client) heard).effect.client.waiting ≡ false
+answer_waits : (early : Bool) (client : Client) (heard : Hearing) → has_setup client.waiting ≡ false → has_setup heard.effect.client.waiting ≡ false → has_setup (cond early (idles client) heard).effect.client.waiting ≡ false
 answer_waits true client heard h waits = h
 answer_waits false client heard h waits = waits
 
@@ -86,7 +86,7 @@ closed_free : (bases : Bases) (count next : ℕ) (free : Option ℕ) (alive : Bo
     → step bases count (Some next) client event ≡ step bases count (pair_where free next) client event
 closed_free bases count next (Some p) alive reason client event e = refl
 closed_free bases count next None true reason client event e =
-    sym (step_unmarked bases count next client event (ap (λ (heard : Heard). has_setup heard.effect.client.waiting) e))
+    sym (step_unmarked bases count next client event (ap (λ (heard : Hearing). has_setup heard.effect.client.waiting) e))
 closed_free bases count next None false reason client event e =
     ap (heard_step bases (Some next)) e ∙ sym (ap (heard_step bases None) e)
 

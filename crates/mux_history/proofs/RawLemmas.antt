@@ -13,7 +13,7 @@ use Rattle.mux_history.specs.Notices.{Notice, notice_of}
 use Rattle.mux_history.specs.Happenings.{Happening, enters, takes, ends, lags, hears, up_ends}
 use Rattle.mux_history.specs.Own.{owner_of, notice_turn, heard_turn, turn, settled_by, notice_event, heard_event, event_by, event_of}
 use Rattle.mux_history.specs.Joined.{IsJoined}
-use Rattle.mux_history.specs.Shared.{notice_raw, heard_raw, raw_event, heard_number, number_in}
+use Rattle.mux_history.specs.Shared.{notice_raw, heard_raw, raw_event, heard_number, number_heard}
 use Rattle.mux_history.proofs.SharedLemmas.{IsRaw}
 use Rattle.mux_history.proofs.StepLemmas.{IsOpenNumber, IsOpened}
 
@@ -88,7 +88,7 @@ heard_open books i count client (requests request) joined was turns = notice_ope
 heard_open books i count client (frames channel rest) joined was turns = (tt, tt)
 heard_open books i count client (faults fault) joined was turns = tt
 
-open_by : (books : Books) (i count : ℕ) (client : Client) (h : Happening) → IsJoined books i client count → WasOpened count client.pending → turn books h ≡ Some i → IsOpenFact books i count (number_in h) (raw_event books h)
+open_by : (books : Books) (i count : ℕ) (client : Client) (h : Happening) → IsJoined books i client count → WasOpened count client.pending → turn books h ≡ Some i → IsOpenFact books i count (number_heard h) (raw_event books h)
 open_by books i count client (enters conn) joined was turns = tt
 open_by books i count client (takes conn shape) joined was turns = (tt, tt)
 open_by books i count client (ends conn) joined was turns = (tt, tt)
@@ -97,5 +97,5 @@ open_by books i count client (hears shape) joined was turns = heard_open books i
 open_by books i count client (up_ends cause) joined was turns = tt
 
 pub open_is : (books : Books) (i count : ℕ) (client : Client) (h : Happening) (raw : PrivateEvent) → IsJoined books i client count → WasOpened count client.pending → turn books h ≡ Some i → raw_event books h ≡ Some raw
-    → IsOpened count raw × IsOpenNumber (number_in h) (books.number_of i count) raw
-open_is books i count client h raw joined was turns is = subst (λ (one : Option PrivateEvent). IsOpenFact books i count (number_in h) one) is (open_by books i count client h joined was turns)
+    → IsOpened count raw × IsOpenNumber (number_heard h) (books.number_of i count) raw
+open_is books i count client h raw joined was turns is = subst (λ (one : Option PrivateEvent). IsOpenFact books i count (number_heard h) one) is (open_by books i count client h joined was turns)

@@ -6,7 +6,7 @@ use Rattle.client_slot.specs.declared.purpose.Purpose.{Purpose}
 use Rattle.client_slot.specs.Client.{Client}
 use Rattle.client_slot.specs.Renumbered.{purpose_under}
 use Rattle.gate_machine.specs.Alone.{effect_alone}
-use Rattle.gate_machine.specs.Effects.{Message, asks, carries, Effect}
+use Rattle.gate_machine.specs.Effects.{Outgoing, asks, carries, Effect}
 use Rattle.gate_machine.specs.Events.{PrivateEvent}
 use Rattle.head_two.specs.declared.request.Request2.{Request2}
 use Rattle.gate_machine.specs.Asking.{IsOpenAs, AsksBy}
@@ -64,12 +64,12 @@ lent_kind books i kind count client counted is_joined some = by client.pending i
         same ∙ kind_same ((lends i kind books).pair_of i) purpose
 
 -- A request that goes up is open then.
-abbrev pub AskedOpen : Option Message → Option Purpose → Type 0
+abbrev pub AskedOpen : Option Outgoing → Option Purpose → Type 0
 AskedOpen None pending = Unit {0}
 AskedOpen (Some (asks request named)) pending = IsSome pending
 AskedOpen (Some (carries pair half rest)) pending = Unit {0}
 
-asked_open : (free : Option ℕ) (old : Option Purpose) (message : Option Message) (new : Option Purpose) → AsksBy free old message new → AskedOpen message new
+asked_open : (free : Option ℕ) (old : Option Purpose) (message : Option Outgoing) (new : Option Purpose) → AsksBy free old message new → AskedOpen message new
 asked_open free old None new h = tt
 asked_open free old (Some (asks request named)) new h = by new h.after
   where
@@ -79,7 +79,7 @@ asked_open free old (Some (asks request named)) new h = by new h.after
 asked_open free old (Some (carries pair half rest)) new h = tt
 
 -- what goes up in all, by what was heard
-first_open : (next : Next) (first : Option Message) (bases : Bases) (pair : Option ℕ) (client : Client) → IsMute next first
+first_open : (next : Next) (first : Option Outgoing) (bases : Bases) (pair : Option ℕ) (client : Client) → IsMute next first
     → AskedOpen (option_or first (going_on bases pair next client).message) (going_on bases pair next client).client.pending
 first_open next None bases pair client mute = asked_open pair client.pending (going_on bases pair next client).message (going_on bases pair next client).client.pending (going_asks bases pair next client)
 first_open rests (Some (asks request named)) bases pair client mute = absurd mute
@@ -92,7 +92,7 @@ step_open bases number pair client event =
     first_open (hear bases number client event).next (hear bases number client event).effect.message bases pair (hear bases number client event).effect.client (hear_mute bases number client event)
 
 -- the kind that goes up is told by the step in the numbers of all
-pub kind_told : (books settled : Books) (i : ℕ) (free : Option ℕ) (shut : Bool) (message : Option Message) (p : ℕ → ℕ) (pending : Option Purpose)
+pub kind_told : (books settled : Books) (i : ℕ) (free : Option ℕ) (shut : Bool) (message : Option Outgoing) (p : ℕ → ℕ) (pending : Option Purpose)
     → ((request : Request2) (named : Option ℕ) → message ≡ Some (asks request named) → (kind : RequestKind) → kind_of (option_map (message_up books settled i) message) free shut ≡ Some kind → kind ≡ kind_pending pending)
     → kind_of (option_map (message_up books settled i) message) free shut ≡ kind_gone (option_map (message_under p) message) pending
 kind_told books settled i free shut None p pending told = refl

@@ -6,7 +6,7 @@ use Rattle.client_slot.specs.Client.{Client}
 use Rattle.client_slot.specs.Renumbered.{client_under}
 use Rattle.gate_machine.specs.Alone.{Private, private_after, asked_in, effect_alone}
 use Rattle.gate_machine.specs.Bounds.{IsBelow, ArePairsBelow}
-use Rattle.gate_machine.specs.Effects.{Message, asks, carries, Effect}
+use Rattle.gate_machine.specs.Effects.{Outgoing, asks, carries, Effect}
 use Rattle.gate_machine.specs.Events.{PrivateEvent}
 use Rattle.gate_machine.specs.Hearing.{hear}
 use Rattle.gate_machine.specs.Renumbered.{message_under}
@@ -74,7 +74,7 @@ after_by : (bases : Bases) (T : List Entry) (i : ℕ) (h : Happening) (event raw
     × (after ≡ lends_where (Some i) (kind_gone (option_map (message_under (pairs_at (books_of T) i ((alone bases T i).count + 1) (free_or (free_in (settled_by (books_of T) h))))) made.message) (shared after i made.client).pending) (settled_by (books_of T) h))
 after_by bases T i h event raw made after p counted below tracks asked is_joined books = by made.message below asked is_joined books
   where
-    by : (message : Option Message) → IsBelow ((alone bases T i).count + asked_in message) made.client → AskedOpen message made.client.pending → IsJoined after i made.client ((alone bases T i).count + asked_in message)
+    by : (message : Option Outgoing) → IsBelow ((alone bases T i).count + asked_in message) made.client → AskedOpen message made.client.pending → IsJoined after i made.client ((alone bases T i).count + asked_in message)
         → after ≡ lends_where (Some i) (kind_of (option_map (message_up (books_of T) (settled_by (books_of T) h) i) message) (free_in (settled_by (books_of T) h)) (has_shut (Some i) (entry_next bases T h ∷ T))) (settled_by (books_of T) h)
         → (shared after i made.client ≡ client_under (numbers_at (books_of T) i ((alone bases T i).count + 1) (other_of raw)) (pairs_at (books_of T) i ((alone bases T i).count + 1) (free_or (free_in (settled_by (books_of T) h)))) made.client)
         × (after ≡ lends_where (Some i) (kind_gone (option_map (message_under (pairs_at (books_of T) i ((alone bases T i).count + 1) (free_or (free_in (settled_by (books_of T) h))))) message) (shared after i made.client).pending) (settled_by (books_of T) h))
@@ -115,7 +115,7 @@ turn_after bases T i h event raw is =
       both.1
           ∙ ap (λ (one : Client). lends_where (Some i) (kind_gone (option_map (message_under (pairs_at (books_of T) i ((alone bases T i).count + 1) (free_or (free_in (settled_by (books_of T) h))))) (effect_alone bases (alone bases T i) event).message) one.pending) (settled_by (books_of T) h))
           (both.0 ∙ sym (ap (λ (done : Effect). done.client) (renumbered bases T i h event raw is)))
-          ∙ ap (λ (message : Option Message). lends_where (Some i) (kind_gone message (raw_step_of bases T i h raw).client.pending) (settled_by (books_of T) h)) (sym (ap (λ (done : Effect). done.message) (renumbered bases T i h event raw is))),
+          ∙ ap (λ (message : Option Outgoing). lends_where (Some i) (kind_gone message (raw_step_of bases T i h raw).client.pending) (settled_by (books_of T) h)) (sym (ap (λ (done : Effect). done.message) (renumbered bases T i h event raw is))),
     )
 
 -- Every other connection is as it was.

@@ -13,7 +13,7 @@ use Rattle.channel_map.proofs.PairLemmas.{lowest_free_is_free}
 use Rattle.gate_machine.specs.Alone.{asked_in}
 use Rattle.gate_machine.specs.Asking.{IsOpenAs, IsFreeFor, IsAsked, AsksBy}
 use Rattle.gate_machine.specs.Bounds.{ArePairsBelow}
-use Rattle.gate_machine.specs.Effects.{Message, asks, carries}
+use Rattle.gate_machine.specs.Effects.{Outgoing, asks, carries}
 use Rattle.gate_machine.specs.Hearing.{Next}
 use Rattle.gate_machine.specs.Step.{going_on}
 use Rattle.gate_machine.proofs.AskLemmas.{going_asks}
@@ -21,7 +21,7 @@ use Rattle.gate_machine.proofs.HoldLemmas.{IsSteady, going_steady, IsHeldStill, 
 use Rattle.mux_history.specs.Kinds.{RequestKind, kind_of_text, kind_of}
 use Rattle.mux_history.specs.Books.{Books, pair_asked, lends}
 use Rattle.mux_history.specs.Settling.{free_in}
-use Rattle.gate_machine.specs.Spelled.{with_pair}
+use Rattle.gate_machine.specs.Spelled.{over_pair}
 use Rattle.mux_history.specs.Follows.{message_up}
 use Rattle.mux_history.specs.Joined.{AreHeld, IsOpenFor, IsJoined}
 use Rattle.mux_history.proofs.LendLemmas.{IsFree, IsLentFor, lent_free, own_lent}
@@ -71,17 +71,17 @@ suits_by false shut purpose e suits = subst (λ (t : Bool). Suits (cond t false 
 -- a request went up
 asked_gone : (books : Books) (i count number : ℕ) (client after : Client) (request : Request2) (named free : Option ℕ) (shut : Bool) → IsJoined books i client count → ArePairsBelow count client.session.tracks → IsFreePair books free
     → IsAsked (pair_where free (count + 1)) request named client.pending after.pending → IsSteady client after → SuitsOpen client.alive after.pending → shut ≡ not client.alive
-    → HasGone books i after count (Some (kind_of_text (request_text number (with_pair named free request)) free shut)) 1
+    → HasGone books i after count (Some (kind_of_text (request_text number (over_pair named free request)) free shut)) 1
 asked_gone books i count number client after request named free shut joined below is_free asked steady suits closed = by after.pending refl asked.after suits
   where
     by : (pending : Option Purpose) → after.pending ≡ pending → IsOpenAs pending request named → SuitsOpen client.alive pending
-        → HasGone books i after count (Some (kind_of_text (request_text number (with_pair named free request)) free shut)) 1
+        → HasGone books i after count (Some (kind_of_text (request_text number (over_pair named free request)) free shut)) 1
     by None e is_open suit = absurd is_open
     by (Some purpose) e is_open suit =
-        let lent : IsLentFor books count (kind_of_text (request_text number (with_pair named free request)) free shut) purpose =
+        let lent : IsLentFor books count (kind_of_text (request_text number (over_pair named free request)) free shut) purpose =
         kind_lent books count number request named free shut purpose is_open (named_by (count + 1) free named asked.named) is_free (suits_by client.alive shut purpose closed suit) in (
-          lent_free books count (kind_of_text (request_text number (with_pair named free request)) free shut) purpose lent,
-          own_lent books i (kind_of_text (request_text number (with_pair named free request)) free shut) purpose client after count joined below asked.before e steady.tracks steady.id lent,
+          lent_free books count (kind_of_text (request_text number (over_pair named free request)) free shut) purpose lent,
+          own_lent books i (kind_of_text (request_text number (over_pair named free request)) free shut) purpose client after count joined below asked.before e steady.tracks steady.id lent,
         )
 
 -- the same connection with one request more, or with none
@@ -99,7 +99,7 @@ pub going_gone : (bases : Bases) (earlier books : Books) (i count : ℕ) (client
 going_gone bases earlier books i count client next shut joined below closed =
     by (going_on bases (pair_where (free_in books) (count + 1)) next client).message (going_asks bases (pair_where (free_in books) (count + 1)) next client) (going_suits bases (pair_where (free_in books) (count + 1)) next client)
   where
-    by : (message : Option Message) → AsksBy (pair_where (free_in books) (count + 1)) client.pending message (going_on bases (pair_where (free_in books) (count + 1)) next client).client.pending
+    by : (message : Option Outgoing) → AsksBy (pair_where (free_in books) (count + 1)) client.pending message (going_on bases (pair_where (free_in books) (count + 1)) next client).client.pending
         → SuitsBy client.alive message (going_on bases (pair_where (free_in books) (count + 1)) next client).client.pending
         → HasGone books i (going_on bases (pair_where (free_in books) (count + 1)) next client).client count (kind_of (option_map (message_up earlier books i) message) (free_in books) shut) (asked_in message)
     by None same suits =

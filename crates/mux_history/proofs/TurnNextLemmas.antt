@@ -13,7 +13,7 @@ use Rattle.client_slot.specs.Renumbered.{purpose_under}
 use Rattle.gate_machine.specs.Alone.{effect_alone}
 use Rattle.gate_machine.specs.Asking.{AsksBy}
 use Rattle.gate_machine.specs.Bounds.{ArePairsBelow, IsWithin}
-use Rattle.gate_machine.specs.Effects.{Message, asks, carries, Effect}
+use Rattle.gate_machine.specs.Effects.{Outgoing, asks, carries, Effect}
 use Rattle.gate_machine.specs.Events.{PrivateEvent, arrive, answer, note, media, end, slow, up_end}
 use Rattle.gate_machine.specs.Frames.{channel_in, behind_channel, frame_text, Half, half_on, half_for, channel_for}
 use Rattle.rtsp_small.specs.declared.notify.NotifyReason.{NotifyReason}
@@ -22,7 +22,7 @@ use Rattle.session_two.specs.declared.names.Names.{Names}
 use Rattle.translate_down.specs.Replies.{Told}
 use Rattle.gate_machine.specs.declared.why.CloseWhy.{CloseWhy}
 use Rattle.gate_machine.specs.declared.why.CloseWhy.TheVariants as why
-use Rattle.gate_machine.specs.Hearing.{Heard, idles, closes, carry, take_item, take, settle_at, take_note, give, take_media, hear}
+use Rattle.gate_machine.specs.Hearing.{Hearing, idles, closes, carry, take_item, take, settle_at, take_note, give, take_media, hear}
 use Rattle.gate_machine.specs.Renumbered.{message_under, effect_under}
 use Rattle.gate_machine.specs.Spelled.{text_up}
 use Rattle.gate_machine.specs.Step.{step, going_on}
@@ -35,14 +35,14 @@ use Rattle.mux_history.specs.Happenings.{Happening, Entry}
 use Rattle.mux_history.specs.Own.{turn, final_in, settled_by, books_of, event_of, own}
 use Rattle.mux_history.specs.Joined.{kind_for, IsJoined, AreSound}
 use Rattle.mux_history.specs.Follows.{message_up}
-use Rattle.mux_history.specs.Shared.{shared, raw_event, raw_up, number_in, kind_pending}
+use Rattle.mux_history.specs.Shared.{shared, raw_event, raw_up, number_heard, kind_pending}
 use Rattle.mux_history.proofs.JoinedLemmas.{alone, IsStep, step_is}
 use Rattle.mux_history.proofs.RawLemmas.{raw_is, open_is}
 use Rattle.mux_history.proofs.SharedLemmas.{numbers_at, pairs_at, pairs_agree}
 use Rattle.mux_history.proofs.StepLemmas.{other_of, free_or, raw_step}
 
 -- A frame of the player goes up on a pair of one of its streams.
-abbrev pub CarriesBelow : ℕ → Option Message → Type 0
+abbrev pub CarriesBelow : ℕ → Option Outgoing → Type 0
 CarriesBelow n None = Unit {0}
 CarriesBelow n (Some (asks request named)) = Unit {0}
 CarriesBelow n (Some (carries pair half rest)) = IsWithin n pair
@@ -57,7 +57,7 @@ half_below n channel (track ∷ tracks) below = by (half_on channel track) (half
     by (Some half) more = below.0
 
 -- a message of the connection, as it goes up in the numbers of all
-pub message_is : (books settled : Books) (i n free : ℕ) (message : Option Message) → CarriesBelow n message
+pub message_is : (books settled : Books) (i n free : ℕ) (message : Option Outgoing) → CarriesBelow n message
     → option_map (message_up books settled i) message ≡ option_map (raw_up (books.issued + 1) (free_in settled)) (option_map (message_under (pairs_at books i (n + 1) free)) message)
 message_is books settled i n free None below = refl
 message_is books settled i n free (Some (asks request None)) below = refl
@@ -95,7 +95,7 @@ pub closes_none : (alive : Bool) (reason : CloseWhy) (client : Client) → (clos
 closes_none true reason client = refl
 closes_none false reason client = refl
 
-pub answer_none : (early : Bool) (client : Client) (heard : Heard) → heard.effect.message ≡ None → (cond early (idles client) heard).effect.message ≡ None
+pub answer_none : (early : Bool) (client : Client) (heard : Hearing) → heard.effect.message ≡ None → (cond early (idles client) heard).effect.message ≡ None
 answer_none true client heard none = refl
 answer_none false client heard none = none
 
@@ -116,8 +116,8 @@ media_none : (alive : Bool) (pair half : ℕ) (rest : List ℕ) (client : Client
 media_none true pair half rest client = give_none (channel_for pair half client.session.tracks) rest client
 media_none false pair half rest client = refl
 
-none_below : (n : ℕ) (message : Option Message) → message ≡ None → CarriesBelow n message
-none_below n message none = subst (λ (one : Option Message). CarriesBelow n one) (sym none) tt
+none_below : (n : ℕ) (message : Option Outgoing) → message ≡ None → CarriesBelow n message
+none_below n message none = subst (λ (one : Option Outgoing). CarriesBelow n one) (sym none) tt
 
 hear_below : (bases : Bases) (n : ℕ) (client : Client) (event : PrivateEvent) → ArePairsBelow n client.session.tracks → CarriesBelow n (hear bases n client event).effect.message
 hear_below bases n client (arrive shape full) below = take_below n client.alive shape client below
@@ -129,11 +129,11 @@ hear_below bases n client end below = none_below n _ (closes_none client.alive w
 hear_below bases n client slow below = none_below n _ (closes_none client.alive why.Slow client)
 hear_below bases n client up_end below = tt
 
-either_below : (n : ℕ) (first second : Option Message) → CarriesBelow n first → CarriesBelow n second → CarriesBelow n (option_or first second)
+either_below : (n : ℕ) (first second : Option Outgoing) → CarriesBelow n first → CarriesBelow n second → CarriesBelow n (option_or first second)
 either_below n None second a b = b
 either_below n (Some message) second a b = a
 
-going_below : (n : ℕ) (free : Option ℕ) (old : Option Purpose) (message : Option Message) (new : Option Purpose) → AsksBy free old message new → CarriesBelow n message
+going_below : (n : ℕ) (free : Option ℕ) (old : Option Purpose) (message : Option Outgoing) (new : Option Purpose) → AsksBy free old message new → CarriesBelow n message
 going_below n free old None new h = tt
 going_below n free old (Some (asks request named)) new h = tt
 going_below n free old (Some (carries pair half rest)) new h = absurd h
@@ -146,7 +146,7 @@ step_below bases n pair client event below =
 
 -- The step in the numbers of all.
 abbrev pub raw_step_of : Bases → List Entry → ℕ → Happening → PrivateEvent → Effect
-raw_step_of bases T i h raw = step bases (number_in h) (free_in (settled_by (books_of T) h)) (shared (books_of T) i (alone bases T i).client) raw
+raw_step_of bases T i h raw = step bases (number_heard h) (free_in (settled_by (books_of T) h)) (shared (books_of T) i (alone bases T i).client) raw
 
 -- It is the connection's own, renumbered.
 pub step_renumbered : (bases : Bases) (T : List Entry) (i : ℕ) (h : Happening) (event raw : PrivateEvent) → AreSound (books_of T) → IsJoined (books_of T) i (alone bases T i).client (alone bases T i).count → (alone bases T i).over ≡ false
@@ -155,7 +155,7 @@ pub step_renumbered : (bases : Bases) (T : List Entry) (i : ℕ) (h : Happening)
     (effect_alone bases (alone bases T i) event)
 step_renumbered bases T i h event raw sound joined over made turns is_event is_raw =
     let open_now = open_is (books_of T) i (alone bases T i).count (alone bases T i).client h raw joined (alone_numbered bases (own bases i T)).1 turns is_raw in
-    raw_step bases (books_of T) i (alone bases T i).count (number_in h) (free_in (settled_by (books_of T) h)) (alone bases T i).client event raw sound joined (alone_below bases (own bases i T))
+    raw_step bases (books_of T) i (alone bases T i).count (number_heard h) (free_in (settled_by (books_of T) h)) (alone bases T i).client event raw sound joined (alone_below bases (own bases i T))
     (raw_is (books_of T) i (alone bases T i).client.waiting h event raw turns is_event is_raw) open_now.0 open_now.1
     ∙ ap (effect_under (numbers_at (books_of T) i ((alone bases T i).count + 1) (other_of raw)) (pairs_at (books_of T) i ((alone bases T i).count + 1) (free_or (free_in (settled_by (books_of T) h)))))
     (sym (step_is bases (books_of T) (final_in (books_of T) h) i (alone bases T i) event over made))

@@ -4,7 +4,7 @@ use Rattle.std.specs.Prelude.{is_some}
 use Rattle.std.specs.Option.{option_map, option_or, option_to_list}
 use Rattle.rtsp_uri.specs.declared.base.Bases.{Bases}
 use Rattle.gate_machine.specs.Alone.{private_after, effect_alone}
-use Rattle.gate_machine.specs.Effects.{Message, asks, carries, Effect}
+use Rattle.gate_machine.specs.Effects.{Outgoing, asks, carries, Effect}
 use Rattle.gate_machine.specs.Events.{PrivateEvent}
 use Rattle.gate_machine.specs.Renumbered.{message_under, effect_under}
 use Rattle.gate_machine.proofs.BelowLemmas.{alone_below}
@@ -51,7 +51,7 @@ pub at_turn : (bases : Bases) (T : List Entry) (i : ℕ) (h : Happening) (event 
 at_turn bases T i h event raw is =
     ap (λ who. effect_of_turn bases T who h) is.turns ∙ effect_present bases T h i (Some event) is.entered is.is_event
 
-spent_same : (issued : ℕ) (p : ℕ → ℕ) (message : Option Message) → spent issued (option_map (message_under p) message) ≡ spent issued message
+spent_same : (issued : ℕ) (p : ℕ → ℕ) (message : Option Outgoing) → spent issued (option_map (message_under p) message) ≡ spent issued message
 spent_same issued p None = refl
 spent_same issued p (Some (asks request named)) = refl
 spent_same issued p (Some (carries pair half rest)) = refl

@@ -3,7 +3,7 @@ use Rattle.std.specs.Prelude.{ℕ, ◌+◌, ◌*◌, List, [], ◌∷◌, ◌++�
 use Rattle.std.specs.Option.{option_map, option_to_list}
 use Rattle.rtsp_uri.specs.declared.base.Bases.{Bases}
 use Rattle.gate_machine.specs.Alone.{private_after, effect_after}
-use Rattle.gate_machine.specs.Effects.{Message, asks, carries}
+use Rattle.gate_machine.specs.Effects.{Outgoing, asks, carries}
 use Rattle.gate_machine.specs.Events.{PrivateEvent}
 use Rattle.gate_machine.specs.Frames.{frame_text}
 use Rattle.gate_machine.specs.Spelled.{text_up}
@@ -15,17 +15,17 @@ use Rattle.mux_history.specs.Happenings.{Entry}
 use Rattle.mux_history.specs.Own.{turn, is_turn, books_of}
 
 -- what the server is handed of connection i, by whose turn it is
-abbrev pub up_for : ℕ → Option ℕ → ToUp → List UpMessage
-up_for i who up = if is_turn i who then option_to_list up.message else []
+abbrev pub asked_for : ℕ → Option ℕ → ToUp → List UpMessage
+asked_for i who up = if is_turn i who then option_to_list up.message else []
 
 -- the messages that the server was handed in the turns of connection i, the newest first
 abbrev pub asked_up : ℕ → List Entry → List UpMessage
 asked_up i [] = []
-asked_up i (entry ∷ earlier) = up_for i (turn (books_of earlier) entry.happening) entry.outcome.to_up ++ asked_up i earlier
+asked_up i (entry ∷ earlier) = asked_for i (turn (books_of earlier) entry.happening) entry.outcome.to_up ++ asked_up i earlier
 
 -- A message of connection i in the numbers and on the channels that the books have for it, where a request has this own
 -- number.
-abbrev pub spelled_for : Books → ℕ → ℕ → Message → UpMessage
+abbrev pub spelled_for : Books → ℕ → ℕ → Outgoing → UpMessage
 spelled_for books i own (asks request named) = Request (text_up (books.number_of i own) (Some (books.pair_of i own)) named request)
 spelled_for books i own (carries pair half rest) = Frame (frame_text (2 * books.pair_of i pair + half) rest)
 

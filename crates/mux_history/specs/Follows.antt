@@ -11,7 +11,7 @@ use Rattle.rtsp_transport.specs.Grants.{grant_of}
 use Rattle.head_two.specs.declared.reply.Reply2.{Reply2}
 use Rattle.session_one.specs.Table.{is_success}
 use Rattle.gate_machine.specs.Frames.{frame_text}
-use Rattle.gate_machine.specs.Effects.{Message, asks, carries, Effect, stays}
+use Rattle.gate_machine.specs.Effects.{Outgoing, asks, carries, Effect, stays}
 use Rattle.gate_machine.specs.Events.{PrivateEvent}
 use Rattle.gate_machine.specs.Spelled.{text_up}
 use Rattle.gate_machine.specs.Alone.{Private, new_private, effect_alone, private_after, hand, shut_alone}
@@ -73,15 +73,15 @@ abbrev pub is_others : ℕ → Option ℕ → Bool
 is_others i None = false
 is_others i (Some conn) = not (conn == i)
 
-abbrev pub is_taken : Books → ℕ → Option (List ℕ) → Bool
-is_taken books i None = false
-is_taken books i (Some id) = is_others i (books.holder id)
+abbrev pub is_held_elsewhere : Books → ℕ → Option (List ℕ) → Bool
+is_held_elsewhere books i None = false
+is_held_elsewhere books i (Some id) = is_others i (books.holder id)
 
 -- What is wrong with the success of a SETUP.
 abbrev pub grant_breach : Books → ℕ → ℕ → Option (List ℕ) → Reply2 → Option UpCause
 grant_breach books i pair session reply =
     if not (is_granted pair session reply) then Some (BadGrant reply.cseq)
-    else (if is_none session && is_taken books i (id_said reply) then Some (SessionTaken reply.cseq) else None)
+    else (if is_none session && is_held_elsewhere books i (id_said reply) then Some (SessionTaken reply.cseq) else None)
 
 abbrev pub kind_breach : Books → RequestKind → ℕ → Option (List ℕ) → Reply2 → Option UpCause
 kind_breach books (sets_up pair) i session reply = if is_success reply.code then grant_breach books i pair session reply else None
@@ -89,13 +89,13 @@ kind_breach books tears_down i session reply = None
 kind_breach books closes i session reply = None
 kind_breach books plain i session reply = None
 
-abbrev pub session_in : Option Private → Option (List ℕ)
-session_in None = None
-session_in (Some private) = private.client.session.id
+abbrev pub session_of_private : Option Private → Option (List ℕ)
+session_of_private None = None
+session_of_private (Some private) = private.client.session.id
 
 abbrev pub reply_breach : Bases → List Entry → Reply2 → Option Opened → Option UpCause
 reply_breach bases earlier reply None = Some (UnknownReply reply.cseq)
-reply_breach bases earlier reply (Some opened) = kind_breach (books_of earlier) opened.kind opened.conn (session_in (private_in bases opened.conn earlier)) reply
+reply_breach bases earlier reply (Some opened) = kind_breach (books_of earlier) opened.kind opened.conn (session_of_private (private_in bases opened.conn earlier)) reply
 
 -- What is wrong with what the server says: an item can't be taken, a reply is nobody's, or a grant is a wrong one.
 abbrev pub heard_breach : Bases → List Entry → Heard → Option UpCause
@@ -113,7 +113,7 @@ said_breach bases earlier (hears shape) = heard_breach bases earlier (heard shap
 said_breach bases earlier (up_ends cause) = Some (cause_of cause)
 
 -- a request is due, and all numbers were used
-abbrev pub spent : ℕ → Option Message → Option UpCause
+abbrev pub spent : ℕ → Option Outgoing → Option UpCause
 spent issued None = None
 spent issued (Some (asks request pair)) = if nat_lt issued LAST_CSEQ_TWO then None else Some CseqSpent
 spent issued (Some (carries pair half rest)) = None
@@ -141,11 +141,11 @@ answer_due books (up_ends cause) = None
 
 -- A message of a connection as it goes up: a request with the next number, and a SETUP with the lowest pair that is free;
 -- a frame on the pair that the connection's own pair stands for.
-abbrev pub message_up : Books → Books → ℕ → Message → UpMessage
+abbrev pub message_up : Books → Books → ℕ → Outgoing → UpMessage
 message_up books settled i (asks request number) = Request (text_up (books.issued + 1) (free_in settled) number request)
 message_up books settled i (carries number half rest) = Frame (frame_text (2 * books.pair_of i number + half) rest)
 
-abbrev pub message_due : Books → Books → Option ℕ → Option Message → Option UpMessage
+abbrev pub message_due : Books → Books → Option ℕ → Option Outgoing → Option UpMessage
 message_due books settled None message = None
 message_due books settled (Some i) message = option_map (message_up books settled i) message
 

@@ -19,15 +19,15 @@ pub record Notice : Type 0 where
   pub reason : NotifyReason
   pub names : Names
 
-abbrev pub field : Ask2 → List ℕ → Option (List ℕ)
-field request name = field_of request.head.headers name
+abbrev pub notice_field : Ask2 → List ℕ → Option (List ℕ)
+notice_field request name = field_of request.head.headers name
 
 abbrev pub session_named : Ask2 → Option (List ℕ)
-session_named request = option_map (λ session. session.id) (option_and_then session_of (field request (codes "Session")))
+session_named request = option_map (λ session. session.id) (option_and_then session_of (notice_field request (codes "Session")))
 
 abbrev pub known_reason : Ask2 → List ℕ → ℕ → Option NotifyReason → Result Notice ℕ
 known_reason request id conn None = Err 465
-known_reason request id conn (Some reason) = Ok (record { conn = conn; id = id; reason = reason; names = names_in (field request (codes "Request-Status")) })
+known_reason request id conn (Some reason) = Ok (record { conn = conn; id = id; reason = reason; names = names_in (notice_field request (codes "Request-Status")) })
 
 abbrev pub said_reason : Ask2 → List ℕ → ℕ → Option (List ℕ) → Result Notice ℕ
 said_reason request id conn None = Err 400
@@ -35,7 +35,7 @@ said_reason request id conn (Some value) = known_reason request id conn (notify_
 
 abbrev pub held_session : Ask2 → List ℕ → Option ℕ → Result Notice ℕ
 held_session request id None = Err 454
-held_session request id (Some conn) = said_reason request id conn (field request (codes "Notify-Reason"))
+held_session request id (Some conn) = said_reason request id conn (notice_field request (codes "Notify-Reason"))
 
 abbrev pub named_session : (List ℕ → Option ℕ) → Ask2 → Option (List ℕ) → Result Notice ℕ
 named_session holder request None = Err 454

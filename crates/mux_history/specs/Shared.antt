@@ -7,7 +7,7 @@ use Rattle.translate_down.specs.Replies.{told_by}
 use Rattle.client_slot.specs.declared.purpose.Purpose.{Purpose}
 use Rattle.client_slot.specs.Client.{Client}
 use Rattle.client_slot.specs.Renumbered.{client_under}
-use Rattle.gate_machine.specs.Effects.{Message, asks, carries, Effect}
+use Rattle.gate_machine.specs.Effects.{Outgoing, asks, carries, Effect}
 use Rattle.gate_machine.specs.Events.{PrivateEvent, arrive, answer, note, media, end, slow}
 use Rattle.gate_machine.specs.Frames.{frame_text}
 use Rattle.gate_machine.specs.Spelled.{source_said, text_up}
@@ -54,7 +54,7 @@ raw_event books (hears shape) = heard_raw books (heard shape)
 raw_event books (up_ends cause) = None
 
 -- a message of a connection in those numbers, as it goes up
-abbrev pub raw_up : ℕ → Option ℕ → Message → UpMessage
+abbrev pub raw_up : ℕ → Option ℕ → Outgoing → UpMessage
 raw_up number free (asks request named) = Request (text_up number free named request)
 raw_up number free (carries pair half rest) = Frame (frame_text (2 * pair + half) rest)
 
@@ -65,13 +65,13 @@ heard_number (requests request) = 0
 heard_number (frames channel rest) = 0
 heard_number (faults fault) = 0
 
-abbrev pub number_in : Happening → ℕ
-number_in (enters conn) = 0
-number_in (takes conn shape) = 0
-number_in (ends conn) = 0
-number_in (lags conn) = 0
-number_in (hears shape) = heard_number (heard shape)
-number_in (up_ends cause) = 0
+abbrev pub number_heard : Happening → ℕ
+number_heard (enters conn) = 0
+number_heard (takes conn shape) = 0
+number_heard (ends conn) = 0
+number_heard (lags conn) = 0
+number_heard (hears shape) = heard_number (heard shape)
+number_heard (up_ends cause) = 0
 
 -- the kind of a connection's open request
 abbrev pub kind_pending : Option Purpose → RequestKind
@@ -79,7 +79,7 @@ kind_pending None = plain
 kind_pending (Some purpose) = kind_for (λ pair. pair) purpose
 
 -- the kind of the request that goes up, where one does, by what is open then
-abbrev pub kind_gone : Option Message → Option Purpose → Option RequestKind
+abbrev pub kind_gone : Option Outgoing → Option Purpose → Option RequestKind
 kind_gone None pending = None
 kind_gone (Some (asks request named)) pending = Some (kind_pending pending)
 kind_gone (Some (carries pair half rest)) pending = None

@@ -11,7 +11,7 @@ use Rattle.mux_history.specs.Happenings.{Happening, Entry, fault_in, entered}
 use Rattle.mux_history.specs.Own.{turn, settled_by, lends_where, books_of, event_of, own}
 use Rattle.mux_history.specs.Follows.{said_breach, spent, IsHistory}
 use Rattle.mux_history.specs.Next.{next}
-use Rattle.mux_history.specs.Shared.{shared, raw_event, number_in, kind_gone, outcome_by}
+use Rattle.mux_history.specs.Shared.{shared, raw_event, number_heard, kind_gone, outcome_by}
 
 -- connection i alone, in a history
 abbrev pub client_alone : Bases → List Entry → ℕ → Client
@@ -20,7 +20,7 @@ client_alone bases history i = (private_after bases (own bases i history)).clien
 -- The step of a connection in the numbers and on the channels of all players.
 abbrev pub step_by_books : Bases → List Entry → ℕ → Happening → PrivateEvent → Effect
 step_by_books bases history i happening raw =
-    step bases (number_in happening) (free_in (settled_by (books_of history) happening)) (shared (books_of history) i (client_alone bases history i)) raw
+    step bases (number_heard happening) (free_in (settled_by (books_of history) happening)) (shared (books_of history) i (client_alone bases history i)) raw
 
 -- It is the turn of a connection that entered: an event comes, which has a form in its own numbers and one in those of all;
 -- the connection to the server stands; nothing is wrong with what was said; and a number is left.

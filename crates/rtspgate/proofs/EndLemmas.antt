@@ -3,17 +3,17 @@ use Rattle.std.proofs.Common.{◌≡◌, ℕ, zero, suc, ◌+◌, ◌-◌, ◌^�
 use Rattle.std.proofs.lemmas.List.{append_assoc, append-nil}
 use Rattle.mux_history.specs.Happenings.{Entry, is_alive}
 use Rattle.gate_machine.specs.declared.why.CloseWhy.TheVariants.{Upstream}
-use Rattle.rtspgate.specs.Written.{close_record, end_of, ends_below, numbers, ends}
+use Rattle.rtspgate.specs.Written.{close_record, end_record, ends_below, numbers, ends}
 
 pub numbers_are : numbers ≡ 4294967296
 unfolding numbers
 numbers_are = refl
 
 -- numbers of connections that are not alive add nothing
-dead_end : (i : ℕ) (T : List Entry) → is_alive i T ≡ false → end_of i T ≡ []
+dead_end : (i : ℕ) (T : List Entry) → is_alive i T ≡ false → end_record i T ≡ []
 dead_end i T dead = ap (λ (b : Bool). let none : List ℕ = [] in cond b (close_record i Upstream) none) dead
 
-living_end : (i : ℕ) (T : List Entry) → is_alive i T ≡ true → end_of i T ≡ close_record i Upstream
+living_end : (i : ℕ) (T : List Entry) → is_alive i T ≡ true → end_record i T ≡ close_record i Upstream
 living_end i T alive = ap (λ (b : Bool). let none : List ℕ = [] in cond b (close_record i Upstream) none) alive
 
 quiet_by : (k from to : ℕ) (T : List Entry) → to ≡ from + k → ((i : ℕ) → from ≤ i → i < to → is_alive i T ≡ false) → ends_below to T ≡ ends_below from T
@@ -32,7 +32,7 @@ ends_quiet from to T reach dead = quiet_by (to - from) from to T (omega arith) d
 pub ends_next : (from conn : ℕ) (T : List Entry) → from ≤ conn → is_alive conn T ≡ true → ((i : ℕ) → from ≤ i → i < conn → is_alive i T ≡ false)
     → ends_below (suc conn) T ≡ ends_below from T ++ close_record conn Upstream
 ends_next from conn T reach alive dead =
-    ap (λ (l : List ℕ). l ++ end_of conn T) (ends_quiet from conn T reach dead) ∙ ap (λ (l : List ℕ). ends_below from T ++ l) (living_end conn T alive)
+    ap (λ (l : List ℕ). l ++ end_record conn T) (ends_quiet from conn T reach dead) ∙ ap (λ (l : List ℕ). ends_below from T ++ l) (living_end conn T alive)
 
 -- none is alive any more
 pub ends_last : (from : ℕ) (T : List Entry) → from ≤ 4294967296 → ((i : ℕ) → from ≤ i → i < 2 ^ 32 → is_alive i T ≡ false) → ends_below from T ≡ ends T
@@ -47,8 +47,8 @@ rest_by zero n to T sum =
 rest_by (suc k) n to T sum =
     let less = rest_by k n (n + k) T refl in
     let last : suc (n + k) ≡ to = omega arith in (
-      less.0 ++ end_of (n + k) T,
-      sym (append_assoc (ends_below n T) less.0 (end_of (n + k) T)) ∙ ap (λ (l : List ℕ). l ++ end_of (n + k) T) less.1 ∙ ap (λ (m : ℕ). ends_below m T) last,
+      less.0 ++ end_record (n + k) T,
+      sym (append_assoc (ends_below n T) less.0 (end_record (n + k) T)) ∙ ap (λ (l : List ℕ). l ++ end_record (n + k) T) less.1 ∙ ap (λ (m : ℕ). ends_below m T) last,
     )
 
 pub ends_rest : (n : ℕ) (T : List Entry) → n ≤ 4294967296 → (rest : List ℕ) × (ends_below n T ++ rest ≡ ends T)

@@ -51,12 +51,12 @@ abbrev pub close_record : ℕ → CloseWhy → List ℕ
 close_record conn why = record_text (record_byte kind.Closed) conn (close_byte why ∷ [])
 
 -- The records at the end of the server's connection: a close of each connection that was alive, by rising number.
-abbrev pub end_of : ℕ → List Entry → List ℕ
-end_of i earlier = if is_alive i earlier then close_record i Upstream else []
+abbrev pub end_record : ℕ → List Entry → List ℕ
+end_record i earlier = if is_alive i earlier then close_record i Upstream else []
 
 abbrev pub ends_below : ℕ → List Entry → List ℕ
 ends_below zero earlier = []
-ends_below (suc i) earlier = ends_below i earlier ++ end_of i earlier
+ends_below (suc i) earlier = ends_below i earlier ++ end_record i earlier
 
 -- how many numbers there are of 32 bits
 unfoldable pub numbers : ℕ

@@ -5,7 +5,7 @@ ghost use Rattle.gate_outside.specs.Contents.{WritesAll};
 ghost use Rattle.mux_history.specs.Happenings.{Happening, Entry, standing};
 ghost use Rattle.gateway_mux.specs.Stands.{Stands};
 ghost use Rattle.rtspgate.specs.Runs.{StandsForSome};
-ghost use Rattle.gateway_mux.specs.Short.{IsShort, length_of, message_length, up_length};
+ghost use Rattle.gateway_mux.specs.Short.{IsShort, piece_length, message_length, up_length};
 ghost use Rattle.rtspgate.specs.Written.{close_byte, bad_name, framing_name, piece_record, up_message_text, up_record, close_record, ends, closed_records, cause_record, fault_record, records_of};
 ghost use Rattle.rtspgate.specs.declared.records.TheConstants.{FAULT_BYTE};
 ghost use Rattle.rtspgate.specs.Records.{record_text};
@@ -79,7 +79,7 @@ fn write_up<K: Sink>(sink: &mut K, up: &ToUp) -> Result<(), Failed>
 /// The bytes of an answer to the server; none where there is no answer.
 fn answer_bytes(answer: &Option<Text>) -> &[u8]
     ensures bytes { result.now ≡ unwrap_or answer.now [] }
-    ensures size { length result.now ≡ length_of answer.now }
+    ensures size { length result.now ≡ piece_length answer.now }
 {
     match answer {
         Some(text) => text.as_bytes(),

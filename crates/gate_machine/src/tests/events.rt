@@ -1,5 +1,5 @@
 // Events by their lines.
-ghost use Rattle.gate_machine.specs.Plans.{incoming_seen, IsSound, IsReady};
+ghost use Rattle.gate_machine.specs.Plans.{incoming_seen, CanCome, IsReady};
 
 use crate::*;
 use client_slot::Slot;
@@ -48,7 +48,7 @@ fn does(
     number: &mut u32,
     incoming: &Incoming<'_>,
 ) -> Result<Text, Memory>
-    requires { IsSound (incoming_seen incoming.now) }
+    requires { CanCome (incoming_seen incoming.now) }
 {
     let next = number.wrapping_add(1);
     let plan = plan(alloc, bases, slot, next, Some(5), incoming)?;
