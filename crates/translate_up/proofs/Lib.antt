@@ -16,3 +16,4 @@ pub mod ServeLemmas
 pub mod AnswerLemmas
 pub mod RuleLemmas
 pub mod PairLemmas
+pub mod PlaceLemmas

@@ -1,5 +1,5 @@
 -- Every refusal is by a rule.
-use Rattle.std.proofs.Common.{◌≡◌, ℕ, Bool, true, false, ◌&&◌, List, [], ◌∷◌, Option, None, Some, Result, Ok, Err, refl}
+use Rattle.std.proofs.Common.{◌≡◌, ℕ, Bool, true, false, List, [], ◌∷◌, Option, None, Some, Result, Ok, Err, refl}
 use Rattle.std.specs.Prelude.{is_none, is_ok}
 use Rattle.rtsp_small.specs.declared.method.Method.{Method}
 use Rattle.rtsp_small.specs.declared.method.Method.TheVariants.{Options, Describe, Setup, Play, Pause, Teardown, GetParameter, SetParameter}
@@ -13,7 +13,7 @@ use Rattle.translate_up.specs.Fields.{Said}
 use Rattle.translate_up.specs.Rules.{names_no_session, is_out_of_turn, names_one_of_many, has_no_channels, has_bad_range, finds_none_free, finds_no_place, session_rules, with_channels, with_range, admission, unless_code, rules_checked}
 
 -- where no rule of a list applies, the first doesn't, and none of the others
-unrefused : (test : Bool) (code : ℕ) (more : List Rule) → first_code (rule test code ∷ more) ≡ None → (test ≡ false) × (first_code more ≡ None)
+pub unrefused : (test : Bool) (code : ℕ) (more : List Rule) → first_code (rule test code ∷ more) ≡ None → (test ≡ false) × (first_code more ≡ None)
 unrefused true code more h = cc
 unrefused false code more h = (refl, h)
 
