@@ -1,7 +1,9 @@
 pub mod AfterLemmas
+pub mod ApartLemmas
 pub mod AskLemmas
 pub mod BelowLemmas
 pub mod BlindLemmas
+pub mod CarryLemmas
 pub mod CommitLemmas
 pub mod FullLemmas
 pub mod HoldLemmas

@@ -1,4 +1,5 @@
 pub mod Alone
+pub mod Apart
 pub mod Asking
 pub mod Bounds
 pub mod Events

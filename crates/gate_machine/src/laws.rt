@@ -4,6 +4,7 @@ ghost use Rattle.rtsp_uri.specs.declared.base.Bases.{Bases};
 ghost use Rattle.client_slot.specs.Client.{Client};
 ghost use Rattle.client_slot.specs.Renumbered.{client_under};
 ghost use Rattle.gate_machine.specs.Alone.{private_after, is_live, is_empty_list, shut_alone};
+ghost use Rattle.gate_machine.specs.Apart.{streams_of, AreAllStreamsApart};
 ghost use Rattle.gate_machine.specs.Asking.{has_setup};
 ghost use Rattle.gate_machine.specs.Bounds.{IsBelow};
 ghost use Rattle.gate_machine.specs.Events.{PrivateEvent};
@@ -31,6 +32,12 @@ pub fn what_is_not_closed_is_alive()
     ensures step { (bases : Bases) (number : ℕ) (pair : Option ℕ) (client : Client) (event : PrivateEvent)
         → (step bases number pair client event).client.alive ≡ (client.alive && is_none (step bases number pair client event).close) }
     ensures run { (bases : Bases) (events : List PrivateEvent) → is_live (private_after bases events) ≡ is_empty_list (shut_alone bases events) }
+{}
+
+/// The streams of a connection alone have different pairs of channels, and no two of them have a channel
+/// of its player in common. The stream of an open SETUP is one of them.
+pub fn own_streams_are_apart()
+    ensures { (bases : Bases) (events : List PrivateEvent) → AreAllStreamsApart (streams_of (private_after bases events).client) }
 {}
 
 /// The numbers that a connection alone keeps are those of its own requests.

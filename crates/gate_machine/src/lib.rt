@@ -2,8 +2,8 @@
 //!
 //! The definitions in `specs/` are what the gateway's claim is made of: a connection alone, with its
 //! own numbers, and the same step under the numbers of the server's one connection. The functions
-//! here take that step in two parts: [`plan`] changes nothing and takes all memory, and
-//! [`Plan::commit`] takes none and can't be refused.
+//! here take that step in two parts: [`plan`] changes nothing and takes all memory ([`plan_close`] plans
+//! a close, and takes none), and [`Plan::commit`] takes none and can't be refused.
 #![tactic(auto)]
 
 mod after;
@@ -29,7 +29,7 @@ pub use frames::{StreamHalf, channel_for, half_for};
 pub use incoming::Incoming;
 pub use laws::{
     a_free_pair_matters_to_a_setup_alone, a_step_keeps_any_numbering, own_numbers_are_kept,
-    what_is_not_closed_is_alive,
+    own_streams_are_apart, what_is_not_closed_is_alive,
 };
 pub use parts::{Done, Plan};
 pub use planning::plan;
