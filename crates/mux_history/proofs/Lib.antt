@@ -1,6 +1,8 @@
 pub mod AgreeLemmas
 pub mod AnswerLemmas
+pub mod ApartLemmas
 pub mod CaseLemmas
+pub mod FrameLemmas
 pub mod HistoryLemmas
 pub mod JoinedLemmas
 pub mod KindLemmas

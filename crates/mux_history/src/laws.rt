@@ -1,17 +1,23 @@
 //! Laws over the definitions of a history. Each holds by its contract alone: no call is made.
-ghost use Rattle.std.specs.Prelude.{◌≡◌, ◌+◌, ◌≤◌, ◌^◌, ℕ, Option, Some, None, List, map};
+ghost use Rattle.std.specs.Prelude.{◌≡◌, ◌+◌, ◌≤◌, ◌^◌, ℕ, slice_get, Option, Some, None, IfSome, List, map};
+ghost use Rattle.rtsp_head.specs.Items.{Shape};
+ghost use Rattle.rtsp_head.specs.declared.item.ItemKind.TheVariants as items;
 ghost use Rattle.rtsp_uri.specs.declared.base.Bases.{Bases};
 ghost use Rattle.rtsp_small.specs.declared.cseq.TheConstants.{CSEQ_TWO_DIGITS, LAST_CSEQ_TWO};
 ghost use Rattle.client_slot.specs.Client.{Client};
 ghost use Rattle.gate_machine.specs.Alone.{private_after, sent_up};
+ghost use Rattle.gate_machine.specs.Apart.{streams_of, AreAllStreamsApart};
 ghost use Rattle.gate_machine.specs.Events.{PrivateEvent};
+ghost use Rattle.mux_history.specs.declared.event.Closed.TheVariants.{Nobody};
+ghost use Rattle.mux_history.specs.Apart.{pairs_held, session_held, IsFrameDown, IsFrameUp};
 ghost use Rattle.mux_history.specs.Asked.{asked_up, spelled_up};
-ghost use Rattle.mux_history.specs.Happenings.{Happening, Entry, fault_in, sent, shut};
+ghost use Rattle.mux_history.specs.Heard.{frames, heard};
+ghost use Rattle.mux_history.specs.Happenings.{Happening, takes, hears, Entry, fault_in, sent, shut, nothing_up};
 ghost use Rattle.mux_history.specs.Own.{books_of, own};
 ghost use Rattle.mux_history.specs.Follows.{IsHistory, Follows};
 ghost use Rattle.mux_history.specs.Joined.{IsJoined, AreSound};
 ghost use Rattle.mux_history.specs.Next.{next};
-ghost use Rattle.mux_history.specs.Turns.{IsItsTurn, IsSteppedBy};
+ghost use Rattle.mux_history.specs.Turns.{client_alone, IsItsTurn, IsSteppedBy};
 
 /// At most one entry with a given happening follows a history.
 pub fn one_next_entry()
@@ -53,6 +59,39 @@ pub fn books_and_connections_agree()
     ensures sound { (bases : Bases) (history : List Entry) → IsHistory bases history → fault_in history ≡ None → AreSound (books_of history) }
     ensures joined { (bases : Bases) (history : List Entry) (i : ℕ) → IsHistory bases history → fault_in history ≡ None
         → IsJoined (books_of history) i (private_after bases (own bases i history)).client (private_after bases (own bases i history)).count }
+{}
+
+/// While the connection to the server stands, no two streams have one pair of channels on it: neither
+/// two streams of one connection, nor those of two. On a player's own connection no two of its streams
+/// have a channel in common. The stream of an open SETUP is one of them.
+pub fn no_two_streams_share_channels()
+    ensures pairs { (bases : Bases) (history : List Entry) (i j a b pair : ℕ) → IsHistory bases history → fault_in history ≡ None
+        → slice_get (pairs_held bases history i) a ≡ Some pair → slice_get (pairs_held bases history j) b ≡ Some pair → (i ≡ j) × (a ≡ b) }
+    ensures channels { (bases : Bases) (history : List Entry) (i : ℕ) → AreAllStreamsApart (streams_of (client_alone bases history i)) }
+{}
+
+/// While the connection to the server stands, no two connections have one session.
+pub fn no_two_connections_have_one_session()
+    ensures { (bases : Bases) (history : List Entry) (i j : ℕ) (id : List ℕ) → IsHistory bases history → fault_in history ≡ None
+        → session_held bases history i ≡ Some id → session_held bases history j ≡ Some id → i ≡ j }
+{}
+
+/// A frame of the server is handed to no player but the one whose stream has its channel, as that frame
+/// on the player's own channel for it. Nothing else comes of it.
+pub fn a_frame_of_the_server_reaches_its_holder_alone()
+    ensures reaches { (bases : Bases) (earlier : List Entry) (entry : Entry) (frame : Shape) (channel : ℕ) (rest : List ℕ) → IsHistory bases earlier → Follows bases earlier entry
+        → entry.happening ≡ hears frame → heard frame ≡ frames channel rest → IfSome entry.outcome.to_client (IsFrameDown bases earlier channel rest) }
+    ensures alone { (bases : Bases) (earlier : List Entry) (entry : Entry) (frame : Shape) (channel : ℕ) (rest : List ℕ) → IsHistory bases earlier → Follows bases earlier entry
+        → entry.happening ≡ hears frame → heard frame ≡ frames channel rest → (entry.outcome.to_up ≡ nothing_up) × (entry.outcome.closed ≡ Nobody) × (entry.outcome.fault ≡ None) }
+{}
+
+/// A frame of a player is handed to no player. It goes up on no channel but that of the stream which has
+/// the player's channel. Nothing else comes of it.
+pub fn a_frame_of_a_player_goes_up_on_its_own_pair()
+    ensures goes { (bases : Bases) (earlier : List Entry) (entry : Entry) (i : ℕ) (frame : Shape) → IsHistory bases earlier → Follows bases earlier entry
+        → entry.happening ≡ takes i frame → frame.kind ≡ items.Frame → IfSome entry.outcome.to_up.message (IsFrameUp bases earlier i frame) }
+    ensures alone { (bases : Bases) (earlier : List Entry) (entry : Entry) (i : ℕ) (frame : Shape) → IsHistory bases earlier → Follows bases earlier entry
+        → entry.happening ≡ takes i frame → frame.kind ≡ items.Frame → (entry.outcome.to_client ≡ None) × (entry.outcome.to_up.answer ≡ None) × (entry.outcome.closed ≡ Nobody) × (entry.outcome.fault ≡ None) }
 {}
 
 /// At the turn of a connection, what is handed out, and what the connection is then, is one step of
