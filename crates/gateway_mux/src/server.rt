@@ -34,7 +34,7 @@ const LONGEST_ANSWER: usize = 0x7fff_ffff;
 impl Connections {
     ghost use Rattle.mux_history.specs.Follows.{kind_breach};
     ghost use Rattle.mux_history.specs.Shared.{kind_pending};
-    ghost use Rattle.gateway_mux.specs.Acts.{IsAct, IsShortAct};
+    ghost use Rattle.gateway_mux.specs.Acts.{IsAct, IsShortAct, IsKeyed};
     ghost use Rattle.gateway_mux.specs.Free.{is_message};
     ghost use Rattle.gateway_mux.specs.Granting.{IsLowPurpose};
     ghost use Rattle.gateway_mux.specs.Pictures.{picture, books_in};
@@ -44,6 +44,7 @@ impl Connections {
     pub fn plan_heard(&self, alloc: Global, item: &Item) -> Result<Act, Memory>
         ensures act { IfOk result (IsAct self.now.bases (picture self.now.seats self.now.upstream) (hears (shape_of item.now))) }
         ensures short { IfOk result IsShortAct }
+        ensures key { IfOk result (IsKeyed self.now.seats) }
         ensures free { is_message item.now.kind ≡ false → IsOk result }
     {
         if item.kind == ItemKind::Frame {
@@ -61,6 +62,7 @@ impl Connections {
         requires { item.now.kind ≡ Frame }
         ensures act { IsAct self.now.bases (picture self.now.seats self.now.upstream) (hears (shape_of item.now)) result }
         ensures short { IsShortAct result }
+        ensures key { IsKeyed self.now.seats result }
     {
         let channel = channel_of(item);
         let Some(held) = self.upstream.channels.owner(channel) else {
@@ -85,17 +87,18 @@ impl Connections {
     fn plan_reply(&self, alloc: Global, reply: &Reply2) -> Result<Act, Memory>
         ensures act { (shape : Shape) → heard shape ≡ replies reply.now → IfOk result (IsAct self.now.bases (picture self.now.seats self.now.upstream) (hears shape)) }
         ensures short { IfOk result IsShortAct }
+        ensures key { IfOk result (IsKeyed self.now.seats) }
     {
         let Some(conn) = self.upstream.requests.owner(reply.cseq) else {
             return Ok(Act::Ends(UpCause::UnknownReply(reply.cseq)));
         };
-        let Some(slot) = self.seats.slot(conn) else {
+        let Some(seat) = self.seats.seat(conn) else {
             unreachable!();
         };
-        let Some(pending) = slot.pending() else {
+        let Some(pending) = seat.slot.pending() else {
             unreachable!();
         };
-        let session = slot.session();
+        let session = seat.slot.session();
         if let Some(cause) = self.breach(conn, pending, session, reply) {
             return Ok(Act::Ends(cause));
         }
@@ -109,7 +112,7 @@ impl Connections {
             settled,
             ..Said::alone(conn)
         };
-        self.plan_turn(alloc, said, &Incoming::Reply(reply))
+        self.plan_turn(alloc, Some(seat), said, &Incoming::Reply(reply))
     }
 
     /// What is wrong with a reply to the open request of a connection, which has this session.
@@ -135,6 +138,7 @@ impl Connections {
     fn plan_ask(&self, alloc: Global, ask: &Ask2) -> Result<Act, Memory>
         ensures act { (shape : Shape) → heard shape ≡ requests ask.now → IfOk result (IsAct self.now.bases (picture self.now.seats self.now.upstream) (hears shape)) }
         ensures short { IfOk result IsShortAct }
+        ensures key { IfOk result (IsKeyed self.now.seats) }
     {
         match read_notice(&self.upstream.sessions, ask) {
             Ok(notice) => {
@@ -142,7 +146,9 @@ impl Connections {
                     answer: Some(answer(alloc, 200, ask.cseq, Some(notice.id))?),
                     ..Said::alone(notice.conn)
                 };
-                self.plan_turn(alloc, said, &Incoming::Notice(notice.reason, notice.names))
+                let seat = self.seats.seat(notice.conn);
+                let incoming = Incoming::Notice(notice.reason, notice.names);
+                self.plan_turn(alloc, seat, said, &incoming)
             }
             Err(refusal) => Ok(Act::Answers(answer(alloc, refusal.code(), ask.cseq, None)?)),
         }
