@@ -14,17 +14,18 @@ ghost use Rattle.mux_history.specs.Heard.{replies, requests, heard};
 use crate::act::Act;
 use crate::connections::Connections;
 use crate::frames::channel_of;
-use crate::grant::wrong_grant;
+use crate::grant::{source_in, wrong_grant};
 use crate::hear::{Heard, hear};
 use crate::notice::read_notice;
 use crate::said::Said;
 use crate::settled::what_settles;
 use client_slot::Pending;
 use gate_bytes::{Memory, Text};
-use gate_machine::{Incoming, channel_for};
+use gate_machine::{Answer, Incoming, channel_for, grant_said};
 use head_two::{Ask2, Reply2, write_answer};
 use mux_history::UpCause;
 use rtsp_head::{Item, ItemKind};
+use rtsp_transport::Grant;
 use session_one::is_success;
 use std::alloc::Global;
 
@@ -34,6 +35,7 @@ const LONGEST_ANSWER: usize = 0x7fff_ffff;
 impl Connections {
     ghost use Rattle.mux_history.specs.Follows.{kind_breach};
     ghost use Rattle.mux_history.specs.Shared.{kind_pending};
+    ghost use Rattle.gate_machine.specs.Spelled.{grant_said};
     ghost use Rattle.gateway_mux.specs.Acts.{IsAct, IsShortAct, IsKeyed};
     ghost use Rattle.gateway_mux.specs.Free.{is_message};
     ghost use Rattle.gateway_mux.specs.Granting.{IsLowPurpose};
@@ -99,7 +101,8 @@ impl Connections {
             unreachable!();
         };
         let session = seat.slot.session();
-        if let Some(cause) = self.breach(conn, pending, session, reply) {
+        let grant = grant_said(reply);
+        if let Some(cause) = self.breach(conn, pending, session, grant, reply) {
             return Ok(Act::Ends(cause));
         }
         let settled = if reply.code < 200 {
@@ -112,23 +115,27 @@ impl Connections {
             settled,
             ..Said::alone(conn)
         };
-        self.plan_turn(alloc, Some(seat), said, &Incoming::Reply(reply))
+        let source = source_in(grant);
+        self.plan_turn(alloc, Some(seat), said, &Incoming::Reply(Answer { reply, source }))
     }
 
-    /// What is wrong with a reply to the open request of a connection, which has this session.
+    /// What is wrong with a reply to the open request of a connection, which has this session. The
+    /// reply grants this.
     fn breach(
         &self,
         conn: u32,
         pending: Pending<'_>,
         session: Option<&[u8]>,
+        grant: Option<Grant>,
         reply: &Reply2,
     ) -> Option<UpCause>
-        requires { IsLowPurpose (purpose_seen pending) }
+        requires low { IsLowPurpose (purpose_seen pending) }
+        requires grant { grant ≡ grant_said reply.now }
         ensures { result ≡ kind_breach (books_in (picture self.now.seats self.now.upstream)) (kind_pending (Some (purpose_seen pending.entry))) conn (option_copied session.entry) reply.now }
     {
         match pending {
             Pending::Client(_, Some(track)) if is_success(reply.code) => {
-                wrong_grant(&self.upstream.sessions, conn, track.pair, session, reply)
+                wrong_grant(&self.upstream.sessions, conn, track.pair, session, grant, reply)
             }
             _ => None,
         }
