@@ -148,7 +148,10 @@ impl ChannelMap {
     pub fn free(&mut self, freed: Freed)
         ensures { (p : ℕ) → held_at p self.new ≡ kept freed (held_at p self.old) }
     {
-        keep(&mut self.table, freed);
+        match freed {
+            Freed::Nothing => {}
+            Freed::Pair(_) | Freed::Granted(_) => keep(&mut self.table, freed),
+        }
     }
 
     /// How many pairs are held.
@@ -177,6 +180,10 @@ fn keep(table: &mut [Option<Held>], freed: Freed)
     ensures { (p : ℕ) → held_at p table.new ≡ kept freed (held_at p table.old) }
 {
     for place in table.iter_mut() {
-        *place = freed.kept(*place);
+        if let Some(held) = *place {
+            if freed.frees(held) {
+                *place = None;
+            }
+        }
     }
 }

@@ -21,7 +21,6 @@ use Rattle.gate_machine.specs.Effects.{Effect, hands, then_effect}
 use Rattle.gate_machine.specs.Going.{go}
 use Rattle.gate_machine.specs.Hearing.{idles, take, take_item, new_id, reply_hand, settle_at}
 use Rattle.gate_machine.specs.Step.{heard_step}
-use Rattle.gate_machine.specs.Spelled.{source_said}
 use Rattle.gate_machine.specs.Plans.{Comes, requests, replies, effect_by, changed, shut_by, ripe, IsReadyChange, IsCarriedOut, IsPlan}
 use Rattle.gate_machine.specs.Sights.{Sight, sight, IsHeardAs}
 use Rattle.gate_machine.specs.Onward.{IsShown, Onward}
@@ -71,19 +70,18 @@ abbrev settled_effect : Bases → Option ℕ → Purpose → Told → Option ℕ
 settled_effect bases pair purpose told ssrc after = then_effect (hands (reply_hand bases purpose told ssrc after) after) (go bases pair after)
 
 -- A final reply settles, and then what may go up does.
-pub settle_plan : (bases : Bases) (next : ℕ) (pair : Option ℕ) (client : Client) (reply : Reply2) (purpose : Purpose) (id : Option (List ℕ)) (seen : Sight) (hand : List ℕ) (plan : Plan) →
+pub settle_plan : (bases : Bases) (next : ℕ) (pair : Option ℕ) (client : Client) (reply : Reply2) (ssrc : Option ℕ) (purpose : Purpose) (id : Option (List ℕ)) (seen : Sight) (hand : List ℕ) (plan : Plan) →
     client.pending ≡ Some purpose → 200 ≤ reply.code → id ≡ new_id purpose client.session.id (told_by reply) → IfSome id (λ one. is_session_id one ≡ true) →
     ((number : ℕ) → seen ≡ sight (session_after (Some purpose) number reply.code id client.session)) →
-    ((after : Client) → IsHeardAs after client.alive seen.id → hand ≡ reply_hand bases purpose (told_by reply) (source_said reply) after) →
+    ((after : Client) → IsHeardAs after client.alive seen.id → hand ≡ reply_hand bases purpose (told_by reply) ssrc after) →
     plan.change ≡ changes.Settles reply.code id → ((after : Client) → IsShown client seen after → Onward next pair after hand plan (go bases pair after)) →
-    IsPlan bases next pair client (replies reply) plan
-settle_plan bases next pair client reply purpose id seen hand plan open_for last is valid shows handed change goes =
+    IsPlan bases next pair client (replies reply ssrc) plan
+settle_plan bases next pair client reply ssrc purpose id seen hand plan open_for last is valid shows handed change goes =
     let told : Told = told_by reply in
-    let ssrc : Option ℕ = source_said reply in
     let after : ℕ → Client = λ number. after_reply number reply.code id client in
     let session : (number : ℕ) → sight (after number).session ≡ seen =
     λ number. ap (λ (one : Option Purpose). sight (session_after one number reply.code id client.session)) open_for ∙ sym (shows number) in
-    plan_from bases next pair client (replies reply) hand (changes.Settles reply.code id) plan change
+    plan_from bases next pair client (replies reply ssrc) hand (changes.Settles reply.code id) plan change
     (subst (λ (one : Option Purpose). IsSome one) (sym open_for) refl, last, valid)
     (λ number. record {
       later = go bases pair (after number);

@@ -31,31 +31,31 @@ use Rattle.gate_machine.specs.Effects.{Effect}
 use Rattle.gate_machine.specs.Going.{after_plays}
 use Rattle.gate_machine.specs.Hearing.{Hearing, take, take_answer, take_note, closes}
 use Rattle.gate_machine.specs.Step.{heard_step}
-use Rattle.gate_machine.specs.Spelled.{source_said, spelled}
+use Rattle.gate_machine.specs.Spelled.{spelled}
 
 -- what happens to a connection, without where it lies in memory
 pub data Comes : Type 0 where
   requests : (shape : Shape) → Comes
-  replies : (reply : Reply2) → Comes
+  replies : (reply : Reply2) → (source : Option ℕ) → Comes
   notes : (reason : NotifyReason) → (names : Names) → Comes
   shuts : (why : CloseWhy) → Comes
 
 abbrev pub incoming_seen : Incoming → Comes
 incoming_seen (comings.Request item) = requests (shape_of item.now)
-incoming_seen (comings.Reply reply) = replies reply.now
+incoming_seen (comings.Reply answer) = replies answer.reply.now answer.source
 incoming_seen (comings.Notice reason names) = notes reason names
 
 -- An item that comes as a request is one.
 abbrev pub CanCome : Comes → Type 0
 CanCome (requests shape) = shape.kind ≡ kinds.Request
-CanCome (replies reply) = Unit {0}
+CanCome (replies reply source) = Unit {0}
 CanCome (notes reason names) = Unit {0}
 CanCome (shuts why) = Unit {0}
 
 -- what the event does by itself, by the number of the open request
 abbrev pub heard_by : Bases → ℕ → Client → Comes → Hearing
 heard_by bases number client (requests shape) = take client.alive shape client
-heard_by bases number client (replies reply) = take_answer bases number (told_by reply) (source_said reply) client
+heard_by bases number client (replies reply source) = take_answer bases number (told_by reply) source client
 heard_by bases number client (notes reason names) = take_note reason names client
 heard_by bases number client (shuts why) = closes client.alive why client
 

@@ -5,6 +5,7 @@ use Rattle.std.specs.Option.{option_and_then}
 use Rattle.std.specs.Result.{result_ok}
 use Rattle.rtsp_head.specs.Headers.{field_of}
 use Rattle.rtsp_transport.specs.declared.channels.Pair.{Pair}
+use Rattle.rtsp_transport.specs.declared.grant.Grant.{Grant}
 use Rattle.rtsp_transport.specs.Grants.{grant_of}
 use Rattle.head_two.specs.declared.reply.Reply2.{Reply2}
 use Rattle.head_two.specs.declared.request.Request2.{Request2}
@@ -35,6 +36,9 @@ abbrev pub spelled : ℕ → Option ℕ → Option Outgoing → Option (List ℕ
 spelled number free None = None
 spelled number free (Some message) = text_of number free message
 
--- The source that a reply's Transport names (RFC 7826, 18.54).
+-- What a reply's Transport grants, and the source that it names (RFC 7826, 18.54).
+abbrev pub grant_said : Reply2 → Option Grant
+grant_said reply = option_and_then (λ value. result_ok (grant_of value)) (field_of reply.head.headers (codes "Transport"))
+
 abbrev pub source_said : Reply2 → Option ℕ
-source_said reply = option_and_then (λ grant. grant.ssrc) (option_and_then (λ value. result_ok (grant_of value)) (field_of reply.head.headers (codes "Transport")))
+source_said reply = option_and_then (λ grant. grant.ssrc) (grant_said reply)

@@ -26,11 +26,12 @@ mod why;
 
 pub use ends::plan_close;
 pub use frames::{StreamHalf, channel_for, half_for};
-pub use incoming::Incoming;
+pub use incoming::{Answer, Incoming};
 pub use laws::{
     a_free_pair_matters_to_a_setup_alone, a_step_keeps_any_numbering, own_numbers_are_kept,
     own_streams_are_apart, what_is_not_closed_is_alive,
 };
 pub use parts::{Done, Plan};
 pub use planning::plan;
+pub use told::grant_said;
 pub use why::CloseWhy;

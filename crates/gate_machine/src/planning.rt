@@ -57,7 +57,7 @@ fn plan_any(
 {
     match *incoming {
         Incoming::Request(item) => plan_request(alloc, bases, slot, next, pair, item),
-        Incoming::Reply(reply) => plan_reply(alloc, bases, slot, next, pair, reply),
+        Incoming::Reply(answer) => plan_reply(alloc, bases, slot, next, pair, answer),
         Incoming::Notice(reason, names) => plan_notice(alloc, slot, next, reason, names),
     }
 }

@@ -4,12 +4,12 @@ ghost use Rattle.client_slot.specs.Purposes.{purpose_seen};
 ghost use Rattle.gate_machine.specs.Plans.{replies, IsPlan};
 
 use crate::after::after_reply;
+use crate::incoming::Answer;
 use crate::onward::{idle, onward};
 use crate::parts::{Change, Plan};
 use crate::told::{new_id, reply_hand, session_told, timeout_told};
 use client_slot::{Pending, Slot};
 use gate_bytes::{Memory, Text};
-use head_two::Reply2;
 use rtsp_uri::Bases;
 use std::alloc::Global;
 
@@ -20,16 +20,16 @@ pub(crate) fn plan_reply(
     slot: &Slot,
     next: u32,
     pair: Option<u8>,
-    reply: &Reply2,
+    answer: Answer<'_>,
 ) -> Result<Plan, Memory>
     requires { IfSome pair (λ one. one < 128) }
-    ensures { IfOk result (IsPlan bases.now next pair slot.now (replies reply.now)) }
+    ensures { IfOk result (IsPlan bases.now next pair slot.now (replies answer.entry.reply.now answer.entry.source)) }
 {
-    if reply.code < 200 {
+    if answer.reply.code < 200 {
         return Ok(idle(alloc));
     }
     match slot.pending() {
-        Some(pending) => settle(alloc, bases, slot, next, pair, pending, reply),
+        Some(pending) => settle(alloc, bases, slot, next, pair, pending, answer),
         None => Ok(idle(alloc)),
     }
 }
@@ -42,18 +42,18 @@ fn settle<'a>(
     next: u32,
     pair: Option<u8>,
     pending: Pending<'a>,
-    reply: &'a Reply2,
+    answer: Answer<'a>,
 ) -> Result<Plan, Memory>
     requires pair { IfSome pair (λ one. one < 128) }
     requires pending { slot.now.pending ≡ Some (purpose_seen pending) }
-    requires last { 200 ≤ reply.now.code }
-    ensures { IfOk result (IsPlan bases.entry.now next pair slot.entry.now (replies reply.entry.now)) }
+    requires last { 200 ≤ answer.reply.now.code }
+    ensures { IfOk result (IsPlan bases.entry.now next pair slot.entry.now (replies answer.entry.reply.now answer.entry.source)) }
 {
-    let told = session_told(reply);
+    let told = session_told(answer.reply);
     let timeout = timeout_told(told);
     let id = new_id(slot, pending, told);
-    let seen = after_reply(slot, pending, reply.code, id);
-    let hand = reply_hand(alloc, bases, slot, pending, reply, seen.id, timeout)?;
-    let change = Change::Settles(reply.code, Text::copied(alloc, id)?);
+    let seen = after_reply(slot, pending, answer.reply.code, id);
+    let hand = reply_hand(alloc, bases, slot, pending, answer, seen.id, timeout)?;
+    let change = Change::Settles(answer.reply.code, Text::copied(alloc, id)?);
     onward(alloc, bases, slot, next, pair, &seen, change, hand)
 }

@@ -90,12 +90,12 @@ fn treat_request(
 {
     let seen = seen(slot, slot.state());
     let view = seen.view(bases, seen.tracks, pair.is_none());
-    let progress = treat_waiting(alloc, &view, slot, Text::new(alloc))?;
+    let mut progress = treat_waiting(alloc, &view, slot, Text::new(alloc))?;
     let streams = slot.tracks().len();
     if progress.going.is_some() {
         let change = waits(alloc, slot, item)?;
         return finished(alloc, next, pair, streams, change, progress);
     }
-    let progress = progress.then(alloc, &view, item)?;
+    progress.then(alloc, &view, item)?;
     finished(alloc, next, pair, streams, Change::Nothing, progress)
 }

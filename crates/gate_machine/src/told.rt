@@ -10,24 +10,25 @@ ghost use Rattle.client_slot.specs.Client.{Client};
 ghost use Rattle.client_slot.specs.Purposes.{purpose_seen};
 ghost use Rattle.gate_machine.specs.Hearing.{session_told, new_id, reply_hand};
 ghost use Rattle.gate_machine.specs.Sights.{IsHeardAs};
-ghost use Rattle.gate_machine.specs.Spelled.{source_said};
+ghost use Rattle.gate_machine.specs.Spelled.{grant_said};
 
+use crate::incoming::Answer;
 use client_slot::{Pending, Slot};
 use gate_bytes::{Memory, Text};
 use head_two::Reply2;
 use rtsp_small::{Method, SessionField, read_session};
-use rtsp_transport::{Pair, read_grant};
+use rtsp_transport::{Grant, Pair, read_grant};
 use rtsp_uri::Bases;
 use session_one::{Asked, Track};
 use std::alloc::Global;
 use translate_down::{Context, reply_one};
 
-/// The source that a reply's Transport names.
-fn source_said(reply: &Reply2) -> Option<u32>
-    ensures { result ≡ source_said reply.now }
+/// What a reply's Transport grants, where that can be read.
+pub fn grant_said(reply: &Reply2) -> Option<Grant>
+    ensures { result ≡ grant_said reply.now }
 {
     match read_grant(reply.head.field(b"Transport")?) {
-        Ok(grant) => grant.ssrc,
+        Ok(grant) => Some(grant),
         Err(_) => None,
     }
 }
@@ -75,18 +76,18 @@ pub(crate) fn reply_hand<'a>(
     bases: &'a Bases,
     slot: &'a Slot,
     pending: Pending<'a>,
-    reply: &Reply2,
+    answer: Answer<'a>,
     id: Option<&'a [u8]>,
     timeout: Option<u64>,
 ) -> Result<Text, Memory>
     requires id { IfSome id (λ one. is_session_id one.now ≡ true) }
     requires timeout { IfSome timeout (λ seconds. seconds < 10 ^ TIMEOUT_DIGITS) }
-    ensures { IfOk result (λ text. (client : Client) → IsHeardAs client slot.entry.now.alive (option_copied id.entry) → option_and_then (λ field. field.timeout) (session_told (told_by reply.now)) ≡ timeout
-        → text ≡ reply_hand bases.entry.now (purpose_seen pending.entry) (told_by reply.now) (source_said reply.now) client) }
+    ensures { IfOk result (λ text. (client : Client) → IsHeardAs client slot.entry.now.alive (option_copied id.entry) → option_and_then (λ field. field.timeout) (session_told (told_by answer.entry.reply.now)) ≡ timeout
+        → text ≡ reply_hand bases.entry.now (purpose_seen pending.entry) (told_by answer.entry.reply.now) answer.entry.source client) }
 {
     match pending {
         Pending::Client(asked, track) if slot.alive() => {
-            reply_down(alloc, bases, asked, track, reply, id, timeout)
+            reply_down(alloc, bases, asked, track, answer, id, timeout)
         }
         _ => Ok(Text::new(alloc)),
     }
@@ -98,7 +99,7 @@ fn reply_down<'a>(
     bases: &'a Bases,
     asked: &'a Asked,
     track: Option<&'a Track>,
-    reply: &Reply2,
+    answer: Answer<'a>,
     id: Option<&'a [u8]>,
     timeout: Option<u64>,
 ) -> Result<Text, Memory>
@@ -109,19 +110,19 @@ fn reply_down<'a>(
       up = bases.entry.now.up.text;
       session = option_copied id.entry;
       client = option_map (λ one. one.client) (option_copied track.entry);
-      ssrc = source_said reply.now;
+      ssrc = answer.entry.source;
       timeout = timeout;
-    }) asked.entry.now (told_by reply.now)) }
+    }) asked.entry.now (told_by answer.entry.reply.now)) }
 {
     let client = player_channels(track)?;
     let context = Context {
         bases,
         session: id,
         client,
-        ssrc: source_said(reply),
+        ssrc: answer.source,
         timeout,
     };
-    reply_one(alloc, &context, asked, reply)
+    reply_one(alloc, &context, asked, answer.reply)
 }
 
 /// The channels that a player gets for a stream. They differ, since no others are given; so no memory

@@ -1,5 +1,5 @@
 //! Requests that wait are treated.
-ghost use Rattle.std.specs.Prelude.{◌≡◌, ◌+◌, ℕ, [], ◌∷◌, ◌++◌, Some, IfOk};
+ghost use Rattle.std.specs.Prelude.{◌≡◌, ◌+◌, ℕ, [], ◌∷◌, ◌++◌, Some, IfOk, OnOk};
 ghost use Rattle.rtsp_head.specs.Shapes.{shape_of};
 ghost use Rattle.translate_up.specs.Views.{given_of};
 ghost use Rattle.gate_machine.specs.Treating.{decision_on};
@@ -57,9 +57,9 @@ impl Progress {
     }
 
     /// One request more is treated.
-    pub fn then(self, alloc: Global, view: &View<'_>, item: &Item) -> Result<Progress, Memory>
-        ensures treated { IfOk result (λ progress. progress ≡ progressed (decision_on (with_queued self.queued (given_of view.now)) (shape_of item.now)) self) }
-        ensures filled { (queue : ℕ) → IsFilled queue self → IfOk result (IsFilled queue) }
+    pub fn then(&mut self, alloc: Global, view: &View<'_>, item: &Item) -> Result<(), Memory>
+        ensures treated { OnOk result (self.new ≡ progressed (decision_on (with_queued self.old.queued (given_of view.now)) (shape_of item.now)) self.old) }
+        ensures filled { (queue : ℕ) → IsFilled queue self.old → OnOk result (IsFilled queue self.new) }
     {
         let view = View {
             queued: self.queued,
@@ -71,61 +71,61 @@ impl Progress {
     }
 
     /// This becomes of one request more.
-    fn decided(self, decision: Decision) -> Result<Progress, Memory>
-        ensures treated { IfOk result (λ progress. progress ≡ progressed decision self) }
-        ensures filled { (queue : ℕ) → IsFilled queue self → IfOk result (IsFilled queue) }
+    fn decided(&mut self, decision: Decision) -> Result<(), Memory>
+        ensures treated { OnOk result (self.new ≡ progressed decision self.old) }
+        ensures filled { (queue : ℕ) → IsFilled queue self.old → OnOk result (IsFilled queue self.new) }
     {
         match decision {
             Decision::Answer(text) => self.answered(text),
             Decision::Queue(play, text) => self.put(play, text),
-            Decision::Forward(request, asked) => Ok(self.sent(Upward {
-                request,
-                asked,
-                channels: None,
-            })),
-            Decision::Setup(request, asked, channels) => Ok(self.sent(Upward {
-                request,
-                asked,
-                channels: Some(channels),
-            })),
+            Decision::Forward(request, asked) => {
+                self.send(request, asked, None);
+                Ok(())
+            }
+            Decision::Setup(request, asked, channels) => {
+                self.send(request, asked, Some(channels));
+                Ok(())
+            }
         }
     }
 }
 
 impl Progress {
-    /// One request is answered.
-    fn answered(self, text: Text) -> Result<Progress, Memory>
-        ensures treated { IfOk result (λ progress. progress ≡ record self { hand = self.hand ++ text }) }
-        ensures filled { (queue : ℕ) → IsFilled queue self → IfOk result (IsFilled queue) }
+    /// One request is answered. The first answer is handed out as it is.
+    fn answered(&mut self, text: Text) -> Result<(), Memory>
+        ensures treated { OnOk result (self.new ≡ record self.old { hand = self.old.hand ++ text }) }
+        ensures filled { (queue : ℕ) → IsFilled queue self.old → OnOk result (IsFilled queue self.new) }
     {
-        let mut progress = self;
-        progress.hand.push_slice(text.as_bytes())?;
-        Ok(progress)
+        if self.hand.is_empty() {
+            self.hand = text;
+            return Ok(());
+        }
+        self.hand.push_slice(text.as_bytes())
     }
 
     /// A PLAY waits, and is answered. Its URI is never longer than the longest, and it has a place,
     /// so that no memory is wanting for that.
-    fn put(self, play: Play, text: Text) -> Result<Progress, Memory>
-        ensures treated { IfOk result (λ progress. progress ≡ record self { hand = self.hand ++ text; plays = self.plays ++ play ∷ []; queued = self.queued + 1 }) }
-        ensures filled { (queue : ℕ) → IsFilled queue self → IfOk result (IsFilled queue) }
+    fn put(&mut self, play: Play, text: Text) -> Result<(), Memory>
+        ensures treated { OnOk result (self.new ≡ record self.old { hand = self.old.hand ++ text; plays = self.old.plays ++ play ∷ []; queued = self.old.queued + 1 }) }
+        ensures filled { (queue : ℕ) → IsFilled queue self.old → OnOk result (IsFilled queue self.new) }
     {
         if play.uri.len() > LONGEST_URI || self.queued >= MOST_PLAYS {
             return Err(Memory);
         }
-        let mut progress = self;
-        progress.hand.push_slice(text.as_bytes())?;
-        progress.plays.push_back(play)?;
-        progress.queued += 1;
-        Ok(progress)
+        self.plays.push_back(play)?;
+        self.queued += 1;
+        self.answered(text)
     }
 
-    /// A request goes up.
-    fn sent(self, going: Upward) -> Progress
-        ensures { result ≡ record self { going = Some going } }
+    /// A request goes up, where it sets up a stream with its player's own channels.
+    fn send(&mut self, request: Request2, asked: Asked, channels: Option<Pair>)
+        ensures { self.new ≡ record self.old { going = Some (record { request = request; asked = asked; channels = channels }) } }
     {
-        let mut progress = self;
-        progress.going = Some(going);
-        progress
+        self.going = Some(Upward {
+            request,
+            asked,
+            channels,
+        });
     }
 }
 
@@ -146,7 +146,7 @@ pub(crate) fn treat_waiting(
         let Some(item) = slot.waiting_at(progress.treated) else {
             return Err(Memory);
         };
-        progress = progress.then(alloc, view, item)?;
+        progress.then(alloc, view, item)?;
         progress.treated += 1;
     }
     Ok(progress)

@@ -11,7 +11,7 @@ use Rattle.mux_history.specs.Tells.{is_frame_item, is_dropped, dropped_frames, i
 use Rattle.mux_history.proofs.TurnStandLemmas.{next_history}
 use Rattle.gateway_mux.specs.declared.mux.Mux.{Mux}
 use Rattle.gateway_mux.specs.declared.mux.Plan.{Plan}
-use Rattle.gateway_mux.specs.Acts.{IsAct, IsShortAct}
+use Rattle.gateway_mux.specs.Acts.{IsAct, IsShortAct, IsKeyed}
 use Rattle.gateway_mux.specs.Entering.{IsEntered, IsAsBefore}
 use Rattle.gateway_mux.specs.Moves.{IsNext, IsCommitted}
 use Rattle.gateway_mux.specs.Pictures.{Picture, IsPictureOf}
@@ -78,13 +78,14 @@ silent_stands mux h outcome over is T stands =
 
 -- What was planned, before the end and after it
 pub planned : (ended : Option UpCause) (mux : Mux) (event : Event) (plan : Plan) → is_some ended ≡ false → IsActFor ended mux event plan
-    → IsAct (bases_of mux) (picture_of mux.connections) (happening_of event) plan.act × IsShortAct plan.act
+    → IsAct (bases_of mux) (picture_of mux.connections) (happening_of event) plan.act × IsShortAct plan.act × IsKeyed mux.connections.seats plan.act
 planned None mux event plan e is = is
 planned (Some cause) mux event plan e is = cc
 
-pub plan_for : (ended : Option UpCause) (mux : Mux) (event : Event) (plan : Plan) → is_some ended ≡ false → IsAct (bases_of mux) (picture_of mux.connections) (happening_of event) plan.act → IsShortAct plan.act → IsActFor ended mux event plan
-plan_for None mux event plan e act short = (act, short)
-plan_for (Some cause) mux event plan e act short = cc
+pub plan_for : (ended : Option UpCause) (mux : Mux) (event : Event) (plan : Plan) → is_some ended ≡ false → IsAct (bases_of mux) (picture_of mux.connections) (happening_of event) plan.act → IsShortAct plan.act → IsKeyed mux.connections.seats plan.act
+    → IsActFor ended mux event plan
+plan_for None mux event plan e act short key = (act, short, key)
+plan_for (Some cause) mux event plan e act short key = cc
 
 -- Whether the event was a frame that was dropped
 pub frame_dropped : (h : Happening) (outcome : Outcome) → is_frame_item h ≡ true → is_some outcome.to_client ≡ false → is_some outcome.to_up.message ≡ false → is_dropped h outcome ≡ true

@@ -195,10 +195,10 @@ spent_act bases one h it comes client plan goes said here planned is up none =
           (sym is ∙ up) none;
     })
 
-pub turned_act : (bases : Bases) (one : Picture) (h : Happening) (it : Said) (comes : Comes) (client : Client) (plan : Plan) (goes : Bool) (next : ℕ) → next ≡ one.issued + 1 → (said : IsSaid bases one h it comes) → one.clients it.conn ≡ Some client
+pub turned_act : (bases : Bases) (one : Picture) (h : Happening) (it : Said) (comes : Comes) (client : Client) (plan : Plan) (goes : Bool) (key next : ℕ) → next ≡ one.issued + 1 → (said : IsSaid bases one h it comes) → one.clients it.conn ≡ Some client
     → IsPlan bases (one.issued + 1) (free_once it.settled one.held) client comes plan → goes ≡ is_some (effect_by bases it.number (free_once it.settled one.held) client comes).message → one.issued ≤ LAST_NUMBER → (goes ≡ true → IsSome (next_number one.issued))
-    → IsPlannedTurn bases one h it.answer (record { conn = it.conn; number = it.number; next = next; settled = it.settled; plan = plan; asks = goes })
-turned_act bases one h it comes client plan goes next is_next said here planned is low left = record {
+    → IsPlannedTurn bases one h it.answer (record { conn = it.conn; key = key; number = it.number; next = next; settled = it.settled; plan = plan; asks = goes })
+turned_act bases one h it comes client plan goes key next is_next said here planned is low left = record {
   client = client;
   raw = said.raw;
   comes = comes;

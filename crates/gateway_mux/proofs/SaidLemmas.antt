@@ -115,18 +115,18 @@ pub wrong_ends : (bases : Bases) (one : Picture) (shape : Shape) (reply : Reply2
 wrong_ends bases one shape reply conn client cause says asked here wrong =
     subst (λ (one_wrong : Option UpCause). IsEndAt bases one (hears shape) one_wrong cause) (sym (wrong_here one shape reply conn client says asked here ∙ wrong)) refl
 
-pub reply_said : (bases : Bases) (one : Picture) (shape : Shape) (reply : Reply2) (conn : ℕ) (client : Client) (settled : Option Settled) → heard shape ≡ replies reply → one.asker reply.cseq ≡ Some conn → one.clients conn ≡ Some client
+pub reply_said : (bases : Bases) (one : Picture) (shape : Shape) (reply : Reply2) (source : Option ℕ) (conn : ℕ) (client : Client) (settled : Option Settled) → source ≡ source_said reply → heard shape ≡ replies reply → one.asker reply.cseq ≡ Some conn → one.clients conn ≡ Some client
     → kind_breach (books_in one) (kind_open (Some client)) conn client.session.id reply ≡ None
     → AreSettled (final_of reply (Some (record { conn = conn; kind = kind_open (Some client) }))) client.session.id settled
-    → IsSaid bases one (hears shape) (record { conn = conn; number = reply.cseq; settled = settled; answer = None }) (comes_reply reply)
-reply_said bases one shape reply conn client settled says asked here right settles = record {
+    → IsSaid bases one (hears shape) (record { conn = conn; number = reply.cseq; settled = settled; answer = None }) (comes_reply reply source)
+reply_said bases one shape reply source conn client settled is_source says asked here right settles = record {
   raw = answer (told_by reply) (source_said reply) false;
   turns = ap (heard_turn (books_in one)) says ∙ ap (option_map (λ (opened : Opened). opened.conn)) opened;
   is_raw = ap (heard_raw (books_in one)) says;
   right = wrong_here one shape reply conn client says asked here ∙ right;
   answers = sym (ap (heard_answer (books_in one)) says);
   is_sound = tt;
-  says = λ other. ap (λ number. take_answer bases number (told_by reply) (source_said reply) other) (sym (ap heard_number says));
+  says = λ other. ap (λ one_source. take_answer bases reply.cseq (told_by reply) one_source other) is_source ∙ ap (λ number. take_answer bases number (told_by reply) (source_said reply) other) (sym (ap heard_number says));
   settles = λ other there. subst (λ (session : Option (List ℕ)). AreSettled (heard_final (books_in one) (heard shape)) session settled) (ap (λ (c : Client). c.session.id) (sym (client_same client other (sym here ∙ there))))
       (subst (λ (final : Option Final). AreSettled final client.session.id settled) (sym (ap (heard_final (books_in one)) says ∙ ap (final_of reply) opened)) settles);
   absent = λ none. absurd (some_none client (sym here ∙ none));

@@ -6,7 +6,10 @@ use Rattle.std.specs.declared.cmp.Ordering.TheVariants.{Less, Equal, Greater}
 use Rattle.std.specs.Ordering.{nat_cmp, is_eq}
 use Rattle.std.specs.BTreeMap.{is_at}
 use Rattle.std.proofs.lemmas.Map.Lookups.{exact_unsigned}
+use Rattle.slab.specs.Slab.{get as slab_get}
 use Rattle.client_slot.specs.Client.{Client}
+use Rattle.gateway_mux.specs.declared.seats.Seats.{Seats}
+use Rattle.gateway_mux.specs.Seats.{client_at, IsKeyOf}
 
 is_equal : (o : Ordering) → is_eq o ≡ true → o ≡ Equal
 is_equal Less h = cc
@@ -63,3 +66,7 @@ pub changes_other : {conn key : ℕ} {keys : ℕ → Option ℕ} {old new : ℕ 
     option_and_then new at ≡ option_and_then old at
 changes_other c i None e other = refl
 changes_other c i (Some k) e other = c.others k (λ same. other (c.apart i (e ∙ ap (λ n. Some n) same)))
+
+-- what is kept of a connection, under its key
+pub kept_at : (seats : Seats) (conn key : ℕ) → IsKeyOf seats conn key → client_at seats conn ≡ slab_get seats.slots key
+kept_at seats conn key is = ap (λ (at : Option ℕ). option_and_then (λ k. slab_get seats.slots k) at) is

@@ -19,7 +19,6 @@ use Rattle.gate_machine.specs.Asking.{IsAsked, IsOpenAs, IsFreeFor, AsksBy}
 use Rattle.gate_machine.specs.Effects.{Outgoing, asks, carries}
 use Rattle.gate_machine.specs.Hearing.{take_item, take, settle_at}
 use Rattle.gate_machine.specs.Plans.{Comes, requests, replies, notes, shuts, CanCome, heard_by, effect_by}
-use Rattle.gate_machine.specs.Spelled.{source_said}
 use Rattle.gate_machine.specs.Step.{going_on}
 use Rattle.gate_machine.proofs.AskLemmas.{going_asks}
 use Rattle.mux_history.specs.Kinds.{tears_down, plain}
@@ -41,8 +40,8 @@ take_mute false shape client is = refl
 
 pub comes_mute : (bases : Bases) (number : ℕ) (client : Client) (comes : Comes) → CanCome comes → (heard_by bases number client comes).effect.message ≡ None
 comes_mute bases number client (requests shape) sound = take_mute client.alive shape client sound
-comes_mute bases number client (replies reply) sound =
-    answer_none (nat_lt (told_by reply).code 200) client (settle_at bases number client.pending (told_by reply) (source_said reply) client) (settle_none bases number client.pending (told_by reply) (source_said reply) client)
+comes_mute bases number client (replies reply source) sound =
+    answer_none (nat_lt (told_by reply).code 200) client (settle_at bases number client.pending (told_by reply) source client) (settle_none bases number client.pending (told_by reply) source client)
 comes_mute bases number client (notes reason names) sound = note_none reason names client
 comes_mute bases number client (shuts why) sound = closes_none client.alive why client
 

@@ -21,6 +21,8 @@ use Rattle.gateway_mux.specs.declared.said.Said.{Said}
 use Rattle.gateway_mux.specs.declared.turn.Turn.{Turn}
 use Rattle.gateway_mux.specs.Moves.{wrong_in, TakesTurn, IsIdle, IsEndAt}
 use Rattle.gateway_mux.specs.Pictures.{Picture, books_in}
+use Rattle.gateway_mux.specs.declared.seats.Seats.{Seats}
+use Rattle.gateway_mux.specs.Seats.{IsKeyOf}
 use Rattle.gateway_mux.specs.Settled.{AreSettled}
 use Rattle.gateway_mux.specs.Short.{IsShortAnswer}
 use Rattle.gateway_mux.specs.Turn.{free_once}
@@ -109,6 +111,15 @@ IsAct bases one happening (Ends cause) = IsEndAt bases one happening (wrong_in o
 abbrev pub answers_alone : Option (List ℕ) → Act
 answers_alone None = Nothing
 answers_alone (Some answer) = Answers answer
+
+-- The connection that has its turn is kept under the key that was planned.
+abbrev pub IsKeyed : Seats → Act → Type 0
+IsKeyed seats Nothing = Unit {0}
+IsKeyed seats (Rises channel) = Unit {0}
+IsKeyed seats (Falls conn channel) = Unit {0}
+IsKeyed seats (Answers answer) = Unit {0}
+IsKeyed seats (Turns answer it) = IsKeyOf seats it.conn it.key
+IsKeyed seats (Ends cause) = Unit {0}
 
 -- What it hands out is short enough.
 abbrev pub IsShortAct : Act → Type 0

@@ -5,11 +5,21 @@ use Rattle.std.specs.Ordering.{nat_cmp}
 use Rattle.std.specs.BTreeMap.{get}
 use Rattle.slab.specs.Slab.{get as slab_get}
 use Rattle.client_slot.specs.Client.{Client}
+use Rattle.gateway_mux.specs.declared.seats.Seat.{Seat}
 use Rattle.gateway_mux.specs.declared.seats.Seats.{Seats}
 
 -- connection i, where it entered
 abbrev pub client_at : Seats → ℕ → Option Client
 client_at seats i = option_and_then (λ key. slab_get seats.slots key) (get nat_cmp seats.keys i)
+
+-- Connection i is kept under that key.
+abbrev pub IsKeyOf : Seats → ℕ → ℕ → Type 0
+IsKeyOf seats i key = get nat_cmp seats.keys i ≡ Some key
+
+-- where connection i is kept; nothing where it never entered
+abbrev pub IsSeatAt : Seats → ℕ → Option Seat → Type 0
+IsSeatAt seats i None = client_at seats i ≡ None
+IsSeatAt seats i (Some seat) = IsKeyOf seats i seat.key × (client_at seats i ≡ Some seat.slot.now)
 
 -- the first number from this one on that entered; none where there is none of 32 bits
 abbrev pub IsNextSeat : Seats → ℕ → Option ℕ → Type 0

@@ -9,7 +9,7 @@ use Rattle.mux_history.specs.Tells.{dropped_frames}
 use Rattle.gateway_mux.specs.declared.connections.Connections.{Connections}
 use Rattle.gateway_mux.specs.declared.mux.Mux.{Mux}
 use Rattle.gateway_mux.specs.declared.mux.Plan.{Plan}
-use Rattle.gateway_mux.specs.Acts.{IsAct, IsShortAct}
+use Rattle.gateway_mux.specs.Acts.{IsAct, IsShortAct, IsKeyed}
 use Rattle.gateway_mux.specs.Pictures.{Picture, picture, IsPictureOf}
 use Rattle.gateway_mux.specs.Seats.{client_at}
 
@@ -27,7 +27,7 @@ pub record Stands (mux : Mux) (history : List Entry) : Type 0 where
 -- What was planned for an event is what it does.
 abbrev pub IsActFor : Option UpCause → Mux → Event → Plan → Type 0
 IsActFor (Some cause) mux event plan = Unit {0}
-IsActFor None mux event plan = IsAct mux.connections.bases (picture_of mux.connections) (happening_of event) plan.act × IsShortAct plan.act
+IsActFor None mux event plan = IsAct mux.connections.bases (picture_of mux.connections) (happening_of event) plan.act × IsShortAct plan.act × IsKeyed mux.connections.seats plan.act
 
 abbrev pub IsPlanFor : Mux → Event → Plan → Type 0
 IsPlanFor mux event plan = IsActFor mux.ended mux event plan

@@ -12,14 +12,16 @@ use gate_bytes::Text;
 use mux_history::{Event, Outcome};
 
 impl Connections {
-    ghost use Rattle.gateway_mux.specs.Acts.{IsAct, IsPlannedTurn, IsTurnOfSome, IsShortAct};
+    ghost use Rattle.gateway_mux.specs.Acts.{IsAct, IsPlannedTurn, IsTurnOfSome, IsShortAct, IsKeyed};
     ghost use Rattle.gateway_mux.specs.Moves.{IsCommitted};
     ghost use Rattle.gateway_mux.specs.Pictures.{picture};
+    ghost use Rattle.gateway_mux.specs.Seats.{IsKeyOf};
     ghost use Rattle.gateway_mux.specs.Short.{IsShort, IsShortAnswer};
 
     /// Carries out what an event does. It takes no memory, and can't be refused.
     pub fn commit(&mut self, event: Event, act: Act) -> Outcome
-        requires { IsAct self.old.bases (picture self.old.seats self.old.upstream) (happening_of event) act }
+        requires act { IsAct self.old.bases (picture self.old.seats self.old.upstream) (happening_of event) act }
+        requires key { IsKeyed self.old.seats act }
         ensures commits { IsCommitted self.old.bases (picture self.old.seats self.old.upstream) (picture self.new.seats self.new.upstream) (happening_of event) result }
         ensures short { IsShortAct act → IsShort result }
         ensures bases { self.new.bases ≡ self.old.bases }
@@ -42,7 +44,8 @@ impl Connections {
 
     /// Carries out the turn of a connection, after this answer to the server.
     fn turn(&mut self, answer: Option<Text>, turn: Turn) -> Outcome
-        requires { IsTurnOfSome self.old.bases (picture self.old.seats self.old.upstream) answer turn }
+        requires turn { IsTurnOfSome self.old.bases (picture self.old.seats self.old.upstream) answer turn }
+        requires key { IsKeyOf self.old.seats turn.conn turn.key }
         ensures commits { (h : Happening) → IsPlannedTurn self.old.bases (picture self.old.seats self.old.upstream) h answer turn
             → IsCommitted self.old.bases (picture self.old.seats self.old.upstream) (picture self.new.seats self.new.upstream) h result }
         ensures short { IsShortAnswer answer → IsShortPlan turn.plan → IsShort result }

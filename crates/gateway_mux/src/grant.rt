@@ -1,15 +1,16 @@
 //! What the server grants to a SETUP.
 ghost use Rattle.std.specs.Prelude.{◌≡◌, ◌<◌, ℕ};
-ghost use Rattle.std.specs.Option.{option_copied};
+ghost use Rattle.std.specs.Option.{option_copied, option_and_then};
 ghost use Rattle.up_books.specs.Ids.{holder_of};
 ghost use Rattle.mux_history.specs.Settling.{id_said};
-ghost use Rattle.mux_history.specs.Follows.{grants, is_session_for, is_granted};
-ghost use Rattle.gateway_mux.specs.Granting.{is_taken_by, wrong_grant};
+ghost use Rattle.gate_machine.specs.Spelled.{grant_said};
+ghost use Rattle.mux_history.specs.Follows.{is_session_for, is_granted};
+ghost use Rattle.gateway_mux.specs.Granting.{is_taken_by, grants_that, wrong_grant};
 
 use head_two::Reply2;
 use mux_history::UpCause;
 use rtsp_small::read_session;
-use rtsp_transport::read_grant;
+use rtsp_transport::Grant;
 use up_books::SessionBook;
 
 /// The id of the session that a reply says.
@@ -20,17 +21,21 @@ pub(crate) fn id_said(reply: &Reply2) -> Option<&[u8]>
     Some(read_session(value)?.id)
 }
 
-/// Whether a reply grants a pair of channels.
-fn grants(pair: u8, value: Option<&[u8]>) -> bool
-    requires { pair < 128 }
-    ensures { result ≡ grants pair (option_copied value.entry) }
+/// The source that a grant names.
+pub(crate) fn source_in(grant: Option<Grant>) -> Option<u32>
+    ensures { result ≡ option_and_then (λ grant. grant.ssrc) grant }
 {
-    let Some(value) = value else {
-        return false;
-    };
-    match read_grant(value) {
-        Ok(grant) => grant.pair.rtp == 2 * pair && grant.pair.rtcp == 2 * pair + 1,
-        Err(_) => false,
+    grant?.ssrc
+}
+
+/// Whether a grant is of this pair of channels.
+fn grants(pair: u8, grant: Option<Grant>) -> bool
+    requires { pair < 128 }
+    ensures { result ≡ grants_that pair grant }
+{
+    match grant {
+        Some(grant) => grant.pair.rtp == 2 * pair && grant.pair.rtcp == 2 * pair + 1,
+        None => false,
     }
 }
 
@@ -60,19 +65,21 @@ fn is_others(sessions: &SessionBook, conn: u32, said: Option<&[u8]>) -> bool
     }
 }
 
-/// What is wrong with the success of a connection's SETUP, where something is.
+/// What is wrong with the success of a connection's SETUP, where something is. The reply grants this.
 pub(crate) fn wrong_grant(
     sessions: &SessionBook,
     conn: u32,
     pair: u8,
     session: Option<&[u8]>,
+    grant: Option<Grant>,
     reply: &Reply2,
 ) -> Option<UpCause>
-    requires { pair < 128 }
+    requires low { pair < 128 }
+    requires grant { grant ≡ grant_said reply.now }
     ensures { result ≡ wrong_grant (λ id. holder_of sessions.now id) conn pair (option_copied session.entry) reply.now }
 {
     let said = id_said(reply);
-    if !grants(pair, reply.head.field(b"Transport")) || !is_session_for(session, said) {
+    if !grants(pair, grant) || !is_session_for(session, said) {
         return Some(UpCause::BadGrant(reply.cseq));
     }
     if session.is_none() && is_others(sessions, conn, said) {

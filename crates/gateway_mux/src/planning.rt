@@ -10,6 +10,7 @@ use crate::act::Act;
 use crate::connections::Connections;
 use crate::frames::channel_of;
 use crate::said::Said;
+use crate::seats::Seat;
 use crate::turn::Turn;
 use gate_bytes::Memory;
 use gate_machine::{CloseWhy, Incoming, Plan, half_for, plan, plan_close};
@@ -18,9 +19,10 @@ use rtsp_head::{Item, ItemKind};
 use std::alloc::Global;
 
 impl Connections {
-    ghost use Rattle.gateway_mux.specs.Acts.{IsAct, IsSaid, IsClosing, IsShortAct};
+    ghost use Rattle.gateway_mux.specs.Acts.{IsAct, IsSaid, IsClosing, IsShortAct, IsKeyed};
     ghost use Rattle.gateway_mux.specs.Free.{is_client_request, needs_memory};
     ghost use Rattle.gateway_mux.specs.Pictures.{picture};
+    ghost use Rattle.gateway_mux.specs.Seats.{IsKeyOf, IsSeatAt};
     ghost use Rattle.gateway_mux.specs.Short.{IsShortAnswer};
     ghost use Rattle.gateway_mux.specs.Turn.{free_once};
 
@@ -28,6 +30,7 @@ impl Connections {
     pub fn plan(&self, alloc: Global, event: &Event) -> Result<Act, Memory>
         ensures act { IfOk result (IsAct self.now.bases (picture self.now.seats self.now.upstream) (happening_of event.now)) }
         ensures short { IfOk result IsShortAct }
+        ensures key { IfOk result (IsKeyed self.now.seats) }
         ensures free { needs_memory event.now ≡ false → IsOk result }
     {
         match event {
@@ -43,11 +46,13 @@ impl Connections {
     fn plan_item(&self, alloc: Global, conn: u32, item: &Item) -> Result<Act, Memory>
         ensures act { IfOk result (IsAct self.now.bases (picture self.now.seats self.now.upstream) (takes conn (shape_of item.now))) }
         ensures short { IfOk result IsShortAct }
+        ensures key { IfOk result (IsKeyed self.now.seats) }
         ensures free { is_client_request item.now.kind ≡ false → IsOk result }
     {
         match item.kind {
             ItemKind::Request => {
-                self.plan_turn(alloc, Said::alone(conn), &Incoming::Request(item))
+                let seat = self.seats.seat(conn);
+                self.plan_turn(alloc, seat, Said::alone(conn), &Incoming::Request(item))
             }
             ItemKind::Response => Ok(Act::Nothing),
             ItemKind::Frame => Ok(self.plan_rise(conn, item)),
@@ -60,6 +65,7 @@ impl Connections {
         requires { item.now.kind ≡ Frame }
         ensures act { IsAct self.now.bases (picture self.now.seats self.now.upstream) (takes conn (shape_of item.now)) result }
         ensures short { IsShortAct result }
+        ensures key { IsKeyed self.now.seats result }
     {
         let Some(slot) = self.seats.slot(conn) else {
             return Act::Nothing;
@@ -77,41 +83,50 @@ impl Connections {
     fn plan_close(&self, alloc: Global, conn: u32, why: CloseWhy) -> Act
         ensures act { (h : Happening) → IsClosing conn why h → IsAct self.now.bases (picture self.now.seats self.now.upstream) h result }
         ensures short { IsShortAct result }
+        ensures key { IsKeyed self.now.seats result }
     {
-        match self.seats.slot(conn) {
-            Some(slot) => self.turned(Said::alone(conn), plan_close(alloc, slot, why)),
+        match self.seats.seat(conn) {
+            Some(seat) => {
+                let plan = plan_close(alloc, seat.slot, why);
+                self.turned(seat.key, Said::alone(conn), plan)
+            }
             None => Act::Nothing,
         }
     }
 
-    /// What the turn of a connection does.
+    /// What the turn of a connection does, which is kept at this seat.
     pub fn plan_turn(
         &self,
         alloc: Global,
+        seat: Option<Seat<'_>>,
         said: Said,
         incoming: &Incoming<'_>,
     ) -> Result<Act, Memory>
         requires sound { CanCome (incoming_seen incoming.now) }
         requires short { IsShortAnswer said.answer }
+        requires seat { IsSeatAt self.now.seats said.conn seat }
         ensures act { (h : Happening) → IsSaid self.now.bases (picture self.now.seats self.now.upstream) h said (incoming_seen incoming.now) → IfOk result (IsAct self.now.bases (picture self.now.seats self.now.upstream) h) }
         ensures short { IfOk result IsShortAct }
+        ensures key { IfOk result (IsKeyed self.now.seats) }
     {
-        let Some(slot) = self.seats.slot(said.conn) else {
+        let Some(seat) = seat else {
             return Ok(said.answers());
         };
         let next = self.upstream.requests.issued() + 1;
         let pair = self.upstream.free_once(&said.settled);
-        let plan = plan(alloc, &self.bases, slot, next, pair, incoming)?;
-        Ok(self.turned(said, plan))
+        let plan = plan(alloc, &self.bases, seat.slot, next, pair, incoming)?;
+        Ok(self.turned(seat.key, said, plan))
     }
 
-    /// What the turn of a connection with this plan does. Where a request is due and no number is
-    /// left, the connection to the server ends.
-    fn turned(&self, said: Said, plan: Plan) -> Act
+    /// What the turn of a connection with this plan does, which is kept under this key. Where a request
+    /// is due and no number is left, the connection to the server ends.
+    fn turned(&self, key: usize, said: Said, plan: Plan) -> Act
+        requires key { IsKeyOf self.now.seats said.conn key }
         ensures act { (h : Happening) (comes : Comes) (client : Client) → IsSaid self.now.bases (picture self.now.seats self.now.upstream) h said comes → (picture self.now.seats self.now.upstream).clients said.conn ≡ Some client
             → IsPlan self.now.bases (self.now.upstream.requests.issued + 1) (free_once said.settled (picture self.now.seats self.now.upstream).held) client comes plan
             → IsAct self.now.bases (picture self.now.seats self.now.upstream) h result }
         ensures short { IsShortAnswer said.answer → IsShortPlan plan → IsShortAct result }
+        ensures key { IsKeyed self.now.seats result }
     {
         let asks = plan.asks();
         if asks && self.upstream.requests.next().is_none() {
@@ -125,6 +140,7 @@ impl Connections {
         } = said;
         let turn = Turn {
             conn,
+            key,
             number,
             next: self.upstream.requests.issued() + 1,
             settled,

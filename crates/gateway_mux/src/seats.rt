@@ -14,6 +14,16 @@ use slab::Slab;
 use std::alloc::Global;
 use std::collections::BTreeMap;
 
+/// A connection that entered, where it is kept: a plan for it tells the key, so that it is looked up
+/// once an event.
+#[derive(Clone, Copy)]
+pub(crate) struct Seat<'a> {
+    /// The key of its slot.
+    pub key: usize,
+    /// What is kept of it.
+    pub slot: &'a Slot,
+}
+
 /// The connections that entered.
 #[derive(Drop)]
 pub(crate) struct Seats {
@@ -24,7 +34,7 @@ pub(crate) struct Seats {
 }
 
 impl Seats {
-    ghost use Rattle.gateway_mux.specs.Seats.{client_at, IsNextSeat};
+    ghost use Rattle.gateway_mux.specs.Seats.{client_at, IsKeyOf, IsSeatAt, IsNextSeat};
 
     /// No connection. It takes no memory.
     pub fn new(alloc: Global) -> Seats
@@ -34,6 +44,22 @@ impl Seats {
             slots: Slab::new(alloc),
             keys: BTreeMap::new(alloc),
         }
+    }
+
+    /// Where a connection is kept; nothing where it never entered.
+    pub fn seat(&self, conn: u32) -> Option<Seat<'_>>
+        ensures { IsSeatAt self.now conn result }
+    {
+        let key = *self.keys.get(&conn)?;
+        let slot = self.slots.get(key)?;
+        Some(Seat { key, slot })
+    }
+
+    /// What is kept under a key.
+    pub fn at(&self, key: usize) -> Option<&Slot>
+        ensures { option_map (λ slot. slot.now) result ≡ slab_get self.now.slots key }
+    {
+        self.slots.get(key)
     }
 
     /// What is kept of a connection; nothing where it never entered.
@@ -66,16 +92,25 @@ impl Seats {
         Ok(())
     }
 
-    /// Carries out a plan for a connection, by the numbers of its open request and of the next one.
-    pub fn commit(&mut self, conn: u32, plan: Plan, number: u32, next: u32) -> Option<Done>
-        requires { IfSome (client_at self.old conn) (λ client. IsReady client plan) }
+    /// Carries out a plan for a connection, which is kept under this key, by the numbers of its open
+    /// request and of the next one.
+    pub fn commit(
+        &mut self,
+        conn: u32,
+        key: usize,
+        plan: Plan,
+        number: u32,
+        next: u32,
+    ) -> Option<Done>
+        requires key { IsKeyOf self.old conn key }
+        requires ready { IfSome (client_at self.old conn) (λ client. IsReady client plan) }
         ensures others { (i : ℕ) → conn ≢ i → client_at self.new i ≡ client_at self.old i }
+        ensures key { IsKeyOf self.new conn key }
         ensures none { client_at self.old conn ≡ None → (result ≡ None) }
         ensures here { IsSome (client_at self.old conn) → IfSome result (λ done. IsCarriedAt (client_at self.old conn) (client_at self.new conn) plan number next done) }
         ensures some { IsSome (client_at self.old conn) → IsSome result }
         ensures short { IsShortPlan plan → IfSome result IsShortDone }
     {
-        let key = self.keys.get(&conn).copied()?;
         commit_at(&mut self.slots, key, plan, number, next)
     }
 }

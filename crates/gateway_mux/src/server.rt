@@ -14,17 +14,18 @@ ghost use Rattle.mux_history.specs.Heard.{replies, requests, heard};
 use crate::act::Act;
 use crate::connections::Connections;
 use crate::frames::channel_of;
-use crate::grant::wrong_grant;
+use crate::grant::{source_in, wrong_grant};
 use crate::hear::{Heard, hear};
 use crate::notice::read_notice;
 use crate::said::Said;
 use crate::settled::what_settles;
 use client_slot::Pending;
 use gate_bytes::{Memory, Text};
-use gate_machine::{Incoming, channel_for};
+use gate_machine::{Answer, Incoming, channel_for, grant_said};
 use head_two::{Ask2, Reply2, write_answer};
 use mux_history::UpCause;
 use rtsp_head::{Item, ItemKind};
+use rtsp_transport::Grant;
 use session_one::is_success;
 use std::alloc::Global;
 
@@ -34,7 +35,8 @@ const LONGEST_ANSWER: usize = 0x7fff_ffff;
 impl Connections {
     ghost use Rattle.mux_history.specs.Follows.{kind_breach};
     ghost use Rattle.mux_history.specs.Shared.{kind_pending};
-    ghost use Rattle.gateway_mux.specs.Acts.{IsAct, IsShortAct};
+    ghost use Rattle.gate_machine.specs.Spelled.{grant_said};
+    ghost use Rattle.gateway_mux.specs.Acts.{IsAct, IsShortAct, IsKeyed};
     ghost use Rattle.gateway_mux.specs.Free.{is_message};
     ghost use Rattle.gateway_mux.specs.Granting.{IsLowPurpose};
     ghost use Rattle.gateway_mux.specs.Pictures.{picture, books_in};
@@ -44,6 +46,7 @@ impl Connections {
     pub fn plan_heard(&self, alloc: Global, item: &Item) -> Result<Act, Memory>
         ensures act { IfOk result (IsAct self.now.bases (picture self.now.seats self.now.upstream) (hears (shape_of item.now))) }
         ensures short { IfOk result IsShortAct }
+        ensures key { IfOk result (IsKeyed self.now.seats) }
         ensures free { is_message item.now.kind ≡ false → IsOk result }
     {
         if item.kind == ItemKind::Frame {
@@ -61,6 +64,7 @@ impl Connections {
         requires { item.now.kind ≡ Frame }
         ensures act { IsAct self.now.bases (picture self.now.seats self.now.upstream) (hears (shape_of item.now)) result }
         ensures short { IsShortAct result }
+        ensures key { IsKeyed self.now.seats result }
     {
         let channel = channel_of(item);
         let Some(held) = self.upstream.channels.owner(channel) else {
@@ -85,18 +89,20 @@ impl Connections {
     fn plan_reply(&self, alloc: Global, reply: &Reply2) -> Result<Act, Memory>
         ensures act { (shape : Shape) → heard shape ≡ replies reply.now → IfOk result (IsAct self.now.bases (picture self.now.seats self.now.upstream) (hears shape)) }
         ensures short { IfOk result IsShortAct }
+        ensures key { IfOk result (IsKeyed self.now.seats) }
     {
         let Some(conn) = self.upstream.requests.owner(reply.cseq) else {
             return Ok(Act::Ends(UpCause::UnknownReply(reply.cseq)));
         };
-        let Some(slot) = self.seats.slot(conn) else {
+        let Some(seat) = self.seats.seat(conn) else {
             unreachable!();
         };
-        let Some(pending) = slot.pending() else {
+        let Some(pending) = seat.slot.pending() else {
             unreachable!();
         };
-        let session = slot.session();
-        if let Some(cause) = self.breach(conn, pending, session, reply) {
+        let session = seat.slot.session();
+        let grant = grant_said(reply);
+        if let Some(cause) = self.breach(conn, pending, session, grant, reply) {
             return Ok(Act::Ends(cause));
         }
         let settled = if reply.code < 200 {
@@ -109,23 +115,27 @@ impl Connections {
             settled,
             ..Said::alone(conn)
         };
-        self.plan_turn(alloc, said, &Incoming::Reply(reply))
+        let source = source_in(grant);
+        self.plan_turn(alloc, Some(seat), said, &Incoming::Reply(Answer { reply, source }))
     }
 
-    /// What is wrong with a reply to the open request of a connection, which has this session.
+    /// What is wrong with a reply to the open request of a connection, which has this session. The
+    /// reply grants this.
     fn breach(
         &self,
         conn: u32,
         pending: Pending<'_>,
         session: Option<&[u8]>,
+        grant: Option<Grant>,
         reply: &Reply2,
     ) -> Option<UpCause>
-        requires { IsLowPurpose (purpose_seen pending) }
+        requires low { IsLowPurpose (purpose_seen pending) }
+        requires grant { grant ≡ grant_said reply.now }
         ensures { result ≡ kind_breach (books_in (picture self.now.seats self.now.upstream)) (kind_pending (Some (purpose_seen pending.entry))) conn (option_copied session.entry) reply.now }
     {
         match pending {
             Pending::Client(_, Some(track)) if is_success(reply.code) => {
-                wrong_grant(&self.upstream.sessions, conn, track.pair, session, reply)
+                wrong_grant(&self.upstream.sessions, conn, track.pair, session, grant, reply)
             }
             _ => None,
         }
@@ -135,6 +145,7 @@ impl Connections {
     fn plan_ask(&self, alloc: Global, ask: &Ask2) -> Result<Act, Memory>
         ensures act { (shape : Shape) → heard shape ≡ requests ask.now → IfOk result (IsAct self.now.bases (picture self.now.seats self.now.upstream) (hears shape)) }
         ensures short { IfOk result IsShortAct }
+        ensures key { IfOk result (IsKeyed self.now.seats) }
     {
         match read_notice(&self.upstream.sessions, ask) {
             Ok(notice) => {
@@ -142,7 +153,9 @@ impl Connections {
                     answer: Some(answer(alloc, 200, ask.cseq, Some(notice.id))?),
                     ..Said::alone(notice.conn)
                 };
-                self.plan_turn(alloc, said, &Incoming::Notice(notice.reason, notice.names))
+                let seat = self.seats.seat(notice.conn);
+                let incoming = Incoming::Notice(notice.reason, notice.names);
+                self.plan_turn(alloc, seat, said, &incoming)
             }
             Err(refusal) => Ok(Act::Answers(answer(alloc, refusal.code(), ask.cseq, None)?)),
         }

@@ -6,7 +6,7 @@ ghost use Rattle.up_books.specs.Ids.{holder_of};
 ghost use Rattle.up_books.specs.Numbers.{asker_of, next_number};
 ghost use Rattle.gate_machine.specs.Plans.{IsReady, IsShortPlan, IsShortDone};
 ghost use Rattle.gateway_mux.specs.Carried.{IsCarriedAt};
-ghost use Rattle.gateway_mux.specs.Seats.{client_at};
+ghost use Rattle.gateway_mux.specs.Seats.{client_at, IsKeyOf};
 ghost use Rattle.gateway_mux.specs.Settled.{CanSettle, binds, unbinds, asker_settled, held_settled, holder_settled};
 ghost use Rattle.gateway_mux.specs.Upstream.{held_lent};
 ghost use Rattle.gateway_mux.specs.Turn.{session_of_client, asks_pair, asker_lent, issued_then, one_if, free_once};
@@ -22,6 +22,8 @@ use gate_machine::{Done, Plan};
 pub(crate) struct Turn {
     /// The connection.
     pub conn: u32,
+    /// The key under which it is kept.
+    pub key: usize,
     /// The number of its open request, which a reply answers.
     pub number: u32,
     /// The number of the next request.
@@ -36,6 +38,7 @@ pub(crate) struct Turn {
 
 /// Carries out what is planned for a connection. It takes no memory, and can't be refused.
 pub(crate) fn commit_turn(seats: &mut Seats, upstream: &mut Upstream, turn: Turn) -> Option<Done>
+    requires key { IsKeyOf seats.old turn.conn turn.key }
     requires ready { IfSome (client_at seats.old turn.conn) (λ client. IsReady client turn.plan) }
     requires settles { IfSome turn.settled (CanSettle (λ n. asker_of upstream.old.requests n) (λ p. held_at p upstream.old.channels) (λ id. holder_of upstream.old.sessions id) upstream.old.sessions.spare turn.conn (session_of_client (client_at seats.old turn.conn))) }
     requires room { turn.asks ≡ true → turn.settled ≡ None → 0 < upstream.old.requests.spare }
@@ -53,26 +56,28 @@ pub(crate) fn commit_turn(seats: &mut Seats, upstream: &mut Upstream, turn: Turn
 {
     let Turn {
         conn,
+        key,
         number,
         next,
         settled,
         plan,
         asks,
     } = turn;
-    let slot = seats.slot(conn)?;
+    let slot = seats.at(key)?;
     upstream.settle_where(conn, slot.session(), settled);
-    let done = seats.commit(conn, plan, number, next)?;
+    let done = seats.commit(conn, key, plan, number, next)?;
     if asks {
-        upstream.issue(conn, is_for_a_pair(seats, conn));
+        upstream.issue(conn, is_for_a_pair(seats, conn, key));
     }
     Some(done)
 }
 
-/// Whether the open request of a connection asks for a pair of channels.
-fn is_for_a_pair(seats: &Seats, conn: u32) -> bool
+/// Whether the open request of a connection, which is kept under this key, asks for a pair of channels.
+fn is_for_a_pair(seats: &Seats, conn: u32, key: usize) -> bool
+    requires { IsKeyOf seats.now conn key }
     ensures { result ≡ asks_pair (client_at seats.now conn) }
 {
-    let Some(slot) = seats.slot(conn) else {
+    let Some(slot) = seats.at(key) else {
         return false;
     };
     match slot.pending() {

@@ -99,8 +99,15 @@ impl SessionBook {
     fn place(&self, id: &[u8]) -> Option<usize>
         ensures { result ≡ position (λ entry. bytes_eq entry.key id.now) self.now.bound }
     {
-        self.bound
-            .iter()
-            .position(|entry| entry.key.as_bytes() == id)
+        self.bound.iter().position(|entry| is_key(&entry.key, id))
     }
+}
+
+/// Whether a key is this id. The ids of one server may be alike up to their ends, so these are compared
+/// first.
+fn is_key(key: &Text, id: &[u8]) -> bool
+    ensures { result ≡ bytes_eq key.now id.now }
+{
+    let key = key.as_bytes();
+    key.len() == id.len() && key.last() == id.last() && key == id
 }

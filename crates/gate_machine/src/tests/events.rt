@@ -99,7 +99,15 @@ pub(crate) fn happen(
         let Ok(reply) = read_reply(alloc, &item(alloc, text)?) else {
             return Err(Memory);
         };
-        return does(alloc, bases, slot, number, &Incoming::Reply(&reply));
+        let source = match grant_said(&reply) {
+            Some(grant) => grant.ssrc,
+            None => None,
+        };
+        let answer = Answer {
+            reply: &reply,
+            source,
+        };
+        return does(alloc, bases, slot, number, &Incoming::Reply(answer));
     }
     match event {
         "end" => {

@@ -13,13 +13,13 @@ use Rattle.gate_machine.proofs.replies.settle.Goals as goal
 pub returns : goal.returns
 returns c =
     let slot = c.args.slot.now in
-    let reply = c.args.reply.now in
+    let reply = c.args.answer.reply.now in
     let purpose = purpose_seen c.args.pending in
     let timeout : option_and_then (λ (one : Session). one.timeout) (session_told (told_by reply)) ≡ c.timeout_told-timeout.result =
     sym (c.timeout_told-timeout.ensures.timeout ∙ ap (option_and_then (λ (one : Session). one.timeout)) c.session_told-told.ensures.said) in
     IfOk-weaker c.onward.result _ _
     (λ plan goes.
-    settle_plan c.args.bases.now c.args.next c.args.pair slot reply purpose c.in_ok-copied.field-0 (sight_of c.after_reply-seen.result) c.in_ok-hand.hand plan c.requires.pending c.requires.last
+    settle_plan c.args.bases.now c.args.next c.args.pair slot reply c.args.answer.source purpose c.in_ok-copied.field-0 (sight_of c.after_reply-seen.result) c.in_ok-hand.hand plan c.requires.pending c.requires.last
     (c.in_ok-copied.ensures ∙ c.new_id-id.ensures.id reply c.session_told-told.ensures.said)
     (valid_copied c.new_id-id.result c.in_ok-copied.field-0 c.in_ok-copied.ensures c.new_id-id.ensures.valid)
     (λ number. c.after_reply-seen.ensures.shows number ∙ ap (λ (one : Option (List ℕ)). sight (session_after (Some purpose) number reply.code one slot.session)) (sym c.in_ok-copied.ensures))

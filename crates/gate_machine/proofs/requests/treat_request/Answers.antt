@@ -40,10 +40,10 @@ returns c =
     let all = treated_now bases c.args.pair slot (given_of c.view-view.result) c.new.result progress same c.new.ensures c.in_ok-progress.ensures in
     IfOk-weaker c.finished-2.result _ _
     (λ plan finished.
-    plan_with bases c.args.next c.args.pair slot (shape_of c.args.item.now) progress c.in_ok-progress-2.progress (length c.tracks-streams.result.now) plan c.requires.sound
+    plan_with bases c.args.next c.args.pair slot (shape_of c.args.item.now) progress c.then.new.self (length c.tracks-streams.result.now) plan c.requires.sound
     c.requires.alive c.requires.idle c.requires.due all (sym c.if-is_some.ensures)
-    (c.in_ok-progress-2.ensures.treated ∙ ap (λ (one : Given). progressed (decision_on (with_queued progress.queued one) (shape_of c.args.item.now)) progress) same)
-    (c.in_ok-progress-2.ensures.filled (length slot.session.queue) all.way.filled)
+    (c.in_ok-then.ensures.treated ∙ ap (λ (one : Given). progressed (decision_on (with_queued progress.queued one) (shape_of c.args.item.now)) progress) same)
+    (c.in_ok-then.ensures.filled (length slot.session.queue) all.way.filled)
     (λ small. subst (λ (tracks : List Track). length tracks < MOST_TRACKS) c.tracks-streams.ensures small)
     finished)
     c.finished-2.ensures

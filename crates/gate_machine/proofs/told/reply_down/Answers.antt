@@ -16,5 +16,5 @@ returns c =
       ssrc = ssrc;
       timeout = c.args.timeout;
     } in
-    let same = ap (λ client. setting client c.source_said.result) c.in_ok-client.ensures.same ∙ ap (λ ssrc. setting (option_map (λ one. one.client) (option_copied c.args.track)) ssrc) c.source_said.ensures in
-    subst (λ (one : Setting). IfOk c.reply_one.result (λ text. text ≡ reply_text_of one c.args.asked.now (told_by c.args.reply.now))) same c.reply_one.ensures
+    let same = ap (λ client. setting client c.args.answer.source) c.in_ok-client.ensures.same in
+    subst (λ (one : Setting). IfOk c.reply_one.result (λ text. text ≡ reply_text_of one c.args.asked.now (told_by c.args.answer.reply.now))) same c.reply_one.ensures

@@ -9,6 +9,7 @@ use Rattle.gateway_mux.specs.Turn.{free_once, asks_pair}
 use Rattle.std.proofs.Common.{sym, ◌∙◌, ap}
 use Rattle.std.specs.Option.{option_copied}
 use Rattle.gateway_mux.specs.declared.upstream.Upstream.{Upstream}
+use Rattle.gateway_mux.proofs.SeatLemmas.{kept_at}
 use Rattle.gateway_mux.proofs.TurnLemmas.{reserved_settled, with_session}
 use Rattle.gateway_mux.proofs.turn.commit_turn.Goals.{then-asks, else-asks}
 use Rattle.gateway_mux.proofs.turn.commit_turn.Goals as goal
@@ -21,7 +22,7 @@ settle_where-requires c =
     (client_at c.args.seats.now c.args.turn.conn)
     c.in_ok-slot.slot.now
     (option_copied c.session.result)
-    (sym c.in_ok-slot.ensures)
+    (kept_at c.args.seats.now c.args.turn.conn c.args.turn.key c.requires.key ∙ sym c.in_ok-slot.ensures)
     c.session.ensures.id
     c.requires.settles
 

@@ -1,5 +1,6 @@
-use Rattle.std.proofs.Common.{◌≡◌, ◌<◌, nat_lt, ℕ, true, Option, IfSome, sym, ap, subst, arith}
-use Rattle.std.specs.Option.{option_copied}
+use Rattle.std.proofs.Common.{◌∙◌, ◌≡◌, ◌<◌, nat_lt, ℕ, true, Option, IfSome, sym, ap, subst, arith}
+use Rattle.std.specs.Option.{option_copied, option_and_then}
+use Rattle.rtsp_transport.specs.declared.grant.Grant.{Grant}
 use Rattle.client_slot.specs.declared.purpose.Purpose.{Purpose}
 use Rattle.client_slot.specs.Purposes.{purpose_seen}
 use Rattle.gate_machine.specs.Plans.{replies}
@@ -20,29 +21,32 @@ pub unreachable-requires : goal.unreachable-requires
 unreachable-requires c =
     no_client (picture c.args.self.now.seats c.args.self.now.upstream) c.in-Some.conn
     (open_asked c.args.self.now.bases (picture c.args.self.now.seats c.args.self.now.upstream) c.args.self.now.upstream.requests.spare c.args.self.now.upstream.sessions.spare c.args.reply.now.cseq c.in-Some.conn (sym c.in-Some.ensures) c.args.self.now.kept)
-    (sym c.in_default-slot.ensures)
+    c.in_default-seat.ensures
 
 pub unreachable-requires-in_default-pending : goal.unreachable-requires-in_default-pending
 unreachable-requires-in_default-pending c =
-    no_pending (picture c.args.self.now.seats c.args.self.now.upstream) c.in-Some.conn c.in-Some-slot.slot.now
+    no_pending (picture c.args.self.now.seats c.args.self.now.upstream) c.in-Some.conn c.in-Some-seat.seat.slot.now
     (open_asked c.args.self.now.bases (picture c.args.self.now.seats c.args.self.now.upstream) c.args.self.now.upstream.requests.spare c.args.self.now.upstream.sessions.spare c.args.reply.now.cseq c.in-Some.conn (sym c.in-Some.ensures) c.args.self.now.kept)
-    (sym c.in-Some-slot.ensures) (sym c.in_default-pending.ensures)
+    c.in-Some-seat.ensures.1 (sym c.in_default-pending.ensures)
 
-pub breach-requires : goal.breach-requires
-breach-requires c =
+pub breach-requires-clause-low : goal.breach-requires-clause-low
+breach-requires-clause-low c =
     subst (λ (pending : Option Purpose). IfSome pending IsLowPurpose) (sym c.in-Some-pending.ensures)
-    (low_open c.args.self.now.bases (picture c.args.self.now.seats c.args.self.now.upstream) c.args.self.now.upstream.requests.spare c.args.self.now.upstream.sessions.spare c.in-Some.conn c.in-Some-slot.slot.now (sym c.in-Some-slot.ensures) c.args.self.now.kept)
+    (low_open c.args.self.now.bases (picture c.args.self.now.seats c.args.self.now.upstream) c.args.self.now.upstream.requests.spare c.args.self.now.upstream.sessions.spare c.in-Some.conn c.in-Some-seat.seat.slot.now c.in-Some-seat.ensures.1 c.args.self.now.kept)
+
+pub breach-requires-clause-grant : goal.breach-requires-clause-grant
+breach-requires-clause-grant c = c.grant_said-grant.ensures
 
 pub returns-clause-act : goal.returns-clause-act
 returns-clause-act c shape says =
     c.plan_turn.ensures.act (hears shape)
-    (subst (λ (it : Said). IsSaid c.args.self.now.bases (picture c.args.self.now.seats c.args.self.now.upstream) (hears shape) it (replies c.args.reply.now))
+    (subst (λ (it : Said). IsSaid c.args.self.now.bases (picture c.args.self.now.seats c.args.self.now.upstream) (hears shape) it (replies c.args.reply.now c.source_in-source.result))
     (ap (λ (alone : Said). record alone { number = c.args.reply.now.cseq; settled = c.if-reply-lt200.settled }) (sym c.alone.ensures))
-    (reply_said c.args.self.now.bases (picture c.args.self.now.seats c.args.self.now.upstream) shape c.args.reply.now c.in-Some.conn c.in-Some-slot.slot.now c.if-reply-lt200.settled says (sym c.in-Some.ensures) (sym c.in-Some-slot.ensures)
-    (right_here (picture c.args.self.now.seats c.args.self.now.upstream) c.in-Some.conn c.in-Some-slot.slot.now (purpose_seen c.in-Some-pending.pending) (option_copied c.session-session.result) c.args.reply.now c.breach.result c.in-Some-pending.ensures c.session-session.ensures.id
+    (reply_said c.args.self.now.bases (picture c.args.self.now.seats c.args.self.now.upstream) shape c.args.reply.now c.source_in-source.result c.in-Some.conn c.in-Some-seat.seat.slot.now c.if-reply-lt200.settled (c.source_in-source.ensures ∙ ap (option_and_then (λ (grant : Grant). grant.ssrc)) c.grant_said-grant.ensures) says (sym c.in-Some.ensures) c.in-Some-seat.ensures.1
+    (right_here (picture c.args.self.now.seats c.args.self.now.upstream) c.in-Some.conn c.in-Some-seat.seat.slot.now (purpose_seen c.in-Some-pending.pending) (option_copied c.session-session.result) c.args.reply.now c.breach.result c.in-Some-pending.ensures c.session-session.ensures.id
     c.breach.ensures c.in_default-breach.is)
     (elim c.if-reply-lt200.branch [
-      | then-reply-lt200 w ↦ early_settled c.args.reply.now c.in-Some.conn c.in-Some-slot.slot.now c.if-reply-lt200.settled (below c.args.reply.now.code w.if-reply-lt200.true) w.settled-is
+      | then-reply-lt200 w ↦ early_settled c.args.reply.now c.in-Some.conn c.in-Some-seat.seat.slot.now c.if-reply-lt200.settled (below c.args.reply.now.code w.if-reply-lt200.true) w.settled-is
       | else-reply-lt200+in_ok-what_settles w ↦
-          late_settled c.args.reply.now c.in-Some.conn c.in-Some-slot.slot.now (purpose_seen c.in-Some-pending.pending) (option_copied c.session-session.result) c.if-reply-lt200.settled w.in_ok-what_settles.field-0 c.in-Some-pending.ensures c.session-session.ensures.id w.in_ok-what_settles.ensures w.settled-is
+          late_settled c.args.reply.now c.in-Some.conn c.in-Some-seat.seat.slot.now (purpose_seen c.in-Some-pending.pending) (option_copied c.session-session.result) c.if-reply-lt200.settled w.in_ok-what_settles.field-0 c.in-Some-pending.ensures c.session-session.ensures.id w.in_ok-what_settles.ensures w.settled-is
     ])))

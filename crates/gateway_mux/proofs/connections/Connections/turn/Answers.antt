@@ -8,22 +8,22 @@ use Rattle.gateway_mux.proofs.connections.Connections.turn.Goals as goal
 
 pub commit_turn-requires-clause-settles : goal.commit_turn-requires-clause-settles
 commit_turn-requires-clause-settles c =
-    settles_now c.args.self.now.bases (picture c.args.self.now.seats c.args.self.now.upstream) c.args.answer c.args.turn c.args.self.now.upstream.requests.spare c.args.self.now.upstream.sessions.spare c.requires c.args.self.now.kept
+    settles_now c.args.self.now.bases (picture c.args.self.now.seats c.args.self.now.upstream) c.args.answer c.args.turn c.args.self.now.upstream.requests.spare c.args.self.now.upstream.sessions.spare c.requires.turn c.args.self.now.kept
 
 pub commit_turn-requires-clause-room : goal.commit_turn-requires-clause-room
 commit_turn-requires-clause-room c asks unsettled =
-    room_asked c.args.self.now.bases (picture c.args.self.now.seats c.args.self.now.upstream) c.args.answer c.args.turn c.args.self.now.upstream.requests.spare c.args.self.now.upstream.sessions.spare c.requires asks unsettled c.args.self.now.kept
+    room_asked c.args.self.now.bases (picture c.args.self.now.seats c.args.self.now.upstream) c.args.answer c.args.turn c.args.self.now.upstream.requests.spare c.args.self.now.upstream.sessions.spare c.requires.turn asks unsettled c.args.self.now.kept
 
 pub commit_turn-requires-clause-left : goal.commit_turn-requires-clause-left
-commit_turn-requires-clause-left c asks = left_for c.args.self.now.bases (picture c.args.self.now.seats c.args.self.now.upstream) c.args.answer c.args.turn c.requires asks
+commit_turn-requires-clause-left c asks = left_for c.args.self.now.bases (picture c.args.self.now.seats c.args.self.now.upstream) c.args.answer c.args.turn c.requires.turn asks
 
 pub invariant_of-self : goal.invariant_of-self
 invariant_of-self c = record {
   kept = keeps_result c.args.self.now.bases (picture c.args.self.now.seats c.args.self.now.upstream) (picture c.commit_turn.new.seats c.commit_turn.new.upstream) c.args.answer c.args.turn c.commit_turn.result
-      c.args.self.now.upstream.requests.spare c.args.self.now.upstream.sessions.spare c.commit_turn.new.upstream.requests.spare c.commit_turn.new.upstream.sessions.spare c.requires
-      (c.commit_turn.ensures.some (is_there c.args.self.now.bases (picture c.args.self.now.seats c.args.self.now.upstream) c.args.answer c.args.turn c.requires))
+      c.args.self.now.upstream.requests.spare c.args.self.now.upstream.sessions.spare c.commit_turn.new.upstream.requests.spare c.commit_turn.new.upstream.sessions.spare c.requires.turn
+      (c.commit_turn.ensures.some (is_there c.args.self.now.bases (picture c.args.self.now.seats c.args.self.now.upstream) c.args.answer c.args.turn c.requires.turn))
       (turned_result (picture c.args.self.now.seats c.args.self.now.upstream) (picture c.commit_turn.new.seats c.commit_turn.new.upstream) c.args.turn c.commit_turn.result
-      (c.commit_turn.ensures.done (is_there c.args.self.now.bases (picture c.args.self.now.seats c.args.self.now.upstream) c.args.answer c.args.turn c.requires))
+      (c.commit_turn.ensures.done (is_there c.args.self.now.bases (picture c.args.self.now.seats c.args.self.now.upstream) c.args.answer c.args.turn c.requires.turn))
       c.commit_turn.ensures.others c.commit_turn.ensures.issued c.commit_turn.ensures.asked c.commit_turn.ensures.held c.commit_turn.ensures.holder)
       c.commit_turn.ensures.room c.commit_turn.ensures.spare c.args.self.now.kept;
 }
@@ -33,5 +33,5 @@ returns-clause-commits c h planned =
     committed_as c.args.self.now.bases (picture c.args.self.now.seats c.args.self.now.upstream) (picture c.commit_turn.new.seats c.commit_turn.new.upstream) h c.handed.result (handed_by c.args.turn.conn c.args.answer c.in-Some.done) c.handed.ensures.hands
     (turn_committed c.args.self.now.bases (picture c.args.self.now.seats c.args.self.now.upstream) (picture c.commit_turn.new.seats c.commit_turn.new.upstream) h c.args.answer c.args.turn c.in-Some.done planned
     (turned_result (picture c.args.self.now.seats c.args.self.now.upstream) (picture c.commit_turn.new.seats c.commit_turn.new.upstream) c.args.turn (Some c.in-Some.done)
-    (c.in-Some.ensures.done (is_there c.args.self.now.bases (picture c.args.self.now.seats c.args.self.now.upstream) c.args.answer c.args.turn c.requires))
+    (c.in-Some.ensures.done (is_there c.args.self.now.bases (picture c.args.self.now.seats c.args.self.now.upstream) c.args.answer c.args.turn c.requires.turn))
     c.in-Some.ensures.others c.in-Some.ensures.issued c.in-Some.ensures.asked c.in-Some.ensures.held c.in-Some.ensures.holder))

@@ -16,7 +16,7 @@ returns-then-is_none-clause-act c h comes client said here planned =
 
 pub returns-clause-act : goal.returns-clause-act
 returns-clause-act c h comes client said here planned =
-    turned_act c.args.self.now.bases (picture c.args.self.now.seats c.args.self.now.upstream) h c.args.said comes client c.args.plan c.asks-asks.result (c.issued.result + 1) (ap (λ n. n + 1) c.issued.ensures.number) said here planned
+    turned_act c.args.self.now.bases (picture c.args.self.now.seats c.args.self.now.upstream) h c.args.said comes client c.args.plan c.asks-asks.result c.args.key (c.issued.result + 1) (ap (λ n. n + 1) c.issued.ensures.number) said here planned
     (c.asks-asks.ensures c.args.self.now.bases c.args.said.number (c.args.self.now.upstream.requests.issued + 1) (free_once c.args.said.settled (picture c.args.self.now.seats c.args.self.now.upstream).held) client comes planned)
     (subst (λ (n : ℕ). n ≤ LAST_NUMBER) c.issued.ensures.number c.issued.ensures.high)
     (elim c.else-asks.branch [

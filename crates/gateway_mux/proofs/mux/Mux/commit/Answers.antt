@@ -12,7 +12,9 @@ returns-then-is_some-clause-stands c = silent_stands c.args.self.now (happening_
 
 -- src/mux.rt:90:23
 pub commit-outcome-requires : goal.commit-outcome-requires
-commit-outcome-requires c = (planned c.args.self.now.ended c.args.self.now c.args.event c.args.plan (sym c.if-is_some.ensures) c.requires).0
+commit-outcome-requires c =
+    let is = planned c.args.self.now.ended c.args.self.now c.args.event c.args.plan (sym c.if-is_some.ensures) c.requires in
+    record { act = is.0; key = is.2 }
 
 -- src/mux.rt:80:5
 pub returns-then-is_none-2-clause-stands : goal.returns-then-is_none-2-clause-stands
