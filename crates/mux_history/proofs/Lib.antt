@@ -1,6 +1,8 @@
 pub mod AgreeLemmas
 pub mod AnswerLemmas
 pub mod CaseLemmas
+pub mod CoreLemmas
+pub mod DeadLemmas
 pub mod HistoryLemmas
 pub mod JoinedLemmas
 pub mod KindLemmas
@@ -21,3 +23,4 @@ pub mod TurnBooksLemmas
 pub mod TurnClientLemmas
 pub mod TurnLawLemmas
 pub mod AskedLemmas
+pub mod OrderLemmas
