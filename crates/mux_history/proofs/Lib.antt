@@ -2,6 +2,8 @@ pub mod AgreeLemmas
 pub mod AnswerLemmas
 pub mod ApartLemmas
 pub mod CaseLemmas
+pub mod CoreLemmas
+pub mod DeadLemmas
 pub mod FrameLemmas
 pub mod HistoryLemmas
 pub mod JoinedLemmas
@@ -23,3 +25,4 @@ pub mod TurnBooksLemmas
 pub mod TurnClientLemmas
 pub mod TurnLawLemmas
 pub mod AskedLemmas
+pub mod OrderLemmas

@@ -1,5 +1,5 @@
 -- When an entry follows a history (this project's own).
-use Rattle.std.specs.Prelude.{◌≡◌, ℕ, ◌+◌, ◌*◌, ◌==◌, ◌&&◌, not, nat_lt, codes, Bool, true, false, is_some, is_none, List, [], ◌∷◌, Option, Some, None, if◌then◌else◌}
+use Rattle.std.specs.Prelude.{◌≡◌, ℕ, ◌+◌, ◌*◌, ◌==◌, ◌&&◌, not, nat_lt, codes, Bool, true, false, is_some, is_none, List, ◌∷◌, Option, Some, None, if◌then◌else◌}
 use Rattle.std.specs.Option.{option_or, option_map}
 use Rattle.std.specs.Result.{result_ok}
 use Rattle.std.specs.Str.{bytes_eq}
@@ -23,6 +23,7 @@ use Rattle.mux_history.specs.declared.event.UpCause.TheVariants.{Framing, Unknow
 use Rattle.mux_history.specs.Heard.{Heard, replies, requests, frames, faults, heard}
 use Rattle.mux_history.specs.Notices.{notice_of, answer_to}
 use Rattle.mux_history.specs.Kinds.{RequestKind, sets_up, tears_down, closes, plain}
+use Rattle.mux_history.specs.Cores.{IsCoreHistory}
 use Rattle.mux_history.specs.Books.{Opened, Books}
 use Rattle.mux_history.specs.Settling.{id_said, free_in}
 use Rattle.mux_history.specs.Happenings.{Happening, enters, takes, ends, lags, hears, up_ends, cause_of, Entry, fault_in, entered, sent, shut, is_all, nothing_up}
@@ -167,7 +168,6 @@ pub record Follows (bases : Bases) (earlier : List Entry) (entry : Entry) : Type
   pub fault : entry.outcome.fault ≡ breach bases earlier entry.happening
   pub all : is_all entry.outcome.closed ≡ is_some entry.outcome.fault
 
--- each entry follows those before it
+-- a history of the gateway: each entry follows those before it
 abbrev pub IsHistory : Bases → List Entry → Type 0
-IsHistory bases [] = Unit {0}
-IsHistory bases (entry ∷ earlier) = IsHistory bases earlier × Follows bases earlier entry
+IsHistory bases history = IsCoreHistory Follows bases history

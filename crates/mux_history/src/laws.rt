@@ -15,9 +15,13 @@ ghost use Rattle.mux_history.specs.Heard.{frames, heard};
 ghost use Rattle.mux_history.specs.Happenings.{Happening, takes, hears, Entry, fault_in, sent, shut, nothing_up};
 ghost use Rattle.mux_history.specs.Own.{books_of, own};
 ghost use Rattle.mux_history.specs.Follows.{IsHistory, Follows};
+ghost use Rattle.mux_history.specs.Cores.{IsCoreHistory};
 ghost use Rattle.mux_history.specs.Joined.{IsJoined, AreSound};
 ghost use Rattle.mux_history.specs.Next.{next};
 ghost use Rattle.mux_history.specs.Turns.{client_alone, IsItsTurn, IsSteppedBy};
+ghost use Rattle.mux_history.specs.Orderly.{IsOrderly};
+
+use crate::cores::Core;
 
 /// At most one entry with a given happening follows a history.
 pub fn one_next_entry()
@@ -104,4 +108,15 @@ pub fn a_turn_is_one_step_by_the_books()
 /// The greatest number that goes up is the greatest that is read in a reply.
 pub fn the_last_number_is_the_greatest_read()
     ensures { LAST_CSEQ_TWO + 1 ≡ 10 ^ CSEQ_TWO_DIGITS }
+{}
+
+/// An entry that follows a history hands out and closes what an entry of any core may.
+pub fn entries_are_orderly()
+    ensures { (bases : Bases) (earlier : List Entry) (entry : Entry) → IsHistory bases earlier → Follows bases earlier entry → IsOrderly earlier entry }
+{}
+
+/// A list of happenings has at most one history of a core, between given addresses.
+pub fn at_most_one_history_of_a_core<M: Core>()
+    ensures { (bases : Bases) (one other : List Entry) → IsCoreHistory M.follows bases one → IsCoreHistory M.follows bases other
+        → map (λ e. e.happening) one ≡ map (λ e. e.happening) other → one ≡ other }
 {}

@@ -7,16 +7,19 @@
 //! with empty bodies.
 #![tactic(auto)]
 
+mod cores;
 mod event;
 mod laws;
 
+pub use cores::Core;
 pub use event::{Closed, Event, FramingFault, Outcome, ToClient, ToUp, UpCause, UpMessage, UpWhy};
 pub use gate_machine::CloseWhy;
 pub use laws::{
     a_frame_of_a_player_goes_up_on_its_own_pair, a_frame_of_the_server_reaches_its_holder_alone,
-    a_turn_is_one_step_by_the_books, at_most_one_history, books_and_connections_agree,
-    equal_own_events, no_two_connections_have_one_session, no_two_streams_share_channels,
-    one_next_entry, some_next_entry, the_last_number_is_the_greatest_read,
+    a_turn_is_one_step_by_the_books, at_most_one_history, at_most_one_history_of_a_core,
+    books_and_connections_agree, entries_are_orderly, equal_own_events,
+    no_two_connections_have_one_session, no_two_streams_share_channels, one_next_entry,
+    some_next_entry, the_last_number_is_the_greatest_read,
     the_server_is_asked_what_each_asks_alone,
 };
 pub use rtsp_uri::{Base, Bases};

@@ -1,0 +1,29 @@
+-- The histories of a core: a thing that takes events, one after another, and hands out what each asks for (this
+-- project's own). What follows is each core's own; what a history is stands here, once for all.
+use Rattle.std.specs.Prelude.{◌≡◌, ℕ, Bool, false, ◌||◌, ◌&&◌, ◌==◌, not, List, [], ◌∷◌}
+use Rattle.rtsp_uri.specs.declared.base.Bases.{Bases}
+use Rattle.mux_history.specs.declared.event.Closed.{Closed}
+use Rattle.mux_history.specs.declared.event.Closed.TheVariants.{Nobody, One, All}
+use Rattle.mux_history.specs.Happenings.{Entry, enters_here}
+
+-- each entry follows those before it
+abbrev pub IsCoreHistory : (Bases → List Entry → Entry → Type 0) → Bases → List Entry → Type 0
+IsCoreHistory follows bases [] = Unit {0}
+IsCoreHistory follows bases (entry ∷ earlier) = IsCoreHistory follows bases earlier × follows bases earlier entry
+
+-- whether connection i ever entered, also after the end of the connection to the server
+abbrev pub ever_entered : ℕ → List Entry → Bool
+ever_entered i [] = false
+ever_entered i (entry ∷ earlier) = enters_here i entry.happening || ever_entered i earlier
+
+-- A core that stands for such histories stands for one in which this number never entered.
+pub record IsNewTo (stands : List Entry → Type 0) (conn : ℕ) : Type 0 where
+  pub history : List Entry
+  pub stood : stands history
+  pub never : ever_entered conn history ≡ false
+
+-- whether connection i is alive after an event that closed these, by whether it was before
+abbrev pub stays_alive : ℕ → Closed → Bool → Bool
+stays_alive i Nobody was = was
+stays_alive i (One conn why) was = not (conn == i) && was
+stays_alive i All was = false
