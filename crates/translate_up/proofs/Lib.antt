@@ -16,3 +16,5 @@ pub mod ServeLemmas
 pub mod AnswerLemmas
 pub mod RuleLemmas
 pub mod PairLemmas
+pub mod ByteLemmas
+pub mod StateLemmas
