@@ -21,3 +21,4 @@ pub mod TurnBooksLemmas
 pub mod TurnClientLemmas
 pub mod TurnLawLemmas
 pub mod AskedLemmas
+pub mod SeenLemmas

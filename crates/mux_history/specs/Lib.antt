@@ -8,6 +8,7 @@ pub mod Kinds
 pub mod Next
 pub mod Notices
 pub mod Own
+pub mod Seen
 pub mod Settling
 pub mod Shared
 pub mod Tells

@@ -14,7 +14,7 @@ pub use event::{Closed, Event, FramingFault, Outcome, ToClient, ToUp, UpCause, U
 pub use gate_machine::CloseWhy;
 pub use laws::{
     a_turn_is_one_step_by_the_books, at_most_one_history, books_and_connections_agree,
-    equal_own_events, one_next_entry, some_next_entry, the_last_number_is_the_greatest_read,
-    the_server_is_asked_what_each_asks_alone,
+    equal_own_events, one_next_entry, replies_walk_the_table, some_next_entry,
+    the_last_number_is_the_greatest_read, the_server_is_asked_what_each_asks_alone,
 };
 pub use rtsp_uri::{Base, Bases};
