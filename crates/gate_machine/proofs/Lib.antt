@@ -11,6 +11,13 @@ pub mod KeepLemmas
 pub mod OnwardLemmas
 pub mod PlanLemmas
 pub mod RenumberLemmas
+pub mod SeenGoLemmas
+pub mod SeenHearLemmas
+pub mod SeenLemmas
+pub mod SeenReplyLemmas
+pub mod SeenSettleLemmas
+pub mod SeenTreatLemmas
+pub mod SeenWalkLemmas
 pub mod SightLemmas
 pub mod ToldLemmas
 pub mod TreatLemmas

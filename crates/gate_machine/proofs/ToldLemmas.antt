@@ -48,7 +48,7 @@ with_short : (valid : Bool) (id : List ℕ) (timeout : Option ℕ) → IsShort t
 with_short true id timeout short = short
 with_short false id timeout short = tt
 
-in_short : (parts : List (List ℕ)) → IfSome (session_in parts) (λ session. IsShort session.timeout)
+pub in_short : (parts : List (List ℕ)) → IfSome (session_in parts) (λ session. IsShort session.timeout)
 in_short [] = tt
 in_short (id ∷ parameters) = with_short (is_session_id id) id (first_timeout parameters) (first_short parameters)
 

@@ -12,6 +12,7 @@ pub mod Onward
 pub mod Plans
 pub mod Progresses
 pub mod Renumbered
+pub mod Seen
 pub mod Sights
 pub mod Spelled
 pub mod Step

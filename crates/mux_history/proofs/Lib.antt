@@ -26,3 +26,4 @@ pub mod TurnClientLemmas
 pub mod TurnLawLemmas
 pub mod AskedLemmas
 pub mod OrderLemmas
+pub mod SeenLemmas

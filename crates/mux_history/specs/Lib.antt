@@ -12,6 +12,7 @@ pub mod Next
 pub mod Notices
 pub mod Orderly
 pub mod Own
+pub mod Seen
 pub mod Settling
 pub mod Shared
 pub mod Short

@@ -8,6 +8,7 @@ ghost use Rattle.client_slot.specs.Client.{Client};
 ghost use Rattle.gate_machine.specs.Alone.{private_after, sent_up};
 ghost use Rattle.gate_machine.specs.Apart.{streams_of, AreAllStreamsApart};
 ghost use Rattle.gate_machine.specs.Events.{PrivateEvent};
+ghost use Rattle.gate_machine.specs.Seen.{AreShortPieces};
 ghost use Rattle.mux_history.specs.declared.event.Closed.TheVariants.{Nobody};
 ghost use Rattle.mux_history.specs.Apart.{pairs_held, session_held, IsFrameDown, IsFrameUp};
 ghost use Rattle.mux_history.specs.Asked.{asked_up, spelled_up};
@@ -20,6 +21,7 @@ ghost use Rattle.mux_history.specs.Joined.{IsJoined, AreSound};
 ghost use Rattle.mux_history.specs.Next.{next};
 ghost use Rattle.mux_history.specs.Turns.{client_alone, IsItsTurn, IsSteppedBy};
 ghost use Rattle.mux_history.specs.Orderly.{IsOrderly};
+ghost use Rattle.mux_history.specs.Seen.{IsSeenRun};
 
 use crate::cores::Core;
 
@@ -103,6 +105,15 @@ pub fn a_frame_of_a_player_goes_up_on_its_own_pair()
 pub fn a_turn_is_one_step_by_the_books()
     ensures { (bases : Bases) (history : List Entry) (i : ℕ) (happening : Happening) (own_form raw : PrivateEvent)
         → IsItsTurn bases history i happening own_form raw → IsSteppedBy bases history i happening raw }
+{}
+
+/// What a player sees is a run of the table of states (RFC 2326, A.2), where memory can hold each
+/// piece that it was handed. The replies that are read from the pieces answer the first of its
+/// requests, each one request in order, and have its number. A walk from Init goes through them: a
+/// success goes by the row for the method of its request, and any other reply leaves the state;
+/// before each of them what played may have ended.
+pub fn replies_walk_the_table()
+    ensures { (bases : Bases) (history : List Entry) (i : ℕ) → IsHistory bases history → AreShortPieces (sent i history) → IsSeenRun i history }
 {}
 
 /// The greatest number that goes up is the greatest that is read in a reply.

@@ -17,3 +17,5 @@ pub mod AnswerLemmas
 pub mod RuleLemmas
 pub mod PairLemmas
 pub mod PlaceLemmas
+pub mod ByteLemmas
+pub mod StateLemmas

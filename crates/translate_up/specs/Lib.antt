@@ -4,6 +4,7 @@ pub mod Borrowed
 pub mod Channels
 pub mod Decisions
 pub mod Fields
+pub mod Leads
 pub mod OneReply
 pub mod Queued
 pub mod Rules
