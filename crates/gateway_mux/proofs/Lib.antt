@@ -25,3 +25,4 @@ pub mod TurnLemmas
 pub mod TurnedLemmas
 pub mod UnsettledLemmas
 pub mod UpstreamLemmas
+pub mod CoreLemmas

@@ -1,6 +1,8 @@
 pub mod Acts
 pub mod Carried
+pub mod CoreLaws
 pub mod Entering
+pub mod ExitCodes
 pub mod Free
 pub mod Granting
 pub mod Hearing

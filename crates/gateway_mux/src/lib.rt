@@ -12,6 +12,7 @@ mod frames;
 mod grant;
 mod hear;
 mod mux;
+mod mux_core;
 mod notice;
 mod outcome;
 mod planning;
@@ -19,12 +20,14 @@ mod said;
 mod seats;
 mod server;
 mod settled;
+mod status;
 mod tells;
 mod turn;
 mod upstream;
 
 pub use mux::{Mux, Plan};
 pub use mux_history::{
-    Base, Bases, CloseWhy, Closed, Event, FramingFault, Outcome, ToClient, ToUp, UpCause,
+    Base, Bases, CloseWhy, Closed, Core, Event, FramingFault, Outcome, ToClient, ToUp, UpCause,
     UpMessage, UpWhy,
 };
+pub use status::Status;

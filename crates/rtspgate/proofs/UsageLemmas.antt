@@ -3,16 +3,17 @@ use Rattle.std.proofs.Common.{◌≡◌, ℕ, ◌+◌, Bool, true, false, cond, 
 use Rattle.std.specs.Prelude.{OnOk, OnErr}
 use Rattle.gate_outside.specs.declared.Failed.{Failed}
 use Rattle.rtsp_uri.specs.declared.base.Bases.{Bases}
-use Rattle.rtspgate.specs.declared.status.Status.{Status}
-use Rattle.rtspgate.specs.declared.status.Status.TheVariants.{Done, Usage, SourceFault, SinkFault, BadTranscript, TooLong, Memory}
+use Rattle.gateway_mux.specs.declared.status.Status.{Status}
+use Rattle.gateway_mux.specs.declared.status.Status.TheVariants.{Done, Usage, SourceFault, SinkFault, BadTranscript, TooLong, Memory}
 use Rattle.rtspgate.specs.declared.words.Command.{Command}
 use Rattle.rtspgate.specs.declared.words.Command.TheVariants.{Replay}
 use Rattle.rtspgate.specs.declared.words.WordsFault.{WordsFault}
 use Rattle.rtspgate.specs.declared.words.WordsFault.TheVariants as word
 use Rattle.rtspgate.specs.Words.{is_base_word, first_fault, word_fault, ReadsWords, NamesReplay, NamesAddress, Names, bases_between, TellsUsage, TellsUsageAfterFlush}
 use Rattle.rtspgate.specs.Stops.{status_of_words}
-use Rattle.rtspgate.specs.Replays.{TakenFrom, TakesWithin, EndsWithoutMemory, ReplaySays, PlainSays, FaultRose}
-use Rattle.rtspgate.proofs.RunLemmas.{grows_nothing}
+use Rattle.mux_history.specs.Follows.{IsHistory}
+use Rattle.gateway_replay.specs.Replays.{ReplaySays, FaultRose}
+use Rattle.rtspgate.specs.Commands.{PlainSays}
 
 -- a fault of a later word has a later place
 later_by : (test : Bool) (place : ℕ) (more : Option ℕ) → (more ≡ Some 0 → ⊥) → cond test more (Some (place + 1)) ≡ Some 0 → ⊥
@@ -43,33 +44,12 @@ usage_says word.Memory words says = record {
   unknown = λ e. absurd (known_command words says e);
 }
 
-untaken : (all : Option (List ℕ)) → TakenFrom all all []
-untaken None = refl
-untaken (Some bytes) = (bytes, refl, refl)
-
--- nothing was done yet
-pub nothing_done : (bases : Bases) (all written : Option (List ℕ)) → EndsWithoutMemory bases all all written written
-nothing_done bases all written = record {
-  bytes = [];
-  taken = untaken all;
-  part = record {
-    history = [];
-    is_history = tt;
-    tells = record { front = []; rest = []; whole = refl; told = record { more = []; whole = refl } };
-    grown = grows_nothing written;
-  };
-}
-
 pub refusal_says : (words : List (List ℕ)) (found : WordsFault) (all written : Option (List ℕ)) → ReadsWords (Err found) words → PlainSays words (status_of_words found) all all written written
 refusal_says words (word.Place at) all written says = record { source = refl; sink = refl }
 refusal_says words word.Memory all written says = inl (record { named = says; untouched = record { source = refl; sink = refl } })
 
--- nothing was taken yet
-pub nothing_taken : (most : ℕ) (all : Option (List ℕ)) → TakesWithin most all all
-nothing_taken most all = record { bytes = []; taken = untaken all; few = omega arith }
-
 -- what a replay between the bases that the words name says
-pub plain_says : (words : List (List ℕ)) (bases : Bases) (status : Status) (all left before now : Option (List ℕ)) → NamesReplay bases words → ReplaySays bases status all left before now →
+pub plain_says : (words : List (List ℕ)) (bases : Bases) (status : Status) (all left before now : Option (List ℕ)) → NamesReplay bases words → ReplaySays IsHistory bases status all left before now →
     PlainSays words status all left before now
 plain_says words bases Done all left before now names says = record { bases = bases; names = names; says = says }
 plain_says words bases (Usage place) all left before now names says = absurd says

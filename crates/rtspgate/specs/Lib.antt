@@ -1,10 +1,3 @@
-pub mod Records
-pub mod ExitCodes
-pub mod Words
-pub mod Events
-pub mod Framers
-pub mod Replays
-pub mod Runs
+pub mod Commands
 pub mod Stops
-pub mod Streams
-pub mod Written
+pub mod Words

@@ -7,9 +7,9 @@ use Rattle.rtsp_uri.specs.declared.base.Bases.{Bases}
 use Rattle.rtsp_uri.specs.Words.{base_in}
 use Rattle.rtspgate.specs.declared.words.WordsFault.{WordsFault}
 use Rattle.rtspgate.specs.declared.words.WordsFault.TheVariants.{Place, Memory}
-use Rattle.rtspgate.specs.declared.status.Status.{Status}
-use Rattle.rtspgate.specs.declared.status.Status.TheVariants.{Usage}
-use Rattle.rtspgate.specs.declared.status.Status.TheVariants as ends
+use Rattle.gateway_mux.specs.declared.status.Status.{Status}
+use Rattle.gateway_mux.specs.declared.status.Status.TheVariants.{Usage}
+use Rattle.gateway_mux.specs.declared.status.Status.TheVariants as ends
 
 -- the first word of a replay
 abbrev pub replay_word : List ℕ

@@ -1,18 +1,13 @@
 //! rtspgate: a gateway between players of RTSP 1.0 and a server of RTSP 2.0.
 #![tactic(auto)]
 
-mod outcomes;
+mod flushed;
 mod plain;
-mod records;
-mod replay;
-mod run;
 mod standard;
-mod status;
-mod streams;
 mod words;
 
 use crate::standard::run_between;
-use crate::status::Status;
+use gateway_mux::Status;
 use std::process::ExitCode;
 use std::{env, io};
 

@@ -1,14 +1,15 @@
 //! The top call, over any source and sink: it reads the words of the command line and runs the command that they name.
 ghost use Rattle.std.specs.Prelude.{◌≡◌, ◌≤◌, ◌+◌, map, string_bytes};
 ghost use Rattle.rtspgate.specs.Words.{word_fault, bases_between, TellsUsage};
-ghost use Rattle.rtspgate.specs.Replays.{PlainSays, ReplaySays, TakesWithin, FaultRose, limit};
+ghost use Rattle.rtspgate.specs.Commands.{PlainSays};
+ghost use Rattle.mux_history.specs.Follows.{IsHistory};
+ghost use Rattle.gateway_replay.specs.Replays.{ReplaySays, TakesWithin, FaultRose, limit};
 
-use crate::replay::replay;
-use crate::status::Status;
 use crate::words::{Command, WordsFault, read_words};
 use gate_bytes::Memory;
 use gate_outside::{Sink, Source};
-use gateway_mux::{Bases, Mux};
+use gateway_mux::{Bases, Mux, Status};
+use gateway_replay::replay;
 use std::alloc::Global;
 
 /// Runs the command that these words, without the program's name, ask for. It uses no lock, channel or thread.
@@ -47,7 +48,7 @@ impl From<WordsFault> for Status {
 
 /// Runs a command.
 fn obey<S: Source, K: Sink>(alloc: Global, command: Command, source: &mut S, sink: &mut K) -> Status
-    ensures says { ReplaySays (bases_between command) result (S.rest source.old) (S.rest source.new) (K.written sink.old) (K.written sink.new) }
+    ensures says { ReplaySays IsHistory (bases_between command) result (S.rest source.old) (S.rest source.new) (K.written sink.old) (K.written sink.new) }
     ensures taken { TakesWithin (limit + 1) (S.rest source.old) (S.rest source.new) }
     ensures rose { FaultRose result (S.faults source.old) (S.faults source.new) (K.faults sink.old) (K.faults sink.new) }
     ensures source_later { S.faults source.old ≤ S.faults source.new }
@@ -65,7 +66,7 @@ fn replay_between<S: Source, K: Sink>(
     source: &mut S,
     sink: &mut K,
 ) -> Status
-    ensures says { ReplaySays bases result (S.rest source.old) (S.rest source.new) (K.written sink.old) (K.written sink.new) }
+    ensures says { ReplaySays IsHistory bases result (S.rest source.old) (S.rest source.new) (K.written sink.old) (K.written sink.new) }
     ensures taken { TakesWithin (limit + 1) (S.rest source.old) (S.rest source.new) }
     ensures rose { FaultRose result (S.faults source.old) (S.faults source.new) (K.faults sink.old) (K.faults sink.new) }
     ensures source_later { S.faults source.old ≤ S.faults source.new }

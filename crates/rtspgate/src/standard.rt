@@ -3,9 +3,10 @@ ghost use Rattle.std.specs.Prelude.{◌≡◌, None, map, string_bytes};
 ghost use Rattle.gate_outside.specs.Causes.{HasCause};
 ghost use Rattle.rtspgate.specs.Words.{word_fault, TellsUsageAfterFlush};
 
+use crate::flushed::after_flush;
 use crate::plain::plain;
-use crate::status::Status;
 use gate_outside::{Failed, Sink, Source};
+use gateway_mux::Status;
 use std::alloc::Global;
 use std::io::{BufWriter, Read, Write};
 
@@ -105,5 +106,5 @@ pub fn run_between<R: Read, W: Write>(
     let mut source = ReadSource::new(reader);
     let mut sink = WriteSink::new(buffered);
     let status = plain(alloc, words, &mut source, &mut sink);
-    status.after_flush(sink.flush())
+    after_flush(status, sink.flush())
 }

@@ -7,10 +7,10 @@ mod large;
 mod notation;
 
 use crate::plain::plain;
-use crate::status::Status;
 use cases::CASES;
 use gate_bytes::Text;
 use gate_outside::{MemorySink, MemorySource, Numbers, Script};
+use gateway_mux::Status;
 use notation::read_case;
 use std::alloc::Global;
 use std::test::Fail;

@@ -2,8 +2,8 @@
 
 use super::{ANSWER, OPTIONS, words};
 use crate::standard::{WriteSink, run_between};
-use crate::status::Status;
 use gate_outside::{Failed, Sink, write_all};
+use gateway_mux::Status;
 use std::io::{self, Read, Write};
 use std::test::Fail;
 

@@ -2,10 +2,10 @@
 //! pairs of channels as there are.
 
 use super::{ANSWER, replayed, script};
-use crate::replay::LONGEST_TRANSCRIPT;
-use crate::status::Status;
 use gate_bytes::Text;
 use gate_transcript::{CLIENT_BYTE, ENTER_BYTE, MAGIC, UPSTREAM_BYTE};
+use gateway_mux::Status;
+use gateway_replay::LONGEST_TRANSCRIPT;
 use std::alloc::Global;
 use std::test::Fail;
 

@@ -1,8 +1,9 @@
 use Rattle.std.proofs.Common.{◌+◌, map}
 use Rattle.std.specs.Prelude.{string_bytes}
 use Rattle.rtspgate.specs.Words.{bases_between}
-use Rattle.rtspgate.specs.Replays.{limit}
-use Rattle.rtspgate.proofs.UsageLemmas.{usage_says, refusal_says, plain_says, names_between, nothing_taken}
+use Rattle.gateway_replay.specs.Replays.{limit}
+use Rattle.rtspgate.proofs.UsageLemmas.{usage_says, refusal_says, plain_says, names_between}
+use Rattle.gateway_replay.proofs.SourceLemmas.{nothing_taken}
 use Rattle.rtspgate.proofs.plain.plain.Goals as goal
 
 pub returns-in-Err-clause-usage : goal.returns-in-Err-clause-usage

@@ -1,0 +1,22 @@
+-- The laws of a core, of the multiplexer.
+use Rattle.std.specs.Prelude.{◌≡◌, List}
+use Rattle.rtsp_uri.specs.declared.base.Bases.{Bases}
+use Rattle.mux_history.specs.Happenings.{Entry}
+use Rattle.mux_history.specs.Follows.{Follows, IsHistory}
+use Rattle.mux_history.specs.Orderly.{IsOrderly}
+use Rattle.mux_history.proofs.HistoryLemmas.{one_next}
+use Rattle.mux_history.proofs.OrderLemmas.{follows_orderly}
+use Rattle.gateway_mux.specs.declared.mux.Mux.{Mux}
+use Rattle.gateway_mux.specs.Stands.{Stands, bases_of}
+
+-- what it stands for is a history of it
+pub stands_for_history : (mux : Mux) (T : List Entry) → Stands mux T → IsHistory (bases_of mux) T
+stands_for_history mux T stands = stands.is_history
+
+-- at most one entry with a given happening follows
+pub one_follows : (bases : Bases) (T : List Entry) (one other : Entry) → Follows bases T one → Follows bases T other → one.happening ≡ other.happening → one ≡ other
+one_follows bases T one other = one_next bases T one other
+
+-- and it hands out and closes what an entry may
+pub follows_in_order : (bases : Bases) (T : List Entry) (entry : Entry) → IsHistory bases T → Follows bases T entry → IsOrderly T entry
+follows_in_order bases T entry = follows_orderly bases T entry

@@ -1,0 +1,13 @@
+-- The number with which a program ends that ran a gateway (this project's own).
+use Rattle.std.specs.Prelude.{ℕ}
+use Rattle.gateway_mux.specs.declared.status.Status.{Status}
+use Rattle.gateway_mux.specs.declared.status.Status.TheVariants.{Done, Usage, SourceFault, SinkFault, BadTranscript, TooLong, Memory}
+
+abbrev pub exit_code : Status → ℕ
+exit_code Done = 0
+exit_code (Usage place) = 2
+exit_code SourceFault = 3
+exit_code SinkFault = 4
+exit_code (BadTranscript place fault) = 5
+exit_code Memory = 10
+exit_code TooLong = 11

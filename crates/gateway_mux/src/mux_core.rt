@@ -1,0 +1,70 @@
+//! The multiplexer as a core.
+ghost use Rattle.std.specs.Prelude.{◌≡◌, ◌∷◌, OnOk};
+
+use crate::mux::{Mux, Plan};
+use gate_bytes::Memory;
+use mux_history::{Bases, Core, Event, Outcome, UpCause};
+use std::alloc::Global;
+
+impl Core for Mux {
+    ghost use Rattle.mux_history.specs.Follows.{Follows};
+    ghost use Rattle.mux_history.specs.Tells.{is_busy, dropped_frames};
+    ghost use Rattle.gateway_mux.specs.Stands.{Stands, IsPlanFor, bases_of};
+    ghost use Rattle.gateway_mux.specs.CoreLaws.{stands_for_history, one_follows, follows_in_order};
+
+    type Plan = Plan;
+
+    ghost bases = { bases_of };
+
+    ghost stands = { Stands };
+
+    ghost follows = { Follows };
+
+    ghost planned = { IsPlanFor };
+
+    ghost is_busy = { is_busy };
+
+    ghost dropped = { dropped_frames };
+
+    fn enter(&mut self, alloc: Global, conn: u32) -> Result<(), Memory> {
+        Mux::enter(self, alloc, conn)
+    }
+
+    fn plan(&self, alloc: Global, event: &Event) -> Result<Plan, Memory> {
+        Mux::plan(self, alloc, event)
+    }
+
+    fn commit(&mut self, event: Event, plan: Plan) -> Outcome {
+        Mux::commit(self, event, plan)
+    }
+
+    fn step(&mut self, alloc: Global, event: Event) -> Result<Outcome, (Event, Memory)> {
+        Mux::step(self, alloc, event)
+    }
+
+    fn busy(&self, conn: u32) -> bool {
+        Mux::busy(self, conn)
+    }
+
+    fn alive(&self, conn: u32) -> bool {
+        Mux::alive(self, conn)
+    }
+
+    fn dropped(&self) -> u64 {
+        Mux::dropped(self)
+    }
+
+    fn ended(&self) -> Option<UpCause> {
+        Mux::ended(self)
+    }
+
+    fn bases(&self) -> &Bases {
+        Mux::bases(self)
+    }
+
+    ghost history = { stands_for_history };
+
+    ghost one_next = { one_follows };
+
+    ghost orderly = { follows_in_order };
+}

@@ -1,0 +1,11 @@
+pub mod RecordLemmas
+pub mod FedLemmas
+pub mod LivingLemmas
+pub mod EndLemmas
+pub mod OutcomeLemmas
+pub mod TellLemmas
+pub mod RunLemmas
+pub mod EnteredLemmas
+pub mod ReplayLemmas
+pub mod SourceLemmas
+pub mod WatchLemmas

@@ -1,0 +1,10 @@
+pub mod Events
+pub mod Framers
+pub mod Living
+pub mod Records
+pub mod Replays
+pub mod Runs
+pub mod Stops
+pub mod Streams
+pub mod Watching
+pub mod Written

@@ -1,0 +1,16 @@
+//! Replaying a transcript: its events are taken by a core, one after another, and what each of them hands out is written
+//! as records.
+//!
+//! Nothing of the core is known here but what the trait [`gateway_mux::Core`] says of every core.
+#![tactic(auto)]
+
+mod living;
+mod outcomes;
+mod records;
+mod replaying;
+mod run;
+mod streams;
+mod watched;
+
+pub use replaying::{LONGEST_TRANSCRIPT, READ_SIZE, replay};
+

@@ -1,0 +1,145 @@
+//! A run: the entries of a transcript, one after another, as the events that they tell.
+ghost use Rattle.std.specs.Prelude.{◌≡◌, ◌≤◌, ℕ, List, []};
+ghost use Rattle.rtsp_head.specs.Shapes.{shape_of};
+ghost use Rattle.mux_history.specs.Cores.{IsCoreHistory};
+ghost use Rattle.mux_history.specs.Happenings.{happening_of};
+ghost use Rattle.gateway_replay.specs.Events.{said_by, why_of};
+ghost use Rattle.gateway_replay.specs.Runs.{TakesItems, SinkCause};
+ghost use Rattle.gateway_replay.specs.Watching.{Watches};
+
+use crate::streams::{Speaker, Streams};
+use crate::watched::{ProcessFault, Watched};
+use gate_outside::Sink;
+use gate_transcript::{Entry, EntryKind, UpEndReason, end_reason_in};
+use gateway_mux::{Core, Event, UpWhy};
+use rtsp_head::Item;
+use std::alloc::Global;
+
+/// The event that an item of this speaker is.
+fn said_by(speaker: Speaker, item: Item) -> Event
+    ensures { happening_of result ≡ said_by speaker (shape_of item) }
+{
+    match speaker {
+        Speaker::Client(conn) => Event::Client(conn, item),
+        Speaker::Server => Event::Up(item),
+    }
+}
+
+/// Why the connection to the server ends, by the reason of an entry.
+fn why_of(reason: UpEndReason) -> UpWhy
+    ensures { result ≡ why_of reason }
+{
+    match reason {
+        UpEndReason::Ended => UpWhy::Ended,
+        UpEndReason::ReadFault => UpWhy::ReadFault,
+        UpEndReason::WriteFault => UpWhy::WriteFault,
+        UpEndReason::Full => UpWhy::UpFull,
+    }
+}
+
+/// Takes all whole items of a speaker that were not taken yet.
+fn take_items<M: Core, K: Sink>(
+    alloc: Global,
+    streams: &mut Streams,
+    watched: &mut Watched<M>,
+    sink: &mut K,
+    speaker: Speaker,
+) -> Result<(), ProcessFault>
+    ensures takes { TakesItems streams.old streams.new (IsCoreHistory M.follows) (Watches M.stands M.bases watched.old.core watched.old.living) (Watches M.stands M.bases watched.new.core watched.new.living)
+        speaker (K.written sink.old) (K.written sink.new) result }
+    ensures cause { SinkCause (K.faults sink.old) (K.faults sink.new) result }
+{
+    while let Some(item) = streams.next(speaker) {
+        watched.take(alloc, sink, said_by(speaker, item))?;
+    }
+    Ok(())
+}
+
+/// The connections of a replay: their streams and the core.
+#[derive(Drop)]
+pub struct Run<M: Core> {
+    pub streams: Streams,
+    pub watched: Watched<M>,
+}
+
+impl<M: Core> Run<M> {
+    ghost use Rattle.gateway_replay.specs.declared.streams.Speaker.{Speaker};
+    ghost use Rattle.gateway_replay.specs.Framers.{FramerFed};
+    ghost use Rattle.gateway_replay.specs.Streams.{framer_at};
+    ghost use Rattle.gateway_replay.specs.Runs.{TakesEntry, TakesUpEnd, TakesBytes};
+    ghost use Rattle.gateway_replay.specs.Watching.{StandsForSome, with_new};
+    ghost use Rattle.gate_transcript.specs.Bodies.{end_reason_in};
+
+    /// The state before the first entry.
+    pub fn new(alloc: Global, core: M) -> Run<M>
+        ensures core { M.stands core [] → Watches M.stands M.bases result.watched.core result.watched.living (M.bases core) [] }
+        ensures streams { (who : Speaker) → FramerFed (framer_at result.streams who) [] [] }
+    {
+        Run {
+            streams: Streams::new(alloc),
+            watched: Watched::new(alloc, core),
+        }
+    }
+
+    /// Processes one entry: a connection enters, bytes of its client or of the server come, it ends or lags, or the
+    /// connection to the server ends.
+    pub fn take<K: Sink>(
+        &mut self,
+        alloc: Global,
+        sink: &mut K,
+        entry: &Entry,
+    ) -> Result<(), ProcessFault>
+        requires { StandsForSome (with_new entry.now.kind entry.now.conn (Watches M.stands M.bases self.old.watched.core self.old.watched.living)) }
+        ensures takes { TakesEntry self.old.streams self.new.streams (IsCoreHistory M.follows)
+            (with_new entry.now.kind entry.now.conn (Watches M.stands M.bases self.old.watched.core self.old.watched.living))
+            (Watches M.stands M.bases self.new.watched.core self.new.watched.living) entry.now (K.written sink.old) (K.written sink.new) result }
+        ensures cause { SinkCause (K.faults sink.old) (K.faults sink.new) result }
+    {
+        let bytes = entry.body.as_bytes();
+        match entry.kind {
+            EntryKind::Enter => {
+                self.watched.enter(alloc, entry.conn)?;
+                Ok(())
+            }
+            EntryKind::Client => self.take_bytes(alloc, sink, Speaker::Client(entry.conn), bytes),
+            EntryKind::Upstream => self.take_bytes(alloc, sink, Speaker::Server, bytes),
+            EntryKind::End => self.watched.take(alloc, sink, Event::End(entry.conn)),
+            EntryKind::Slow => self.watched.take(alloc, sink, Event::Slow(entry.conn)),
+            EntryKind::UpEnd => self.end_up(alloc, sink, bytes),
+        }
+    }
+
+    /// The connection to the server ends, for the reason that these bytes tell.
+    fn end_up<K: Sink>(
+        &mut self,
+        alloc: Global,
+        sink: &mut K,
+        bytes: &[u8],
+    ) -> Result<(), ProcessFault>
+        ensures takes { TakesUpEnd (IsCoreHistory M.follows) (Watches M.stands M.bases self.old.watched.core self.old.watched.living) (Watches M.stands M.bases self.new.watched.core self.new.watched.living)
+            (end_reason_in bytes.now) (K.written sink.old) (K.written sink.new) result }
+        ensures streams { self.new.streams ≡ self.old.streams }
+        ensures cause { SinkCause (K.faults sink.old) (K.faults sink.new) result }
+    {
+        match end_reason_in(bytes) {
+            Some(reason) => self.watched.take(alloc, sink, Event::UpEnd(why_of(reason))),
+            None => Ok(()),
+        }
+    }
+
+    /// Takes bytes of a speaker, and all items that are whole then.
+    fn take_bytes<K: Sink>(
+        &mut self,
+        alloc: Global,
+        sink: &mut K,
+        speaker: Speaker,
+        bytes: &[u8],
+    ) -> Result<(), ProcessFault>
+        ensures takes { TakesBytes self.old.streams self.new.streams (IsCoreHistory M.follows) (Watches M.stands M.bases self.old.watched.core self.old.watched.living)
+            (Watches M.stands M.bases self.new.watched.core self.new.watched.living) speaker bytes.now (K.written sink.old) (K.written sink.new) result }
+        ensures cause { SinkCause (K.faults sink.old) (K.faults sink.new) result }
+    {
+        self.streams.feed(alloc, speaker, bytes)?;
+        take_items(alloc, &mut self.streams, &mut self.watched, sink, speaker)
+    }
+}
