@@ -1,14 +1,14 @@
 //! Requests that wait are treated.
-ghost use Rattle.std.specs.Prelude.{◌≡◌, ◌+◌, ℕ, [], ◌∷◌, ◌++◌, Some, IfOk};
+ghost use Rattle.std.specs.Prelude.{◌≡◌, ◌+◌, ◌<◌, ℕ, [], ◌∷◌, ◌++◌, Some, IfOk};
 ghost use Rattle.rtsp_head.specs.Shapes.{shape_of};
 ghost use Rattle.translate_up.specs.Views.{given_of};
 ghost use Rattle.gate_machine.specs.Treating.{decision_on};
-ghost use Rattle.gate_machine.specs.Progresses.{begun, progressed, with_queued, IsFilled, IsTreated};
+ghost use Rattle.play_queue.specs.declared.queue.TheConstants.{MOST_PLAYS};
+ghost use Rattle.gate_machine.specs.Progresses.{begun, progressed, with_queued, HasPlayRoom, IsFilled, IsTreated};
 
 use client_slot::{LONGEST_URI, Slot};
 use gate_bytes::{Memory, Text};
 use head_two::Request2;
-use play_queue::MOST_PLAYS;
 use rtsp_head::Item;
 use rtsp_transport::Pair;
 use session_one::{Asked, Play};
@@ -72,6 +72,7 @@ impl Progress {
 
     /// This becomes of one request more.
     fn decided(self, decision: Decision) -> Result<Progress, Memory>
+        requires { HasPlayRoom self.queued decision }
         ensures treated { IfOk result (λ progress. progress ≡ progressed decision self) }
         ensures filled { (queue : ℕ) → IsFilled queue self → IfOk result (IsFilled queue) }
     {
@@ -103,13 +104,13 @@ impl Progress {
         Ok(progress)
     }
 
-    /// A PLAY waits, and is answered. Its URI is never longer than the longest, and it has a place,
-    /// so that no memory is wanting for that.
+    /// A PLAY waits, and is answered. A URI over the longest is as if there were no memory for it.
     fn put(self, play: Play, text: Text) -> Result<Progress, Memory>
+        requires { self.queued < MOST_PLAYS }
         ensures treated { IfOk result (λ progress. progress ≡ record self { hand = self.hand ++ text; plays = self.plays ++ play ∷ []; queued = self.queued + 1 }) }
         ensures filled { (queue : ℕ) → IsFilled queue self → IfOk result (IsFilled queue) }
     {
-        if play.uri.len() > LONGEST_URI || self.queued >= MOST_PLAYS {
+        if play.uri.len() > LONGEST_URI {
             return Err(Memory);
         }
         let mut progress = self;
@@ -130,8 +131,7 @@ impl Progress {
 }
 
 /// Treats the requests that wait in order, until one of them goes up. Their answers follow the bytes
-/// that are handed already. At each place that is looked at one waits, so that no memory is wanting
-/// for that.
+/// that are handed already.
 pub(crate) fn treat_waiting(
     alloc: Global,
     view: &View<'_>,
@@ -144,7 +144,7 @@ pub(crate) fn treat_waiting(
     let mut progress = Progress::begun(alloc, first, view.queued);
     while progress.treated < count && progress.going.is_none() {
         let Some(item) = slot.waiting_at(progress.treated) else {
-            return Err(Memory);
+            unreachable!()
         };
         progress = progress.then(alloc, view, item)?;
         progress.treated += 1;
