@@ -15,10 +15,9 @@ use Rattle.session_one.specs.Table.{is_success}
 use Rattle.translate_down.specs.Replies.{Told}
 use Rattle.translate_up.specs.Channels.{share, is_taken}
 use Rattle.translate_up.specs.Views.{Given}
-use Rattle.translate_up.specs.Decisions.{decide}
 use Rattle.translate_up.specs.declared.decision.Decision.{Decision}
 use Rattle.translate_up.specs.declared.decision.Decision.TheVariants.{Answer, Forward, Queue, Setup}
-use Rattle.translate_up.proofs.PlaceLemmas.{HasPlace, decide_place}
+use Rattle.translate_up.proofs.PlaceLemmas.{HasPlace}
 use Rattle.client_slot.specs.declared.purpose.Purpose.{Purpose}
 use Rattle.client_slot.specs.declared.purpose.Purpose.TheVariants as purposes
 use Rattle.client_slot.specs.Session.{PlayerSession}
@@ -28,13 +27,14 @@ use Rattle.client_slot.specs.Changes as changes
 use Rattle.gate_machine.specs.Apart.{stream_asked, streams_of, AreStreamsApart, IsStreamApart, AreAllStreamsApart}
 use Rattle.gate_machine.specs.Bounds.{ArePairsBelow}
 use Rattle.gate_machine.specs.Events.{PrivateEvent, arrive, answer, note, media, end, slow, up_end}
-use Rattle.gate_machine.specs.Treating.{given, one_queued, fits_memory, decision_on, Going, Treated, treated_first, treated}
+use Rattle.gate_machine.specs.Treating.{given, one_queued, decision_on, Going, Treated, treated_first, treated}
 use Rattle.gate_machine.specs.Going as going
 use Rattle.gate_machine.specs.Hearing.{Next, rests, releases, goes_on, Hearing, idles, new_id, settle_at, hear}
 use Rattle.gate_machine.specs.Step.{going_on, step}
 use Rattle.gate_machine.specs.Alone.{Private, pair_unless, pair_alone, effect_while, private_after}
 use Rattle.gate_machine.proofs.BelowLemmas.{IsNumbered, hear_numbered, alone_numbered}
 use Rattle.gate_machine.proofs.HoldLemmas.{IsHeldStill, hear_still}
+use Rattle.gate_machine.proofs.RoomLemmas.{decision_placed}
 
 -- Fewer streams are apart.
 from_front : (track : Track) (front back : List Track) → IsStreamApart track (front ++ back) → IsStreamApart track front
@@ -137,10 +137,6 @@ abbrev IsFreeGoing : List Track → Option Going → Type 0
 IsFreeGoing tracks None = Unit {0}
 IsFreeGoing tracks (Some one) = AreChannelsFree tracks one.channels
 
-either_placed : (fits : Bool) (given : Given) (decision : Decision) → HasPlace given decision → HasPlace given (cond fits decision (Answer []))
-either_placed true given decision place = place
-either_placed false given decision place = tt
-
 first_free : (decision : Decision) (given : Given) (more : List Shape) (again : Given → Treated) → HasPlace given decision → ((one : Given) → IsFreeGoing one.tracks (again one).going)
     → IsFreeGoing given.tracks (treated_first decision given more again).going
 first_free (Answer text) given more again place later = later given
@@ -151,7 +147,7 @@ first_free (Setup request asked channels) given more again place later = place.1
 treated_free : (shapes : List Shape) (given : Given) → IsFreeGoing given.tracks (treated shapes given).going
 treated_free [] given = tt
 treated_free (shape ∷ more) given =
-    first_free (decision_on given shape) given more (treated more) (either_placed (fits_memory shape) given (decide given shape) (decide_place given shape)) (treated_free more)
+    first_free (decision_on given shape) given more (treated more) (decision_placed given shape) (treated_free more)
 
 -- What goes up then, where the pair that is free has the next number.
 abbrev IsNextPair : ℕ → Option ℕ → Type 0

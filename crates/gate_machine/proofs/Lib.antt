@@ -11,6 +11,7 @@ pub mod KeepLemmas
 pub mod OnwardLemmas
 pub mod PlanLemmas
 pub mod RenumberLemmas
+pub mod RoomLemmas
 pub mod SeenGoLemmas
 pub mod SeenHearLemmas
 pub mod SeenLemmas

@@ -1,7 +1,9 @@
 -- Requests that wait are treated one after another (this project's own).
-use Rattle.std.specs.Prelude.{◌≡◌, ℕ, ◌+◌, ◌≤◌, List, [], ◌∷◌, ◌++◌, length, drop, Option, Some, None}
+use Rattle.std.specs.Prelude.{◌≡◌, ℕ, ◌+◌, ◌≤◌, List, [], ◌∷◌, ◌++◌, length, drop, Option, Some, None, ◌<◌, IsSome}
 use Rattle.rtsp_head.specs.Items.{Shape}
+use Rattle.play_queue.specs.declared.queue.TheConstants.{MOST_PLAYS}
 use Rattle.session_one.specs.declared.parts.Play.{Play}
+use Rattle.session_one.specs.declared.parts.TheConstants.{MOST_TRACKS}
 use Rattle.translate_up.specs.Views.{Given}
 use Rattle.translate_up.specs.declared.decision.Decision.{Decision}
 use Rattle.translate_up.specs.declared.decision.Decision.TheVariants.{Answer, Forward, Queue, Setup}
@@ -38,6 +40,18 @@ joined_at (Some one) hand plays queued given left = record { hand = hand; plays 
 
 abbrev pub with_progress : Progress → Given → List Shape → Treated
 with_progress progress given left = joined_at progress.going progress.hand progress.plays progress.queued given left
+
+-- A PLAY that waits has a place where so many wait already.
+abbrev pub HasPlayRoom : ℕ → Decision → Type 0
+HasPlayRoom queued (Answer text) = Unit {0}
+HasPlayRoom queued (Queue play text) = queued < MOST_PLAYS
+HasPlayRoom queued (Forward request asked) = Unit {0}
+HasPlayRoom queued (Setup request asked channels) = Unit {0}
+
+-- A SETUP that goes up has a place for its stream beside so many.
+abbrev pub HasStreamRoom : ℕ → Option Upward → Type 0
+HasStreamRoom streams None = Unit {0}
+HasStreamRoom streams (Some one) = IsSome one.channels → streams < MOST_TRACKS
 
 -- The PLAYs have places where so many wait already, and all that wait are counted.
 pub record IsFilled (queue : ℕ) (progress : Progress) : Type 0 where

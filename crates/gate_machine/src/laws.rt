@@ -34,8 +34,8 @@ pub fn what_is_not_closed_is_alive()
     ensures run { (bases : Bases) (events : List PrivateEvent) → is_live (private_after bases events) ≡ is_empty_list (shut_alone bases events) }
 {}
 
-/// The streams of a connection alone have different pairs of channels, and no two of them have a channel
-/// of its player in common. The stream of an open SETUP is one of them.
+/// The streams of a connection alone have different pairs of channels, and no two of them have a
+/// channel of its player in common. The stream of an open SETUP is one of them.
 pub fn own_streams_are_apart()
     ensures { (bases : Bases) (events : List PrivateEvent) → AreAllStreamsApart (streams_of (private_after bases events).client) }
 {}

@@ -1,5 +1,5 @@
 //! What goes up for a connection with no open request.
-ghost use Rattle.std.specs.Prelude.{◌≡◌, ◌<◌, [], Some, None, IfOk, IfSome, if◌then◌else◌};
+ghost use Rattle.std.specs.Prelude.{◌≡◌, ◌<◌, [], Some, None, IsSome, IfOk, IfSome, if◌then◌else◌};
 ghost use Rattle.std.specs.Option.{option_copied};
 ghost use Rattle.head_two.specs.Requests.{request_text};
 ghost use Rattle.translate_up.specs.Queued.{play_up};
@@ -8,7 +8,8 @@ ghost use Rattle.gate_machine.specs.declared.parts.Up.TheVariants as ups;
 ghost use Rattle.gate_machine.specs.Going.{track_of};
 ghost use Rattle.gate_machine.specs.Spelled.{text_up};
 ghost use Rattle.gate_machine.specs.Sights.{sight_of, given_by};
-ghost use Rattle.gate_machine.specs.Progresses.{IsTreated};
+ghost use Rattle.gate_machine.specs.Progresses.{HasStreamRoom, IsTreated};
+ghost use Rattle.session_one.specs.declared.parts.TheConstants.{MOST_TRACKS};
 ghost use Rattle.gate_machine.specs.Onward.{leave_up, up_for, IsPlacedUp, IsFinished, GoesOnward};
 
 use crate::parts::{Change, Plan, Up};
@@ -19,7 +20,7 @@ use gate_bytes::{Memory, Text};
 use head_two::{Request2, write_request};
 use rtsp_transport::Pair;
 use rtsp_uri::Bases;
-use session_one::{MOST_TRACKS, Play, Track};
+use session_one::{Play, Track};
 use std::alloc::Global;
 use std::collections::LinkedList;
 use translate_up::{play_up, with_transport};
@@ -80,8 +81,8 @@ fn going_text(
     }
 }
 
-/// A request goes up beside so many streams. Its URI is never longer than the longest, and its stream
-/// has a place, so that no memory is wanting for that.
+/// A request goes up beside so many streams. A URI over the longest is as if there were no memory
+/// for it.
 fn ask(
     alloc: Global,
     next: u32,
@@ -89,7 +90,8 @@ fn ask(
     streams: usize,
     going: Upward,
 ) -> Result<Up, Memory>
-    requires { IfSome pair (λ one. one < 128) }
+    requires pair { IfSome pair (λ one. one < 128) }
+    requires room { IsSome going.channels → streams < MOST_TRACKS }
     ensures up { IfOk result (λ up. up ≡ up_for next pair (Some going)) }
     ensures placed { IfOk result (IsPlacedUp streams) }
 {
@@ -99,7 +101,7 @@ fn ask(
         channels,
     } = going;
     let track = stream(alloc, asked.uri.as_bytes(), pair, channels)?;
-    if asked.uri.len() > LONGEST_URI || (track.is_some() && streams >= MOST_TRACKS) {
+    if asked.uri.len() > LONGEST_URI {
         return Err(Memory);
     }
     let text = going_text(alloc, request, next, pair, channels.is_some())?;
@@ -115,7 +117,8 @@ pub(crate) fn finished(
     change: Change,
     progress: Progress,
 ) -> Result<Plan, Memory>
-    requires { IfSome pair (λ one. one < 128) }
+    requires pair { IfSome pair (λ one. one < 128) }
+    requires room { HasStreamRoom streams progress.going }
     ensures { IfOk result (IsFinished next pair streams change progress) }
 {
     let Progress {

@@ -21,6 +21,13 @@ const LONGEST_REQUEST: usize = 0x7fff_ffff;
 /// What an event will do to a connection, by the number that the next request would have and the
 /// lowest pair of channels that is free once the event is heard. Nothing changes, and all memory is
 /// taken.
+///
+/// `Memory` is the answer where memory is wanting, and past four limits:
+/// - the player would be handed 2^32 bytes or more, or a request of 2^31 bytes or more would go up;
+/// - [`MOST_WAITING`](client_slot::MOST_WAITING) requests wait, which no memory holds;
+/// - a URI of over [`LONGEST_URI`](client_slot::LONGEST_URI) bytes would go up or wait: a head and a
+///   base have fewer together;
+/// - the two channels of a stream on its player's connection are one: none are given that are.
 pub fn plan(
     alloc: Global,
     bases: &Bases,

@@ -1,5 +1,5 @@
 //! What a session shows to a request that is treated.
-ghost use Rattle.std.specs.Prelude.{◌≡◌, ◌<◌, true, length, Some, IfOk, IfSome};
+ghost use Rattle.std.specs.Prelude.{◌≡◌, ◌<◌, ◌↔◌, true, length, Some, IfOk, IfSome};
 ghost use Rattle.std.specs.Option.{option_copied};
 ghost use Rattle.rtsp_small.specs.Sessions.{is_session_id};
 ghost use Rattle.session_one.specs.declared.parts.TheConstants.{MOST_TRACKS};
@@ -44,7 +44,7 @@ impl<'a> Showing<'a> {
 
     /// How many streams there are.
     pub fn streams(&self) -> usize
-        ensures { result < MOST_TRACKS → length (sight_of self.now).tracks < MOST_TRACKS }
+        ensures { (result < MOST_TRACKS) ↔ (length (sight_of self.now).tracks < MOST_TRACKS) }
     {
         match self.added {
             Some(_) => self.tracks.len().saturating_add(1),

@@ -1,14 +1,14 @@
 //! Requests that wait are treated.
-ghost use Rattle.std.specs.Prelude.{◌≡◌, ◌+◌, ℕ, [], ◌∷◌, ◌++◌, Some, IfOk, OnOk};
+ghost use Rattle.std.specs.Prelude.{◌≡◌, ◌+◌, ◌<◌, ℕ, [], ◌∷◌, ◌++◌, Some, IfOk, OnOk};
 ghost use Rattle.rtsp_head.specs.Shapes.{shape_of};
 ghost use Rattle.translate_up.specs.Views.{given_of};
 ghost use Rattle.gate_machine.specs.Treating.{decision_on};
-ghost use Rattle.gate_machine.specs.Progresses.{begun, progressed, with_queued, IsFilled, IsTreated};
+ghost use Rattle.play_queue.specs.declared.queue.TheConstants.{MOST_PLAYS};
+ghost use Rattle.gate_machine.specs.Progresses.{begun, progressed, with_queued, HasPlayRoom, IsFilled, IsTreated};
 
 use client_slot::{LONGEST_URI, Slot};
 use gate_bytes::{Memory, Text};
 use head_two::Request2;
-use play_queue::MOST_PLAYS;
 use rtsp_head::Item;
 use rtsp_transport::Pair;
 use session_one::{Asked, Play};
@@ -72,6 +72,7 @@ impl Progress {
 
     /// This becomes of one request more.
     fn decided(&mut self, decision: Decision) -> Result<(), Memory>
+        requires { HasPlayRoom self.old.queued decision }
         ensures treated { OnOk result (self.new ≡ progressed decision self.old) }
         ensures filled { (queue : ℕ) → IsFilled queue self.old → OnOk result (IsFilled queue self.new) }
     {
@@ -103,13 +104,13 @@ impl Progress {
         self.hand.push_slice(text.as_bytes())
     }
 
-    /// A PLAY waits, and is answered. Its URI is never longer than the longest, and it has a place,
-    /// so that no memory is wanting for that.
+    /// A PLAY waits, and is answered. A URI over the longest is as if there were no memory for it.
     fn put(&mut self, play: Play, text: Text) -> Result<(), Memory>
+        requires { self.old.queued < MOST_PLAYS }
         ensures treated { OnOk result (self.new ≡ record self.old { hand = self.old.hand ++ text; plays = self.old.plays ++ play ∷ []; queued = self.old.queued + 1 }) }
         ensures filled { (queue : ℕ) → IsFilled queue self.old → OnOk result (IsFilled queue self.new) }
     {
-        if play.uri.len() > LONGEST_URI || self.queued >= MOST_PLAYS {
+        if play.uri.len() > LONGEST_URI {
             return Err(Memory);
         }
         self.plays.push_back(play)?;
@@ -130,8 +131,7 @@ impl Progress {
 }
 
 /// Treats the requests that wait in order, until one of them goes up. Their answers follow the bytes
-/// that are handed already. At each place that is looked at one waits, so that no memory is wanting
-/// for that.
+/// that are handed already.
 pub(crate) fn treat_waiting(
     alloc: Global,
     view: &View<'_>,
@@ -144,7 +144,7 @@ pub(crate) fn treat_waiting(
     let mut progress = Progress::begun(alloc, first, view.queued);
     while progress.treated < count && progress.going.is_none() {
         let Some(item) = slot.waiting_at(progress.treated) else {
-            return Err(Memory);
+            unreachable!()
         };
         progress.then(alloc, view, item)?;
         progress.treated += 1;

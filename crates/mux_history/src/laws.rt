@@ -67,9 +67,9 @@ pub fn books_and_connections_agree()
         → IsJoined (books_of history) i (private_after bases (own bases i history)).client (private_after bases (own bases i history)).count }
 {}
 
-/// While the connection to the server stands, no two streams have one pair of channels on it: neither
-/// two streams of one connection, nor those of two. On a player's own connection no two of its streams
-/// have a channel in common. The stream of an open SETUP is one of them.
+/// While the connection to the server stands, no two streams have one pair of channels on it:
+/// neither two streams of one connection, nor those of two. On a player's own connection no two of
+/// its streams have a channel in common. The stream of an open SETUP is one of them.
 pub fn no_two_streams_share_channels()
     ensures pairs { (bases : Bases) (history : List Entry) (i j a b pair : ℕ) → IsHistory bases history → fault_in history ≡ None
         → slice_get (pairs_held bases history i) a ≡ Some pair → slice_get (pairs_held bases history j) b ≡ Some pair → (i ≡ j) × (a ≡ b) }
@@ -82,8 +82,8 @@ pub fn no_two_connections_have_one_session()
         → session_held bases history i ≡ Some id → session_held bases history j ≡ Some id → i ≡ j }
 {}
 
-/// A frame of the server is handed to no player but the one whose stream has its channel, as that frame
-/// on the player's own channel for it. Nothing else comes of it.
+/// A frame of the server is handed to no player but the one whose stream has its channel, as that
+/// frame on the player's own channel for it. Nothing else comes of it.
 pub fn a_frame_of_the_server_reaches_its_holder_alone()
     ensures reaches { (bases : Bases) (earlier : List Entry) (entry : Entry) (frame : Shape) (channel : ℕ) (rest : List ℕ) → IsHistory bases earlier → Follows bases earlier entry
         → entry.happening ≡ hears frame → heard frame ≡ frames channel rest → IfSome entry.outcome.to_client (IsFrameDown bases earlier channel rest) }
@@ -91,8 +91,8 @@ pub fn a_frame_of_the_server_reaches_its_holder_alone()
         → entry.happening ≡ hears frame → heard frame ≡ frames channel rest → (entry.outcome.to_up ≡ nothing_up) × (entry.outcome.closed ≡ Nobody) × (entry.outcome.fault ≡ None) }
 {}
 
-/// A frame of a player is handed to no player. It goes up on no channel but that of the stream which has
-/// the player's channel. Nothing else comes of it.
+/// A frame of a player is handed to no player. It goes up on no channel but that of the stream which
+/// has the player's channel. Nothing else comes of it.
 pub fn a_frame_of_a_player_goes_up_on_its_own_pair()
     ensures goes { (bases : Bases) (earlier : List Entry) (entry : Entry) (i : ℕ) (frame : Shape) → IsHistory bases earlier → Follows bases earlier entry
         → entry.happening ≡ takes i frame → frame.kind ≡ items.Frame → IfSome entry.outcome.to_up.message (IsFrameUp bases earlier i frame) }

@@ -1,4 +1,4 @@
-use Rattle.std.proofs.Common.{◌≡◌, ◌∙◌, ◌<◌, List, length, sym, ap, subst}
+use Rattle.std.proofs.Common.{◌≡◌, ◌∙◌, ◌<◌, List, [], length, sym, ap, subst}
 use Rattle.std.specs.Prelude.{is_none}
 use Rattle.std.proofs.lemmas.Result.{IfOk-weaker}
 use Rattle.rtsp_head.specs.Shapes.{shape_of}
@@ -7,9 +7,11 @@ use Rattle.session_one.specs.declared.parts.Track.{Track}
 use Rattle.translate_up.specs.Views.{given_of, Given}
 use Rattle.gate_machine.specs.declared.parts.Change.{Change}
 use Rattle.gate_machine.specs.Treating.{given, decision_on}
-use Rattle.gate_machine.specs.Progresses.{progressed, with_queued}
+use Rattle.gate_machine.specs.Progresses.{progressed, with_queued, HasStreamRoom}
 use Rattle.gate_machine.specs.Onward.{IsFinished}
 use Rattle.gate_machine.proofs.AfterLemmas.{none_is, view_is, treated_now, plan_before, plan_with}
+use Rattle.gate_machine.proofs.RoomLemmas.{way_room, more_room}
+use Rattle.gate_machine.proofs.TreatLemmas.{not_going}
 use Rattle.gate_machine.proofs.requests.treat_request.Goals as goal
 
 pub returns-then-is_some : goal.returns-then-is_some
@@ -47,3 +49,28 @@ returns c =
     (λ small. subst (λ (tracks : List Track). length tracks < MOST_TRACKS) c.tracks-streams.ensures small)
     finished)
     c.finished-2.ensures
+
+pub finished-requires-clause-room : goal.finished-requires-clause-room
+finished-requires-clause-room c =
+    let bases = c.args.bases.now in
+    let slot = c.args.slot.now in
+    let same : given_of c.view-view.result ≡ given bases (is_none c.args.pair) slot =
+    c.view-view.ensures
+    ∙ view_is bases c.is_none.result c.seen-seen.result c.state.result slot.session c.seen-seen.ensures.shows c.seen-seen.ensures.tracks c.state.ensures
+    ∙ ap (λ b. given bases b slot) (none_is c.args.pair c.is_none.result c.is_none.ensures) in
+    let all = treated_now bases c.args.pair slot (given_of c.view-view.result) c.new.result c.in_ok-progress.progress same c.new.ensures c.in_ok-progress.ensures in
+    subst (λ (tracks : List Track). HasStreamRoom (length tracks) c.in_ok-progress.progress.going) (sym c.tracks-streams.ensures)
+    (way_room (given bases (is_none c.args.pair) slot) slot.waiting [] c.in_ok-progress.progress all)
+
+pub finished-requires-2-clause-room : goal.finished-requires-2-clause-room
+finished-requires-2-clause-room c =
+    let bases = c.args.bases.now in
+    let slot = c.args.slot.now in
+    let progress = c.in_ok-progress.progress in
+    let same : given_of c.view-view.result ≡ given bases (is_none c.args.pair) slot =
+    c.view-view.ensures
+    ∙ view_is bases c.is_none.result c.seen-seen.result c.state.result slot.session c.seen-seen.ensures.shows c.seen-seen.ensures.tracks c.state.ensures
+    ∙ ap (λ b. given bases b slot) (none_is c.args.pair c.is_none.result c.is_none.ensures) in
+    subst (λ (tracks : List Track). HasStreamRoom (length tracks) c.then.new.self.going) (sym c.tracks-streams.ensures)
+    (more_room (given bases (is_none c.args.pair) slot) (shape_of c.args.item.now) progress c.then.new.self (not_going progress.going (sym c.if-is_some.ensures))
+    (c.in_ok-then.ensures.treated ∙ ap (λ (one : Given). progressed (decision_on (with_queued progress.queued one) (shape_of c.args.item.now)) progress) same))
