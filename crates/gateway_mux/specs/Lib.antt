@@ -1,5 +1,6 @@
 pub mod Acts
 pub mod Carried
+pub mod Directories
 pub mod Entering
 pub mod Free
 pub mod Granting
@@ -7,6 +8,7 @@ pub mod Hearing
 pub mod Moves
 pub mod NoticesSeen
 pub mod Pictures
+pub mod Rising
 pub mod Room
 pub mod Seats
 pub mod Settled
