@@ -8,7 +8,6 @@ use Rattle.up_books.specs.declared.cseq.TheConstants.{LAST_NUMBER}
 use Rattle.up_books.specs.Ids.{Ids}
 use Rattle.up_books.specs.Numbers.{Numbers, next_number}
 use Rattle.client_slot.specs.declared.purpose.Purpose.{Purpose}
-use Rattle.client_slot.specs.Client.{new_client}
 use Rattle.gate_bytes.specs.declared.memory.Memory.{Memory}
 use Rattle.gate_machine.specs.declared.parts.Done.{Done}
 use Rattle.gate_machine.specs.Asking.{AsksBy}
@@ -30,7 +29,7 @@ use Rattle.gateway_mux.specs.Settled.{asker_settled, held_settled, holder_settle
 use Rattle.gateway_mux.specs.Turn.{free_once, session_of_client, asks_pair, asker_lent, issued_then, one_if}
 use Rattle.gateway_mux.specs.Upstream.{held_lent}
 use Rattle.gateway_mux.proofs.CommitLemmas.{IsTurned, effect_is, goes}
-use Rattle.gateway_mux.proofs.KeepingLemmas.{keeps_turn, keeps_entering, keeps_more}
+use Rattle.gateway_mux.proofs.KeepingLemmas.{keeps_turn, keeps_more}
 use Rattle.gateway_mux.proofs.TurnedLemmas.{effect_asks}
 
 -- No event is an entering.
@@ -114,18 +113,3 @@ sessions_grown (Err e) old new ok err = (ap (λ (n : Ids). n.bound) err, same ol
 
 pub still_kept : (bases : Bases) (one after : Picture) (a b c d : ℕ) → IsAsBefore one after → a ≤ c → b ≤ d → ∥ IsKept bases one a b ∥₁ → ∥ IsKept bases after c d ∥₁
 still_kept bases one after a b c d same requests sessions keeps = ∥∥₁_map keeps (keeps_more bases one after a b c d same requests sessions)
-
--- A connection entered, or memory was wanting for it.
-pub entering_kept : (bases : Bases) (conn : ℕ) (one after : Picture) (result : Result (Unit {0}) Memory) (a b c d : ℕ) → one.clients conn ≡ None
-    → OnOk result ((i : ℕ) → after.clients i ≡ cond (conn == i) (Some new_client) (one.clients i)) → OnErr result ((i : ℕ) → after.clients i ≡ one.clients i)
-    → ((n : ℕ) → after.asker n ≡ one.asker n) → ((p : ℕ) → after.held p ≡ one.held p) → ((id : List ℕ) → after.holder id ≡ one.holder id) → after.issued ≡ one.issued
-    → c ≡ a + 1 → d ≡ b + 1 → ∥ IsKept bases one a b ∥₁ → ∥ IsKept bases after c d ∥₁
-entering_kept bases conn one after (Ok u) a b c d none ok err asker held holder issued requests sessions keeps =
-    subst (λ (n : ℕ). ∥ IsKept bases after n d ∥₁) (sym requests)
-    (subst (λ (n : ℕ). ∥ IsKept bases after (a + 1) n ∥₁) (sym sessions)
-    (∥∥₁_map keeps (keeps_entering bases conn one after a b none (record { clients = ok; asker = asker; held = held; holder = holder; issued = issued }))))
-entering_kept bases conn one after (Err e) a b c d none ok err asker held holder issued requests sessions keeps =
-    still_kept bases one after a b c d (record { clients = err; asker = asker; held = held; holder = holder; issued = issued }) (more a c requests) (more b d sessions) keeps
-  where
-    more : (a b : ℕ) → b ≡ a + 1 → a ≤ b
-    more a b e = grind arith

@@ -3,6 +3,7 @@ pub mod AskedLemmas
 pub mod BooksLemmas
 pub mod CarryingLemmas
 pub mod CommitLemmas
+pub mod DirectoryLemmas
 pub mod EndLemmas
 pub mod EnterLemmas
 pub mod FinalLemmas
@@ -14,6 +15,8 @@ pub mod KeptLemmas
 pub mod MuxLemmas
 pub mod PictureLemmas
 pub mod PlanLemmas
+pub mod ReadyLemmas
+pub mod RisingLemmas
 pub mod RoomLemmas
 pub mod SaidLemmas
 pub mod SeatLemmas

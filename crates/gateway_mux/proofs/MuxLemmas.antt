@@ -1,5 +1,5 @@
 -- What the multiplexer stands for after each of its calls.
-use Rattle.std.proofs.Common.{◌≡◌, ◌∙◌, ℕ, ◌+◌, ◌-◌, ◌^◌, ◌≤◌, ◌<◌, min, ◌&&◌, nat_lt, Bool, true, false, List, ◌∷◌, Option, Some, None, refl, sym, ap, subst, arith}
+use Rattle.std.proofs.Common.{◌≡◌, ◌∙◌, ℕ, ◌+◌, ◌-◌, ◌^◌, ◌≤◌, ◌<◌, min, ◌&&◌, nat_lt, Bool, true, false, List, ◌∷◌, Option, Some, None, Result, Ok, Err, OnErr, refl, sym, ap, subst, arith}
 use Rattle.std.specs.Prelude.{is_some, is_none}
 use Rattle.rtsp_uri.specs.declared.base.Bases.{Bases}
 use Rattle.mux_history.specs.declared.event.Event.{Event}
@@ -196,3 +196,8 @@ idle_by mux T None stands e over i = cc
 
 pub idle_over : (mux : Mux) (T : List Entry) → Stands mux T → is_some mux.ended ≡ true → (i : ℕ) → false ≡ is_busy (bases_of mux) i T
 idle_over mux T stands over i = idle_by mux T mux.ended stands refl over i
+
+-- what holds anyway holds after an error
+pub on_err_always : {T E : Type 0} (result : Result T E) (P : Type 0) → P → OnErr result P
+on_err_always (Ok x) P p = tt
+on_err_always (Err e) P p = p

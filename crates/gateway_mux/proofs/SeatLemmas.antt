@@ -1,60 +1,36 @@
--- A map from numbers to the keys of a slab, with one number and one key more.
-use Rattle.std.proofs.Common.{◌≡◌, ◌≢◌, ℕ, Bool, true, false, cond, Option, None, Some, is_some, refl, sym, ◌∙◌, ap, subst}
+-- Lemmas on the keys of connections and what is kept under them.
+use Rattle.std.proofs.Common.{◌≡◌, ◌≢◌, ℕ, true, false, Option, None, Some, is_some, refl, sym, ◌∙◌, ap, subst}
 use Rattle.std.specs.Option.{option_and_then}
-use Rattle.std.specs.declared.cmp.Ordering.{Ordering}
-use Rattle.std.specs.declared.cmp.Ordering.TheVariants.{Less, Equal, Greater}
-use Rattle.std.specs.Ordering.{nat_cmp, is_eq}
-use Rattle.std.specs.BTreeMap.{is_at}
-use Rattle.std.proofs.lemmas.Map.Lookups.{exact_unsigned}
 use Rattle.slab.specs.Slab.{get as slab_get}
 use Rattle.client_slot.specs.Client.{Client}
 use Rattle.gateway_mux.specs.declared.seats.Seats.{Seats}
 use Rattle.gateway_mux.specs.Seats.{client_at, IsKeyOf}
 
-is_equal : (o : Ordering) → is_eq o ≡ true → o ≡ Equal
-is_equal Less h = cc
-is_equal Equal h = refl
-is_equal Greater h = cc
-
-pub same_key : (conn q : ℕ) → is_at (nat_cmp conn) q ≡ true → conn ≡ q
-same_key conn q h = exact_unsigned conn q (is_equal (nat_cmp conn q) h)
-
--- What the keys were and are, what the slots were and are, and the new number and its key.
-pub record Adds (conn key : ℕ) (old_keys new_keys : ℕ → Option ℕ) (old_slots new_slots : ℕ → Option Client) : Type 0 where
-  pub keys : (i : ℕ) → new_keys i ≡ cond (is_at (nat_cmp conn) i) (Some key) (old_keys i)
-  pub free : old_slots key ≡ None
-  pub here : is_some (new_slots key) ≡ true
-  pub others : (k : ℕ) → k ≢ key → new_slots k ≡ old_slots k
-  pub held : (i k : ℕ) → old_keys i ≡ Some k → is_some (old_slots k) ≡ true
-  pub apart : (i j k : ℕ) → old_keys i ≡ Some k → old_keys j ≡ Some k → i ≡ j
-
--- a key that was held is not the new one
-not_new : {conn key : ℕ} {old_keys new_keys : ℕ → Option ℕ} {old_slots new_slots : ℕ → Option Client}
-    → (a : Adds conn key old_keys new_keys old_slots new_slots) (i k : ℕ) → old_keys i ≡ Some k → k ≢ key
-not_new {key} {old_slots} a i k h same =
-    let held : is_some (old_slots k) ≡ true = a.held i k h in
-    let none : old_slots k ≡ None = ap old_slots same ∙ a.free in
-    let not_held : is_some (old_slots k) ≡ false = ap is_some none in
+-- a key that none of the connections has
+pub not_among : (keys : ℕ → Option ℕ) (slots : ℕ → Option Client) (key : ℕ) → ((i k : ℕ) → keys i ≡ Some k → is_some (slots k) ≡ true) → slots key ≡ None → (i : ℕ) → keys i ≢ Some key
+not_among keys slots key held none i is =
+    let here : is_some (slots key) ≡ true = held i key is in
+    let not_here : is_some (slots key) ≡ false = ap is_some none in
     cc
 
-pub held_more : {conn key : ℕ} {old_keys new_keys : ℕ → Option ℕ} {old_slots new_slots : ℕ → Option Client}
-    → (a : Adds conn key old_keys new_keys old_slots new_slots) (i k : ℕ) → new_keys i ≡ Some k → is_some (new_slots k) ≡ true
-held_more {conn} {key} {old_keys} {new_keys} {old_slots} {new_slots} a i k h = at (is_at (nat_cmp conn) i) (sym (a.keys i) ∙ h)
-  where
-    at : (t : Bool) → cond t (Some key) (old_keys i) ≡ Some k → is_some (new_slots k) ≡ true
-    at true e = let same : key ≡ k = cc in subst (λ (q : ℕ). is_some (new_slots q) ≡ true) same a.here
-    at false e = ap is_some (a.others k (not_new a i k e)) ∙ a.held i k e
+-- where more is kept, all that was is
+pub kept_more : (keys : ℕ → Option ℕ) (old new : ℕ → Option Client) (key : ℕ) → ((i k : ℕ) → keys i ≡ Some k → is_some (old k) ≡ true) → old key ≡ None → ((k : ℕ) → k ≢ key → new k ≡ old k)
+    → (i k : ℕ) → keys i ≡ Some k → new k ≡ old k
+kept_more keys old new key held none others i k is = others k (λ same. not_among keys old key held none i (is ∙ ap (λ n. Some n) same))
 
-pub apart_more : {conn key : ℕ} {old_keys new_keys : ℕ → Option ℕ} {old_slots new_slots : ℕ → Option Client}
-    → (a : Adds conn key old_keys new_keys old_slots new_slots) (i j k : ℕ) → new_keys i ≡ Some k → new_keys j ≡ Some k → i ≡ j
-apart_more {conn} {key} {old_keys} a i j k h g = at (is_at (nat_cmp conn) i) (is_at (nat_cmp conn) j) refl refl (sym (a.keys i) ∙ h) (sym (a.keys j) ∙ g)
-  where
-    at : (s t : Bool) → is_at (nat_cmp conn) i ≡ s → is_at (nat_cmp conn) j ≡ t
-        → cond s (Some key) (old_keys i) ≡ Some k → cond t (Some key) (old_keys j) ≡ Some k → i ≡ j
-    at true true s t d e = sym (same_key conn i s) ∙ same_key conn j t
-    at true false s t d e = let same : k ≡ key = cc in absurd (not_new a j k e same)
-    at false true s t d e = let same : k ≡ key = cc in absurd (not_new a i k d same)
-    at false false s t d e = a.apart i j k d e
+-- a connection that is not there has no key
+pub absent_key : (slots : ℕ → Option Client) (at : Option ℕ) → ((k : ℕ) → at ≡ Some k → is_some (slots k) ≡ true) → option_and_then slots at ≡ None → at ≡ None
+absent_key slots None held none = refl
+absent_key slots (Some k) held none =
+    let here : is_some (slots k) ≡ true = held k refl in
+    let not_here : is_some (slots k) ≡ false = ap is_some none in
+    cc
+
+pub same_clients : (keys : ℕ → Option ℕ) (old new : ℕ → Option Client) (i : ℕ) → ((i k : ℕ) → keys i ≡ Some k → new k ≡ old k) → option_and_then new (keys i) ≡ option_and_then old (keys i)
+same_clients keys old new i kept = by (keys i) refl where
+  by : (at : Option ℕ) → keys i ≡ at → option_and_then new at ≡ option_and_then old at
+  by None e = refl
+  by (Some k) e = kept i k e
 
 -- One key's slot changes, and every other key keeps what it had.
 pub record Changes (conn key : ℕ) (keys : ℕ → Option ℕ) (old new : ℕ → Option Client) : Type 0 where

@@ -1,6 +1,7 @@
 pub mod Acts
 pub mod Carried
 pub mod CoreLaws
+pub mod Directories
 pub mod Entering
 pub mod ExitCodes
 pub mod Free
@@ -9,6 +10,7 @@ pub mod Hearing
 pub mod Moves
 pub mod NoticesSeen
 pub mod Pictures
+pub mod Rising
 pub mod Room
 pub mod Seats
 pub mod Settled

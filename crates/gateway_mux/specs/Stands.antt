@@ -1,5 +1,5 @@
 -- When a multiplexer stands for a history (this project's own).
-use Rattle.std.specs.Prelude.{◌≡◌, ℕ, List, Option, Some, None}
+use Rattle.std.specs.Prelude.{◌≡◌, ℕ, Bool, ◌||◌, is_some, List, Option, Some, None}
 use Rattle.rtsp_uri.specs.declared.base.Bases.{Bases}
 use Rattle.mux_history.specs.declared.event.UpCause.{UpCause}
 use Rattle.mux_history.specs.declared.event.Event.{Event}
@@ -11,7 +11,7 @@ use Rattle.gateway_mux.specs.declared.mux.Mux.{Mux}
 use Rattle.gateway_mux.specs.declared.mux.Plan.{Plan}
 use Rattle.gateway_mux.specs.Acts.{IsAct, IsShortAct, IsKeyed}
 use Rattle.gateway_mux.specs.Pictures.{Picture, picture, IsPictureOf}
-use Rattle.gateway_mux.specs.Seats.{client_at}
+use Rattle.gateway_mux.specs.Seats.{client_at, is_ready}
 
 abbrev pub picture_of : Connections → Picture
 picture_of connections = picture connections.seats connections.upstream
@@ -38,6 +38,10 @@ pub record IsFresh (mux : Mux) (conn : ℕ) : Type 0 where
 
 abbrev pub bases_of : Mux → Bases
 bases_of mux = mux.connections.bases
+
+-- A connection can enter without memory, as it can after the end of the connection to the server.
+abbrev pub is_prepared : Mux → Bool
+is_prepared mux = is_some mux.ended || is_ready mux.connections.seats
 
 -- why the connection to the server ended, where it did
 abbrev pub end_of : Mux → Option UpCause

@@ -1,7 +1,7 @@
 //! The connections of a gateway: those of its players, and the one to the server.
-ghost use Rattle.std.specs.Prelude.{◌≡◌, [], None, OnOk, OnErr};
+ghost use Rattle.std.specs.Prelude.{◌≡◌, ◌<◌, [], true, false, None, IsOk, OnOk, OnErr};
 ghost use Rattle.gateway_mux.specs.Pictures.{picture, IsKept, IsPictureOf};
-ghost use Rattle.gateway_mux.specs.Seats.{client_at};
+ghost use Rattle.gateway_mux.specs.Seats.{client_at, is_ready, left};
 
 use crate::seats::Seats;
 use crate::upstream::Upstream;
@@ -16,7 +16,9 @@ pub(crate) struct Connections {
     pub bases: Bases,
     pub seats: Seats,
     pub upstream: Upstream,
-    ghost kept: { ∥ IsKept bases (picture seats upstream) upstream.requests.spare upstream.sessions.spare ∥₁ },
+    ghost kept: { ∥ IsKept bases (picture seats upstream) (left upstream.requests.spare seats) (left upstream.sessions.spare seats) ∥₁ },
+    ghost spare: { is_ready seats ≡ true → 0 < upstream.requests.spare },
+    ghost spare_session: { is_ready seats ≡ true → 0 < upstream.sessions.spare },
 }
 
 impl Connections {
@@ -26,6 +28,7 @@ impl Connections {
     pub fn new(alloc: Global, bases: Bases) -> Connections
         ensures bases { result.bases ≡ bases }
         ensures none { IsPictureOf bases (picture result.seats result.upstream) [] }
+        ensures ready { is_ready result.seats ≡ false }
     {
         Connections {
             bases,
@@ -34,15 +37,30 @@ impl Connections {
         }
     }
 
-    /// A player's connection enters, under a number that never entered.
-    pub fn enter(&mut self, alloc: Global, conn: u32) -> Result<(), Memory>
-        requires { client_at self.old.seats conn ≡ None }
-        ensures ok { OnOk result (IsEntered conn (picture self.old.seats self.old.upstream) (picture self.new.seats self.new.upstream)) }
-        ensures err { OnErr result (IsAsBefore (picture self.old.seats self.old.upstream) (picture self.new.seats self.new.upstream)) }
+    /// Takes the memory for one connection more, and for all that it can ask for. Where that was taken
+    /// already, no memory is.
+    pub fn prepare(&mut self, alloc: Global) -> Result<(), Memory>
+        ensures same { IsAsBefore (picture self.old.seats self.old.upstream) (picture self.new.seats self.new.upstream) }
+        ensures ready { OnOk result (is_ready self.new.seats ≡ true) }
+        ensures free { is_ready self.old.seats ≡ true → IsOk result }
         ensures bases { self.new.bases ≡ self.old.bases }
     {
+        if self.seats.is_ready() {
+            return Ok(());
+        }
         self.upstream.requests.room()?;
         self.upstream.sessions.room()?;
-        self.seats.enter(alloc, conn)
+        self.seats.prepare(alloc)
+    }
+
+    /// A player's connection enters, under a number that never entered. It takes no memory.
+    pub fn enter(&mut self, conn: u32)
+        requires ready { is_ready self.old.seats ≡ true }
+        requires new { client_at self.old.seats conn ≡ None }
+        ensures entered { IsEntered conn (picture self.old.seats self.old.upstream) (picture self.new.seats self.new.upstream) }
+        ensures ready { is_ready self.new.seats ≡ false }
+        ensures bases { self.new.bases ≡ self.old.bases }
+    {
+        self.seats.enter(conn);
     }
 }

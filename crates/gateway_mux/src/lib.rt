@@ -8,6 +8,7 @@
 mod act;
 mod commit;
 mod connections;
+mod directory;
 mod frames;
 mod grant;
 mod hear;

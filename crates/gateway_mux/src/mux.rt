@@ -1,5 +1,5 @@
 //! The multiplexer.
-ghost use Rattle.std.specs.Prelude.{◌≡◌, true, false, IfOk, OnOk, IsOk, IsSome, IfErr, OnErr, [], List, ◌∷◌};
+ghost use Rattle.std.specs.Prelude.{◌≡◌, true, false, IfOk, OnOk, IsOk, IsSome, IfErr, OnErr, [], List, ◌∷◌, ℕ, None};
 ghost use Rattle.mux_history.specs.Happenings.{Entry, entry_of, entering, standing, is_alive, fault_in, happening_of};
 ghost use Rattle.mux_history.specs.Tells.{dropped_frames, IsFirstAlive, is_busy, is_frame_item};
 
@@ -32,7 +32,7 @@ pub struct Plan {
 impl Mux {
     ghost use Rattle.gateway_mux.specs.Free.{needs_memory};
     ghost use Rattle.gateway_mux.specs.Short.{IsShort};
-    ghost use Rattle.gateway_mux.specs.Stands.{Stands, IsFresh, IsPlanFor, bases_of, end_of};
+    ghost use Rattle.gateway_mux.specs.Stands.{Stands, IsFresh, IsPlanFor, bases_of, end_of, is_prepared};
 
     /// A gateway with these addresses, to which nothing happened.
     pub fn new(alloc: Global, bases: Bases) -> Result<Mux, Memory>
@@ -46,19 +46,41 @@ impl Mux {
         })
     }
 
-    /// A connection enters, under a number that never entered. After the end of the connection to the
-    /// server it takes no part, and no memory is taken.
-    pub fn enter(&mut self, alloc: Global, conn: u32) -> Result<(), Memory>
-        requires { IsFresh self.old conn }
-        ensures ok { OnOk result ((T : List Entry) → Stands self.old T → Stands self.new (entering conn ∷ T)) }
-        ensures err { OnErr result ((T : List Entry) → Stands self.old T → Stands self.new T) }
-        ensures free { IsSome (end_of self.old) → IsOk result }
+    /// Takes the memory for one connection more, and for all that its events can need, so that it can
+    /// enter. Nothing else changes. Where that was taken already, and after the end of the connection
+    /// to the server, no memory is.
+    pub fn prepare(&mut self, alloc: Global) -> Result<(), Memory>
+        ensures stands { (T : List Entry) → Stands self.old T → Stands self.new T }
+        ensures fresh { (conn : ℕ) → IsFresh self.old conn → IsFresh self.new conn }
+        ensures prepared { OnOk result (is_prepared self.new ≡ true) }
+        ensures free { is_prepared self.old ≡ true → IsOk result }
+        ensures ended { end_of self.new ≡ end_of self.old }
         ensures bases { bases_of self.new ≡ bases_of self.old }
     {
         if self.ended.is_some() {
             return Ok(());
         }
-        self.connections.enter(alloc, conn)
+        self.connections.prepare(alloc)
+    }
+
+    /// A connection enters, under a number that never entered. Where no memory was taken for it, that
+    /// is taken first. After the end of the connection to the server it takes no part, and no memory is
+    /// taken.
+    pub fn enter(&mut self, alloc: Global, conn: u32) -> Result<(), Memory>
+        requires { IsFresh self.old conn }
+        ensures ok { OnOk result ((T : List Entry) → Stands self.old T → Stands self.new (entering conn ∷ T)) }
+        ensures err { OnErr result ((T : List Entry) → Stands self.old T → Stands self.new T) }
+        ensures free { is_prepared self.old ≡ true → IsOk result }
+        ensures used { OnOk result (end_of self.old ≡ None → is_prepared self.new ≡ false) }
+        ensures ended { end_of self.new ≡ end_of self.old }
+        ensures bases { bases_of self.new ≡ bases_of self.old }
+    {
+        if self.ended.is_some() {
+            return Ok(());
+        }
+        self.connections.prepare(alloc)?;
+        self.connections.enter(conn);
+        Ok(())
     }
 
     /// What an event will do. Nothing changes, and all memory for it is taken. Only a request of a

@@ -120,6 +120,7 @@ impl Connections {
 
     /// What the turn of a connection with this plan does, which is kept under this key. Where a request
     /// is due and no number is left, the connection to the server ends.
+    #[inline(always)]
     fn turned(&self, key: usize, said: Said, plan: Plan) -> Act
         requires key { IsKeyOf self.now.seats said.conn key }
         ensures act { (h : Happening) (comes : Comes) (client : Client) → IsSaid self.now.bases (picture self.now.seats self.now.upstream) h said comes → (picture self.now.seats self.now.upstream).clients said.conn ≡ Some client

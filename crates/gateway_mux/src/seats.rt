@@ -1,18 +1,17 @@
 //! The connections, in a slab, each under its number.
-ghost use Rattle.std.specs.Prelude.{◌≡◌, ◌≢◌, ◌==◌, ℕ, true, None, Some, OnOk, OnErr, IfSome, is_some, IsSome, if◌then◌else◌, option_map};
-ghost use Rattle.std.specs.Ordering.{nat_cmp};
-ghost use Rattle.std.specs.BTreeMap.{get};
+ghost use Rattle.std.specs.Prelude.{◌≡◌, ◌≢◌, ◌==◌, ℕ, true, false, None, Some, OnOk, OnErr, IfSome, IsOk, is_some, IsSome, if◌then◌else◌, option_map};
 ghost use Rattle.slab.specs.Slab.{get as slab_get};
 ghost use Rattle.client_slot.specs.Client.{new_client};
 ghost use Rattle.gate_machine.specs.Plans.{IsReady, IsShortPlan, IsShortDone};
 ghost use Rattle.gateway_mux.specs.Carried.{IsCarriedAt};
+ghost use Rattle.gateway_mux.specs.Directories.{key_of, HasPlace};
 
+use crate::directory::Directory;
 use client_slot::Slot;
 use gate_bytes::Memory;
 use gate_machine::{Done, Plan};
 use slab::Slab;
 use std::alloc::Global;
-use std::collections::BTreeMap;
 
 /// A connection that entered, where it is kept: a plan for it tells the key, so that it is looked up
 /// once an event.
@@ -24,25 +23,31 @@ pub(crate) struct Seat<'a> {
     pub slot: &'a Slot,
 }
 
-/// The connections that entered.
+/// The connections that entered. Spare is the key of a slot for the next one, where that was made.
 #[derive(Drop)]
 pub(crate) struct Seats {
+    directory: Directory,
     slots: Slab<Slot>,
-    keys: BTreeMap<u32, usize>,
-    ghost held: { (i k : ℕ) → get nat_cmp keys i ≡ Some k → is_some (slab_get slots k) ≡ true },
-    ghost apart: { (i j k : ℕ) → get nat_cmp keys i ≡ Some k → get nat_cmp keys j ≡ Some k → i ≡ j },
+    spare: Option<usize>,
+    ghost held: { (i k : ℕ) → key_of directory i ≡ Some k → is_some (slab_get slots k) ≡ true },
+    ghost apart: { (i j k : ℕ) → key_of directory i ≡ Some k → key_of directory j ≡ Some k → i ≡ j },
+    ghost place: { IsSome spare → HasPlace directory },
+    ghost fresh: { (k : ℕ) → spare ≡ Some k → slab_get slots k ≡ Some new_client },
+    ghost alone: { (i k : ℕ) → spare ≡ Some k → key_of directory i ≢ Some k },
 }
 
 impl Seats {
-    ghost use Rattle.gateway_mux.specs.Seats.{client_at, IsKeyOf, IsSeatAt, IsNextSeat};
+    ghost use Rattle.gateway_mux.specs.Seats.{client_at, is_ready, IsKeyOf, IsSeatAt, IsNextSeat};
 
     /// No connection. It takes no memory.
     pub fn new(alloc: Global) -> Seats
-        ensures { (i : ℕ) → client_at result i ≡ None }
+        ensures none { (i : ℕ) → client_at result i ≡ None }
+        ensures ready { is_ready result ≡ false }
     {
         Seats {
+            directory: Directory::new(alloc),
             slots: Slab::new(alloc),
-            keys: BTreeMap::new(alloc),
+            spare: None,
         }
     }
 
@@ -50,7 +55,7 @@ impl Seats {
     pub fn seat(&self, conn: u32) -> Option<Seat<'_>>
         ensures { IsSeatAt self.now conn result }
     {
-        let key = *self.keys.get(&conn)?;
+        let key = self.directory.key(conn)?;
         let slot = self.slots.get(key)?;
         Some(Seat { key, slot })
     }
@@ -66,30 +71,52 @@ impl Seats {
     pub fn slot(&self, conn: u32) -> Option<&Slot>
         ensures { option_map (λ slot. slot.now) result ≡ client_at self.now conn }
     {
-        let key = *self.keys.get(&conn)?;
+        let key = self.directory.key(conn)?;
         self.slots.get(key)
     }
 
     /// The first number from this one on that entered.
     pub fn next(&self, from: u32) -> Option<u32>
         ensures next { IsNextSeat self.now from result }
-        ensures entered { IfSome result (λ conn. is_some (get nat_cmp self.now.keys conn) ≡ true) }
+        ensures entered { IfSome result (λ conn. is_some (key_of self.now.directory conn) ≡ true) }
     {
-        let (conn, _) = self.keys.range(from..).next()?;
-        Some(*conn)
+        self.directory.next(from)
     }
 
-    /// Adds a connection.
-    pub fn enter(&mut self, alloc: Global, conn: u32) -> Result<(), Memory>
-        requires { client_at self.old conn ≡ None }
-        ensures ok { OnOk result ((i : ℕ) → client_at self.new i ≡ (if conn == i then Some new_client else client_at self.old i)) }
-        ensures err { OnErr result ((i : ℕ) → client_at self.new i ≡ client_at self.old i) }
+    /// Whether the next connection can enter without memory.
+    pub fn is_ready(&self) -> bool
+        ensures { result ≡ is_ready self.now }
     {
-        let slot = Slot::new(alloc)?;
-        self.slots.reserve(1)?;
-        self.keys.insert(conn, self.slots.vacant_key())?;
-        self.slots.insert_reserved(slot);
+        self.spare.is_some()
+    }
+
+    /// Takes the memory for one connection more.
+    pub fn prepare(&mut self, alloc: Global) -> Result<(), Memory>
+        ensures clients { (i : ℕ) → client_at self.new i ≡ client_at self.old i }
+        ensures ready { OnOk result (is_ready self.new ≡ true) }
+        ensures free { is_ready self.old ≡ true → IsOk result }
+        ensures err { OnErr result (is_ready self.new ≡ is_ready self.old) }
+    {
+        if self.spare.is_some() {
+            return Ok(());
+        }
+        self.directory.reserve()?;
+        let key = self.slots.insert(Slot::new(alloc)?)?;
+        self.spare = Some(key);
         Ok(())
+    }
+
+    /// Adds a connection. It takes no memory.
+    pub fn enter(&mut self, conn: u32)
+        requires ready { is_ready self.old ≡ true }
+        requires new { client_at self.old conn ≡ None }
+        ensures clients { (i : ℕ) → client_at self.new i ≡ (if conn == i then Some new_client else client_at self.old i) }
+        ensures ready { is_ready self.new ≡ false }
+    {
+        let Some(key) = self.spare.take() else {
+            unreachable!();
+        };
+        self.directory.add(conn, key);
     }
 
     /// Carries out a plan for a connection, which is kept under this key, by the numbers of its open
@@ -110,6 +137,7 @@ impl Seats {
         ensures here { IsSome (client_at self.old conn) → IfSome result (λ done. IsCarriedAt (client_at self.old conn) (client_at self.new conn) plan number next done) }
         ensures some { IsSome (client_at self.old conn) → IsSome result }
         ensures short { IsShortPlan plan → IfSome result IsShortDone }
+        ensures ready { is_ready self.new ≡ is_ready self.old }
     {
         commit_at(&mut self.slots, key, plan, number, next)
     }

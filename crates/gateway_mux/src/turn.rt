@@ -6,7 +6,7 @@ ghost use Rattle.up_books.specs.Ids.{holder_of};
 ghost use Rattle.up_books.specs.Numbers.{asker_of, next_number};
 ghost use Rattle.gate_machine.specs.Plans.{IsReady, IsShortPlan, IsShortDone};
 ghost use Rattle.gateway_mux.specs.Carried.{IsCarriedAt};
-ghost use Rattle.gateway_mux.specs.Seats.{client_at, IsKeyOf};
+ghost use Rattle.gateway_mux.specs.Seats.{client_at, is_ready, IsKeyOf};
 ghost use Rattle.gateway_mux.specs.Settled.{CanSettle, binds, unbinds, asker_settled, held_settled, holder_settled};
 ghost use Rattle.gateway_mux.specs.Upstream.{held_lent};
 ghost use Rattle.gateway_mux.specs.Turn.{session_of_client, asks_pair, asker_lent, issued_then, one_if, free_once};
@@ -46,6 +46,7 @@ pub(crate) fn commit_turn(seats: &mut Seats, upstream: &mut Upstream, turn: Turn
     ensures done { IsSome (client_at seats.old turn.conn) → IfSome result (λ done. IsCarriedAt (client_at seats.old turn.conn) (client_at seats.new turn.conn) turn.plan turn.number turn.next done) }
     ensures some { IsSome (client_at seats.old turn.conn) → IsSome result }
     ensures short { IsShortPlan turn.plan → IfSome result IsShortDone }
+    ensures ready { is_ready seats.new ≡ is_ready seats.old }
     ensures others { (i : ℕ) → turn.conn ≢ i → client_at seats.new i ≡ client_at seats.old i }
     ensures issued { IsSome result → upstream.new.requests.issued ≡ issued_then turn.asks upstream.old.requests.issued }
     ensures room { IsSome result → upstream.new.requests.spare + one_if turn.asks ≡ upstream.old.requests.spare + one_if (is_some turn.settled) }

@@ -88,6 +88,7 @@ fn handed(outcome: &Outcome) -> &[u8] {
 fn connections_enter_and_end(rt: HostRuntime) -> Result<(), Fail> {
     let alloc = rt.alloc();
     let mut mux = entered(alloc, 7)?;
+    mux.prepare(alloc)?;
     mux.enter(alloc, 4)?;
     assert_eq!(rt; mux.next_alive(5), Some(7));
     let rows = [

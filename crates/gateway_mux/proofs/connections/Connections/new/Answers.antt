@@ -1,5 +1,6 @@
-use Rattle.std.proofs.Common.{◌≡◌, ◌+◌, ℕ, refl, arith}
+use Rattle.std.proofs.Common.{◌≡◌, ◌∙◌, ◌+◌, ℕ, true, false, sym, refl, arith}
 use Rattle.gateway_mux.specs.Pictures.{picture}
+use Rattle.gateway_mux.specs.Seats.{left}
 use Rattle.gateway_mux.proofs.KeepingLemmas.{keeps_none}
 use Rattle.gateway_mux.proofs.connections.Connections.new.Goals as goal
 
@@ -8,15 +9,20 @@ none_issued n e = grind arith
 
 pub invariant_of-result : goal.invariant_of-result
 invariant_of-result c = record {
-  kept = ∣ keeps_none c.args.bases (picture c.new.result c.starting.result) c.starting.result.requests.spare c.starting.result.sessions.spare
+  kept = ∣ keeps_none c.args.bases (picture c.new.result c.starting.result) (left c.starting.result.requests.spare c.new.result) (left c.starting.result.sessions.spare c.new.result)
       (record {
         is_history = tt;
         standing = refl;
-        clients = λ i. c.new.ensures i;
+        clients = λ i. c.new.ensures.none i;
         asker = λ n. c.starting.ensures.open n;
         held = λ p. c.starting.ensures.held p;
         holder = λ id. c.starting.ensures.bound id;
         issued = none_issued c.starting.result.requests.issued c.starting.ensures.issued;
       })
-      (λ i. c.new.ensures i) (λ p. c.starting.ensures.held p) ∣₁;
+      (λ i. c.new.ensures.none i) (λ p. c.starting.ensures.held p) ∣₁;
+  spare = λ is. absurd (true_false (sym is ∙ c.new.ensures.ready));
+  spare_session = λ is. absurd (true_false (sym is ∙ c.new.ensures.ready));
 }
+  where
+    true_false : true ≡ false → ⊥
+    true_false e = cc

@@ -5,6 +5,7 @@ use Rattle.client_slot.specs.declared.purpose.Purpose.{Purpose}
 use Rattle.client_slot.specs.Purposes.{purpose_seen}
 use Rattle.gate_machine.specs.Plans.{replies}
 use Rattle.mux_history.specs.Happenings.{hears}
+use Rattle.gateway_mux.specs.Seats.{left}
 use Rattle.gateway_mux.specs.declared.said.Said.{Said}
 use Rattle.gateway_mux.specs.Acts.{IsSaid}
 use Rattle.gateway_mux.specs.Granting.{IsLowPurpose}
@@ -20,19 +21,19 @@ below n low = grind arith
 pub unreachable-requires : goal.unreachable-requires
 unreachable-requires c =
     no_client (picture c.args.self.now.seats c.args.self.now.upstream) c.in-Some.conn
-    (open_asked c.args.self.now.bases (picture c.args.self.now.seats c.args.self.now.upstream) c.args.self.now.upstream.requests.spare c.args.self.now.upstream.sessions.spare c.args.reply.now.cseq c.in-Some.conn (sym c.in-Some.ensures) c.args.self.now.kept)
+    (open_asked c.args.self.now.bases (picture c.args.self.now.seats c.args.self.now.upstream) (left c.args.self.now.upstream.requests.spare c.args.self.now.seats) (left c.args.self.now.upstream.sessions.spare c.args.self.now.seats) c.args.reply.now.cseq c.in-Some.conn (sym c.in-Some.ensures) c.args.self.now.kept)
     c.in_default-seat.ensures
 
 pub unreachable-requires-in_default-pending : goal.unreachable-requires-in_default-pending
 unreachable-requires-in_default-pending c =
     no_pending (picture c.args.self.now.seats c.args.self.now.upstream) c.in-Some.conn c.in-Some-seat.seat.slot.now
-    (open_asked c.args.self.now.bases (picture c.args.self.now.seats c.args.self.now.upstream) c.args.self.now.upstream.requests.spare c.args.self.now.upstream.sessions.spare c.args.reply.now.cseq c.in-Some.conn (sym c.in-Some.ensures) c.args.self.now.kept)
+    (open_asked c.args.self.now.bases (picture c.args.self.now.seats c.args.self.now.upstream) (left c.args.self.now.upstream.requests.spare c.args.self.now.seats) (left c.args.self.now.upstream.sessions.spare c.args.self.now.seats) c.args.reply.now.cseq c.in-Some.conn (sym c.in-Some.ensures) c.args.self.now.kept)
     c.in-Some-seat.ensures.1 (sym c.in_default-pending.ensures)
 
 pub breach-requires-clause-low : goal.breach-requires-clause-low
 breach-requires-clause-low c =
     subst (λ (pending : Option Purpose). IfSome pending IsLowPurpose) (sym c.in-Some-pending.ensures)
-    (low_open c.args.self.now.bases (picture c.args.self.now.seats c.args.self.now.upstream) c.args.self.now.upstream.requests.spare c.args.self.now.upstream.sessions.spare c.in-Some.conn c.in-Some-seat.seat.slot.now c.in-Some-seat.ensures.1 c.args.self.now.kept)
+    (low_open c.args.self.now.bases (picture c.args.self.now.seats c.args.self.now.upstream) (left c.args.self.now.upstream.requests.spare c.args.self.now.seats) (left c.args.self.now.upstream.sessions.spare c.args.self.now.seats) c.in-Some.conn c.in-Some-seat.seat.slot.now c.in-Some-seat.ensures.1 c.args.self.now.kept)
 
 pub breach-requires-clause-grant : goal.breach-requires-clause-grant
 breach-requires-clause-grant c = c.grant_said-grant.ensures

@@ -3,6 +3,7 @@ use Rattle.rtsp_head.specs.Shapes.{shape_of}
 use Rattle.channel_map.specs.declared.map.TheConstants.{PAIRS}
 use Rattle.gate_machine.specs.Frames.{half_for}
 use Rattle.gate_machine.specs.Halves.{half_of}
+use Rattle.gateway_mux.specs.Seats.{left}
 use Rattle.gateway_mux.specs.Pictures.{picture}
 use Rattle.gateway_mux.proofs.KeepingLemmas.{low_half}
 use Rattle.gateway_mux.proofs.PlanLemmas.{idle_dead, idle_no_half, half_none}
@@ -14,7 +15,7 @@ returns-then-not-alive-clause-act c =
 
 low : (c : goal.After-struct_known-1) → (c.in-Some-half_for.half.pair < PAIRS) × (c.in-Some-half_for.half.half ≤ 1)
 low c =
-    low_half c.args.self.now.bases (picture c.args.self.now.seats c.args.self.now.upstream) c.args.self.now.upstream.requests.spare c.args.self.now.upstream.sessions.spare c.args.conn c.channel_of.result c.in-Some.slot.now
+    low_half c.args.self.now.bases (picture c.args.self.now.seats c.args.self.now.upstream) (left c.args.self.now.upstream.requests.spare c.args.self.now.seats) (left c.args.self.now.upstream.sessions.spare c.args.self.now.seats) c.args.conn c.channel_of.result c.in-Some.slot.now
     (half_of c.in-Some-half_for.half) (sym c.in-Some.ensures) (sym c.in-Some-half_for.ensures) c.args.self.now.kept
 
 pub overflow_mul-result : goal.overflow_mul-result
@@ -23,7 +24,7 @@ overflow_mul-result c = let both = low c in let small : c.in-Some-half_for.half.
 pub overflow_add-result : goal.overflow_add-result
 overflow_add-result c =
     let both =
-    low_half c.args.self.now.bases (picture c.args.self.now.seats c.args.self.now.upstream) c.args.self.now.upstream.requests.spare c.args.self.now.upstream.sessions.spare c.args.conn c.channel_of.result c.in-Some.slot.now
+    low_half c.args.self.now.bases (picture c.args.self.now.seats c.args.self.now.upstream) (left c.args.self.now.upstream.requests.spare c.args.self.now.seats) (left c.args.self.now.upstream.sessions.spare c.args.self.now.seats) c.args.conn c.channel_of.result c.in-Some.slot.now
     (half_of c.in-Some-half_for.half) (sym c.in-Some.ensures) (sym c.in-Some-half_for.ensures) c.args.self.now.kept in
     let small : c.in-Some-half_for.half.pair < 128 = both.0 in
     let one : c.in-Some-half_for.half.half ≤ 1 = both.1 in omega arith

@@ -2,31 +2,33 @@ use Rattle.std.proofs.Common.{Some}
 use Rattle.gateway_mux.specs.Moves.{handed_by}
 use Rattle.gateway_mux.specs.Pictures.{picture}
 use Rattle.gateway_mux.proofs.ActLemmas.{turn_committed}
-use Rattle.gateway_mux.proofs.CarryingLemmas.{left_for, is_there, turned_result, keeps_result, committed_as}
+use Rattle.gateway_mux.proofs.CarryingLemmas.{left_for, is_there, turned_result, committed_as}
+use Rattle.gateway_mux.proofs.ReadyLemmas.{kept_in_all, keeps_ready}
 use Rattle.gateway_mux.proofs.KeepingLemmas.{room_asked, settles_now}
 use Rattle.gateway_mux.proofs.connections.Connections.turn.Goals as goal
 
 pub commit_turn-requires-clause-settles : goal.commit_turn-requires-clause-settles
 commit_turn-requires-clause-settles c =
-    settles_now c.args.self.now.bases (picture c.args.self.now.seats c.args.self.now.upstream) c.args.answer c.args.turn c.args.self.now.upstream.requests.spare c.args.self.now.upstream.sessions.spare c.requires.turn c.args.self.now.kept
+    settles_now c.args.self.now.bases (picture c.args.self.now.seats c.args.self.now.upstream) c.args.answer c.args.turn c.args.self.now.upstream.requests.spare c.args.self.now.upstream.sessions.spare c.requires.turn (kept_in_all c.args.self.now.bases c.args.self.now.seats c.args.self.now.upstream c.args.self.now.kept)
 
 pub commit_turn-requires-clause-room : goal.commit_turn-requires-clause-room
 commit_turn-requires-clause-room c asks unsettled =
-    room_asked c.args.self.now.bases (picture c.args.self.now.seats c.args.self.now.upstream) c.args.answer c.args.turn c.args.self.now.upstream.requests.spare c.args.self.now.upstream.sessions.spare c.requires.turn asks unsettled c.args.self.now.kept
+    room_asked c.args.self.now.bases (picture c.args.self.now.seats c.args.self.now.upstream) c.args.answer c.args.turn c.args.self.now.upstream.requests.spare c.args.self.now.upstream.sessions.spare c.requires.turn asks unsettled (kept_in_all c.args.self.now.bases c.args.self.now.seats c.args.self.now.upstream c.args.self.now.kept)
 
 pub commit_turn-requires-clause-left : goal.commit_turn-requires-clause-left
 commit_turn-requires-clause-left c asks = left_for c.args.self.now.bases (picture c.args.self.now.seats c.args.self.now.upstream) c.args.answer c.args.turn c.requires.turn asks
 
 pub invariant_of-self : goal.invariant_of-self
-invariant_of-self c = record {
-  kept = keeps_result c.args.self.now.bases (picture c.args.self.now.seats c.args.self.now.upstream) (picture c.commit_turn.new.seats c.commit_turn.new.upstream) c.args.answer c.args.turn c.commit_turn.result
-      c.args.self.now.upstream.requests.spare c.args.self.now.upstream.sessions.spare c.commit_turn.new.upstream.requests.spare c.commit_turn.new.upstream.sessions.spare c.requires.turn
-      (c.commit_turn.ensures.some (is_there c.args.self.now.bases (picture c.args.self.now.seats c.args.self.now.upstream) c.args.answer c.args.turn c.requires.turn))
-      (turned_result (picture c.args.self.now.seats c.args.self.now.upstream) (picture c.commit_turn.new.seats c.commit_turn.new.upstream) c.args.turn c.commit_turn.result
-      (c.commit_turn.ensures.done (is_there c.args.self.now.bases (picture c.args.self.now.seats c.args.self.now.upstream) c.args.answer c.args.turn c.requires.turn))
-      c.commit_turn.ensures.others c.commit_turn.ensures.issued c.commit_turn.ensures.asked c.commit_turn.ensures.held c.commit_turn.ensures.holder)
-      c.commit_turn.ensures.room c.commit_turn.ensures.spare c.args.self.now.kept;
-}
+invariant_of-self c =
+    let there = is_there c.args.self.now.bases (picture c.args.self.now.seats c.args.self.now.upstream) c.args.answer c.args.turn c.requires.turn in
+    let some = c.commit_turn.ensures.some there in
+    let after = keeps_ready c.args.self.now.bases c.args.self.now.seats c.commit_turn.new.seats c.args.self.now.upstream c.commit_turn.new.upstream c.args.answer c.args.turn c.commit_turn.result c.requires.turn some
+        (turned_result (picture c.args.self.now.seats c.args.self.now.upstream) (picture c.commit_turn.new.seats c.commit_turn.new.upstream) c.args.turn c.commit_turn.result
+        (c.commit_turn.ensures.done there)
+        c.commit_turn.ensures.others c.commit_turn.ensures.issued c.commit_turn.ensures.asked c.commit_turn.ensures.held c.commit_turn.ensures.holder)
+        (c.commit_turn.ensures.room some) (c.commit_turn.ensures.spare some) c.commit_turn.ensures.ready
+        (record { kept = c.args.self.now.kept; spare = c.args.self.now.spare; spare_session = c.args.self.now.spare_session }) in
+    record { kept = after.kept; spare = after.spare; spare_session = after.spare_session }
 
 pub returns-clause-commits : goal.returns-clause-commits
 returns-clause-commits c h planned =

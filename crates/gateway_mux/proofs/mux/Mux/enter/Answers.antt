@@ -1,26 +1,23 @@
-use Rattle.std.proofs.Common.{refl, sym}
-use Rattle.std.proofs.lemmas.Result.{on_ok_weaker, on_err_weaker}
-use Rattle.mux_history.specs.Happenings.{enters, silent}
+use Rattle.std.proofs.Common.{◌∙◌, List, refl, sym}
+use Rattle.mux_history.specs.Happenings.{Entry, enters, silent}
 use Rattle.gateway_mux.specs.declared.mux.Mux.{Mux}
-use Rattle.gateway_mux.proofs.MuxLemmas.{silent_stands, still_open, entered_stands, unchanged_stands}
+use Rattle.gateway_mux.specs.Stands.{Stands}
+use Rattle.gateway_mux.proofs.MuxLemmas.{silent_stands, still_open, entered_stands, unchanged_stands, on_err_always}
 use Rattle.gateway_mux.proofs.mux.Mux.enter.Goals as goal
 
--- src/mux.rt:59:13
 pub returns-then-is_some-clause-ok : goal.returns-then-is_some-clause-ok
 returns-then-is_some-clause-ok c = silent_stands c.args.self.now (enters c.args.conn) silent (sym c.if-is_some.ensures) refl
 
--- src/mux.rt:51:5
-pub returns-clause-ok : goal.returns-clause-ok
-returns-clause-ok c =
+pub returns-in_err-prepare-clause-err : goal.returns-in_err-prepare-clause-err
+returns-in_err-prepare-clause-err c =
     let old : Mux = c.args.self.now in
-    let new : Mux = record { connections = c.enter.new.self; ended = old.ended; dropped = old.dropped } in
-    on_ok_weaker c.enter.result
-    (λ is. entered_stands old new c.args.conn (still_open old.ended (sym c.if-is_some.ensures)) c.requires.absent refl refl c.enter.ensures.bases is)
-    c.enter.ensures.ok
+    let new : Mux = record { connections = c.prepare.new.self; ended = old.ended; dropped = old.dropped } in
+    on_err_always c.from_residual.result ((T : List Entry) → Stands old T → Stands new T) (unchanged_stands old new refl refl c.prepare.ensures.bases c.prepare.ensures.same)
 
--- src/mux.rt:51:5
-pub returns-clause-err : goal.returns-clause-err
-returns-clause-err c =
+pub returns-clause-ok : goal.returns-clause-ok
+returns-clause-ok c T stands =
     let old : Mux = c.args.self.now in
+    let mid : Mux = record { connections = c.prepare.new.self; ended = old.ended; dropped = old.dropped } in
     let new : Mux = record { connections = c.enter.new.self; ended = old.ended; dropped = old.dropped } in
-    on_err_weaker c.enter.result (λ same. unchanged_stands old new refl refl c.enter.ensures.bases same) c.enter.ensures.err
+    entered_stands mid new c.args.conn (still_open old.ended (sym c.if-is_some.ensures)) (c.prepare.ensures.same.clients c.args.conn ∙ c.requires.absent) refl refl c.enter.ensures.bases c.enter.ensures.entered T
+    (unchanged_stands old mid refl refl c.prepare.ensures.bases c.prepare.ensures.same T stands)

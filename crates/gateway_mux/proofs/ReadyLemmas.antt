@@ -1,0 +1,139 @@
+-- What is spare for the next connection, through a turn and an entering.
+use Rattle.std.proofs.Common.{◌≡◌, ◌∙◌, ◌≤◌, ◌<◌, ◌+◌, ◌-◌, ℕ, Bool, true, false, List, Option, Some, None, IsSome, IfSome, Result, Ok, Err, OnOk, OnErr, refl, sym, ap, subst, arith}
+use Rattle.std.specs.Prelude.{is_some}
+use Rattle.std.proofs.Math.Logic.{∥∥₁_map}
+use Rattle.rtsp_uri.specs.declared.base.Bases.{Bases}
+use Rattle.gate_bytes.specs.declared.memory.Memory.{Memory}
+use Rattle.channel_map.specs.declared.map.Held.{Held}
+use Rattle.gate_machine.specs.declared.parts.Done.{Done}
+use Rattle.gateway_mux.specs.declared.seats.Seats.{Seats}
+use Rattle.gateway_mux.specs.declared.settled.Settled.{Settled}
+use Rattle.gateway_mux.specs.declared.turn.Turn.{Turn}
+use Rattle.gateway_mux.specs.declared.upstream.Upstream.{Upstream}
+use Rattle.gateway_mux.specs.Acts.{IsTurnOfSome}
+use Rattle.gateway_mux.specs.Entering.{IsEntered, IsAsBefore}
+use Rattle.gateway_mux.specs.Pictures.{Picture, picture, IsKept}
+use Rattle.gateway_mux.specs.Seats.{client_at, is_ready, left}
+use Rattle.gateway_mux.specs.Settled.{CanSettle, binds, unbinds}
+use Rattle.gateway_mux.specs.Turn.{session_of_client, one_if}
+use Rattle.gateway_mux.proofs.CommitLemmas.{IsTurned}
+use Rattle.gateway_mux.proofs.CarryingLemmas.{keeps_result, still_kept}
+use Rattle.gateway_mux.proofs.KeepingLemmas.{keeps_entering, room_asked, settles_now}
+
+-- What is kept for all but the next connection is kept for all.
+less_left : (spare : ℕ) (seats : Seats) → left spare seats ≤ spare
+less_left spare seats = omega arith
+
+pub kept_in_all : (bases : Bases) (seats : Seats) (upstream : Upstream) → ∥ IsKept bases (picture seats upstream) (left upstream.requests.spare seats) (left upstream.sessions.spare seats) ∥₁
+    → ∥ IsKept bases (picture seats upstream) upstream.requests.spare upstream.sessions.spare ∥₁
+kept_in_all bases seats upstream keeps =
+    let one : Picture = picture seats upstream in
+    still_kept bases one one (left upstream.requests.spare seats) (left upstream.sessions.spare seats) upstream.requests.spare upstream.sessions.spare
+    (record { clients = λ i. refl; asker = λ n. refl; held = λ p. refl; holder = λ id. refl; issued = refl })
+    (less_left upstream.requests.spare seats) (less_left upstream.sessions.spare seats) keeps
+
+-- What a turn takes is not what is kept for the next connection: by what was spare and is, by whether that is ready, and by
+-- whether the turn takes a place and gives one back.
+pub still_left : (old new : ℕ) (ready takes_one gives_one : Bool) → (ready ≡ true → 0 < old) → (takes_one ≡ true → gives_one ≡ false → 0 < old - one_if ready) → new + one_if takes_one ≡ old + one_if gives_one
+    → (new - one_if ready + one_if takes_one ≡ old - one_if ready + one_if gives_one) × (ready ≡ true → 0 < new)
+still_left old new false takes_one gives_one some free turned = (omega (arith, turned), λ e. cc)
+still_left old new true true true some free turned = let more = some refl in (omega (arith, turned, more), λ e. omega (arith, turned, more))
+still_left old new true true false some free turned = let more = some refl in let left_one = free refl refl in (omega (arith, turned, more, left_one), λ e. omega (arith, turned, more, left_one))
+still_left old new true false true some free turned = let more = some refl in (omega (arith, turned, more), λ e. omega (arith, turned, more))
+still_left old new true false false some free turned = let more = some refl in (omega (arith, turned, more), λ e. omega (arith, turned, more))
+
+-- A connection entered for which room was kept.
+pub entering_kept : (bases : Bases) (conn : ℕ) (one after : Picture) (a b c d : ℕ) → one.clients conn ≡ None → IsEntered conn one after → c ≡ a + 1 → d ≡ b + 1 → ∥ IsKept bases one a b ∥₁ → ∥ IsKept bases after c d ∥₁
+entering_kept bases conn one after a b c d none entered requests sessions keeps =
+    subst (λ (n : ℕ). ∥ IsKept bases after n d ∥₁) (sym requests)
+    (subst (λ (n : ℕ). ∥ IsKept bases after (a + 1) n ∥₁) (sym sessions) (∥∥₁_map keeps (keeps_entering bases conn one after a b none entered)))
+
+no_settled : (settled : Option Settled) → is_some settled ≡ false → settled ≡ None
+no_settled None e = refl
+no_settled (Some settled) e = cc
+
+bound_room : (asker : ℕ → Option ℕ) (held : ℕ → Option Held) (holder : List ℕ → Option ℕ) (spare conn : ℕ) (session : Option (List ℕ)) (settled : Option Settled)
+    → IfSome settled (CanSettle asker held holder spare conn session) → binds settled ≡ true → 0 < spare
+bound_room asker held holder spare conn session None can bound = cc
+bound_room asker held holder spare conn session (Some settled) can bound = can.has_room bound
+
+-- What the connections keep.
+pub record IsKeptReady (bases : Bases) (seats : Seats) (upstream : Upstream) : Type 0 where
+  pub kept : ∥ IsKept bases (picture seats upstream) (left upstream.requests.spare seats) (left upstream.sessions.spare seats) ∥₁
+  pub spare : is_ready seats ≡ true → 0 < upstream.requests.spare
+  pub spare_session : is_ready seats ≡ true → 0 < upstream.sessions.spare
+
+pub keeps_ready : (bases : Bases) (seats seats_after : Seats) (upstream after : Upstream) (answer : Option (List ℕ)) (it : Turn) (result : Option Done) → IsTurnOfSome bases (picture seats upstream) answer it → IsSome result
+    → IfSome result (λ done. IsTurned (picture seats upstream) (picture seats_after after) it done)
+    → after.requests.spare + one_if it.asks ≡ upstream.requests.spare + one_if (is_some it.settled)
+    → after.sessions.spare + one_if (binds it.settled) ≡ upstream.sessions.spare + one_if (unbinds it.settled (session_of_client (client_at seats it.conn)))
+    → is_ready seats_after ≡ is_ready seats → IsKeptReady bases seats upstream → IsKeptReady bases seats_after after
+keeps_ready bases seats seats_after upstream after answer it result its some turned room spare ready keeps =
+    let one : Picture = picture seats upstream in
+    let requests = left upstream.requests.spare seats in
+    let sessions = left upstream.sessions.spare seats in
+    let asked = still_left upstream.requests.spare after.requests.spare (is_ready seats) it.asks (is_some it.settled) keeps.spare
+        (λ asks unsettled. room_asked bases one answer it requests sessions its asks (no_settled it.settled unsettled) keeps.kept) room in
+    let bound = still_left upstream.sessions.spare after.sessions.spare (is_ready seats) (binds it.settled) (unbinds it.settled (session_of_client (client_at seats it.conn))) keeps.spare_session
+        (λ binds_one frees_none. bound_room one.asker one.held one.holder sessions it.conn (session_of_client (one.clients it.conn)) it.settled (settles_now bases one answer it requests sessions its keeps.kept) binds_one) spare in
+    record {
+      kept = subst (λ (b : Bool). ∥ IsKept bases (picture seats_after after) (after.requests.spare - one_if b) (after.sessions.spare - one_if b) ∥₁) (sym ready)
+          (keeps_result bases one (picture seats_after after) answer it result requests sessions (after.requests.spare - one_if (is_ready seats)) (after.sessions.spare - one_if (is_ready seats)) its some turned
+          (λ done. asked.0) (λ done. bound.0) keeps.kept);
+      spare = λ is. asked.1 (sym ready ∙ is);
+      spare_session = λ is. bound.1 (sym ready ∙ is);
+    }
+
+-- Room for one connection more: not yet ready, and then ready with one place more of each.
+pub room_made : (bases : Bases) (seats seats_after : Seats) (upstream after : Upstream) → is_ready seats ≡ false → is_ready seats_after ≡ true → IsAsBefore (picture seats upstream) (picture seats_after after)
+    → after.requests.spare ≡ upstream.requests.spare + 1 → after.sessions.spare ≡ upstream.sessions.spare + 1 → IsKeptReady bases seats upstream → IsKeptReady bases seats_after after
+room_made bases seats seats_after upstream after idle ready same requests sessions keeps = record {
+  kept = still_kept bases (picture seats upstream) (picture seats_after after) (left upstream.requests.spare seats) (left upstream.sessions.spare seats) (left after.requests.spare seats_after) (left after.sessions.spare seats_after) same
+      (kept_apart upstream.requests.spare after.requests.spare (is_ready seats) (is_ready seats_after) idle ready requests) (kept_apart upstream.sessions.spare after.sessions.spare (is_ready seats) (is_ready seats_after) idle ready sessions) keeps.kept;
+  spare = λ is. omega (arith, requests);
+  spare_session = λ is. omega (arith, sessions);
+}
+  where
+    kept_apart : (old new : ℕ) (before now : Bool) → before ≡ false → now ≡ true → new ≡ old + 1 → old - one_if before ≤ new - one_if now
+    kept_apart old new false true idle_too ready_too more = omega (arith, more)
+    kept_apart old new true now idle_too ready_too more = cc
+    kept_apart old new false false idle_too ready_too more = cc
+
+-- Where no connection more is ready for, more room does no harm.
+pub room_grown : (bases : Bases) (seats seats_after : Seats) (upstream after : Upstream) → is_ready seats ≡ false → is_ready seats_after ≡ is_ready seats → IsAsBefore (picture seats upstream) (picture seats_after after)
+    → upstream.requests.spare ≤ after.requests.spare → upstream.sessions.spare ≤ after.sessions.spare → IsKeptReady bases seats upstream → IsKeptReady bases seats_after after
+room_grown bases seats seats_after upstream after idle ready same requests sessions keeps = record {
+  kept = still_kept bases (picture seats upstream) (picture seats_after after) (left upstream.requests.spare seats) (left upstream.sessions.spare seats) (left after.requests.spare seats_after) (left after.sessions.spare seats_after) same
+      (kept_idle upstream.requests.spare after.requests.spare (is_ready seats) (is_ready seats_after) ready requests) (kept_idle upstream.sessions.spare after.sessions.spare (is_ready seats) (is_ready seats_after) ready sessions) keeps.kept;
+  spare = λ is. absurd (true_false (sym is ∙ ready ∙ idle));
+  spare_session = λ is. absurd (true_false (sym is ∙ ready ∙ idle));
+}
+  where
+    true_false : true ≡ false → ⊥
+    true_false e = cc
+    kept_idle : (old new : ℕ) (before now : Bool) → now ≡ before → old ≤ new → old - one_if before ≤ new - one_if now
+    kept_idle old new before now alike more = let same_one : one_if now ≡ one_if before = ap one_if alike in omega (arith, same_one, more)
+
+-- A connection entered, for which room was kept.
+pub room_used : (bases : Bases) (conn : ℕ) (seats seats_after : Seats) (upstream : Upstream) → is_ready seats ≡ true → is_ready seats_after ≡ false → client_at seats conn ≡ None → IsEntered conn (picture seats upstream) (picture seats_after upstream)
+    → IsKeptReady bases seats upstream → IsKeptReady bases seats_after upstream
+room_used bases conn seats seats_after upstream ready used none entered keeps = record {
+  kept = entering_kept bases conn (picture seats upstream) (picture seats_after upstream) (left upstream.requests.spare seats) (left upstream.sessions.spare seats) (left upstream.requests.spare seats_after) (left upstream.sessions.spare seats_after) none entered
+      (one_more upstream.requests.spare (is_ready seats) (is_ready seats_after) ready used (keeps.spare ready)) (one_more upstream.sessions.spare (is_ready seats) (is_ready seats_after) ready used (keeps.spare_session ready)) keeps.kept;
+  spare = λ is. absurd (true_false (sym is ∙ used));
+  spare_session = λ is. absurd (true_false (sym is ∙ used));
+}
+  where
+    true_false : true ≡ false → ⊥
+    true_false e = cc
+    one_more : (spare : ℕ) (before now : Bool) → before ≡ true → now ≡ false → 0 < spare → spare - one_if now ≡ spare - one_if before + 1
+    one_more spare true false was is some = omega (arith, some)
+    one_more spare false now was is some = cc
+    one_more spare true true was is some = cc
+
+-- A slot for one connection more was made, or memory was wanting for it.
+pub room_prepared : (bases : Bases) (seats seats_after : Seats) (upstream after : Upstream) (result : Result (Unit {0}) Memory) → OnOk result (is_ready seats_after ≡ true) → OnErr result (is_ready seats_after ≡ is_ready seats) → is_ready seats ≡ false
+    → IsAsBefore (picture seats upstream) (picture seats_after after) → after.requests.spare ≡ upstream.requests.spare + 1 → after.sessions.spare ≡ upstream.sessions.spare + 1 → IsKeptReady bases seats upstream → IsKeptReady bases seats_after after
+room_prepared bases seats seats_after upstream after (Ok u) ready err idle same requests sessions keeps = room_made bases seats seats_after upstream after idle ready same requests sessions keeps
+room_prepared bases seats seats_after upstream after (Err e) ok still idle same requests sessions keeps =
+    room_grown bases seats seats_after upstream after idle still same (omega (arith, requests)) (omega (arith, sessions)) keeps
