@@ -9,3 +9,4 @@ pub mod EnteredLemmas
 pub mod ReplayLemmas
 pub mod SourceLemmas
 pub mod WatchLemmas
+pub mod RefusingLemmas

@@ -27,7 +27,7 @@ at_is conn i = by (is_at (nat_cmp conn) i) refl
     by false is = sym (ne_eqb conn i (λ same. let itself : is_at (nat_cmp conn) conn ≡ false = ap (λ n. is_at (nat_cmp conn) n) same ∙ is in let one = at_itself conn in cc))
 
 -- with one number more, or less
-with_one : (here was : Bool) → cond here true was ≡ (here || was)
+pub with_one : (here was : Bool) → cond here true was ≡ (here || was)
 with_one true was = refl
 with_one false was = refl
 

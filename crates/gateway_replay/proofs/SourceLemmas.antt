@@ -266,6 +266,7 @@ going_from bases reader streams stood all written reads fed stands = record {
     whole = record { entries = refl; unfinished = lit< tt };
   };
 }
+
 -- what was taken, by how the replay ends
 pub taken_so_far : (bases : Bases) (reader : EntryReader) (streams : Streams) (stood : Histories) (room : ℕ) (all left left_now before now : Option (List ℕ))
     → IsReplaying bases reader streams stood room all left before now → left_now ≡ left → TakesWithin (limit + 1) all left_now

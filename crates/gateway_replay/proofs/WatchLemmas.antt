@@ -7,13 +7,13 @@ use Rattle.mux_history.specs.declared.event.Event.TheVariants.{Client, Up, End, 
 use Rattle.mux_history.specs.declared.event.Outcome.{Outcome}
 use Rattle.mux_history.specs.declared.event.UpCause.{UpCause}
 use Rattle.mux_history.specs.Happenings.{Entry as PastEntry, fault_in, enters_here, happening_of, entry_of, entering}
-use Rattle.mux_history.specs.Cores.{IsCoreHistory, stays_alive}
+use Rattle.mux_history.specs.Cores.{IsCoreHistory, ever_entered, stays_alive}
 use Rattle.mux_history.proofs.CoreLemmas.{Following, FollowsOrderly, alive_after, alive_entering, unentered_open, never_part}
 use Rattle.gateway_replay.specs.declared.living.Living.{Living}
 use Rattle.gateway_replay.specs.Living.{lives}
 use Rattle.gateway_replay.specs.Watching.{StayLiving, Watches, Advances, EntersAs}
 
-no_entering : (i : ℕ) (event : Event) → enters_here i (happening_of event) ≡ false
+pub no_entering : (i : ℕ) (event : Event) → enters_here i (happening_of event) ≡ false
 no_entering i (Client conn item) = refl
 no_entering i (Up item) = refl
 no_entering i (End conn) = refl
@@ -50,12 +50,12 @@ module _ {M : Type 0} (stands : M → List PastEntry → Type 0) (bases_of : M �
   watch_sound core living = watch_made core core living [] (λ T s. s) refl
 
   watch_entered : FollowsOrderly follows → (old new : M) (living left : Living) (conn : ℕ) (ended : Option UpCause)
-      → ((T : List PastEntry) → stands old T → stands new (entering conn ∷ T)) → bases_of new ≡ bases_of old → ((T : List PastEntry) → stands old T → ended ≡ fault_in T)
+      → ((T : List PastEntry) → stands old T → ever_entered conn T ≡ false → stands new (entering conn ∷ T)) → bases_of new ≡ bases_of old → ((T : List PastEntry) → stands old T → ended ≡ fault_in T)
       → ((i : ℕ) → lives left i ≡ ((conn == i && is_none ended) || lives living i)) → EntersAs (Watches stands bases_of old living) (Watches stands bases_of new left) conn
   watch_entered orderly old new living left conn ended steps same ends added = λ bases T s never.
       let before : IsCoreHistory follows bases T = watch_sound old living bases T s in
       record {
-        stood = steps T s.stood;
+        stood = steps T s.stood never;
         based = same ∙ s.based;
         alive = λ i.
             added i
@@ -66,7 +66,7 @@ module _ {M : Type 0} (stands : M → List PastEntry → Type 0) (bases_of : M �
 
   -- A connection entered: it is alive, but after the end of the connection to the server.
   pub watch_entered_standing : FollowsOrderly follows → (old new : M) (living left : Living) (conn : ℕ) (ended : Option UpCause) → false ≡ is_some ended
-      → ((T : List PastEntry) → stands old T → stands new (entering conn ∷ T)) → bases_of new ≡ bases_of old → ((T : List PastEntry) → stands old T → ended ≡ fault_in T)
+      → ((T : List PastEntry) → stands old T → ever_entered conn T ≡ false → stands new (entering conn ∷ T)) → bases_of new ≡ bases_of old → ((T : List PastEntry) → stands old T → ended ≡ fault_in T)
       → ((i : ℕ) → lives left i ≡ (conn == i || lives living i)) → EntersAs (Watches stands bases_of old living) (Watches stands bases_of new left) conn
   watch_entered_standing orderly old new living left conn ended none steps same ends added =
       watch_entered orderly old new living left conn ended steps same ends
@@ -77,7 +77,7 @@ module _ {M : Type 0} (stands : M → List PastEntry → Type 0) (bases_of : M �
       and_true false = refl
 
   pub watch_entered_over : FollowsOrderly follows → (old new : M) (living : Living) (conn : ℕ) (ended : Option UpCause) → true ≡ is_some ended
-      → ((T : List PastEntry) → stands old T → stands new (entering conn ∷ T)) → bases_of new ≡ bases_of old → ((T : List PastEntry) → stands old T → ended ≡ fault_in T)
+      → ((T : List PastEntry) → stands old T → ever_entered conn T ≡ false → stands new (entering conn ∷ T)) → bases_of new ≡ bases_of old → ((T : List PastEntry) → stands old T → ended ≡ fault_in T)
       → EntersAs (Watches stands bases_of old living) (Watches stands bases_of new living) conn
   watch_entered_over orderly old new living conn ended some steps same ends =
       watch_entered orderly old new living living conn ended steps same ends

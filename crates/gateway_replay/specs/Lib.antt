@@ -2,6 +2,8 @@ pub mod Events
 pub mod Framers
 pub mod Living
 pub mod Records
+pub mod Refusing
+pub mod RefusingLaws
 pub mod Replays
 pub mod Runs
 pub mod Stops

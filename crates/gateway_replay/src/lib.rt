@@ -14,3 +14,5 @@ mod watched;
 
 pub use replaying::{LONGEST_TRANSCRIPT, READ_SIZE, replay};
 
+#[cfg(test)]
+mod tests;

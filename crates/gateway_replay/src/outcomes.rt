@@ -13,9 +13,7 @@ use crate::living::Living;
 use crate::records::{RecordKind, write_parted_record, write_record};
 use gate_bytes::Text;
 use gate_outside::{Failed, Sink};
-use gateway_mux::{
-    CloseWhy, Closed, FramingFault, Outcome, ToClient, ToUp, UpCause, UpMessage,
-};
+use gateway_mux::{CloseWhy, Closed, FramingFault, Outcome, ToClient, ToUp, UpCause, UpMessage};
 use rtsp_head::BadKind;
 
 /// The byte that tells of a connection that its own end closed.
@@ -31,7 +29,11 @@ pub const SLOW_CLOSE: u8 = b'S';
 pub const UPSTREAM_CLOSE: u8 = b'U';
 
 /// Writes the records of an event's outcome. The connections that were alive before the event become those after it.
-pub fn write_outcome<K: Sink>(sink: &mut K, living: &mut Living, outcome: &Outcome) -> Result<(), Failed>
+pub fn write_outcome<K: Sink>(
+    sink: &mut K,
+    living: &mut Living,
+    outcome: &Outcome,
+) -> Result<(), Failed>
     requires { IsShort outcome.now }
     ensures bytes { (T : List Entry) → AreLiving living.old T → WritesAll (K.written sink.old) (K.written sink.new) (records_of outcome.now T) result }
     ensures living { OnOk result (StayLiving outcome.now.closed living.old living.new) }

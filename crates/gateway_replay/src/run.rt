@@ -143,3 +143,68 @@ impl<M: Core> Run<M> {
         take_items(alloc, &mut self.streams, &mut self.watched, sink, speaker)
     }
 }
+
+#[cfg(test)]
+mod tests {
+    use super::*;
+    use gateway_mux::{Bases, Mux};
+    use rtsp_uri::read_base;
+    use std::test::Fail;
+
+    // How many frames the multiplexer has dropped once a speaker has sent these bytes, of few items.
+    fn dropped_after(
+        alloc: Global,
+        mux: &mut Mux,
+        speaker: Speaker,
+        bytes: &[u8],
+    ) -> Result<u64, Fail> {
+        let mut streams = Streams::new(alloc);
+        streams.feed(alloc, speaker, bytes)?;
+        for _ in 0..3 {
+            if let Some(item) = streams.next(speaker) {
+                mux.step(alloc, said_by(speaker, item))
+                    .map_err(|refused| refused.1)?;
+            }
+        }
+        Ok(mux.dropped())
+    }
+
+    #[test]
+    fn frames_are_dropped_and_counted(rt: HostRuntime) -> Result<(), Fail> {
+        let alloc = rt.alloc();
+        let mut mux = Mux::new(
+            alloc,
+            Bases {
+                front: read_base(alloc, "rtsp://gate.example")?,
+                up: read_base(alloc, "rtsp://media.example")?,
+            },
+        )?;
+        mux.enter(alloc, 1)?;
+        let setup =
+            b"SETUP rtsp://gate.example/m RTSP/1.0\r\nCSeq: 1\r\nTransport: RTP/AVP/TCP\r\n\r\n";
+        let grant =
+            b"RTSP/2.0 200 OK\r\nCSeq: 1\r\nSession: a\r\nTransport: RTP/AVP/TCP;interleaved=0-1\r\n\r\n";
+        let reply = b"RTSP/2.0 200 OK\r\nCSeq: 3\r\n\r\n";
+        let client = Speaker::Client(1);
+        let rows = [
+            (client, b"$\x01\0\x03abc$\x02\0\0".as_slice(), 2),
+            (Speaker::Server, b"$\0\0\x01z", 3),
+            (client, setup, 3),
+            (Speaker::Server, b"$\0\0\x01z", 4),
+            (Speaker::Server, grant, 4),
+            (Speaker::Server, b"$\0\0\x01z", 4),
+            (client, b"$\x01\0\x03abc$\x02\0\0", 5),
+            (client, b"hello\r\n\r\n", 5),
+            (Speaker::Server, b"$\0\0\x01z", 6),
+            (client, b"$\0\0\x01z", 7),
+            (Speaker::Server, reply, 7),
+            (client, b"$\0\0\x01z", 7),
+            (Speaker::Server, b"$\0\0\x01z", 7),
+        ];
+        for (speaker, bytes, wanted) in rows {
+            let dropped = dropped_after(alloc, &mut mux, speaker, bytes)?;
+            assert_eq!(rt; dropped, wanted, "{speaker:?}");
+        }
+        Ok(())
+    }
+}

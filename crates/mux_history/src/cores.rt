@@ -3,7 +3,7 @@
 ghost use Rattle.std.specs.Prelude.{◌≡◌, ℕ, Bool, false, List, ◌∷◌, IfOk, IfErr, OnOk, OnErr, IsOk, IsSome};
 ghost use Rattle.rtsp_uri.specs.declared.base.Bases.{Bases};
 ghost use Rattle.mux_history.specs.Happenings.{Entry, entry_of, entering, is_alive, fault_in};
-ghost use Rattle.mux_history.specs.Cores.{IsCoreHistory, IsNewTo};
+ghost use Rattle.mux_history.specs.Cores.{IsCoreHistory, IsNewTo, ever_entered};
 ghost use Rattle.mux_history.specs.Free.{needs_memory};
 ghost use Rattle.mux_history.specs.Orderly.{IsOrderly};
 ghost use Rattle.mux_history.specs.Short.{IsShort};
@@ -44,7 +44,7 @@ pub trait Core: Send + Drop {
     /// taken.
     fn enter(&mut self, alloc: Global, conn: u32) -> Result<(), Memory>
         requires { IsNewTo (stands self.old) conn }
-        ensures ok { OnOk result ((T : List Entry) → stands self.old T → stands self.new (entering conn ∷ T)) }
+        ensures ok { OnOk result ((T : List Entry) → stands self.old T → ever_entered conn T ≡ false → stands self.new (entering conn ∷ T)) }
         ensures err { OnErr result ((T : List Entry) → stands self.old T → stands self.new T) }
         ensures free { (T : List Entry) → stands self.old T → IsSome (fault_in T) → IsOk result }
         ensures bases { bases self.new ≡ bases self.old };

@@ -12,12 +12,14 @@ use Rattle.gateway_replay.proofs.replaying.process_entries.Goals as goal
 pub take-requires : goal.take-requires
 take-requires g c =
     let says : NextSays c.loop-entry.reader c.next.new.self (Ok (Some c.in-Ok-Some.entry)) = rw c.in-Ok-Some.field-0-is at c.in-Ok-Some.ensures.says in
-    let some = c.loop-entry.invariant.some in
-    (c.type_bounds.send-M, record {
-      bases = some.bases;
-      history = some.so_far.history;
-      stands = enters_new some.bases c.loop-entry.reader c.next.new.self c.loop-entry.run.streams (Watches g.M.Core.stands g.M.Core.bases c.loop-entry.run.watched.core c.loop-entry.run.watched.living) some.bytes some.before (g.K.Sink.written c.loop-entry.sink) c.in-Ok-Some.entry some.so_far says;
-    })
+    let some = c.loop-entry.invariant.some in (
+      c.type_bounds.send-M,
+      record {
+        bases = some.bases;
+        history = some.so_far.history;
+        stands = enters_new some.bases c.loop-entry.reader c.next.new.self c.loop-entry.run.streams (Watches g.M.Core.stands g.M.Core.bases c.loop-entry.run.watched.core c.loop-entry.run.watched.living) some.bytes some.before (g.K.Sink.written c.loop-entry.sink) c.in-Ok-Some.entry some.so_far says;
+      },
+    )
 
 pub returns-in_err-take-in-Ok-Some-clause-processed : goal.returns-in_err-take-in-Ok-Some-clause-processed
 returns-in_err-take-in-Ok-Some-clause-processed g c = λ bases bytes before s.

@@ -7,14 +7,17 @@ use Rattle.gateway_replay.proofs.SourceLemmas.{so_far_fed, interrupted_more}
 use Rattle.gateway_replay.proofs.replaying.take_piece.Goals as goal
 
 pub process_entries-requires : goal.process_entries-requires
-process_entries-requires g c = (c.type_bounds.send-M, record {
-  bases = c.requires.bases;
-  bytes = c.requires.bytes ++ c.args.piece.now;
-  before = c.requires.before;
-  so_far =
-      so_far_fed c.requires.bases c.args.reader.now c.feed.new.self c.args.run.now.streams (Watches g.M.Core.stands g.M.Core.bases c.args.run.now.watched.core c.args.run.now.watched.living) c.requires.bytes c.args.piece.now c.requires.before (g.K.Sink.written c.args.sink.now)
-      c.requires.so_far c.in-Ok.ensures.ok;
-})
+process_entries-requires g c = (
+  c.type_bounds.send-M,
+  record {
+    bases = c.requires.bases;
+    bytes = c.requires.bytes ++ c.args.piece.now;
+    before = c.requires.before;
+    so_far =
+        so_far_fed c.requires.bases c.args.reader.now c.feed.new.self c.args.run.now.streams (Watches g.M.Core.stands g.M.Core.bases c.args.run.now.watched.core c.args.run.now.watched.living) c.requires.bytes c.args.piece.now c.requires.before (g.K.Sink.written c.args.sink.now)
+        c.requires.so_far c.in-Ok.ensures.ok;
+  },
+)
 
 pub returns-clause-processed : goal.returns-clause-processed
 returns-clause-processed g c = λ bases bytes before s.

@@ -10,11 +10,14 @@ use Rattle.gateway_replay.proofs.RunLemmas.{takes_enter, takes_no_enter, takes_c
 use Rattle.gateway_replay.proofs.run.Run.take.Goals as goal
 
 pub enter-requires : goal.enter-requires
-enter-requires g c = (c.type_bounds.send-M, record {
-  history = c.requires.history;
-  stood = c.requires.stands.0.stood;
-  never = subst (λ (k : EntryKind). EntersNew k c.args.entry.now.conn c.requires.history) c.in-Enter.is c.requires.stands.1;
-})
+enter-requires g c = (
+  c.type_bounds.send-M,
+  record {
+    history = c.requires.history;
+    stood = c.requires.stands.0.stood;
+    never = subst (λ (k : EntryKind). EntersNew k c.args.entry.now.conn c.requires.history) c.in-Enter.is c.requires.stands.1;
+  },
+)
 
 pub returns-in_ok-enter-in-Enter-clause-takes : goal.returns-in_ok-enter-in-Enter-clause-takes
 returns-in_ok-enter-in-Enter-clause-takes g c =
