@@ -70,7 +70,8 @@ impl Mux {
         requires { IsFresh self.old conn }
         ensures ok { OnOk result ((T : List Entry) → Stands self.old T → Stands self.new (entering conn ∷ T)) }
         ensures err { OnErr result ((T : List Entry) → Stands self.old T → Stands self.new T) }
-        ensures free { is_prepared self.old ≡ true → IsOk result }
+        ensures free { IsSome (end_of self.old) → IsOk result }
+        ensures prepared { is_prepared self.old ≡ true → IsOk result }
         ensures used { OnOk result (end_of self.old ≡ None → is_prepared self.new ≡ false) }
         ensures ended { end_of self.new ≡ end_of self.old }
         ensures bases { bases_of self.new ≡ bases_of self.old }
