@@ -1,6 +1,6 @@
 -- What the multiplexer has is what its history has.
-use Rattle.std.proofs.Common.{◌≡◌, ◌≢◌, ◌∙◌, ℕ, not, Bool, true, false, cond, List, ◌∷◌, Option, Some, None, IsSome, ◌⊎◌, inl, inr, refl, sym, ap, subst}
-use Rattle.std.specs.Prelude.{is_some, is_none, ◌&&◌}
+use Rattle.std.proofs.Common.{◌≡◌, ◌∙◌, ℕ, not, Bool, true, false, cond, List, Option, Some, None, IsSome, refl, sym, ap, subst}
+use Rattle.std.specs.Prelude.{is_none, ◌&&◌}
 use Rattle.std.specs.Option.{option_map}
 use Rattle.rtsp_uri.specs.declared.base.Bases.{Bases}
 use Rattle.head_two.specs.declared.reply.Reply2.{Reply2}
@@ -9,17 +9,15 @@ use Rattle.client_slot.specs.declared.purpose.Purpose.{Purpose}
 use Rattle.client_slot.specs.Client.{Client}
 use Rattle.client_slot.specs.Renumbered.{purpose_under}
 use Rattle.gate_machine.specs.Alone.{Private, private_after, new_private}
-use Rattle.gate_machine.specs.Events.{PrivateEvent}
-use Rattle.mux_history.specs.declared.event.UpCause.{UpCause}
 use Rattle.mux_history.specs.declared.event.UpCause.TheVariants.{BadGrant, SessionTaken}
 use Rattle.mux_history.specs.Kinds.{RequestKind, sets_up, tears_down, closes, plain}
 use Rattle.mux_history.specs.Books.{Opened, Books}
 use Rattle.mux_history.specs.Heard.{Heard, replies, requests, frames, faults, heard}
-use Rattle.mux_history.specs.Happenings.{Happening, enters, takes, ends, lags, hears, up_ends, Entry, fault_in, entered}
+use Rattle.mux_history.specs.Happenings.{Happening, enters, takes, ends, lags, hears, up_ends, Entry, entered}
 use Rattle.mux_history.specs.Settling.{id_said}
-use Rattle.mux_history.specs.Own.{books_of, own}
-use Rattle.mux_history.specs.Follows.{private_in, is_granted, is_others, is_held_elsewhere, grant_breach, kind_breach, session_of_private, reply_breach, heard_breach, said_breach}
-use Rattle.mux_history.specs.Joined.{kind_for, opened_for, IsOpenFor, IsJoined}
+use Rattle.mux_history.specs.Own.{books_of}
+use Rattle.mux_history.specs.Follows.{private_in, is_granted, is_others, is_held_elsewhere, kind_breach, session_of_private, reply_breach, heard_breach, said_breach}
+use Rattle.mux_history.specs.Joined.{opened_for, IsOpenFor}
 use Rattle.mux_history.specs.Shared.{shared, shared_in, kind_pending}
 use Rattle.mux_history.proofs.AgreeLemmas.{joined}
 use Rattle.mux_history.proofs.CaseLemmas.{own_absent}

@@ -6,13 +6,12 @@ use Rattle.rtsp_uri.specs.declared.base.Bases.{Bases}
 use Rattle.client_slot.specs.declared.purpose.Purpose.{Purpose}
 use Rattle.client_slot.specs.Client.{Client}
 use Rattle.client_slot.specs.Renumbered.{purpose_under}
-use Rattle.gate_machine.specs.Alone.{Private, is_live, is_empty_list}
+use Rattle.gate_machine.specs.Alone.{is_live, is_empty_list}
 use Rattle.gate_machine.proofs.KeepLemmas.{live_unclosed}
 use Rattle.mux_history.specs.declared.event.UpCause.{UpCause}
 use Rattle.mux_history.specs.Happenings.{Entry, fault_in, entered, shut, is_alive}
 use Rattle.mux_history.specs.Own.{books_of, own}
 use Rattle.mux_history.specs.Follows.{IsHistory}
-use Rattle.mux_history.specs.Shared.{shared}
 use Rattle.mux_history.specs.Tells.{IsFirstAlive, is_busy_private, is_busy}
 use Rattle.mux_history.proofs.CaseLemmas.{not_over}
 use Rattle.mux_history.proofs.HistoryLemmas.{shut_as_alone}

@@ -1,5 +1,5 @@
 -- What a core that refuses stands for, after an entering and after an event.
-use Rattle.std.proofs.Common.{◌≡◌, ◌∙◌, ℕ, ◌<◌, ◌^◌, ◌==◌, ◌&&◌, ◌||◌, Bool, true, false, cond, List, ◌∷◌, Option, Some, None, refl, sym, ap, subst, arith}
+use Rattle.std.proofs.Common.{◌≡◌, ◌∙◌, ℕ, ◌==◌, ◌&&◌, ◌||◌, Bool, true, false, cond, List, ◌∷◌, Option, Some, None, refl, sym, ap, subst, arith}
 use Rattle.std.specs.Prelude.{is_some, is_none}
 use Rattle.std.specs.Option.{option_or}
 use Rattle.rtsp_head.specs.declared.item.ItemKind.{ItemKind}
@@ -14,7 +14,7 @@ use Rattle.mux_history.specs.Happenings.{Happening, enters, takes, ends, lags, h
 use Rattle.mux_history.specs.Cores.{ever_entered, stays_alive}
 use Rattle.mux_history.specs.Short.{IsShort}
 use Rattle.mux_history.proofs.CoreLemmas.{alive_after, alive_entering, unentered_open, never_part}
-use Rattle.gateway_replay.specs.Refusing.{refused_item, item_refused, closed_if, refusing, refusal_at, FollowsRefusing, StandsRefusing}
+use Rattle.gateway_replay.specs.Refusing.{item_refused, closed_if, refusing, refusal_at, FollowsRefusing, StandsRefusing}
 use Rattle.gateway_replay.specs.RefusingLaws.{refusals_orderly}
 use Rattle.gateway_replay.proofs.WatchLemmas.{no_entering}
 

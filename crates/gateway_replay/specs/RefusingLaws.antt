@@ -1,11 +1,10 @@
 -- The laws of a core, of one that refuses every request.
-use Rattle.std.specs.Prelude.{◌≡◌, ℕ, Bool, true, false, is_some, List, Option, Some, None, if◌then◌else◌, refl}
+use Rattle.std.specs.Prelude.{◌≡◌, ℕ, Bool, true, false, List, Option, Some, None, refl}
 use Rattle.std.proofs.Common.{cond, sym, ◌∙◌, ap, subst}
 use Rattle.rtsp_head.specs.Items.{Shape}
 use Rattle.rtsp_head.specs.declared.item.ItemKind.{ItemKind}
 use Rattle.rtsp_head.specs.declared.item.ItemKind.TheVariants.{Request, Response, Frame, Bad}
 use Rattle.rtsp_uri.specs.declared.base.Bases.{Bases}
-use Rattle.gate_machine.specs.declared.why.CloseWhy.{CloseWhy}
 use Rattle.gate_machine.specs.declared.why.CloseWhy.TheVariants.{Ended, Slow}
 use Rattle.mux_history.specs.declared.event.Closed.TheVariants.{Nobody, One}
 use Rattle.mux_history.specs.declared.event.Outcome.{Outcome}

@@ -8,8 +8,6 @@ use Rattle.rtsp_frame.specs.Framing.{Held}
 use Rattle.mux_history.specs.Happenings.{Happening, up_ends, Entry as PastEntry, happened}
 use Rattle.rtsp_uri.specs.declared.base.Bases.{Bases}
 use Rattle.gate_transcript.specs.declared.entry.Entry.{Entry}
-use Rattle.gate_transcript.specs.declared.entry.EntryKind.{EntryKind}
-use Rattle.gate_transcript.specs.declared.entry.EntryKind.TheVariants.{Enter, Client, Upstream, End, Slow, UpEnd}
 use Rattle.gateway_replay.specs.declared.streams.Streams.{Streams}
 use Rattle.gateway_replay.specs.declared.streams.Speaker.{Speaker}
 use Rattle.gateway_replay.specs.declared.watched.ProcessFault.{ProcessFault}

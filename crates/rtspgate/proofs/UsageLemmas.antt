@@ -1,5 +1,5 @@
 -- A refusal of words, as the top call answers it.
-use Rattle.std.proofs.Common.{◌≡◌, ℕ, ◌+◌, Bool, true, false, cond, List, [], ◌∷◌, Option, Some, None, Result, Ok, Err, inl, inr, refl, sym, ◌∙◌, ap, arith}
+use Rattle.std.proofs.Common.{◌≡◌, ℕ, ◌+◌, Bool, true, false, cond, List, [], ◌∷◌, Option, Some, Result, Ok, Err, inl, inr, refl, sym, ◌∙◌, ap, arith}
 use Rattle.std.specs.Prelude.{OnOk, OnErr}
 use Rattle.gate_outside.specs.declared.Failed.{Failed}
 use Rattle.rtsp_uri.specs.declared.base.Bases.{Bases}

@@ -2,12 +2,12 @@
 ghost use Rattle.std.specs.Prelude.{◌<◌};
 
 mod adapters;
-mod cases;
 mod large;
 mod notation;
+mod one_player;
+mod players;
 
 use crate::plain::plain;
-use cases::CASES;
 use gate_bytes::Text;
 use gate_outside::{MemorySink, MemorySource, Numbers, Script};
 use gateway_mux::Status;
@@ -62,24 +62,30 @@ fn replayed(
 #[test]
 fn transcripts_give_their_records(rt: HostRuntime) -> Result<(), Fail> {
     let alloc = rt.alloc();
-    let mut count = 0usize;
-    for text in CASES.split("\n\n") {
-        let case = read_case(alloc, text)?;
-        let title = case.title;
-        for piece in [1, 7, 4096] {
-            let (status, records) = replayed(
-                alloc,
-                Text::copy(alloc, &case.transcript)?,
-                script(alloc, None, piece)?,
-                script(alloc, None, piece)?,
-            )?;
-            let fault = format!(in alloc; "{status}")?;
-            assert_eq!(rt; fault.as_str(), case.fault, "{title}");
-            assert_eq!(rt; records.as_bytes(), case.records.as_slice(), "{title}");
+    let tables = [
+        (one_player::CASES, one_player::COUNT),
+        (players::CASES, players::COUNT),
+    ];
+    for (cases, wanted) in tables {
+        let mut count = 0usize;
+        for text in cases.split("\n\n") {
+            let case = read_case(alloc, text)?;
+            let title = case.title;
+            for piece in [1, 7, 4096] {
+                let (status, records) = replayed(
+                    alloc,
+                    Text::copy(alloc, &case.transcript)?,
+                    script(alloc, None, piece)?,
+                    script(alloc, None, piece)?,
+                )?;
+                let fault = format!(in alloc; "{status}")?;
+                assert_eq!(rt; fault.as_str(), case.fault, "{title}");
+                assert_eq!(rt; records.as_bytes(), case.records.as_slice(), "{title}");
+            }
+            count = count.saturating_add(1);
         }
-        count = count.saturating_add(1);
+        assert_eq!(rt; count, wanted);
     }
-    assert_eq!(rt; count, cases::COUNT);
     Ok(())
 }
 

@@ -1,6 +1,3 @@
-use Rattle.mux_history.specs.Happenings.{Entry}
-use Rattle.std.proofs.Common.{◌∷◌, List, ℕ, subst}
-use Rattle.gate_outside.specs.Contents.{Grows, GrowsByFront}
 use Rattle.gateway_replay.specs.Written.{piece_record, up_record, closed_records, fault_record}
 use Rattle.gateway_replay.proofs.OutcomeLemmas.{fails_at_first, fails_at_second, fails_at_third, writes_last}
 use Rattle.gateway_replay.proofs.outcomes.write_outcome.Goals as goal

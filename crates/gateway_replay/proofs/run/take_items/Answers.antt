@@ -1,4 +1,4 @@
-use Rattle.std.proofs.Common.{◌++◌, Ok, Err, arith, subst}
+use Rattle.std.proofs.Common.{Ok, Err, arith, subst}
 use Rattle.std.proofs.lemmas.Result.{err_from_is_err_and}
 use Rattle.rtsp_head.specs.Shapes.{shape_of}
 use Rattle.mux_history.specs.Happenings.{Happening}

@@ -1,4 +1,3 @@
-use Rattle.std.proofs.Common.{[]}
 use Rattle.std.proofs.lemmas.Result.{err_from_is_err_and}
 use Rattle.mux_history.specs.Cores.{IsCoreHistory}
 use Rattle.gateway_replay.specs.Watching.{Watches}

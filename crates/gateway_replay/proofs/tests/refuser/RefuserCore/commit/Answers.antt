@@ -4,7 +4,7 @@ use Rattle.std.specs.HashSet.{contains}
 use Rattle.mux_history.specs.Happenings.{happening_of, entry_of}
 use Rattle.rtsp_uri.specs.declared.base.Bases.{Bases}
 use Rattle.gateway_replay.specs.Refusing.{StandsRefusing}
-use Rattle.gateway_replay.proofs.RefusingLemmas.{none_over, given_short, silent_short, given_stands, silent_stands}
+use Rattle.gateway_replay.proofs.RefusingLemmas.{none_over, given_short, given_stands, silent_stands}
 use Rattle.gateway_replay.proofs.tests.refuser.RefuserCore.commit.Goals as goal
 
 pub give-requires-clause-standing : goal.give-requires-clause-standing
