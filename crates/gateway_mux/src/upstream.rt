@@ -51,7 +51,7 @@ impl Upstream {
         ensures held { (p : ℕ) → held_at p self.new.channels ≡ held_by settled.granted settled.freed p (held_at p self.old.channels) }
         ensures holder { (id : List ℕ) → holder_of self.new.sessions id ≡ holder_by settled.bound settled.freed conn id (holder_of self.old.sessions id) }
     {
-        let asker = self.requests.settle(settled.number);
+        let _ = self.requests.settle(settled.number);
         settle_channels(&mut self.channels, settled.granted, settled.freed);
         settle_sessions(
             &mut self.sessions,
@@ -104,7 +104,7 @@ impl Upstream {
             Err(Spent) => unreachable!(),
         }
         if reserves {
-            let pair = self.channels.reserve(conn);
+            let _ = self.channels.reserve(conn);
         }
     }
 }

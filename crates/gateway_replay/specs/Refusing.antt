@@ -16,8 +16,8 @@ use Rattle.mux_history.specs.Orderly.{closing_all}
 use Rattle.gate_bytes.specs.Ascii.{cr, lf}
 
 -- what a request is answered
-abbrev pub refusal_text : List ℕ
-refusal_text = codes "RTSP/1.0 501 Not Implemented" ++ cr ∷ lf ∷ cr ∷ lf ∷ []
+abbrev pub refused_text : List ℕ
+refused_text = codes "RTSP/1.0 501 Not Implemented" ++ cr ∷ lf ∷ cr ∷ lf ∷ []
 
 abbrev pub handing : ℕ → List ℕ → Outcome
 handing conn text = record { to_client = Some (record { conn = conn; bytes = text }); to_up = nothing_up; closed = Nobody; fault = None }
@@ -27,7 +27,7 @@ closing_one conn why = record { to_client = None; to_up = nothing_up; closed = O
 
 -- what an item of a connection that is alive gives
 abbrev pub refused_item : ItemKind → ℕ → Outcome
-refused_item Request conn = handing conn refusal_text
+refused_item Request conn = handing conn refused_text
 refused_item Response conn = silent
 refused_item Frame conn = silent
 refused_item (Bad kind) conn = closing_one conn BadItem
@@ -63,7 +63,7 @@ pub record StandsRefusing (bases : Bases) (alive : ℕ → Bool) (ended : Option
 
 -- the text that an event needs
 abbrev pub text_for : Bool → ItemKind → Option (List ℕ)
-text_for alive Request = if alive then Some refusal_text else None
+text_for alive Request = if alive then Some refused_text else None
 text_for alive Response = None
 text_for alive Frame = None
 text_for alive (Bad kind) = None

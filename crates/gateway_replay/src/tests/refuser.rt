@@ -4,7 +4,7 @@ ghost use Rattle.std.specs.HashSet.{contains};
 ghost use Rattle.mux_history.specs.Cores.{stays_alive};
 ghost use Rattle.mux_history.specs.Happenings.{happening_of, nothing_up, silent, cause_of};
 ghost use Rattle.mux_history.specs.Orderly.{closing_all};
-ghost use Rattle.gateway_replay.specs.Refusing.{refusal_text, handing, closed_if, item_refused, refusing, text_for, text_planned, StandsRefusing};
+ghost use Rattle.gateway_replay.specs.Refusing.{refused_text, handing, closed_if, item_refused, refusing, text_for, text_planned, StandsRefusing};
 
 use gate_bytes::{Memory, Text};
 use gateway_mux::{Bases, CloseWhy, Closed, Core, Event, Outcome, ToClient, ToUp, UpCause, UpWhy};
@@ -143,8 +143,8 @@ impl Refuser {
 
 // The answer to a request.
 fn answered(conn: u32, text: Option<Text>) -> Outcome
-    requires { text ≡ Some refusal_text }
-    ensures { result ≡ handing conn refusal_text }
+    requires { text ≡ Some refused_text }
+    ensures { result ≡ handing conn refused_text }
 {
     match text {
         Some(bytes) => outcome(Some(ToClient { conn, bytes }), Closed::Nobody, None),
