@@ -3,3 +3,4 @@ pub mod ReadingLemmas
 pub mod ReaderLemmas
 pub mod LessLemmas
 pub mod ProperLemmas
+pub mod SpelledLemmas

@@ -29,7 +29,7 @@ same_turns (suc n) (suc m) place entries (b ∷ bytes) h k =
     (λ p es s. same_turns n m p es (drop (9 + s) (b ∷ bytes)) (rw (length-drop (9 + s) (b ∷ bytes)) (omega arith)) (rw (length-drop (9 + s) (b ∷ bytes)) (omega arith)))
 
 -- the reading of bytes that begin with a whole entry
-step_whole : (place : ℕ) (entries : List Entry) (bytes : List ℕ) (head : Head) → first_head (among entries) bytes ≡ Ok (Some head) →
+pub step_whole : (place : ℕ) (entries : List Entry) (bytes : List ℕ) (head : Head) → first_head (among entries) bytes ≡ Ok (Some head) →
     reading_on place entries bytes ≡ reading_on (place + 9 + head.size) (entry_with head bytes ∷ entries) (drop (9 + head.size) bytes)
 step_whole place entries [] head e = absurd (cc)
 step_whole place entries (b ∷ bytes) head e =

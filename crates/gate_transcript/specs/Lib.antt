@@ -3,3 +3,4 @@ pub mod Bodies
 pub mod Transcript
 pub mod Reads
 pub mod Steps
+pub mod Spelled

@@ -13,6 +13,7 @@ mod fault;
 mod head;
 mod pending;
 mod reader;
+mod writing;
 
 pub use entry::{
     CLIENT_BYTE, END_BYTE, ENDED_REASON, ENTER_BYTE, Entry, EntryKind, FULL_REASON,
@@ -22,6 +23,7 @@ pub use entry::{
 pub use fault::{BadEntry, BadEntryKind, EntryFault};
 pub use head::{HEAD_LENGTH, LONGEST_BODY};
 pub use reader::{EntryReader, MAGIC, MAGIC_LENGTH};
+pub use writing::{write_entry, written_entries_are_read};
 
 #[cfg(test)]
 mod tests;

@@ -142,3 +142,10 @@ fn each_reason_has_its_byte(rt: HostRuntime) {
     assert_eq!(rt; end_reason_in(b""), None);
     assert_eq!(rt; end_reason_in(b"EE"), None);
 }
+
+#[test]
+fn an_entry_is_written(rt: HostRuntime) -> Result<(), Fail> {
+    let text = write_entry(rt.alloc(), EntryKind::Client, 7, b"hi")?;
+    assert_eq!(rt; text.as_bytes(), b"A\0\0\0\x07\0\0\0\x02hi".as_slice());
+    Ok(())
+}

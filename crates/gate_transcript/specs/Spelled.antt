@@ -1,0 +1,40 @@
+-- The text of entries, and of a whole transcript, as a grammar: how a value is spelled, and which entries there may be
+-- (this project's own format).
+use Rattle.std.specs.Prelude.{◌≡◌, ℕ, ◌^◌, ◌<◌, true, List, [], ◌∷◌, ◌++◌, length}
+use Rattle.std.specs.Int.{w32, to_be_bytes}
+use Rattle.gate_transcript.specs.declared.entry.Entry.{Entry}
+use Rattle.gate_transcript.specs.declared.entry.EntryKind.{EntryKind}
+use Rattle.gate_transcript.specs.declared.entry.EntryKind.TheVariants.{Enter, Client, Upstream, End, Slow, UpEnd}
+use Rattle.gate_transcript.specs.declared.entry.TheConstants.{ENTER_BYTE, CLIENT_BYTE, UPSTREAM_BYTE, END_BYTE, SLOW_BYTE, UP_END_BYTE}
+use Rattle.gate_transcript.specs.Transcript.{magic, has_entered, may_come}
+use Rattle.gate_transcript.specs.Bodies.{may_have_length, is_body}
+
+-- the byte that an entry of a kind begins with
+abbrev pub kind_byte : EntryKind → ℕ
+kind_byte Enter = ENTER_BYTE
+kind_byte Client = CLIENT_BYTE
+kind_byte Upstream = UPSTREAM_BYTE
+kind_byte End = END_BYTE
+kind_byte Slow = SLOW_BYTE
+kind_byte UpEnd = UP_END_BYTE
+
+-- one entry: the byte of its kind, the connection and the length of the body in four bytes each, and the body
+abbrev pub entry_text : EntryKind → ℕ → List ℕ → List ℕ
+entry_text kind conn body = kind_byte kind ∷ (to_be_bytes w32 conn ++ (to_be_bytes w32 (length body) ++ body))
+
+-- a transcript with these entries, of which the newest is first
+abbrev pub transcript_text : List Entry → List ℕ
+transcript_text [] = magic
+transcript_text (entry ∷ earlier) = transcript_text earlier ++ entry_text entry.kind entry.conn entry.body
+
+-- An entry may stand behind these ones: its number has 32 bits, it comes as it may for its connection, and its body has a
+-- length and bytes that its kind has.
+pub record MayStand (entry : Entry) (earlier : List Entry) : Type 0 where
+  pub number : entry.conn < 2 ^ 32
+  pub comes : may_come (λ conn. has_entered conn earlier) entry.kind entry.conn ≡ true
+  pub size : may_have_length entry.kind (length entry.body) ≡ true
+  pub body : is_body entry.kind entry.body ≡ true
+
+abbrev pub AreEntries : List Entry → Type 0
+AreEntries [] = Unit {0}
+AreEntries (entry ∷ earlier) = MayStand entry earlier × AreEntries earlier
