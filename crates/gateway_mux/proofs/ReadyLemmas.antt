@@ -73,9 +73,9 @@ keeps_ready bases seats seats_after upstream after answer it result its some tur
     let requests = left upstream.requests.spare seats in
     let sessions = left upstream.sessions.spare seats in
     let asked = still_left upstream.requests.spare after.requests.spare (is_ready seats) it.asks (is_some it.settled) keeps.spare
-        (λ asks unsettled. room_asked bases one answer it requests sessions its asks (no_settled it.settled unsettled) keeps.kept) room in
+    (λ asks unsettled. room_asked bases one answer it requests sessions its asks (no_settled it.settled unsettled) keeps.kept) room in
     let bound = still_left upstream.sessions.spare after.sessions.spare (is_ready seats) (binds it.settled) (unbinds it.settled (session_of_client (client_at seats it.conn))) keeps.spare_session
-        (λ binds_one frees_none. bound_room one.asker one.held one.holder sessions it.conn (session_of_client (one.clients it.conn)) it.settled (settles_now bases one answer it requests sessions its keeps.kept) binds_one) spare in
+    (λ binds_one frees_none. bound_room one.asker one.held one.holder sessions it.conn (session_of_client (one.clients it.conn)) it.settled (settles_now bases one answer it requests sessions its keeps.kept) binds_one) spare in
     record {
       kept = subst (λ (b : Bool). ∥ IsKept bases (picture seats_after after) (after.requests.spare - one_if b) (after.sessions.spare - one_if b) ∥₁) (sym ready)
           (keeps_result bases one (picture seats_after after) answer it result requests sessions (after.requests.spare - one_if (is_ready seats)) (after.sessions.spare - one_if (is_ready seats)) its some turned
@@ -111,6 +111,7 @@ room_grown bases seats seats_after upstream after idle ready same requests sessi
   where
     true_false : true ≡ false → ⊥
     true_false e = cc
+
     kept_idle : (old new : ℕ) (before now : Bool) → now ≡ before → old ≤ new → old - one_if before ≤ new - one_if now
     kept_idle old new before now alike more = let same_one : one_if now ≡ one_if before = ap one_if alike in omega (arith, same_one, more)
 
@@ -126,6 +127,7 @@ room_used bases conn seats seats_after upstream ready used none entered keeps = 
   where
     true_false : true ≡ false → ⊥
     true_false e = cc
+
     one_more : (spare : ℕ) (before now : Bool) → before ≡ true → now ≡ false → 0 < spare → spare - one_if now ≡ spare - one_if before + 1
     one_more spare true false was is some = omega (arith, some)
     one_more spare false now was is some = cc

@@ -79,14 +79,19 @@ pub added_rises : (numbers : List ℕ) (conn p : ℕ) → IsRising numbers → p
 added_rises numbers conn p rises within low high i j before bound = by (nat_lt i p) (nat_lt j p) (i == p) (j == p) refl refl refl refl where
   all : List ℕ
   all = insert numbers p conn
+
   longer : length all ≡ length numbers + 1
   longer = length-insert numbers p conn within
+
   below : (k : ℕ) → k < p → get_or all k 0 ≡ get_or numbers k 0
   below k under = get_or-insert_below numbers p conn 0 k under within
+
   here : (k : ℕ) → k ≡ p → get_or all k 0 ≡ conn
   here k is = ap (λ q. get_or all q 0) is ∙ get_or-insert_at numbers p conn 0 within
+
   above : (k : ℕ) → p < k → get_or all k 0 ≡ get_or numbers (k - 1) 0
   above k over = let next : k ≡ k - 1 + 1 = omega (arith, over) in ap (λ q. get_or all q 0) next ∙ get_or-insert_above numbers p conn 0 (k - 1) (omega (arith, over)) within
+
   by : (a b s t : Bool) → nat_lt i p ≡ a → nat_lt j p ≡ b → (i == p) ≡ s → (j == p) ≡ t → get_or all i 0 < get_or all j 0
   by true true s t x y v w =
       let i_low : i < p = grind (arith, x) in let j_low : j < p = grind (arith, y) in

@@ -116,7 +116,12 @@ impl Connections {
             ..Said::alone(conn)
         };
         let source = source_in(grant);
-        self.plan_turn(alloc, Some(seat), said, &Incoming::Reply(Answer { reply, source }))
+        self.plan_turn(
+            alloc,
+            Some(seat),
+            said,
+            &Incoming::Reply(Answer { reply, source }),
+        )
     }
 
     /// What is wrong with a reply to the open request of a connection, which has this session. The
@@ -135,7 +140,14 @@ impl Connections {
     {
         match pending {
             Pending::Client(_, Some(track)) if is_success(reply.code) => {
-                wrong_grant(&self.upstream.sessions, conn, track.pair, session, grant, reply)
+                wrong_grant(
+                    &self.upstream.sessions,
+                    conn,
+                    track.pair,
+                    session,
+                    grant,
+                    reply,
+                )
             }
             _ => None,
         }

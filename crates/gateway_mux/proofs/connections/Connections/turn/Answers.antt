@@ -23,11 +23,11 @@ invariant_of-self c =
     let there = is_there c.args.self.now.bases (picture c.args.self.now.seats c.args.self.now.upstream) c.args.answer c.args.turn c.requires.turn in
     let some = c.commit_turn.ensures.some there in
     let after = keeps_ready c.args.self.now.bases c.args.self.now.seats c.commit_turn.new.seats c.args.self.now.upstream c.commit_turn.new.upstream c.args.answer c.args.turn c.commit_turn.result c.requires.turn some
-        (turned_result (picture c.args.self.now.seats c.args.self.now.upstream) (picture c.commit_turn.new.seats c.commit_turn.new.upstream) c.args.turn c.commit_turn.result
-        (c.commit_turn.ensures.done there)
-        c.commit_turn.ensures.others c.commit_turn.ensures.issued c.commit_turn.ensures.asked c.commit_turn.ensures.held c.commit_turn.ensures.holder)
-        (c.commit_turn.ensures.room some) (c.commit_turn.ensures.spare some) c.commit_turn.ensures.ready
-        (record { kept = c.args.self.now.kept; spare = c.args.self.now.spare; spare_session = c.args.self.now.spare_session }) in
+    (turned_result (picture c.args.self.now.seats c.args.self.now.upstream) (picture c.commit_turn.new.seats c.commit_turn.new.upstream) c.args.turn c.commit_turn.result
+    (c.commit_turn.ensures.done there)
+    c.commit_turn.ensures.others c.commit_turn.ensures.issued c.commit_turn.ensures.asked c.commit_turn.ensures.held c.commit_turn.ensures.holder)
+    (c.commit_turn.ensures.room some) (c.commit_turn.ensures.spare some) c.commit_turn.ensures.ready
+    (record { kept = c.args.self.now.kept; spare = c.args.self.now.spare; spare_session = c.args.self.now.spare_session }) in
     record { kept = after.kept; spare = after.spare; spare_session = after.spare_session }
 
 pub returns-clause-commits : goal.returns-clause-commits
