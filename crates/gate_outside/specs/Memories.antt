@@ -1,8 +1,23 @@
 -- What a source and a sink in memory hold, and the calls that each has had. This project's own.
-use Rattle.std.specs.Prelude.{ℕ, ◌+◌, List, drop}
+use Rattle.std.specs.Prelude.{ℕ, ◌+◌, ◌≤◌, ◌⊎◌, List, drop, Contains, IsSomeAnd}
 use Rattle.gate_outside.specs.declared.memory.MemorySource.{MemorySource}
 use Rattle.gate_outside.specs.declared.memory.MemorySink.{MemorySink}
+use Rattle.gate_outside.specs.declared.script.Calls.{Calls}
 use Rattle.gate_outside.specs.declared.script.Script.{Script}
+
+-- the script by which calls go, how many were made, which is the number of the next, and how many failed
+abbrev pub call_script : Calls → Script
+call_script calls = calls.script
+
+abbrev pub calls_made : Calls → ℕ
+calls_made calls = calls.made
+
+abbrev pub calls_failed : Calls → ℕ
+calls_failed calls = calls.failed
+
+-- The script lets an inlet have nothing for now at the call with this number.
+abbrev pub NamesWait : Script → ℕ → Type 0
+NamesWait script call = Contains script.waits call ⊎ IsSomeAnd script.idle (λ first. first ≤ call)
 
 -- the bytes that a source has still to give
 abbrev pub bytes_left : MemorySource → List ℕ

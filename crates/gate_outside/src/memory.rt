@@ -1,6 +1,6 @@
 //! A source and a sink in memory, whose calls go by a script.
 ghost use Rattle.std.specs.Prelude.{◌≡◌, ℕ, ◌<◌, ◌↔◌, ◌⊎◌, ◌+◌, ◌≤◌, List, [], length, drop, min, Some, IsErr, IfOk, OnOk, OnErr, Contains};
-ghost use Rattle.gate_outside.specs.Causes.{HasCause, counted_on};
+ghost use Rattle.gate_outside.specs.Causes.{HasCause, capped, counted_on};
 ghost use Rattle.gate_outside.specs.Contents.{Reads, Writes};
 
 use crate::script::Calls;
@@ -94,6 +94,13 @@ impl MemorySink {
         ensures { result.now ≡ bytes_written self.now }
     {
         self.bytes.as_bytes()
+    }
+
+    /// How often it has failed, in a counter that stays at its last value.
+    pub fn faults(&self) -> u64
+        ensures { result ≡ capped (write_faults self.now) }
+    {
+        self.calls.failed().saturating_add(self.refused)
     }
 }
 

@@ -1,14 +1,19 @@
-//! Which calls of a source or a sink in memory fail, and the count of those that did.
-ghost use Rattle.std.specs.Prelude.{◌≡◌, ℕ, ◌<◌, ◌≤◌, List, [], Contains, OnOk, IsErr, ◌↔◌, ◌+◌, ◌-◌, ◌^◌, min};
+//! Which calls of an object in memory fail, and the count of those that did.
+ghost use Rattle.std.specs.Prelude.{◌≡◌, ℕ, ◌<◌, ◌≤◌, List, [], Contains, OnOk, IsErr, IsTrue, ◌↔◌, ◌+◌, ◌-◌, ◌^◌, min};
 ghost use Rattle.gate_outside.specs.Causes.{HasCause, counted_on};
 
 use crate::{Failed, Numbers};
 
-/// How a source or a sink in memory behaves: which of its calls fail, and how many bytes a call moves.
+/// How an object in memory behaves: which of its calls fail, at which an inlet has nothing for now, and how many bytes a
+/// call moves, where it moves some.
 #[derive(Drop)]
 pub struct Script {
     /// The numbers of the calls that fail, counted from 0.
     pub fails: Numbers,
+    /// The numbers of the calls at which an inlet has nothing for now.
+    pub waits: Numbers,
+    /// Where there is one, the number of the call from which on an inlet has nothing for now.
+    pub idle: Option<u64>,
     /// The most bytes that one call moves, at least 1.
     pub piece: usize,
     ghost some: { 0 < piece },
@@ -24,11 +29,13 @@ pub struct Calls {
 }
 
 impl Calls {
+    ghost use Rattle.gate_outside.specs.Memories.{call_script, calls_made, calls_failed, NamesWait};
+
     /// The state before the first call, which has the number 0.
     pub fn new(script: Script) -> Self
-        ensures script { result.script ≡ script }
-        ensures first { result.made ≡ 0 }
-        ensures none { result.failed ≡ 0 }
+        ensures script { call_script result ≡ script }
+        ensures first { calls_made result ≡ 0 }
+        ensures none { calls_failed result ≡ 0 }
     {
         Calls {
             script,
@@ -39,11 +46,11 @@ impl Calls {
 
     /// Counts a call, and fails exactly where the script names its number.
     pub fn enter(&mut self) -> Result<(), Failed>
-        ensures script { self.new.script ≡ self.old.script }
-        ensures made { self.new.made ≡ counted_on self.old.made }
-        ensures fails { IsErr result ↔ Contains self.old.script.fails self.old.made }
-        ensures ok { OnOk result (self.new.failed ≡ self.old.failed) }
-        ensures cause { HasCause self.old.failed self.new.failed result }
+        ensures script { call_script self.new ≡ call_script self.old }
+        ensures made { calls_made self.new ≡ counted_on (calls_made self.old) }
+        ensures fails { IsErr result ↔ Contains (call_script self.old).fails (calls_made self.old) }
+        ensures ok { OnOk result (calls_failed self.new ≡ calls_failed self.old) }
+        ensures cause { HasCause (calls_failed self.old) (calls_failed self.new) result }
     {
         let fails = self.script.fails.contains(self.made);
         self.made = self.made.saturating_add(1);
@@ -54,9 +61,24 @@ impl Calls {
         Ok(())
     }
 
+    /// Whether the next call has nothing for now, where it does not fail.
+    pub fn pauses(&self) -> bool
+        ensures { IsTrue result ↔ NamesWait (call_script self.now) (calls_made self.now) }
+    {
+        self.script.waits.contains(self.made)
+            || self.script.idle.is_some_and(|first| first <= self.made)
+    }
+
+    /// How many calls have failed.
+    pub fn failed(&self) -> u64
+        ensures { result ≡ calls_failed self.now }
+    {
+        self.failed
+    }
+
     /// The most bytes that this call may move, of so many.
     pub fn piece(&self, most: usize) -> usize
-        ensures { result ≡ min self.now.script.piece most }
+        ensures { result ≡ min (call_script self.now).piece most }
     {
         self.script.piece.min(most)
     }
