@@ -13,7 +13,7 @@ use Rattle.gate_transcript.specs.declared.head.Head.{Head}
 use Rattle.gate_transcript.specs.declared.head.TheConstants.{LONGEST_BODY}
 use Rattle.gate_transcript.specs.Transcript.{entry_kind, may_come, entry_head, sound_head, first_head, entry_with, reading_on, reading}
 use Rattle.gate_transcript.specs.Bodies.{may_have_length, is_body}
-use Rattle.gate_transcript.specs.Spelled.{kind_byte, entry_text, transcript_text, MayStand, AreEntries}
+use Rattle.gate_transcript.specs.Spelled.{kind_byte, entry_spelled, transcript_text, MayStand, AreEntries}
 use Rattle.gate_transcript.proofs.HeadLemmas.{first_whole}
 use Rattle.gate_transcript.proofs.ReadingLemmas.{among, after_magic, step_whole}
 
@@ -35,21 +35,21 @@ short_body End size fits = let none : size ≡ 0 = eqb-true size 0 fits in omega
 short_body Slow size fits = let none : size ≡ 0 = eqb-true size 0 fits in omega arith
 short_body UpEnd size fits = let one : size ≡ 1 = eqb-true size 1 fits in omega arith
 
-abbrev head_of : Entry → Head
+abbrev pub head_of : Entry → Head
 head_of e = record { kind = e.kind; conn = e.conn; size = length e.body }
 
-abbrev text_of : Entry → List ℕ
-text_of e = entry_text e.kind e.conn e.body
+abbrev pub text_of : Entry → List ℕ
+text_of e = entry_spelled e.kind e.conn e.body
 
 -- the bytes behind the first, of an entry with anything behind it
-abbrev behind : Entry → List ℕ → List ℕ
+abbrev pub behind : Entry → List ℕ → List ℕ
 behind e more = (to_be_bytes w32 e.conn ++ (to_be_bytes w32 (length e.body) ++ e.body)) ++ more
 
 -- its head
 abbrev read_as : EntryKind → ℕ → ℕ → Option Head
 read_as kind conn size = Some (record { kind = kind; conn = conn; size = size })
 
-head_spelled : (e : Entry) (more : List ℕ) → e.conn < 2 ^ 32 → length e.body < 2 ^ 32 → entry_head (kind_byte e.kind) (behind e more) ≡ Some (head_of e)
+pub head_spelled : (e : Entry) (more : List ℕ) → e.conn < 2 ^ 32 → length e.body < 2 ^ 32 → entry_head (kind_byte e.kind) (behind e more) ≡ Some (head_of e)
 head_spelled e more number short =
     ap (λ (k : Option EntryKind). option_map (λ kind. record { kind = kind; conn = from_be_bytes w32 (to_be_bytes w32 e.conn); size = from_be_bytes w32 (to_be_bytes w32 (length e.body)) }) k) (byte_names e.kind)
     ∙ ap (λ n. read_as e.kind n (from_be_bytes w32 (to_be_bytes w32 (length e.body)))) (from_be_bytes-to_be_bytes_4 e.conn number)
@@ -69,13 +69,13 @@ first_spelled has e more number comes fits body =
     })
 
 -- its length, and what is left behind it
-text_length : (e : Entry) → length (text_of e) ≡ 9 + length e.body
+pub text_length : (e : Entry) → length (text_of e) ≡ 9 + length e.body
 text_length e = omega arith
 
-text_rest : (e : Entry) (more : List ℕ) → drop (9 + length e.body) (text_of e ++ more) ≡ more
+pub text_rest : (e : Entry) (more : List ℕ) → drop (9 + length e.body) (text_of e ++ more) ≡ more
 text_rest e more = subst (λ (n : ℕ). drop n (text_of e ++ more) ≡ more) (text_length e) (drop-append_seam (text_of e) more)
 
-same_entry : (e : Entry) (more : List ℕ) → entry_with (head_of e) (text_of e ++ more) ≡ e
+pub same_entry : (e : Entry) (more : List ℕ) → entry_with (head_of e) (text_of e ++ more) ≡ e
 same_entry e more = ap (λ (l : List ℕ). let x : Entry = record { kind = e.kind; conn = e.conn; body = l } in x) (take-append_seam e.body more)
 
 -- an entry is read where it may stand
@@ -85,7 +85,7 @@ spelled_step place entries e more may =
     ∙ ap (λ (l : List ℕ). reading_on (place + 9 + length e.body) (entry_with (head_of e) (text_of e ++ more) ∷ entries) l) (text_rest e more)
     ∙ ap (λ (x : Entry). reading_on (place + 9 + length e.body) (x ∷ entries) more) (same_entry e more)
 
-spelled_onward : (entries : List Entry) → AreEntries entries → (more : List ℕ) → reading (transcript_text entries ++ more) ≡ reading_on (length (transcript_text entries)) entries more
+pub spelled_onward : (entries : List Entry) → AreEntries entries → (more : List ℕ) → reading (transcript_text entries ++ more) ≡ reading_on (length (transcript_text entries)) entries more
 spelled_onward [] are more = after_magic more
 spelled_onward (e ∷ entries) are more =
     let size = text_length e in

@@ -4,3 +4,5 @@ pub mod Transcript
 pub mod Reads
 pub mod Steps
 pub mod Spelled
+pub mod Notes
+pub mod Recordings

@@ -5,14 +5,20 @@
 //!
 //! An [`EntryReader`] is fed the pieces of a transcript and gives its whole entries in order, and then its first
 //! fault. Which entries and which fault a transcript has is defined apart from it, over all of its bytes.
+//!
+//! A [`Recorder`] notes entries as they come: a [`TranscriptRecorder`] writes them, and a [`MemoryRecorder`] keeps them
+//! for tests.
 #![tactic(auto)]
 
 mod connections;
 mod entry;
 mod fault;
 mod head;
+mod memory;
 mod pending;
 mod reader;
+mod recorder;
+mod recording;
 mod writing;
 
 pub use entry::{
@@ -22,7 +28,10 @@ pub use entry::{
 };
 pub use fault::{BadEntry, BadEntryKind, EntryFault};
 pub use head::{HEAD_LENGTH, LONGEST_BODY};
+pub use memory::MemoryRecorder;
 pub use reader::{EntryReader, MAGIC, MAGIC_LENGTH};
+pub use recorder::{NoteFault, Recorder};
+pub use recording::TranscriptRecorder;
 pub use writing::{write_entry, written_entries_are_read};
 
 #[cfg(test)]

@@ -3,6 +3,7 @@ ghost use Rattle.std.specs.Prelude.{◌<◌};
 
 use super::*;
 use gate_bytes::Memory;
+use gate_outside::{MemorySink, Numbers, Script};
 use std::alloc::Global;
 use std::test::Fail;
 
@@ -147,5 +148,90 @@ fn each_reason_has_its_byte(rt: HostRuntime) {
 fn an_entry_is_written(rt: HostRuntime) -> Result<(), Fail> {
     let text = write_entry(rt.alloc(), EntryKind::Client, 7, b"hi")?;
     assert_eq!(rt; text.as_bytes(), b"A\0\0\0\x07\0\0\0\x02hi".as_slice());
+    Ok(())
+}
+
+// The notes of ENTRIES.
+const NOTES: [(EntryKind, u32, &[u8]); 9] = [
+    (EntryKind::Enter, 1, b""),
+    (EntryKind::Enter, 7, b""),
+    (EntryKind::Client, 1, b"hi"),
+    (EntryKind::Client, 1, b""),
+    (EntryKind::End, 1, b""),
+    (EntryKind::Upstream, 0, b"all"),
+    (EntryKind::Client, 7, b"there"),
+    (EntryKind::Slow, 7, b""),
+    (EntryKind::UpEnd, 0, b"R"),
+];
+
+// A script of pieces of seven bytes, where this call fails.
+fn failing(alloc: Global, call: u64) -> Result<Script, Fail> {
+    let mut fails = Numbers::new(alloc);
+    fails.push(call).map_err(|refused| refused.1)?;
+    Ok(Script {
+        fails,
+        waits: Numbers::new(alloc),
+        idle: None,
+        piece: 7,
+    })
+}
+
+// Notes all of them, and answers the number of the first that was not noted.
+fn noted_until<R: Recorder>(recorder: &mut R) -> Option<usize> {
+    for (number, (kind, conn, body)) in NOTES.into_iter().enumerate() {
+        if recorder.note(kind, conn, body).is_err() {
+            return Some(number);
+        }
+    }
+    None
+}
+
+#[test]
+fn what_was_noted_is_read_back(rt: HostRuntime) -> Result<(), Fail> {
+    let sink = MemorySink::new(rt.alloc(), failing(rt.alloc(), 100)?);
+    let mut recorder = TranscriptRecorder::start(sink).map_err(|refused| refused.1)?;
+    assert_eq!(rt; noted_until(&mut recorder), None);
+    let sink = recorder.into_sink();
+    let (entries, end) = read(rt.alloc(), sink.as_bytes(), 1)?;
+    assert_eq!(rt; entries.as_slice(), ENTRIES);
+    assert_eq!(rt; end, Ok(()));
+    Ok(())
+}
+
+#[test]
+fn a_failed_write_cuts_an_entry(rt: HostRuntime) -> Result<(), Fail> {
+    let sink = MemorySink::new(rt.alloc(), failing(rt.alloc(), 8)?);
+    let mut recorder = TranscriptRecorder::start(sink).map_err(|refused| refused.1)?;
+    assert_eq!(rt; noted_until(&mut recorder), Some(2));
+    let sink = recorder.into_sink();
+    assert_eq!(rt;
+        sink.as_bytes().get(26..),
+        Some(b"A\0\0\0\x01\0\0\0\x02".as_slice())
+    );
+    let sink = MemorySink::new(rt.alloc(), failing(rt.alloc(), 1)?);
+    let refused = TranscriptRecorder::start(sink)
+        .err()
+        .ok_or("the magic was written")?;
+    assert_eq!(rt; refused.0.as_bytes(), b"RTSPGW1".as_slice());
+    Ok(())
+}
+
+#[test]
+fn a_recorder_in_memory_goes_by_its_script(rt: HostRuntime) -> Result<(), Fail> {
+    let mut recorder = MemoryRecorder::new(rt.alloc(), failing(rt.alloc(), 1)?);
+    assert_eq!(rt; recorder.note(EntryKind::Enter, 4, b""), Ok(()));
+    assert_eq!(rt;
+        recorder.note(EntryKind::End, 4, b""),
+        Err(NoteFault::Failed)
+    );
+    assert_eq!(rt; recorder.note(EntryKind::Client, 4, b"hi"), Ok(()));
+    let mut bytes = Vec::new(rt.alloc());
+    for entry in recorder.as_slice() {
+        push_entry(&mut bytes, entry)?;
+    }
+    assert_eq!(rt;
+        bytes.as_slice(),
+        b"O\0\0\0\x04\0\0\0\0A\0\0\0\x04\0\0\0\x02hi".as_slice()
+    );
     Ok(())
 }

@@ -1,9 +1,9 @@
 //! Entries as text, and the law that those of a transcript are read back.
-ghost use Rattle.std.specs.Prelude.{◌≡◌, ◌≤◌, List, None, IfOk, length};
+ghost use Rattle.std.specs.Prelude.{◌≡◌, ◌≤◌, ℕ, List, None, IfOk, length};
 ghost use Rattle.gate_transcript.specs.declared.entry.Entry.{Entry};
 ghost use Rattle.gate_transcript.specs.declared.head.TheConstants.{LONGEST_BODY};
-ghost use Rattle.gate_transcript.specs.Spelled.{kind_byte, entry_text, transcript_text, AreEntries};
-ghost use Rattle.gate_transcript.specs.Transcript.{reading};
+ghost use Rattle.gate_transcript.specs.Spelled.{kind_byte, entry_spelled, transcript_text, AreEntries, AreBytes, IsTranscript};
+ghost use Rattle.gate_transcript.specs.Transcript.{Reading, reading};
 
 use crate::entry::{
     CLIENT_BYTE, END_BYTE, ENTER_BYTE, EntryKind, SLOW_BYTE, UP_END_BYTE, UPSTREAM_BYTE,
@@ -16,7 +16,7 @@ use std::alloc::Global;
 /// and its connection: the entries before it say whether it may stand in a transcript.
 pub fn write_entry(alloc: Global, kind: EntryKind, conn: u32, body: &[u8]) -> Result<Text, Memory>
     requires { length body.now ≤ LONGEST_BODY }
-    ensures { IfOk result (λ text. text ≡ entry_text kind conn body.now) }
+    ensures { IfOk result (λ text. text ≡ entry_spelled kind conn body.now) }
 {
     let mut text = Text::with_room(alloc, HEAD_LENGTH + body.len())?;
     text.push_slice(&[kind_byte(kind)])?;
@@ -27,7 +27,7 @@ pub fn write_entry(alloc: Global, kind: EntryKind, conn: u32, body: &[u8]) -> Re
 }
 
 /// The byte that an entry of this kind begins with.
-fn kind_byte(kind: EntryKind) -> u8
+pub(crate) fn kind_byte(kind: EntryKind) -> u8
     ensures { result ≡ kind_byte kind }
 {
     match kind {
@@ -43,4 +43,11 @@ fn kind_byte(kind: EntryKind) -> u8
 /// Entries that may stand in a row, spelled behind the magic, are read back as those, without a fault.
 pub fn written_entries_are_read()
     ensures { (entries : List Entry) → AreEntries entries → reading (transcript_text entries) ≡ record { entries = entries; fault = None } }
+{}
+
+/// The grammar of a transcript says how bytes are read, both ways: whatever bytes spell by it is what
+/// is read, and whatever is read is spelled by it.
+pub fn a_transcript_is_read_by_its_grammar()
+    ensures read { (bytes : List ℕ) (read : Reading) → IsTranscript bytes read → reading bytes ≡ read }
+    ensures spelled { (bytes : List ℕ) → AreBytes bytes → IsTranscript bytes (reading bytes) }
 {}
