@@ -25,5 +25,6 @@ pub mod TurnBooksLemmas
 pub mod TurnClientLemmas
 pub mod TurnLawLemmas
 pub mod AskedLemmas
+pub mod OnePlayerLemmas
 pub mod OrderLemmas
 pub mod SeenLemmas

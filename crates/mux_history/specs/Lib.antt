@@ -10,6 +10,7 @@ pub mod Joined
 pub mod Kinds
 pub mod Next
 pub mod Notices
+pub mod OnePlayer
 pub mod Orderly
 pub mod Own
 pub mod Seen

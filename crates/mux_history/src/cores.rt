@@ -1,6 +1,6 @@
 //! What a core is: the thing behind a gateway, which takes the events of all connections, one after another, and hands
 //! out what each of them asks for.
-ghost use Rattle.std.specs.Prelude.{◌≡◌, ℕ, Bool, false, List, ◌∷◌, IfOk, IfErr, OnOk, OnErr, IsOk, IsSome};
+ghost use Rattle.std.specs.Prelude.{◌≡◌, ℕ, Bool, true, false, List, ◌∷◌, IfOk, IfErr, OnOk, OnErr, IsOk, IsSome};
 ghost use Rattle.rtsp_uri.specs.declared.base.Bases.{Bases};
 ghost use Rattle.mux_history.specs.Happenings.{Entry, entry_of, entering, is_alive, fault_in};
 ghost use Rattle.mux_history.specs.Cores.{IsCoreHistory, IsNewTo, ever_entered};
@@ -40,13 +40,25 @@ pub trait Core: Send + Drop {
     /// How many frames were dropped in these entries.
     ghost dropped: { List Entry → ℕ };
 
-    /// A connection enters, under a number that never entered. After the end of the connection to the server no memory is
-    /// taken.
+    /// Whether the memory for one connection more is taken.
+    ghost is_prepared: { Self → Bool };
+
+    /// Takes the memory for one connection more, and for all that its events can need, so that it can enter. Nothing else
+    /// changes. Where that was taken already no memory is.
+    fn prepare(&mut self, alloc: Global) -> Result<(), Memory>
+        ensures stands { (T : List Entry) → stands self.old T → stands self.new T }
+        ensures prepared { OnOk result (is_prepared self.new ≡ true) }
+        ensures free { is_prepared self.old ≡ true → IsOk result }
+        ensures bases { bases self.new ≡ bases self.old };
+
+    /// A connection enters, under a number that never entered. Where its memory is taken, and after the end of the
+    /// connection to the server, no memory is taken.
     fn enter(&mut self, alloc: Global, conn: u32) -> Result<(), Memory>
-        requires { IsNewTo (stands self.old) conn }
+        requires { ∥ IsNewTo (stands self.old) conn ∥₁ }
         ensures ok { OnOk result ((T : List Entry) → stands self.old T → ever_entered conn T ≡ false → stands self.new (entering conn ∷ T)) }
         ensures err { OnErr result ((T : List Entry) → stands self.old T → stands self.new T) }
         ensures free { (T : List Entry) → stands self.old T → IsSome (fault_in T) → IsOk result }
+        ensures prepared { is_prepared self.old ≡ true → IsOk result }
         ensures bases { bases self.new ≡ bases self.old };
 
     /// What an event will do. Nothing changes, and all memory for it is taken. Only a request of a client or a message of

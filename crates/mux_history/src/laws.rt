@@ -20,6 +20,7 @@ ghost use Rattle.mux_history.specs.Cores.{IsCoreHistory};
 ghost use Rattle.mux_history.specs.Joined.{IsJoined, AreSound};
 ghost use Rattle.mux_history.specs.Next.{next};
 ghost use Rattle.mux_history.specs.Turns.{client_alone, IsItsTurn, IsSteppedBy};
+ghost use Rattle.mux_history.specs.OnePlayer.{IsOnlyPlayer, HasAll};
 ghost use Rattle.mux_history.specs.Orderly.{IsOrderly};
 ghost use Rattle.mux_history.specs.Seen.{IsSeenRun};
 
@@ -56,6 +57,13 @@ pub fn equal_own_events()
 /// own events, in order, in the numbers and on the channels of the one connection.
 pub fn the_server_is_asked_what_each_asks_alone()
     ensures { (bases : Bases) (history : List Entry) (i : ℕ) → IsHistory bases history → asked_up i history ≡ spelled_up (books_of history) i bases (own bases i history) }
+{}
+
+/// Where one connection alone ever entered, the history is that connection's own, end to end: all that
+/// any player is handed is what its machine hands out on its own events, in order; the server is asked
+/// exactly what that machine sends up; it is closed as there, and nobody else is.
+pub fn one_player_has_all_that_is_handed_out()
+    ensures { (bases : Bases) (history : List Entry) (i : ℕ) → IsHistory bases history → IsOnlyPlayer i history → HasAll bases i history }
 {}
 
 /// While the connection to the server stands, the books of a history and what each connection alone

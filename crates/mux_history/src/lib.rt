@@ -19,7 +19,7 @@ pub use laws::{
     a_turn_is_one_step_by_the_books, at_most_one_history, at_most_one_history_of_a_core,
     books_and_connections_agree, entries_are_orderly, equal_own_events,
     no_two_connections_have_one_session, no_two_streams_share_channels, one_next_entry,
-    replies_walk_the_table, some_next_entry, the_last_number_is_the_greatest_read,
-    the_server_is_asked_what_each_asks_alone,
+    one_player_has_all_that_is_handed_out, replies_walk_the_table, some_next_entry,
+    the_last_number_is_the_greatest_read, the_server_is_asked_what_each_asks_alone,
 };
 pub use rtsp_uri::{Base, Bases};

@@ -18,6 +18,7 @@ use session_two::Names;
 
 impl Slot {
     ghost use Rattle.client_slot.specs.Changes.{after_waiting, after_next, after_asking, after_queueing, after_release, after_reply, after_note, after_close, after_closing};
+    ghost use Rattle.client_slot.specs.Bounds.{is_torn_at, is_left};
     ghost use Rattle.client_slot.specs.Closing.{closing_text};
 
     /// A request waits.
@@ -87,6 +88,7 @@ impl Slot {
             Purpose::Released(play) => self.session.released(number, code, play),
             Purpose::Closing => self.session.leave(),
         }
+        self.let_go();
         settled
     }
 
@@ -105,6 +107,34 @@ impl Slot {
         self.alive = false;
         self.session.unqueue();
         self.waiting.clear();
+        self.let_go();
+    }
+
+    /// Gives back the room for a closing TEARDOWN, where none can go up any more.
+    fn let_go(&mut self)
+        ensures { self.new ≡ self.old }
+    {
+        if self.is_left() {
+            self.room = None;
+        }
+    }
+
+    /// Whether the connection closed, and its closing TEARDOWN went up or never will.
+    fn is_left(&self) -> bool
+        ensures { result ≡ is_left self.now }
+    {
+        !self.alive && self.is_torn()
+    }
+
+    /// Whether no closing TEARDOWN can go up any more, once the connection is closed.
+    fn is_torn(&self) -> bool
+        ensures { result ≡ is_torn_at self.now.pending self.now.session.id }
+    {
+        match &self.pending {
+            None | Some(Purpose::Released(_)) => self.session.id().is_none(),
+            Some(Purpose::Client(_, _)) => false,
+            Some(Purpose::Closing) => true,
+        }
     }
 
     /// The text of the closing TEARDOWN with this number, which went up, where one is to.
