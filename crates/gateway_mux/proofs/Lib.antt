@@ -3,7 +3,6 @@ pub mod AskedLemmas
 pub mod BooksLemmas
 pub mod CarryingLemmas
 pub mod CommitLemmas
-pub mod DirectoryLemmas
 pub mod EndLemmas
 pub mod EnterLemmas
 pub mod FinalLemmas
@@ -16,7 +15,6 @@ pub mod MuxLemmas
 pub mod PictureLemmas
 pub mod PlanLemmas
 pub mod ReadyLemmas
-pub mod RisingLemmas
 pub mod RoomLemmas
 pub mod SaidLemmas
 pub mod SeatLemmas

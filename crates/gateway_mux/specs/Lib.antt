@@ -1,7 +1,6 @@
 pub mod Acts
 pub mod Carried
 pub mod CoreLaws
-pub mod Directories
 pub mod Entering
 pub mod ExitCodes
 pub mod Free
@@ -10,7 +9,6 @@ pub mod Hearing
 pub mod Moves
 pub mod NoticesSeen
 pub mod Pictures
-pub mod Rising
 pub mod Room
 pub mod Seats
 pub mod Settled

@@ -3,7 +3,7 @@ use Rattle.std.specs.Prelude.{◌≡◌, ℕ, ◌-◌, ◌^◌, ◌≤◌, ◌<�
 use Rattle.std.specs.Option.{option_and_then}
 use Rattle.slab.specs.Slab.{get as slab_get}
 use Rattle.client_slot.specs.Client.{Client}
-use Rattle.gateway_mux.specs.Directories.{key_of}
+use Rattle.connection_directory.specs.Directories.{key_of}
 use Rattle.gateway_mux.specs.Turn.{one_if}
 use Rattle.gateway_mux.specs.declared.seats.Seat.{Seat}
 use Rattle.gateway_mux.specs.declared.seats.Seats.{Seats}

@@ -8,7 +8,6 @@
 mod act;
 mod commit;
 mod connections;
-mod directory;
 mod frames;
 mod grant;
 mod hear;

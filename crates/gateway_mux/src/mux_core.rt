@@ -9,7 +9,7 @@ use std::alloc::Global;
 impl Core for Mux {
     ghost use Rattle.mux_history.specs.Follows.{Follows};
     ghost use Rattle.mux_history.specs.Tells.{is_busy, dropped_frames};
-    ghost use Rattle.gateway_mux.specs.Stands.{Stands, IsPlanFor, bases_of};
+    ghost use Rattle.gateway_mux.specs.Stands.{Stands, IsPlanFor, bases_of, is_prepared};
     ghost use Rattle.gateway_mux.specs.CoreLaws.{stands_for_history, one_follows, follows_in_order};
 
     type Plan = Plan;
@@ -25,6 +25,12 @@ impl Core for Mux {
     ghost is_busy = { is_busy };
 
     ghost dropped = { dropped_frames };
+
+    ghost is_prepared = { is_prepared };
+
+    fn prepare(&mut self, alloc: Global) -> Result<(), Memory> {
+        Mux::prepare(self, alloc)
+    }
 
     fn enter(&mut self, alloc: Global, conn: u32) -> Result<(), Memory> {
         Mux::enter(self, alloc, conn)

@@ -4,10 +4,10 @@ ghost use Rattle.slab.specs.Slab.{get as slab_get};
 ghost use Rattle.client_slot.specs.Client.{new_client};
 ghost use Rattle.gate_machine.specs.Plans.{IsReady, IsShortPlan, IsShortDone};
 ghost use Rattle.gateway_mux.specs.Carried.{IsCarriedAt};
-ghost use Rattle.gateway_mux.specs.Directories.{key_of, HasPlace};
+ghost use Rattle.connection_directory.specs.Directories.{key_of, HasPlace};
 
-use crate::directory::Directory;
 use client_slot::Slot;
+use connection_directory::Directory;
 use gate_bytes::Memory;
 use gate_machine::{Done, Plan};
 use slab::Slab;

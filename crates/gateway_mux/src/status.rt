@@ -1,6 +1,7 @@
 //! How a run of a gateway ends: the status, its exit status and its fault line.
 
 use gate_transcript::BadEntryKind;
+use mux_history::{FramingFault, UpCause};
 use std::fmt;
 
 /// How a run ended.
@@ -16,10 +17,24 @@ pub enum Status {
     SinkFault,
     /// The source holds no transcript: the entry whose first byte has this place has this fault.
     BadTranscript { place: u64, kind: BadEntryKind },
-    /// The source holds more bytes than a transcript may have.
-    TooLong,
+    /// The connection to the server ended, for this cause.
+    Upstream { cause: UpCause },
+    /// The address at which players are awaited can't be had.
+    ListenFault,
+    /// The recording can't be begun, or writing it failed.
+    RecordFault,
+    /// A thread was refused.
+    CrewRefused,
     /// Memory ran out.
     Memory,
+    /// The source holds more bytes than a transcript may have.
+    TooLong,
+    /// A connection of a player could not be accepted.
+    AcceptFault,
+    /// The server can't be reached.
+    DialFault,
+    /// All numbers of connections were given.
+    NumbersSpent,
 }
 
 impl Status {
@@ -36,8 +51,15 @@ impl Status {
             Status::SourceFault => 3,
             Status::SinkFault => 4,
             Status::BadTranscript { .. } => 5,
+            Status::Upstream { .. } => 6,
+            Status::ListenFault => 7,
+            Status::RecordFault => 8,
+            Status::CrewRefused => 9,
             Status::Memory => 10,
             Status::TooLong => 11,
+            Status::AcceptFault => 12,
+            Status::DialFault => 13,
+            Status::NumbersSpent => 14,
         }
     }
 }
@@ -54,8 +76,32 @@ impl fmt::Display for Status {
                 f,
                 "bad transcript at {place}: {kind:?}"
             ),
-            Status::TooLong => write!(f, "transcript too long"),
+            Status::Upstream { cause } => write!(f, "upstream: {}", CauseText(*cause)),
+            Status::ListenFault => write!(f, "listen failed"),
+            Status::RecordFault => write!(f, "record failed"),
+            Status::CrewRefused => write!(f, "no crew"),
             Status::Memory => write!(f, "out of memory"),
+            Status::TooLong => write!(f, "transcript too long"),
+            Status::AcceptFault => write!(f, "accept failed"),
+            Status::DialFault => write!(f, "dial failed"),
+            Status::NumbersSpent => write!(f, "connection numbers spent"),
+        }
+    }
+}
+
+// The text of a cause, as the record of a fault has it.
+#[derive(Clone, Copy)]
+struct CauseText(UpCause);
+
+impl fmt::Display for CauseText {
+    fn fmt<W: fmt::Write>(&self, f: &mut fmt::Formatter<W>) -> fmt::Result {
+        match self.0 {
+            UpCause::Framing(FramingFault::Bad(kind)) => write!(f, "Framing {kind:?}"),
+            UpCause::Framing(fault) => write!(f, "Framing {fault:?}"),
+            UpCause::UnknownReply(number) => write!(f, "UnknownReply {number}"),
+            UpCause::BadGrant(number) => write!(f, "BadGrant {number}"),
+            UpCause::SessionTaken(number) => write!(f, "SessionTaken {number}"),
+            cause => write!(f, "{cause:?}"),
         }
     }
 }
@@ -63,7 +109,15 @@ impl fmt::Display for Status {
 #[cfg(test)]
 mod tests {
     use super::*;
+    use rtsp_head::BadKind;
+    use std::alloc::Global;
     use std::test::Fail;
+
+    // Whether a status has this exit status and this fault line.
+    fn is_told(alloc: Global, status: Status, code: u8, line: &str) -> Result<bool, Fail> {
+        let text = format!(in alloc; "{status}")?;
+        Ok(status.exit_code() == code && text.as_str() == line)
+    }
 
     #[test]
     fn each_status_has_its_exit_status_and_its_fault_line(rt: HostRuntime) -> Result<(), Fail> {
@@ -82,9 +136,45 @@ mod tests {
             (Status::TooLong, 11, "transcript too long"),
         ];
         for (status, code, line) in rows {
-            let text = format!(in rt.alloc(); "{status}")?;
-            assert_eq!(rt; text.as_str(), line);
-            assert_eq!(rt; status.exit_code(), code, "{line}");
+            assert!(rt; is_told(rt.alloc(), status, code, line)?);
+        }
+        Ok(())
+    }
+
+    #[test]
+    fn each_end_of_a_run_over_links_has_them_too(rt: HostRuntime) -> Result<(), Fail> {
+        let rows = [
+            (Status::ListenFault, 7, "listen failed"),
+            (Status::RecordFault, 8, "record failed"),
+            (Status::CrewRefused, 9, "no crew"),
+            (Status::AcceptFault, 12, "accept failed"),
+            (Status::DialFault, 13, "dial failed"),
+            (Status::NumbersSpent, 14, "connection numbers spent"),
+        ];
+        for (status, code, line) in rows {
+            assert!(rt; is_told(rt.alloc(), status, code, line)?);
+        }
+        Ok(())
+    }
+
+    #[test]
+    fn the_end_of_the_server_s_connection_tells_its_cause(rt: HostRuntime) -> Result<(), Fail> {
+        let rows = [
+            (UpCause::UnknownReply(9), "upstream: UnknownReply 9"),
+            (UpCause::BadGrant(1), "upstream: BadGrant 1"),
+            (UpCause::SessionTaken(2), "upstream: SessionTaken 2"),
+            (
+                UpCause::Framing(FramingFault::Bad(BadKind::Start)),
+                "upstream: Framing Start",
+            ),
+            (
+                UpCause::Framing(FramingFault::Cseq),
+                "upstream: Framing Cseq",
+            ),
+            (UpCause::UpFull, "upstream: UpFull"),
+        ];
+        for (cause, line) in rows {
+            assert!(rt; is_told(rt.alloc(), Status::Upstream { cause }, 6, line)?);
         }
         Ok(())
     }

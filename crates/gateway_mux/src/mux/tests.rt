@@ -15,16 +15,38 @@ use std::test::Fail;
 // A player asks for a description.
 const DESCRIBE: &[u8] = b"DESCRIBE rtsp://gate.example/m RTSP/1.0\r\nCSeq: 7\r\n\r\n";
 
+// The same as it goes up first.
+const DESCRIBE_UP: &[u8] = b"DESCRIBE rtsp://media.example/m RTSP/2.0\r\nCSeq: 1\r\n\r\n";
+
+// The server has none, and what the player is told.
+const NOT_FOUND: &[u8] = b"RTSP/2.0 404 Not Found\r\nCSeq: 1\r\n\r\n";
+
+const NOT_FOUND_DOWN: &[u8] = b"RTSP/1.0 404 Not Found\r\nCSeq: 7\r\n\r\n";
+
 // A player asks for a stream on channels 4 and 5.
 const SETUP: &[u8] =
     b"SETUP rtsp://gate.example/m RTSP/1.0\r\nCSeq: 7\r\nTransport: RTP/AVP/TCP;interleaved=4-5\r\n\r\n";
+
+// The same as it goes up next.
+const SETUP_UP: &[u8] =
+    b"SETUP rtsp://media.example/m RTSP/2.0\r\nCSeq: 2\r\nTransport: RTP/AVP/TCP;unicast;interleaved=0-1\r\nAccept-Ranges: npt, smpte, smpte-30-drop, smpte-25, clock\r\n\r\n";
 
 // The server grants it on channels 0 and 1.
 const GRANT: &[u8] =
     b"RTSP/2.0 200 OK\r\nCSeq: 2\r\nSession: a\r\nTransport: RTP/AVP/TCP;unicast;interleaved=0-1\r\n\r\n";
 
-// A frame on the second of those channels.
+// What the player is told of it.
+const GRANT_DOWN: &[u8] =
+    b"RTSP/1.0 200 OK\r\nCSeq: 7\r\nSession: a\r\nTransport: RTP/AVP/TCP;unicast;interleaved=4-5\r\n\r\n";
+
+// A frame on the second of those channels, and as the player gets it.
 const FRAME: &[u8] = b"$\x01\0\x02ab";
+
+const FRAME_DOWN: &[u8] = b"$\x05\0\x02ab";
+
+// What goes up at the end of the player.
+const TEARDOWN_UP: &[u8] =
+    b"TEARDOWN rtsp://media.example/m RTSP/2.0\r\nCSeq: 3\r\nSession: a\r\n\r\n";
 
 // A gateway between two addresses.
 fn gateway(alloc: Global) -> Result<Mux, Fail>
@@ -128,38 +150,13 @@ fn a_session_is_set_up_and_torn_down(rt: HostRuntime) -> Result<(), Fail> {
     let alloc = rt.alloc();
     let mut mux = entered(alloc, 1)?;
     let rows: [(Option<u32>, &[u8], &[u8], &[u8]); 7] = [
-        (
-            Some(1),
-            DESCRIBE,
-            b"DESCRIBE rtsp://media.example/m RTSP/2.0\r\nCSeq: 1\r\n\r\n",
-            b"",
-        ),
-        (
-            None,
-            b"RTSP/2.0 404 Not Found\r\nCSeq: 1\r\n\r\n",
-            b"",
-            b"RTSP/1.0 404 Not Found\r\nCSeq: 7\r\n\r\n",
-        ),
+        (Some(1), DESCRIBE, DESCRIBE_UP, b""),
+        (None, NOT_FOUND, b"", NOT_FOUND_DOWN),
         (None, FRAME, b"", b""),
-        (
-            Some(1),
-            SETUP,
-            b"SETUP rtsp://media.example/m RTSP/2.0\r\nCSeq: 2\r\nTransport: RTP/AVP/TCP;unicast;interleaved=0-1\r\nAccept-Ranges: npt, smpte, smpte-30-drop, smpte-25, clock\r\n\r\n",
-            b"",
-        ),
-        (
-            None,
-            GRANT,
-            b"",
-            b"RTSP/1.0 200 OK\r\nCSeq: 7\r\nSession: a\r\nTransport: RTP/AVP/TCP;unicast;interleaved=4-5\r\n\r\n",
-        ),
-        (None, FRAME, b"", b"$\x05\0\x02ab"),
-        (
-            Some(1),
-            b"",
-            b"TEARDOWN rtsp://media.example/m RTSP/2.0\r\nCSeq: 3\r\nSession: a\r\n\r\n",
-            b"",
-        ),
+        (Some(1), SETUP, SETUP_UP, b""),
+        (None, GRANT, b"", GRANT_DOWN),
+        (None, FRAME, b"", FRAME_DOWN),
+        (Some(1), b"", TEARDOWN_UP, b""),
     ];
     for (conn, bytes, up, down) in rows {
         let event = event(alloc, conn, bytes)?;

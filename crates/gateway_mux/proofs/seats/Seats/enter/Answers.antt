@@ -1,5 +1,5 @@
 use Rattle.slab.specs.Slab.{get as slab_get}
-use Rattle.gateway_mux.specs.Directories.{key_of}
+use Rattle.connection_directory.specs.Directories.{key_of}
 use Rattle.gateway_mux.proofs.SeatLemmas.{absent_key}
 use Rattle.gateway_mux.proofs.seats.Seats.enter.Goals as goal
 

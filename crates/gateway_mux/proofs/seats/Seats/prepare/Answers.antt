@@ -1,6 +1,6 @@
 use Rattle.std.proofs.Common.{◌≡◌, ◌∙◌, ℕ, Option, None, Some, is_some, true, sym, ap, refl}
 use Rattle.slab.specs.Slab.{get as slab_get}
-use Rattle.gateway_mux.specs.Directories.{key_of}
+use Rattle.connection_directory.specs.Directories.{key_of}
 use Rattle.gateway_mux.proofs.SeatLemmas.{not_among, kept_more}
 use Rattle.gateway_mux.proofs.seats.Seats.prepare.Goals as goal
 
