@@ -2,6 +2,7 @@ pub mod RecordLemmas
 pub mod FedLemmas
 pub mod LivingLemmas
 pub mod EndLemmas
+pub mod OneTranscriptLemmas
 pub mod OutcomeLemmas
 pub mod TellLemmas
 pub mod RunLemmas

@@ -1,6 +1,7 @@
 pub mod Events
 pub mod Framers
 pub mod Living
+pub mod OneTranscript
 pub mod Records
 pub mod Refusing
 pub mod RefusingLaws

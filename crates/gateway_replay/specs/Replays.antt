@@ -13,7 +13,7 @@ use Rattle.gate_transcript.specs.declared.reader.EntryReader.{EntryReader}
 use Rattle.gate_transcript.specs.Transcript.{reading}
 use Rattle.gate_transcript.specs.Reads.{ReadsSo, GivenWhole, StopsAt, MayGoOn}
 use Rattle.gateway_mux.specs.declared.status.Status.{Status}
-use Rattle.gateway_mux.specs.declared.status.Status.TheVariants.{Done, Usage, SourceFault, SinkFault, BadTranscript, TooLong, Memory}
+use Rattle.gateway_mux.specs.declared.status.Status.TheVariants.{Done, SourceFault, SinkFault, BadTranscript, TooLong, Memory}
 use Rattle.gateway_replay.specs.declared.streams.Streams.{Streams}
 use Rattle.gateway_replay.specs.declared.replaying.Stop.{Stop}
 use Rattle.gateway_replay.specs.declared.replaying.Stop.TheVariants as stop
@@ -158,22 +158,18 @@ pub record EndsWithoutMemory (made : Histories) (bases : Bases) (all left before
 -- can make.
 abbrev pub ReplaySays : Histories → Bases → Status → Option (List ℕ) → Option (List ℕ) → Option (List ℕ) → Option (List ℕ) → Type 0
 ReplaySays made bases Done all left before now = EndsReplay made bases Done all before now × IsAtEnd left
-ReplaySays made bases (Usage place) all left before now = ⊥
 ReplaySays made bases SourceFault all left before now = EndsBySourceFault made bases all left before now
 ReplaySays made bases SinkFault all left before now = EndsBySinkFault made bases all left before now
 ReplaySays made bases (BadTranscript place fault) all left before now = EndsReplay made bases (BadTranscript place fault) all before now
 ReplaySays made bases TooLong all left before now = EndsReplay made bases TooLong all before now
 ReplaySays made bases Memory all left before now = EndsWithoutMemory made bases all left before now
+ReplaySays made bases other all left before now = ⊥
 
 -- The count that tells of the answer's fault rose.
 abbrev pub FaultRose : Status → ℕ → ℕ → ℕ → ℕ → Type 0
-FaultRose Done source_before source_now sink_before sink_now = Unit {0}
-FaultRose (Usage place) source_before source_now sink_before sink_now = Unit {0}
 FaultRose SourceFault source_before source_now sink_before sink_now = Rose source_before source_now
 FaultRose SinkFault source_before source_now sink_before sink_now = Rose sink_before sink_now
-FaultRose (BadTranscript place fault) source_before source_now sink_before sink_now = Unit {0}
-FaultRose TooLong source_before source_now sink_before sink_now = Unit {0}
-FaultRose Memory source_before source_now sink_before sink_now = Unit {0}
+FaultRose other source_before source_now sink_before sink_now = Unit {0}
 
 -- The loop of a replay: these bytes were taken, and what they hold was processed; there is room for so many more.
 pub record IsReplaying (bases : Bases) (reader : EntryReader) (streams : Streams) (stood : Histories) (room : ℕ) (all left before now : Option (List ℕ)) : Type 0 where

@@ -4,6 +4,7 @@
 //! Nothing of the core is known here but what the trait [`gateway_mux::Core`] says of every core.
 #![tactic(auto)]
 
+mod laws;
 mod living;
 mod outcomes;
 mod records;
@@ -12,6 +13,8 @@ mod run;
 mod streams;
 mod watched;
 
+pub use laws::a_transcript_of_one_player_is_its_own;
+pub use outcomes::close_byte;
 pub use replaying::{LONGEST_TRANSCRIPT, READ_SIZE, replay};
 
 #[cfg(test)]

@@ -139,7 +139,7 @@ fn write_ends<K: Sink>(sink: &mut K, living: &mut Living) -> Result<(), Failed>
 }
 
 /// The byte that tells why a connection was closed.
-fn close_byte(why: CloseWhy) -> u8
+pub fn close_byte(why: CloseWhy) -> u8
     ensures { result ≡ close_byte why }
 {
     match why {
@@ -231,6 +231,8 @@ mod tests {
     fn text_of(alloc: Global, cause: UpCause) -> Result<Text, Fail> {
         let script = Script {
             fails: Numbers::new(alloc),
+            waits: Numbers::new(alloc),
+            idle: None,
             piece: 64,
         };
         let mut sink = MemorySink::new(alloc, script);

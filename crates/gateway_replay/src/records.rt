@@ -108,6 +108,8 @@ mod tests {
     fn records_are_spelled(rt: HostRuntime) {
         let script = Script {
             fails: Numbers::new(rt.alloc()),
+            waits: Numbers::new(rt.alloc()),
+            idle: None,
             piece: 4,
         };
         let mut sink = MemorySink::new(rt.alloc(), script);

@@ -28,6 +28,8 @@ fn script(alloc: Global, piece: usize) -> Script
 {
     Script {
         fails: Numbers::new(alloc),
+        waits: Numbers::new(alloc),
+        idle: None,
         piece,
     }
 }

@@ -172,6 +172,12 @@ impl Core for Refuser {
 
     ghost dropped = { λ T. 0 };
 
+    ghost is_prepared = { λ core. false };
+
+    fn prepare(&mut self, alloc: Global) -> Result<(), Memory> {
+        Err(Memory)
+    }
+
     fn enter(&mut self, alloc: Global, conn: u32) -> Result<(), Memory> {
         if self.over.is_some() {
             return Ok(());
