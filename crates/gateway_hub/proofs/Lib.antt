@@ -1,0 +1,26 @@
+-- Lemmas of the hub.
+pub mod ClosingLemmas
+pub mod EndLemmas
+pub mod EnterLemmas
+pub mod FetchLemmas
+pub mod FrontLemmas
+pub mod GoLemmas
+pub mod HandLemmas
+pub mod HistoryLemmas
+pub mod IdleLemmas
+pub mod InwardLemmas
+pub mod ItemLemmas
+pub mod LateLemmas
+pub mod LineLemmas
+pub mod OrderLemmas
+pub mod OweLemmas
+pub mod PlaceLemmas
+pub mod PutLemmas
+pub mod ReceiptLemmas
+pub mod RetireLemmas
+pub mod SettleLemmas
+pub mod StepLemmas
+pub mod TakeLemmas
+pub mod UpLemmas
+pub mod RetoldLemmas
+pub mod RoomLemmas

@@ -1,0 +1,103 @@
+-- One event more: which full ports are accounted for.
+use Rattle.std.proofs.Common.{◌≡◌, ◌∙◌, ℕ, ◌<◌, Bool, true, false, ◌||◌, ◌==◌, List, ◌∷◌, Option, Some, None, refl, sym, ap, subst, inl, inr, arith}
+use Rattle.std.specs.Prelude.{◌⊎◌}
+use Rattle.std.specs.Option.{option_or}
+use Rattle.client_ports.specs.declared.parcel.Parcel.{Parcel}
+use Rattle.client_ports.specs.declared.putter.Putter.{Putter}
+use Rattle.client_ports.specs.Ends.{fulls_of}
+use Rattle.mux_history.specs.declared.event.Outcome.{Outcome}
+use Rattle.mux_history.specs.declared.event.ToClient.{ToClient}
+use Rattle.mux_history.specs.declared.event.UpCause.{UpCause}
+use Rattle.mux_history.specs.Happenings.{Happening, Entry, fault_in}
+use Rattle.gateway_hub.specs.declared.ending.Ending.{Ending}
+use Rattle.gateway_hub.specs.declared.line.Line.{Line}
+use Rattle.gateway_hub.specs.declared.line.Place.{Place}
+use Rattle.gateway_hub.specs.Closes.{lags_here, lagged}
+use Rattle.gateway_hub.specs.Endings.{cut_short, stopped_noting, fell_full}
+use Rattle.gateway_hub.specs.Places.{line_at, PutsBytes, PutsAll, HandsOut, told_full}
+use Rattle.gateway_hub.specs.Kept.{is_owed, is_excused, is_server_excused}
+use Rattle.gateway_hub.specs.Taking.{owes}
+use Rattle.gateway_hub.proofs.HistoryLemmas.{entry}
+use Rattle.gateway_hub.proofs.LineLemmas.{was_before}
+
+-- What holds of one of two, holds after either grew.
+or_left : (a b : Bool) → a ≡ true → (a || b) ≡ true
+or_left true b is = refl
+or_left false b is = cc
+
+or_right : (a b : Bool) → b ≡ true → (a || b) ≡ true
+or_right true b is = refl
+or_right false b is = is
+
+or_case : (a b : Bool) → (a || b) ≡ true → (a ≡ true) ⊎ (b ≡ true)
+or_case true b is = inl refl
+or_case false b is = inr is
+
+or_more : (a b c d : Bool) → (a ≡ true → c ≡ true) → (b ≡ true → d ≡ true) → (a || b) ≡ true → (c || d) ≡ true
+or_more a b c d first next is = elim (or_case a b is) [ inl x ↦ or_left c d (first x) | inr y ↦ or_right c d (next y) ]
+
+-- An ending that is kept stays.
+pub cut_stays : (ending : Option Ending) (more : Option Ending) → cut_short ending ≡ true → cut_short (option_or ending more) ≡ true
+cut_stays None more is = cc
+cut_stays (Some ending) more is = is
+
+pub stop_stays : (ending : Option Ending) (more : Option Ending) → stopped_noting ending ≡ true → stopped_noting (option_or ending more) ≡ true
+stop_stays None more is = cc
+stop_stays (Some ending) more is = is
+
+pub full_stays : (T : List Entry) (h : Happening) (o : Outcome) → fell_full (fault_in T) ≡ true → fell_full (fault_in (entry h o ∷ T)) ≡ true
+full_stays T h o is = by (fault_in T) is
+  where
+    by : (fault : Option UpCause) → fell_full fault ≡ true → fell_full (option_or fault o.fault) ≡ true
+    by None is = cc
+    by (Some cause) is = is
+
+pub excused_more : (i : ℕ) (owed owing : Option ℕ) (ending more : Option Ending) (T : List Entry) (h : Happening) (o : Outcome) → (is_owed owed i ≡ true → is_owed owing i ≡ true)
+    → is_excused i owed ending T ≡ true → is_excused i owing (option_or ending more) (entry h o ∷ T) ≡ true
+excused_more i owed owing ending more T h o grows is =
+    or_more (lagged i T) (cut_short ending || is_owed owed i) (lagged i (entry h o ∷ T)) (cut_short (option_or ending more) || is_owed owing i)
+    (λ l. or_right (lags_here i h) (lagged i T) l)
+    (λ r. or_more (cut_short ending) (is_owed owed i) (cut_short (option_or ending more)) (is_owed owing i) (cut_stays ending more) grows r)
+    is
+
+owes_more : (refused owed : Option ℕ) (i : ℕ) → (owed ≡ None) ⊎ (refused ≡ None) → is_owed owed i ≡ true → is_owed (owes refused owed) i ≡ true
+owes_more None owed i one is = is
+owes_more (Some conn) None i one is = cc
+owes_more (Some conn) (Some other) i (inl none) is = cc
+owes_more (Some conn) (Some other) i (inr none) is = cc
+
+-- who is accounted for among the lines
+abbrev pub Excuses : Option ℕ → Option Ending → List Place → List Entry → Type 0
+Excuses owed ending places history = (i : ℕ) (line : Line) → line_at places i ≡ Some line → 0 < fulls_of line.outward → is_excused i owed ending history ≡ true
+
+owed_here : (conn i : ℕ) (ending : Option Ending) (T : List Entry) → (conn == i) ≡ true → is_excused i (Some conn) ending T ≡ true
+owed_here conn i ending T here = or_right (lagged i T) (cut_short ending || (conn == i)) (or_right (cut_short ending) (conn == i) here)
+
+pub excuses_more : (before after : List Place) (piece : Option ToClient) (refused owed : Option ℕ) (ending more : Option Ending) (T : List Entry) (h : Happening) (o : Outcome) → HandsOut piece refused before after → (owed ≡ None) ⊎ (refused ≡ None)
+    → Excuses owed ending before T → Excuses (owes refused owed) (option_or ending more) after (entry h o ∷ T)
+excuses_more before after None refused owed ending more T h o out one excuses i line at some =
+    let was : line_at before i ≡ Some line = ap (λ (l : List Place). line_at l i) (sym out.1) ∙ at in
+    excused_more i owed (owes refused owed) ending more T h o (owes_more refused owed i one) (excuses i line was some)
+excuses_more before after (Some piece) refused owed ending more T h o out one excuses i line at some =
+    let w = was_before piece.conn _ before after out.2 i line at in
+    let old : (0 < fulls_of w.0.outward → is_excused i (owes refused owed) (option_or ending more) (entry h o ∷ T) ≡ true) = λ s. excused_more i owed (owes refused owed) ending more T h o (owes_more refused owed i one) (excuses i w.0 w.1 s) in
+    elim w.2 [
+      | inl x ↦ by out.0 out.1 x.0 x.1 old
+      | inr x ↦ old (subst (λ (p : Putter). 0 < fulls_of p) (ap (λ (l : Line). l.outward) x.1) some)
+    ]
+  where
+    by : (full : Bool) → refused ≡ told_full full piece.conn → (piece.conn == i) ≡ true → {was : Line} → PutsBytes piece.bytes full was line → (0 < fulls_of was.outward → is_excused i (owes refused owed) (option_or ending more) (entry h o ∷ T) ≡ true)
+        → is_excused i (owes refused owed) (option_or ending more) (entry h o ∷ T) ≡ true
+    by true told here puts old = subst (λ (r : Option ℕ). is_excused i (owes r owed) (option_or ending more) (entry h o ∷ T) ≡ true) (sym told) (owed_here piece.conn i (option_or ending more) (entry h o ∷ T) here)
+    by false told here puts old = old (let same = puts.outward.landed refl in omega arith)
+
+pub up_excused_more : (full owed : Bool) (parcels : List Parcel) (before after : Putter) (ending more : Option Ending) (T : List Entry) (h : Happening) (o : Outcome) → PutsAll parcels full before after
+    → (0 < fulls_of before → is_server_excused owed ending T ≡ true) → 0 < fulls_of after → is_server_excused (full || owed) (option_or ending more) (entry h o ∷ T) ≡ true
+up_excused_more true owed parcels before after ending more T h o puts excused some =
+    or_right (fell_full (fault_in (entry h o ∷ T))) (stopped_noting (option_or ending more) || true) (or_right (stopped_noting (option_or ending more)) true refl)
+up_excused_more false owed parcels before after ending more T h o puts excused some =
+    let same = (puts.landed refl).1 in
+    or_more (fell_full (fault_in T)) (stopped_noting ending || owed) (fell_full (fault_in (entry h o ∷ T))) (stopped_noting (option_or ending more) || owed)
+    (full_stays T h o)
+    (λ r. or_more (stopped_noting ending) owed (stopped_noting (option_or ending more)) owed (stop_stays ending more) (λ x. x) r)
+    (excused (omega arith))

@@ -1,0 +1,15 @@
+use Rattle.std.proofs.Math.Logic.{∥∥₁_map}
+use Rattle.gateway_hub.specs.Kept.{Keeps}
+use Rattle.gateway_hub.proofs.GoLemmas.{takes_up_go}
+use Rattle.gateway_hub.proofs.hub.Hub.take_up.Goals as goal
+
+pub invariant_of-self : goal.invariant_of-self
+invariant_of-self g c =
+    let old = c.args.self.now.state in
+    let new = c.take_up.new.self in
+    record {
+      keeps = ∥∥₁_map c.args.self.now.keeps (λ k.
+          let s = takes_up_go c.take_up.result (Keeps (g.M.Core.stands old.core) (g.R.Recorder.entries old.recorder) (g.R.Recorder.faults old.recorder) old.desk) (Keeps (g.M.Core.stands new.core) (g.R.Recorder.entries new.recorder) (g.R.Recorder.faults new.recorder) new.desk) old.desk new.desk
+          c.take_up.ensures.takes k.history k.keeps in
+          record { history = s.0; keeps = s.1 });
+    }

@@ -1,0 +1,6 @@
+use Rattle.gateway_hub.specs.Rooms.{IsLookedAt}
+use Rattle.gateway_hub.proofs.LineLemmas.{seated_changes}
+use Rattle.gateway_hub.proofs.line.Place.room.Goals as goal
+
+pub returns-in-Seated-clause-line : goal.returns-in-Seated-clause-line
+returns-in-Seated-clause-line g c = seated_changes IsLookedAt c.args.self.now c.in-Seated.line c.room.new.self c.in-Seated.is c.room.ensures.line

@@ -1,0 +1,55 @@
+-- Why a hub takes no more events (this project's own).
+use Rattle.std.specs.Prelude.{Bool, true, false, Option, Some, None}
+use Rattle.mux_history.specs.declared.event.UpCause.{UpCause}
+use Rattle.mux_history.specs.declared.event.UpCause.TheVariants as causes
+use Rattle.gateway_hub.specs.declared.ending.Ending.{Ending}
+use Rattle.gateway_hub.specs.declared.ending.Ending.TheVariants.{Upstream, Stopped}
+use Rattle.gateway_hub.specs.declared.ending.HubFault.{HubFault}
+use Rattle.gateway_hub.specs.declared.ending.HubFault.TheVariants as faults
+use Rattle.gateway_hub.specs.declared.ending.StopWhy.{StopWhy}
+use Rattle.gateway_hub.specs.declared.ending.StopWhy.TheVariants as stops
+
+-- what a call answers after an ending was kept
+abbrev pub fault_of : Ending → HubFault
+fault_of (Upstream cause) = faults.Ended cause
+fault_of (Stopped why) = faults.Stopped why
+
+-- whether the hub was stopped since an event could not be noted
+abbrev pub is_note_stop : StopWhy → Bool
+is_note_stop stops.Memory = true
+is_note_stop stops.Crew = false
+is_note_stop stops.Accept = false
+is_note_stop stops.Spent = false
+is_note_stop stops.Record = true
+is_note_stop stops.DoorEnd = false
+
+abbrev pub stopped_noting : Option Ending → Bool
+stopped_noting None = false
+stopped_noting (Some (Upstream cause)) = false
+stopped_noting (Some (Stopped why)) = is_note_stop why
+
+-- whether the connection to the server ended since it took its bytes too slowly
+abbrev pub fell_full : Option UpCause → Bool
+fell_full None = false
+fell_full (Some causes.UpFull) = true
+fell_full (Some (causes.Framing fault)) = false
+fell_full (Some (causes.UnknownReply number)) = false
+fell_full (Some (causes.BadGrant number)) = false
+fell_full (Some (causes.SessionTaken number)) = false
+fell_full (Some causes.CseqSpent) = false
+fell_full (Some causes.Ended) = false
+fell_full (Some causes.ReadFault) = false
+fell_full (Some causes.WriteFault) = false
+
+-- Whether an event that was owed may be missing: the hub was stopped since it could not be noted, or the connection to the
+-- server ended before it.
+abbrev pub cut_short : Option Ending → Bool
+cut_short None = false
+cut_short (Some (Upstream cause)) = fell_full (Some cause)
+cut_short (Some (Stopped why)) = is_note_stop why
+
+-- whether the hub was stopped
+abbrev pub is_stopped : Option Ending → Bool
+is_stopped None = false
+is_stopped (Some (Upstream cause)) = false
+is_stopped (Some (Stopped why)) = true

@@ -1,0 +1,59 @@
+//! Whether all connections of a hub are over, and how a hub is closed.
+ghost use Rattle.std.specs.Prelude.{◌≡◌, List};
+ghost use Rattle.std.specs.List.{list_all};
+ghost use Rattle.mux_history.specs.Happenings.{Entry};
+ghost use Rattle.gateway_hub.specs.Closing.{is_over};
+ghost use Rattle.gateway_hub.specs.Receipts.{receipts_of};
+
+use crate::line::Place;
+use crate::state::State;
+use crate::{Receipts, Recorder};
+use gateway_mux::Core;
+
+/// Whether a connection is over, by its place: it is retired and not alive, and no more arrived than was pushed, and no more
+/// was taken than was handed.
+fn is_over<M: Core>(core: &M, place: &Place) -> bool
+    ensures { (T : List Entry) → M.stands core.now T → result ≡ is_over T place.now }
+{
+    match place {
+        Place::Seated(_) => false,
+        Place::Retired(receipt) => {
+            !core.alive(receipt.conn)
+                && receipt.arrived <= receipt.pushed
+                && receipt.taken <= receipt.handed
+        }
+    }
+}
+
+impl<M: Core, R: Recorder> State<M, R> {
+    /// Whether all connections that entered are over.
+    pub fn all_closed(&self) -> bool
+        ensures { (T : List Entry) → M.stands self.now.core T → result ≡ list_all (is_over T) self.now.desk.places.items }
+    {
+        for place in &self.desk.places {
+            if !is_over(&self.core, place) {
+                return false;
+            }
+        }
+        true
+    }
+
+    /// Gives back the recorder, and the receipts of all connections that entered.
+    pub fn close(self) -> (R, Receipts)
+        ensures recorder { result.0 ≡ self.recorder }
+        ensures receipts { result.1 ≡ receipts_of self.desk }
+    {
+        let State {
+            core: _core,
+            recorder,
+            desk,
+            last: _,
+        } = self;
+        let receipts = Receipts {
+            places: desk.places,
+            fall: desk.fall,
+            ending: desk.ending,
+        };
+        (recorder, receipts)
+    }
+}

@@ -1,0 +1,68 @@
+//! Why a hub takes no more events, and what its calls answer then.
+
+use gate_bytes::Memory;
+use gateway_mux::UpCause;
+
+/// Why a hub was stopped.
+#[derive(Clone, Copy, Debug, PartialEq, Eq)]
+pub enum StopWhy {
+    /// Memory was wanting.
+    Memory,
+    /// A worker could not be started.
+    Crew,
+    /// A connection could not be accepted.
+    Accept,
+    /// All numbers of connections were given.
+    Spent,
+    /// The recorder failed.
+    Record,
+    /// No connection comes any more.
+    DoorEnd,
+}
+
+/// Why a hub takes no more events. The first that comes is kept.
+#[derive(Clone, Copy, Debug, PartialEq, Eq)]
+pub enum Ending {
+    /// The connection to the server ended.
+    Upstream(UpCause),
+    /// The hub was stopped.
+    Stopped(StopWhy),
+}
+
+/// Why a call of a hub did nothing.
+#[derive(Clone, Copy, Debug, PartialEq, Eq)]
+pub enum HubFault {
+    /// The connection to the server had ended.
+    Ended(UpCause),
+    /// The hub had been stopped.
+    Stopped(StopWhy),
+    /// The recorder failed, which stopped the hub.
+    RecordFault,
+    /// Memory was wanting.
+    Memory,
+}
+
+impl From<Memory> for HubFault {
+    ghost use Rattle.std.specs.Prelude.{◌≡◌};
+    ghost use Rattle.gateway_hub.specs.declared.ending.HubFault.TheVariants as fault;
+
+    ghost from_gives = { λ _ e. e ≡ fault.Memory };
+
+    fn from(_: Memory) -> HubFault {
+        HubFault::Memory
+    }
+}
+
+impl From<Ending> for HubFault {
+    ghost use Rattle.std.specs.Prelude.{◌≡◌};
+    ghost use Rattle.gateway_hub.specs.Endings.{fault_of};
+
+    ghost from_gives = { λ ending e. e ≡ fault_of ending };
+
+    fn from(ending: Ending) -> HubFault {
+        match ending {
+            Ending::Upstream(cause) => HubFault::Ended(cause),
+            Ending::Stopped(why) => HubFault::Stopped(why),
+        }
+    }
+}

@@ -1,0 +1,26 @@
+//! The hub.
+ghost use Rattle.gateway_hub.specs.Kept.{KeepsSome};
+
+use crate::Recorder;
+use crate::state::State;
+use gateway_mux::Core;
+
+mod called;
+
+/// What all threads of the gateway share under one lock: a core, a recorder, and the hub's ends of the ports.
+///
+/// It keeps that there is a history of the core, which is that of the recorder's entries where these are told, and that
+/// what was put and taken is what this history says.
+#[derive(Drop)]
+pub struct Hub<M: Core, R: Recorder> {
+    state: State<M, R>,
+    ghost keeps: { ∥ KeepsSome (M.stands state.core) (R.entries state.recorder) (R.faults state.recorder) state.desk ∥₁ },
+}
+
+#[cfg(test)]
+impl<M: Core, R: Recorder> Hub<M, R> {
+    /// The recorder.
+    pub(crate) fn recorder(&self) -> &R {
+        &self.state.recorder
+    }
+}

@@ -1,0 +1,37 @@
+//! The hub: what all threads of the gateway share under one lock.
+//!
+//! A hub has a core, a recorder, and its ends of the ports to the workers. Each call that takes an event plans it, notes
+//! it, commits it, and puts what it hands out, first to the client and then to the server. So what was noted is the
+//! history of the core, and what was put is what that history hands out. Where a port was full, the parcel is dropped, and
+//! its client is found too slow, or the connection to the server ends.
+#![tactic(auto)]
+
+mod calls;
+mod closing;
+mod desk;
+mod ending;
+mod enter;
+mod hub;
+mod laws;
+mod limits;
+mod line;
+mod noting;
+mod places;
+mod receipt;
+mod receipts;
+mod retire;
+mod seat;
+mod server;
+mod state;
+
+pub use ending::{Ending, HubFault, StopWhy};
+pub use gate_transcript::{NoteFault, Recorder};
+pub use hub::Hub;
+pub use laws::what_was_noted_tells_the_history;
+pub use limits::{INWARD_CAPACITY, MOST_CONNECTIONS, OUTWARD_CAPACITY, SERVER_CAPACITY};
+pub use receipt::{Close, Receipt};
+pub use receipts::Receipts;
+pub use seat::{Entered, Seat, Taken};
+
+#[cfg(test)]
+mod tests;

@@ -1,0 +1,152 @@
+//! The core, the recorder and the desk of a hub, and how one event is taken.
+ghost use Rattle.std.specs.Prelude.{◌≡◌, ◌≤◌, ℕ, false, Option, None, IfOk, IfErr, OnOk};
+ghost use Rattle.mux_history.specs.Happenings.{happening_of};
+ghost use Rattle.gateway_hub.specs.Ends.{KeepsEnds, PutsFor};
+ghost use Rattle.gateway_hub.specs.Taking.{TakesOneEvent, IsUntaken, SettlesOwed, TakesHubEvent, stop_of};
+
+use crate::desk::{Delivery, Desk};
+use crate::noting::{asker_of, is_heard, note};
+use crate::{NoteFault, Recorder, StopWhy};
+use gate_bytes::Memory;
+use gateway_mux::{Core, Event, UpWhy};
+use std::alloc::Global;
+use std::sync::Wait;
+
+/// The core, the recorder and the desk of a hub.
+#[derive(Drop)]
+pub struct State<M: Core, R: Recorder> {
+    /// The core.
+    pub core: M,
+    /// The recorder.
+    pub recorder: R,
+    /// All else.
+    pub desk: Desk,
+    /// The connection for which bytes were put last as an item of the server was taken, where that was not told since.
+    pub last: Option<u32>,
+}
+
+/// An event that was not taken, and why.
+#[derive(Drop)]
+pub struct Refused {
+    /// The event.
+    pub event: Event,
+    /// Why.
+    pub fault: NoteFault,
+}
+
+/// Why a hub is stopped when an event can't be noted.
+pub fn stop_of(fault: NoteFault) -> StopWhy
+    ensures { result ≡ stop_of fault }
+{
+    match fault {
+        NoteFault::Failed => StopWhy::Record,
+        NoteFault::Memory => StopWhy::Memory,
+    }
+}
+
+impl<M: Core, R: Recorder> State<M, R> {
+    /// Takes one event: it is planned, noted and committed, and what it hands out is put, first to the client and then to
+    /// the server. Tells for whom bytes were put, and whose ports were full. Where memory was wanting, or the note failed, nothing was taken.
+    pub fn take_one<W: Wait>(
+        &mut self,
+        alloc: Global,
+        rt: &W,
+        event: Event,
+    ) -> Result<Delivery, Refused>
+        ensures ok { IfOk result (λ delivery. TakesOneEvent (happening_of event) delivery (M.stands self.old.core) (M.stands self.new.core) (R.entries self.old.recorder) (R.entries self.new.recorder) self.old.desk self.new.desk) }
+        ensures err { IfErr result (λ refused. (refused.event ≡ event) × IsUntaken refused.fault (M.stands self.old.core) (M.stands self.new.core) (R.entries self.old.recorder) (R.entries self.new.recorder) (R.faults self.old.recorder) (R.faults self.new.recorder) self.old.desk self.new.desk) }
+        ensures ends { KeepsEnds self.old.desk self.new.desk }
+        ensures puts { IfOk result (λ delivery. PutsFor delivery.landed self.old.desk.places.items self.new.desk.places.items) }
+        ensures last { self.new.last ≡ self.old.last }
+        ensures bases { M.bases self.new.core ≡ M.bases self.old.core }
+        ensures later { R.faults self.old.recorder ≤ R.faults self.new.recorder }
+    {
+        let plan = match self.core.plan(alloc, &event) {
+            Ok(plan) => plan,
+            Err(Memory) => {
+                let fault = NoteFault::Memory;
+                return Err(Refused { event, fault });
+            }
+        };
+        match note(&mut self.recorder, &event) {
+            Ok(()) => {}
+            Err(fault) => return Err(Refused { event, fault }),
+        }
+        let asker = asker_of(&event);
+        let heard = is_heard(&event);
+        let outcome = self.core.commit(event, plan);
+        Ok(self.desk.take_outcome(rt, asker, heard, outcome))
+    }
+
+    /// Ends the connection to the server since its port was full, where it was. Where that can't be noted, the hub is
+    /// stopped. Tells for whom bytes were put.
+    fn end_if_full<W: Wait>(&mut self, alloc: Global, rt: &W, full: bool) -> Option<u32>
+        ensures settles { (client : Option ℕ) → SettlesOwed client full client false (M.stands self.old.core) (M.stands self.new.core) (R.entries self.old.recorder) (R.entries self.new.recorder) (R.faults self.old.recorder) (R.faults self.new.recorder) self.old.desk self.new.desk }
+        ensures ends { KeepsEnds self.old.desk self.new.desk }
+        ensures puts { PutsFor result self.old.desk.places.items self.new.desk.places.items }
+        ensures last { self.new.last ≡ self.old.last }
+        ensures bases { M.bases self.new.core ≡ M.bases self.old.core }
+        ensures later { R.faults self.old.recorder ≤ R.faults self.new.recorder }
+    {
+        if !full {
+            return None;
+        }
+        match self.take_one(alloc, rt, Event::UpEnd(UpWhy::UpFull)) {
+            Ok(delivery) => delivery.landed,
+            Err(refused) => {
+                self.desk.stop(stop_of(refused.fault));
+                None
+            }
+        }
+    }
+
+    /// Finds the client too slow whose port was full, where one was, unless the hub was stopped. Where that can't be noted,
+    /// the hub is stopped. Tells for whom bytes were put.
+    fn lag_if_full<W: Wait>(&mut self, alloc: Global, rt: &W, client: Option<u32>) -> Option<u32>
+        ensures settles { SettlesOwed client false None false (M.stands self.old.core) (M.stands self.new.core) (R.entries self.old.recorder) (R.entries self.new.recorder) (R.faults self.old.recorder) (R.faults self.new.recorder) self.old.desk self.new.desk }
+        ensures ends { KeepsEnds self.old.desk self.new.desk }
+        ensures puts { PutsFor result self.old.desk.places.items self.new.desk.places.items }
+        ensures last { self.new.last ≡ self.old.last }
+        ensures bases { M.bases self.new.core ≡ M.bases self.old.core }
+        ensures later { R.faults self.old.recorder ≤ R.faults self.new.recorder }
+    {
+        let Some(conn) = client else { return None };
+        if self.desk.is_stopped() {
+            return None;
+        }
+        match self.take_one(alloc, rt, Event::Slow(conn)) {
+            Ok(delivery) => {
+                let later = self.end_if_full(alloc, rt, delivery.server);
+                later.or(delivery.landed)
+            }
+            Err(refused) => {
+                self.desk.stop(stop_of(refused.fault));
+                None
+            }
+        }
+    }
+
+    /// Takes one event, and then those that full ports ask for: the end of the connection to the server, and the client
+    /// that is too slow. Tells for whom bytes were put last. Where the event itself can't be planned or noted, nothing is
+    /// taken.
+    pub fn take_event<W: Wait>(
+        &mut self,
+        alloc: Global,
+        rt: &W,
+        event: Event,
+    ) -> Result<Option<u32>, Refused>
+        ensures ok { OnOk result (TakesHubEvent (happening_of event) (M.stands self.old.core) (M.stands self.new.core) (R.entries self.old.recorder) (R.entries self.new.recorder) (R.faults self.old.recorder) (R.faults self.new.recorder) self.old.desk self.new.desk) }
+        ensures err { IfErr result (λ refused. (refused.event ≡ event) × IsUntaken refused.fault (M.stands self.old.core) (M.stands self.new.core) (R.entries self.old.recorder) (R.entries self.new.recorder) (R.faults self.old.recorder) (R.faults self.new.recorder) self.old.desk self.new.desk) }
+        ensures ends { KeepsEnds self.old.desk self.new.desk }
+        ensures puts { IfOk result (λ landed. PutsFor landed self.old.desk.places.items self.new.desk.places.items) }
+        ensures last { self.new.last ≡ self.old.last }
+        ensures bases { M.bases self.new.core ≡ M.bases self.old.core }
+        ensures later { R.faults self.old.recorder ≤ R.faults self.new.recorder }
+    {
+        let delivery = self.take_one(alloc, rt, event)?;
+        let next = self.end_if_full(alloc, rt, delivery.server);
+        let last = self.lag_if_full(alloc, rt, delivery.client);
+        let earlier = next.or(delivery.landed);
+        Ok(last.or(earlier))
+    }
+}
