@@ -1,0 +1,4 @@
+pub mod Tallies
+pub mod Worlds
+pub mod NewThings
+pub mod MemoryWorlds

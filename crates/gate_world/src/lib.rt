@@ -1,0 +1,16 @@
+//! What a run of the gateway is given: the door of its players, the link to the server, and the recorder.
+//!
+//! A [`World`] hands these out, takes them back, and counts what happened to them. [`MemoryWorld`] is one in memory, for
+//! tests.
+#![tactic(auto)]
+
+mod memory_world;
+mod tally;
+mod world;
+
+pub use memory_world::MemoryWorld;
+pub use tally::Tally;
+pub use world::World;
+
+#[cfg(test)]
+mod tests;
