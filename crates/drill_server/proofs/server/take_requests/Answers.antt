@@ -1,0 +1,18 @@
+use Rattle.rtsp_head.specs.Shapes.{shape_of, shapes}
+use Rattle.drill_server.proofs.MovedLemmas.{moved_none, moved_on, moved_all}
+use Rattle.drill_server.proofs.server.take_requests.Goals as goal
+
+pub loop-item-init : goal.loop-item-init
+loop-item-init c = record { moved = moved_none c.args.framer.now (shapes c.args.waiting.now.items) }
+
+pub loop-item-preserved : goal.loop-item-preserved
+loop-item-preserved c = record {
+  moved =
+      moved_on c.args.framer.now c.loop-item.framer c.next.new.self (shapes c.args.waiting.now.items) (shapes c.loop-item.waiting.items)
+      (shapes c.take_request.new.waiting.items) (shape_of c.in-Some.item) c.loop-item.invariant.moved c.in-Some.ensures.some c.in_ok-take_request.ensures;
+}
+
+pub returns : goal.returns
+returns c =
+    moved_all c.args.framer.now c.loop-item.framer c.next.new.self (shapes c.args.waiting.now.items) (shapes c.loop-item.waiting.items)
+    c.loop-item.invariant.moved c.in_default.ensures.none

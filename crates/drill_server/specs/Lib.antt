@@ -1,0 +1,5 @@
+pub mod Draws
+pub mod Texts
+pub mod Asking
+pub mod Answers
+pub mod Serving

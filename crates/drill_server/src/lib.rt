@@ -1,0 +1,16 @@
+//! A plain server of RTSP 2.0, and draws, for a drill of the gateway.
+#![tactic(auto)]
+
+mod answer;
+mod draw;
+mod server;
+mod texts;
+mod track;
+
+pub use answer::Answer;
+pub use draw::{Draw, INCREMENT, LOW_BITS, MULTIPLIER};
+pub use server::DrillServer;
+pub use track::{ID_BASE, Track};
+
+#[cfg(test)]
+mod tests;

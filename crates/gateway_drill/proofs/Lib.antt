@@ -1,0 +1,6 @@
+pub mod CountLemmas
+pub mod FramingLemmas
+pub mod HeardLemmas
+pub mod PlayLemmas
+pub mod ReadyLemmas
+pub mod RunLemmas
