@@ -1,2 +1,1 @@
 pub mod UsageLemmas
-mod WordLemmas

@@ -1,3 +1,3 @@
 pub mod Commands
 pub mod Stops
-pub mod Words
+pub mod Usage

@@ -1,6 +1,6 @@
 -- The answer to words that are refused (this project's own).
-use Rattle.rtspgate.specs.declared.words.WordsFault.{WordsFault}
-use Rattle.rtspgate.specs.declared.words.WordsFault.TheVariants as word
+use Rattle.gateway_words.specs.declared.kinds.WordsFault.{WordsFault}
+use Rattle.gateway_words.specs.declared.kinds.WordsFault.TheVariants as word
 use Rattle.gateway_mux.specs.declared.status.Status.{Status}
 use Rattle.gateway_mux.specs.declared.status.Status.TheVariants as status
 

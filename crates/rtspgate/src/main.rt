@@ -4,26 +4,12 @@
 mod flushed;
 mod plain;
 mod standard;
-mod words;
 
 use crate::standard::run_between;
 use gateway_mux::Status;
+use gateway_words::{Texts, program};
 use std::process::ExitCode;
 use std::{env, io};
-
-/// What the words mean.
-const USAGE: &str = "\
-usage: rtspgate replay FRONT UP < TRANSCRIPT > RECORDS
-       rtspgate --help | --version
-
-replay  reads a transcript of what players and the media server say from standard input, and writes records of what
-        each of them is handed, and of how connections are closed, to standard output
-FRONT   the address by which players name the gateway, as rtsp://gate.example
-UP      the address of the media server, as rtsp://media.example
-";
-
-/// The program's name and version.
-const VERSION: &str = "rtspgate 0.1.0";
 
 fn main(rt: HostRuntime) -> io::Result<ExitCode> {
     let mut words = Vec::new(rt.alloc());
@@ -31,11 +17,15 @@ fn main(rt: HostRuntime) -> io::Result<ExitCode> {
         words.push(word)?;
     }
     if words.len() == 1 && words[0].as_str() == "--help" {
-        print!(rt; "{USAGE}")?;
+        let texts = Texts::new(rt.alloc())?;
+        let help = program(rt.alloc(), &texts)?.render_help()?;
+        print!(rt; "{help}")?;
         return Ok(ExitCode::SUCCESS);
     }
     if words.len() == 1 && words[0].as_str() == "--version" {
-        println!(rt; "{VERSION}")?;
+        let texts = Texts::new(rt.alloc())?;
+        let version = program(rt.alloc(), &texts)?.render_version()?;
+        print!(rt; "{version}")?;
         return Ok(ExitCode::SUCCESS);
     }
     let status = run_between(
@@ -48,7 +38,9 @@ fn main(rt: HostRuntime) -> io::Result<ExitCode> {
         eprintln!(rt; "rtspgate: {status}")?;
     }
     if let Status::Usage { .. } = status {
-        eprint!(rt; "{USAGE}")?;
+        let texts = Texts::new(rt.alloc())?;
+        let usage = program(rt.alloc(), &texts)?.render_usage()?;
+        eprintln!(rt; "{usage}")?;
     }
     Ok(ExitCode::from(status.exit_code()))
 }

@@ -1,7 +1,7 @@
 //! Readers and writers of std as source and sink, and a run over them. They tell no content: they are the trusted edge.
 ghost use Rattle.std.specs.Prelude.{◌≡◌, None, map, string_bytes};
 ghost use Rattle.gate_outside.specs.Causes.{HasCause};
-ghost use Rattle.rtspgate.specs.Words.{word_fault, TellsUsageAfterFlush};
+ghost use Rattle.rtspgate.specs.Usage.{plain_fault, TellsUsageAfterFlush};
 
 use crate::flushed::after_flush;
 use crate::plain::plain;
@@ -98,7 +98,7 @@ pub fn run_between<R: Read, W: Write>(
     reader: &mut R,
     writer: &mut W,
 ) -> Status
-    ensures { TellsUsageAfterFlush result (word_fault (map string_bytes words.now)) }
+    ensures { TellsUsageAfterFlush result (plain_fault (map string_bytes words.now)) }
 {
     let Ok(buffered) = BufWriter::new(alloc, writer) else {
         return Status::Memory;

@@ -2,6 +2,7 @@
 ghost use Rattle.std.specs.Prelude.{◌<◌};
 
 mod adapters;
+mod drills;
 mod large;
 mod notation;
 mod one_player;
@@ -42,6 +43,8 @@ fn script(alloc: Global, fails: Option<u64>, piece: usize) -> Result<Script, Fai
     }
     Ok(Script {
         fails: numbers,
+        waits: Numbers::new(alloc),
+        idle: None,
         piece,
     })
 }
