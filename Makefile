@@ -6,7 +6,7 @@ REPLAY := replay rtsp://gate.example rtsp://media.example
 SOURCES := crates.txt $(shell find crates -name out -prune -o \( -name '*.rt' -o -name '*.antt' \) -print)
 EXAMPLES := sessions players options describe
 
-.PHONY: all demo try test check bench install examples clean
+.PHONY: all demo chart try test check bench bench-hub install examples clean
 
 # The proved program. Nothing is built that is not proved, so a first `make` takes some minutes.
 all: $(PROGRAM)
@@ -18,18 +18,25 @@ $(PROGRAM): $(SOURCES)
 	cd crates/rtspgate && printf 'RTSPGW1\n' | rt run -- $(REPLAY)
 	touch $@
 
-# Replays the sessions of two players, and shows the records as text.
+# Replays the sessions of two players, shows the records as text, and plays a drill.
 demo: $(PROGRAM)
 	@mkdir -p examples/out
 	$(PROGRAM) $(REPLAY) < examples/sessions.rtspgw > examples/out/sessions.records
 	tools/transcript records < examples/out/sessions.records
+	$(PROGRAM) drill 64 7
 
-# The same half a minute after a fresh clone, before any proof: the program is compiled with checks, and nothing of it
+# Draws the sessions as a sequence chart.
+chart: $(PROGRAM)
+	@mkdir -p examples/out
+	tools/transcript chart $(PROGRAM) rtsp://gate.example rtsp://media.example < examples/sessions.rtspgw > examples/out/sessions.svg
+
+# What `demo` shows half a minute after a fresh clone, before any proof: the program is compiled with checks, and nothing of it
 # is kept.
 try:
 	@mkdir -p examples/out
 	cd crates/rtspgate && rt try -- $(REPLAY) < ../../examples/sessions.rtspgw > ../../examples/out/sessions.records
 	tools/transcript records < examples/out/sessions.records
+	cd crates/rtspgate && rt try -- drill 2 7
 
 test:
 	rt ci
@@ -43,6 +50,11 @@ check: $(PROGRAM)
 
 bench: $(PROGRAM)
 	bench/run $(PROGRAM)
+
+# What an event costs through a hub, beside a replay of the same events.
+bench-hub: $(PROGRAM)
+	cd crates/hub_bench && rt run -- options 1
+	bench/hub
 
 install: $(PROGRAM)
 	install -d $(DESTDIR)$(PREFIX)/bin
