@@ -1,7 +1,8 @@
 -- What a world in memory holds. This project's own.
-use Rattle.std.specs.Prelude.{◌≡◌, List, Option}
+use Rattle.std.specs.Prelude.{◌≡◌, ℕ, List, length, Option}
 use Rattle.std.specs.Option.{option_map}
 use Rattle.gate_outside.specs.declared.memory_door.MemoryDoor.{MemoryDoor}
+use Rattle.gate_outside.specs.MemoryDoors.{links_coming}
 use Rattle.gate_outside.specs.declared.memory_link.MemoryLink.{MemoryLink}
 use Rattle.gate_outside.specs.declared.new_link.NewLink.{NewLink}
 use Rattle.gate_transcript.specs.Recordings.{entries_recorded}
@@ -37,6 +38,10 @@ recorder_back world = world.transcript
 -- the entries of the recorder that came back last
 abbrev pub world_recorded : MemoryWorld → Option (List Entry)
 world_recorded world = option_map entries_recorded world.transcript
+
+-- how many links the door that came back last had still to give
+abbrev pub world_left : MemoryWorld → Option ℕ
+world_left world = option_map (λ door. length (links_coming door)) world.door
 
 -- What is still to be handed out is as it was.
 pub record KeepsAhead (old new : MemoryWorld) : Type 0 where

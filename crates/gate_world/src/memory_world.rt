@@ -1,9 +1,9 @@
 //! A world in memory, for tests.
-ghost use Rattle.std.specs.Prelude.{◌≡◌, ◌+◌, Some, None, IfOk, IsOk, IsSome, is_ok, option_map};
+ghost use Rattle.std.specs.Prelude.{◌≡◌, ◌+◌, length, Some, None, IfOk, IsOk, IsSome, is_ok, option_map};
 ghost use Rattle.std.specs.Option.{ForSome, option_copied};
 ghost use Rattle.std.specs.Result.{result_ok};
 ghost use Rattle.gate_outside.specs.Memories.{write_faults};
-ghost use Rattle.gate_outside.specs.MemoryDoors.{door_faults, door_ends};
+ghost use Rattle.gate_outside.specs.MemoryDoors.{door_faults, door_ends, links_coming};
 ghost use Rattle.gate_outside.specs.MemoryLinks.{inlet_faults, inlet_ends, outlet_sink, IsUnused};
 ghost use Rattle.gate_outside.specs.NewLinks.{halves_of};
 ghost use Rattle.gate_transcript.specs.Recordings.{entries_recorded, note_faults};
@@ -96,7 +96,7 @@ impl MemoryWorld {
 }
 
 impl World for MemoryWorld {
-    ghost use Rattle.gate_world.specs.MemoryWorlds.{world_tally, world_recorded, door_ahead, link_ahead, recorder_ahead, door_back, link_back, recorder_back, KeepsAhead, KeepsBack};
+    ghost use Rattle.gate_world.specs.MemoryWorlds.{world_tally, world_recorded, world_left, door_ahead, link_ahead, recorder_ahead, door_back, link_back, recorder_back, KeepsAhead, KeepsBack};
 
     type Door = MemoryDoor;
 
@@ -110,9 +110,12 @@ impl World for MemoryWorld {
 
     ghost recorded = { λ world. world_recorded world };
 
+    ghost links_left = { λ world. world_left world };
+
     fn listen(&mut self, _address: &[u8]) -> Result<MemoryDoor, Failed>
         ensures counts { world_tally self.new ≡ after_listen (is_ok result) (world_tally self.old) }
         ensures recorded { world_recorded self.new ≡ world_recorded self.old }
+        ensures left { world_left self.new ≡ world_left self.old }
         ensures fresh { IfOk result (λ door. IsNewDoor (door_faults door) (door_ends door)) }
         ensures given { result_ok result ≡ door_ahead self.old }
         ensures door { door_ahead self.new ≡ None }
@@ -128,6 +131,7 @@ impl World for MemoryWorld {
     fn dial(&mut self, _host: &[u8], _port: u16) -> Result<(MemoryInlet, MemoryOutlet), Failed>
         ensures counts { world_tally self.new ≡ after_dial (is_ok result) (world_tally self.old) }
         ensures recorded { world_recorded self.new ≡ world_recorded self.old }
+        ensures left { world_left self.new ≡ world_left self.old }
         ensures fresh { IfOk result (λ link. IsUnused link.0 link.1) }
         ensures given { result_ok result ≡ option_map halves_of (link_ahead self.old) }
         ensures door { door_ahead self.new ≡ door_ahead self.old }
@@ -144,6 +148,7 @@ impl World for MemoryWorld {
     fn recorder(&mut self, _name: &[u8]) -> Result<MemoryRecorder, Failed>
         ensures counts { world_tally self.new ≡ after_record (is_ok result) (world_tally self.old) }
         ensures recorded { world_recorded self.new ≡ world_recorded self.old }
+        ensures left { world_left self.new ≡ world_left self.old }
         ensures fresh { IfOk result IsNewMemoryRecorder }
         ensures given { result_ok result ≡ recorder_ahead self.old }
         ensures door { door_ahead self.new ≡ door_ahead self.old }
@@ -159,6 +164,7 @@ impl World for MemoryWorld {
     fn refuse(&mut self)
         ensures counts { world_tally self.new ≡ after_refusal (world_tally self.old) }
         ensures recorded { world_recorded self.new ≡ world_recorded self.old }
+        ensures left { world_left self.new ≡ world_left self.old }
         ensures ahead { KeepsAhead self.old self.new }
         ensures back { KeepsBack self.old self.new }
     {
@@ -168,6 +174,7 @@ impl World for MemoryWorld {
     fn close_door(&mut self, door: MemoryDoor)
         ensures counts { world_tally self.new ≡ after_door (door_faults door) (door_ends door) (world_tally self.old) }
         ensures recorded { world_recorded self.new ≡ world_recorded self.old }
+        ensures left { world_left self.new ≡ Some (length (links_coming door)) }
         ensures ahead { KeepsAhead self.old self.new }
         ensures door { door_back self.new ≡ Some door }
         ensures link { link_back self.new ≡ link_back self.old }
@@ -180,6 +187,7 @@ impl World for MemoryWorld {
     fn close_link(&mut self, inward: MemoryInlet, outward: MemoryOutlet)
         ensures counts { world_tally self.new ≡ after_link (inlet_faults inward) (write_faults (outlet_sink outward)) (inlet_ends inward) (world_tally self.old) }
         ensures recorded { world_recorded self.new ≡ world_recorded self.old }
+        ensures left { world_left self.new ≡ world_left self.old }
         ensures ahead { KeepsAhead self.old self.new }
         ensures door { door_back self.new ≡ door_back self.old }
         ensures link { link_back self.new ≡ Some (record { inlet = inward; outlet = outward }) }
@@ -198,6 +206,7 @@ impl World for MemoryWorld {
         ensures counts { CountsRecorder (note_faults recorder) (world_tally self.old) (world_tally self.new) }
         ensures exact { world_tally self.new ≡ after_recorder (note_faults recorder) (world_tally self.old) }
         ensures recorded { world_recorded self.new ≡ Some (entries_recorded recorder) }
+        ensures left { world_left self.new ≡ world_left self.old }
         ensures ahead { KeepsAhead self.old self.new }
         ensures door { door_back self.new ≡ door_back self.old }
         ensures link { link_back self.new ≡ link_back self.old }

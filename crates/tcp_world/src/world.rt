@@ -97,6 +97,8 @@ impl<'a, R: Net<Listener = TcpListener, Stream = TcpStream> + Files<File = File>
 
     ghost recorded = { λ world. None };
 
+    ghost links_left = { λ world. None };
+
     fn listen(&mut self, address: &[u8]) -> Result<TcpDoor, Failed> {
         let door = self.open_door(address);
         self.tally.add_listen(door.is_ok());
