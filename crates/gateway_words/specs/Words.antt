@@ -1,5 +1,5 @@
 -- The words of a command, without the program's name. This project's own.
-use Rattle.std.specs.Prelude.{◌≡◌, ℕ, List, [], ◌∷◌, Option, Some, None, Result, Ok, Err, codes, ◌⊎◌, if◌then◌else◌}
+use Rattle.std.specs.Prelude.{◌≡◌, ℕ, Bool, true, false, List, [], ◌∷◌, Option, Some, None, Result, Ok, Err, codes, ◌⊎◌, if◌then◌else◌}
 use Rattle.std.specs.Str.{bytes_eq}
 use Rattle.rtsp_uri.specs.declared.base.Bases.{Bases}
 use Rattle.rtsp_uri.specs.Words.{base_in}
@@ -27,6 +27,11 @@ serve_word = codes "serve"
 -- two addresses
 abbrev pub replay_kinds : List Kind
 replay_kinds = kind.Base ∷ kind.Base ∷ []
+
+-- the first word is that of `serve`
+abbrev pub asks_to_serve : List (List ℕ) → Bool
+asks_to_serve [] = false
+asks_to_serve (command ∷ words) = bytes_eq command serve_word
 
 -- how many players, and a number
 abbrev pub drill_kinds : List Kind

@@ -14,7 +14,7 @@ pub use help::Texts;
 pub use kinds::WordsFault;
 pub use named::program;
 pub use options::{MOST_STATIONS, ServeOptions};
-pub use words::{Command, read_words};
+pub use words::{Command, asks_to_serve, read_words};
 
 #[cfg(test)]
 mod tests;

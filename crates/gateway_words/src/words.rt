@@ -2,7 +2,7 @@
 ghost use Rattle.std.specs.Prelude.{◌≡◌, true, None, Some, is_some, map, string_bytes, [], ◌∷◌, IfOk, MatchOption};
 ghost use Rattle.rtsp_uri.specs.Words.{base_in};
 ghost use Rattle.gateway_words.specs.Kinds.{is_base_word, clients_in, drill_number_in, stations_in, first_fault};
-ghost use Rattle.gateway_words.specs.Words.{replay_word, drill_word, serve_word, replay_kinds, drill_kinds, serve_kinds, Names, NamesReplay, NamesServe, ReadsWords};
+ghost use Rattle.gateway_words.specs.Words.{replay_word, drill_word, serve_word, replay_kinds, drill_kinds, serve_kinds, Names, NamesReplay, NamesServe, ReadsWords, asks_to_serve};
 
 use crate::kinds::{Kind, WordsFault, check_words, read_clients, read_number, read_stations};
 use crate::named::{ServeWords, drill_words, replay_words, serve_words};
@@ -69,6 +69,16 @@ pub fn read_words(alloc: Global, words: &[String]) -> Result<Command, WordsFault
         return read_serve(alloc, words);
     }
     Err(WordsFault::Place(0))
+}
+
+/// Whether the first word is that of the command that serves players.
+pub fn asks_to_serve(words: &[String]) -> bool
+    ensures { result ≡ asks_to_serve (map string_bytes words.now) }
+{
+    match first_word(words) {
+        Some((command, _)) => command.as_bytes() == SERVE.as_slice(),
+        None => false,
+    }
 }
 
 /// The first word, and those after it.
