@@ -8,7 +8,7 @@ use Rattle.gateway_drill.specs.declared.stage.Stage.{Stage}
 use Rattle.gateway_drill.specs.Counting.{counts_of}
 use Rattle.gateway_drill.specs.Stages.{IsStage}
 use Rattle.gateway_drill.specs.Turns.{entered_below, started, begins, goes_on}
-use Rattle.gateway_drill.specs.Plays.{Drills, Plays, TurnMade, HasRun, HasEnded}
+use Rattle.gateway_drill.specs.Plays.{Drills, Plays, TurnMade, HasRun, HasPlayedOut}
 use Rattle.gateway_mux.specs.declared.status.Status.{Status}
 use Rattle.gateway_mux.specs.declared.status.Status.TheVariants.{Done, Usage, SourceFault, SinkFault, BadTranscript, TooLong, Memory, Upstream, ListenFault, RecordFault, CrewRefused, AcceptFault, DialFault, NumbersSpent}
 use Rattle.gateway_drill.specs.Reports.{drill_lines, TellsDrill, DrillSays}
@@ -30,7 +30,7 @@ run_more players number before now run made =
     record { drilled = next.next; ran = goes_on run.drilled next.next run.ran next.turn; stands = next.stands }
 
 -- no turn is left
-pub run_ended : (players number : ℕ) (before now : Drills) → HasRun players number before → TurnMade false before now → HasEnded players number now
+pub run_ended : (players number : ℕ) (before now : Drills) → HasRun players number before → TurnMade false before now → HasPlayedOut players number now
 run_ended players number before now run made =
     let ended = made run.drilled run.stands in
     record { drilled = run.drilled; ran = run.ran; ended = ended.0; stands = ended.1 }
@@ -48,7 +48,7 @@ run_begins stands bases_of core stage between players number stood based staged 
 -- what is told at the end
 pub tells : {M : Type 0} (stands : M → List Entry → Type 0) (bases_of : M → Bases) (follows : Bases → List Entry → Entry → Type 0) (core : M) (stage : Stage) (between : Bases) (players number : ℕ) (text : List ℕ)
     → ((core : M) (T : List Entry) → stands core T → IsCoreHistory follows (bases_of core) T)
-    → HasEnded players number (Plays stands bases_of core stage between) → text ≡ drill_lines players stage.counts stage.turns
+    → HasPlayedOut players number (Plays stands bases_of core stage between) → text ≡ drill_lines players stage.counts stage.turns
     → TellsDrill (IsCoreHistory follows between) players number text
 tells stands bases_of follows core stage between players number text law ended told = record {
   drilled = ended.drilled;

@@ -59,7 +59,7 @@ pub record HasRun (players number : ℕ) (now : Drills) : Type 0 where
   pub stands : now drilled
 
 -- all of it
-pub record HasEnded (players number : ℕ) (now : Drills) : Type 0 where
+pub record HasPlayedOut (players number : ℕ) (now : Drills) : Type 0 where
   pub drilled : Drilled
   pub ran : DrillRun players number drilled
   pub ended : candidates drilled ≡ []

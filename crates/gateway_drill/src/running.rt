@@ -5,7 +5,7 @@ ghost use Rattle.rtsp_uri.specs.declared.base.Bases.{Bases};
 ghost use Rattle.mux_history.specs.Cores.{IsCoreHistory};
 ghost use Rattle.gateway_mux.specs.declared.status.Status.TheVariants.{SinkFault};
 ghost use Rattle.gateway_drill.specs.Turns.{entered_below};
-ghost use Rattle.gateway_drill.specs.Plays.{Plays, HasRun, HasEnded};
+ghost use Rattle.gateway_drill.specs.Plays.{Plays, HasRun, HasPlayedOut};
 ghost use Rattle.gateway_drill.specs.Reports.{TellsDrill, DrillSays};
 
 use crate::playing::Drill;
@@ -36,7 +36,7 @@ fn enter_all<M: Core>(alloc: Global, core: &mut M, count: u32) -> Result<(), Mem
 /// Turn after turn, until nobody can have one.
 fn run_turns<M: Core>(alloc: Global, drill: &mut Drill<M>) -> Result<(), Memory>
     ensures { OnOk result ((players number : ℕ) (between : Bases) → HasRun players number (Plays M.stands M.bases drill.old.core drill.old.stage between) →
-        HasEnded players number (Plays M.stands M.bases drill.new.core drill.new.stage between)) }
+        HasPlayedOut players number (Plays M.stands M.bases drill.new.core drill.new.stage between)) }
 {
     for _ in 0..MOST_TURNS {
         if !drill.turn(alloc)? {
