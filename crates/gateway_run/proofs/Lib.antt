@@ -1,0 +1,4 @@
+pub mod ReportLemmas
+pub mod EndingLemmas
+pub mod LinkLemmas
+pub mod RetireLemmas

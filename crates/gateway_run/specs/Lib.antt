@@ -1,0 +1,4 @@
+pub mod Report
+pub mod Clients
+pub mod Gates
+pub mod Serving

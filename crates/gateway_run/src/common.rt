@@ -1,0 +1,77 @@
+//! What the workers of a run share.
+ghost use Rattle.std.specs.Prelude.{◌≡◌, ◌≢◌, false};
+ghost use Rattle.gateway_hub.specs.Taking.{is_full_reason};
+ghost use Rattle.gateway_hub.specs.declared.ending.StopWhy.TheVariants as stops;
+
+use client_ports::Bell;
+use gateway_hub::{Ending, Hub, HubFault, Recorder, StopWhy};
+use gateway_mux::{Core, UpWhy};
+use std::alloc::Global;
+use std::sync::{Mutex, Wait};
+
+/// What the workers of a run share: the hub under its lock, and the bell that rings when a worker may have something to do.
+/// It holds references alone, so that each worker has one of its own.
+#[derive(Drop)]
+pub struct Common<'a, M: Core, R: Recorder, W: Wait> {
+    /// What threads and waiting go by.
+    pub rt: &'a W,
+    /// Where memory comes from.
+    pub alloc: Global,
+    /// The hub.
+    pub hub: &'a Mutex<Hub<M, R>>,
+    /// Rings after each change that a worker may wait for.
+    pub bell: &'a Bell,
+}
+
+impl<'a, M: Core, R: Recorder, W: Wait> Common<'a, M, R, W> {
+    /// Stops the hub, unless an ending was kept, and wakes all workers.
+    pub fn stop(&self, why: StopWhy)
+        requires spent { why ≢ stops.Spent }
+        requires record_fault { why ≢ stops.Record }
+    {
+        self.hub.lock(self.rt).stop(why);
+        self.bell.ring(self.rt);
+    }
+
+    /// Has it noted that the server's connection ended, unless an ending was kept, and wakes all workers.
+    pub fn end_server(&self, why: UpWhy)
+        requires { is_full_reason why ≡ false }
+    {
+        let mut hub = self.hub.lock(self.rt);
+        if let Err(HubFault::Memory) = hub.shut_up(self.alloc, self.rt, why) {
+            hub.stop(StopWhy::Memory);
+        }
+        drop(hub);
+        self.bell.ring(self.rt);
+    }
+
+    /// Why no more events are taken, where an ending was kept.
+    pub fn ending(&self) -> Option<Ending> {
+        self.hub.lock(self.rt).ending()
+    }
+
+    /// Whether the connection with this number is alive and no ending was kept; for the server's, whether none was kept.
+    pub fn is_open(&self, conn: Option<u32>) -> bool {
+        let hub = self.hub.lock(self.rt);
+        match conn {
+            Some(conn) => hub.is_open(conn),
+            None => hub.ending().is_none(),
+        }
+    }
+
+    /// How many parcels more the port of this connection takes.
+    pub fn room_of(&self, conn: u32) -> usize {
+        self.hub.lock(self.rt).room(self.rt, conn)
+    }
+}
+
+/// Waits for ever. What no right run meets is answered by nothing.
+pub fn rest_for_ever<W: Wait, T>(rt: &W) -> T
+    ensures { ⊥ }
+{
+    let bell = Bell::new();
+    for _ in rt.forever() {
+        bell.pause(rt, 0);
+    }
+    unreachable!()
+}

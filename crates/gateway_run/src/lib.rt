@@ -1,0 +1,29 @@
+//! Running a gateway over real links.
+//!
+//! All threads are made before the first player comes: a reader and a writer for each station, and the same for the server.
+//! A reader has its link by value; it hands the outlet and its end of the port to its writer over a desk, and takes both back
+//! the same way. All events are taken under the lock of one hub.
+#![tactic(auto)]
+
+mod client;
+mod collecting;
+mod common;
+mod crew;
+mod gate;
+mod meeting;
+mod next;
+mod pace;
+mod reading;
+mod report;
+mod serving;
+mod stations;
+mod told;
+mod upstream;
+mod writing;
+
+pub use client::{ClientWhy, Retired, run_client};
+pub use common::Common;
+pub use gate::Gate;
+pub use serving::serve;
+pub use stations::station;
+pub use upstream::{UpBack, UpRun, Upstream, run_upstream};

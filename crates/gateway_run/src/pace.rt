@@ -1,0 +1,132 @@
+//! How the server's reader waits for players that are behind.
+//!
+//! A port holds far less than a server may send at once. So where a port is nearly full, the server's reader waits a little
+//! for its writer, before more is put. Each player may have some pauses; once it had them, nobody waits for it until all that it
+//! was handed has been written. So a player that takes nothing delays the others only once, and is then found too slow. One
+//! that goes on taking has its pauses back: a burst is no reason to close it.
+
+use crate::common::Common;
+use gateway_hub::{Hub, OUTWARD_CAPACITY, Recorder};
+use gateway_mux::Core;
+use std::alloc::Global;
+use std::sync::Wait;
+use std::thread;
+use std::time::{Clock, Duration};
+
+/// With less room than this a port is nearly full. More is not put under one lock.
+const LEAST_ROOM: usize = 64;
+
+/// With so much room a port is waited for no longer.
+const ENOUGH_ROOM: usize = OUTWARD_CAPACITY / 2;
+
+/// How long one pause is, in microseconds.
+const PAUSE_MICROS: u64 = 250;
+
+/// How many pauses more than it took parcels a player may have until its port was empty again: some 40 ms with
+/// what a sleep takes more.
+const MOST_PAUSES: u32 = 120;
+
+/// For how many players at once it is remembered how long they were waited for.
+const MOST_REMEMBERED: usize = 64;
+
+/// How many pauses a player has had.
+#[derive(Clone, Copy)]
+struct Spent {
+    conn: u32,
+    pauses: u32,
+}
+
+/// How many parcels more the port of a player takes.
+#[derive(Clone, Copy)]
+struct Room {
+    conn: u32,
+    parcels: usize,
+}
+
+/// How long which players were waited for, and whose port was found to have the least room since the last wait.
+#[derive(Drop)]
+pub struct Pace {
+    spent: Vec<Spent>,
+    least: Option<Room>,
+}
+
+impl Pace {
+    /// Nobody was waited for. It takes no memory.
+    pub fn new(alloc: Global) -> Pace {
+        Pace {
+            spent: Vec::new(alloc),
+            least: None,
+        }
+    }
+
+    /// Looks how much room the port has into which the hub put something last.
+    pub fn look<M: Core, R: Recorder, W: Wait>(&mut self, rt: &W, hub: &mut Hub<M, R>) {
+        let Some(conn) = hub.last_handed() else {
+            return;
+        };
+        let parcels = hub.room(rt, conn);
+        if parcels == OUTWARD_CAPACITY {
+            self.forget(conn);
+        }
+        if self.least.is_none_or(|least| parcels < least.parcels) {
+            self.least = Some(Room { conn, parcels });
+        }
+    }
+
+    /// Waits for the player whose port was found to have the least room, where it is nearly full and it may have pauses.
+    pub fn wait<M: Core, R: Recorder, W: Wait + Clock>(&mut self, common: &Common<'_, M, R, W>) {
+        let Some(room) = self.least.take() else {
+            return;
+        };
+        if room.parcels >= LEAST_ROOM {
+            return;
+        }
+        common.bell.ring(common.rt);
+        let pauses = pause(common, room, self.pauses_of(room.conn));
+        self.remember(room.conn, pauses);
+    }
+
+    /// How many pauses a player has had.
+    fn pauses_of(&self, conn: u32) -> u32 {
+        self.spent
+            .iter()
+            .find(|spent| spent.conn == conn)
+            .map_or(0, |spent| spent.pauses)
+    }
+
+    /// A player has had no pause.
+    fn forget(&mut self, conn: u32) {
+        self.spent.retain(|spent| spent.conn != conn);
+    }
+
+    /// A player has had so many pauses. Where memory is wanting that is forgotten.
+    fn remember(&mut self, conn: u32, pauses: u32) {
+        self.forget(conn);
+        if self.spent.len() >= MOST_REMEMBERED {
+            self.spent.clear();
+        }
+        let _ = self.spent.push(Spent { conn, pauses });
+    }
+}
+
+/// Pauses until the port of a player has room enough, or the player has had as many pauses as it may. For each parcel that it
+/// takes meanwhile it may have one more. How many it has had then.
+fn pause<M: Core, R: Recorder, W: Wait + Clock>(
+    common: &Common<'_, M, R, W>,
+    room: Room,
+    pauses: u32,
+) -> u32 {
+    let mut parcels = room.parcels;
+    let mut pauses = pauses;
+    for _ in common.rt.forever() {
+        if parcels >= ENOUGH_ROOM || pauses >= MOST_PAUSES {
+            return pauses;
+        }
+        thread::sleep(common.rt, Duration::from_micros(PAUSE_MICROS));
+        let now = common.room_of(room.conn);
+        let taken = u32::try_from(now.saturating_sub(parcels)).unwrap_or(0);
+        pauses = pauses.saturating_add(1).saturating_sub(taken);
+        parcels = now;
+    }
+    unreachable!()
+}

@@ -1,0 +1,60 @@
+//! The threads that write: each serves one link after another, as a desk hands them over.
+
+use crate::common::Common;
+use gate_outside::Outlet;
+use gateway_hub::Recorder;
+use gateway_mux::{Core, UpWhy};
+use link_writer::{Desk, Gather, Turn, Writer};
+use std::sync::Wait;
+
+/// Writes for one link after another, as the desk hands them over, until the desk is closed.
+pub fn write_from<O: Outlet + Drop, M: Core, R: Recorder, W: Wait>(
+    common: &Common<'_, M, R, W>,
+    desk: &Desk<O>,
+    gather: Gather,
+) {
+    let mut gather = gather;
+    for _ in common.rt.forever() {
+        let Some(writer) = desk.take(common.rt) else {
+            return;
+        };
+        let writer = write_out(common, writer, &mut gather);
+        desk.give_back(common.rt, writer);
+        common.bell.ring(common.rt);
+    }
+}
+
+/// Writes what one link is handed, until the outlet fails, or the link is over and nothing is left to be written. Whoever
+/// reads from the same link is let go then.
+fn write_out<O: Outlet + Drop, M: Core, R: Recorder, W: Wait>(
+    common: &Common<'_, M, R, W>,
+    writer: Writer<O>,
+    gather: &mut Gather,
+) -> Writer<O> {
+    let mut writer = writer;
+    for _ in common.rt.forever() {
+        let seen = common.bell.rings(common.rt);
+        // Asked before the port is looked at: what is put after this is put while the link is still open.
+        let open = common.is_open(writer.conn());
+        match writer.turn(common.rt, gather) {
+            Turn::Wrote => {}
+            Turn::Failed => {
+                tell_failure(common, writer.conn());
+                break;
+            }
+            Turn::Idle if open => {
+                common.bell.pause(common.rt, seen);
+            }
+            Turn::Idle => break,
+        }
+    }
+    writer.shut();
+    writer
+}
+
+/// Tells the hub that what is written to the server fails, before its link is shut: its reader would tell the end of it.
+fn tell_failure<M: Core, R: Recorder, W: Wait>(common: &Common<'_, M, R, W>, conn: Option<u32>) {
+    if conn.is_none() {
+        common.end_server(UpWhy::WriteFault);
+    }
+}
