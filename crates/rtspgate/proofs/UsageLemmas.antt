@@ -12,8 +12,8 @@ use Rattle.gateway_words.specs.declared.kinds.WordsFault.{WordsFault}
 use Rattle.gateway_words.specs.declared.kinds.WordsFault.TheVariants as word
 use Rattle.gateway_words.specs.declared.kinds.Kind.{Kind}
 use Rattle.gateway_words.specs.Kinds.{is_of, first_fault}
-use Rattle.gateway_words.specs.Words.{replay_word, drill_word, serve_word, replay_kinds, serve_kinds, word_fault, ReadsWords, MayLackMemory, Names}
-use Rattle.rtspgate.specs.Usage.{asks_to_serve, fault_or_serve, plain_fault, TellsUsage, TellsUsageAfterFlush}
+use Rattle.gateway_words.specs.Words.{replay_word, drill_word, serve_word, replay_kinds, serve_kinds, word_fault, ReadsWords, MayLackMemory, Names, asks_to_serve}
+use Rattle.rtspgate.specs.Usage.{fault_or_serve, plain_fault, TellsUsage, TellsUsageAfterFlush}
 use Rattle.rtspgate.specs.Stops.{status_of_words}
 use Rattle.gateway_replay.specs.Replays.{FaultRose}
 use Rattle.rtspgate.specs.Commands.{PlainSays, CommandSays}
@@ -47,13 +47,25 @@ known_command words (inl named) h = elim named.between_two [
 told_place : (words : List (List ℕ)) (at : ℕ) → word_fault words ≡ Some at → plain_fault words ≡ Some at
 told_place words at refused = ap (λ (fault : Option ℕ). fault_or_serve fault (asks_to_serve words)) refused
 
--- what a refusal tells of the words
-pub usage_says : (found : WordsFault) (words : List (List ℕ)) → ReadsWords (Err found) words → TellsUsage (status_of_words found) (plain_fault words)
-usage_says (word.Place at) words says = record {
-  only = λ place e. (let same : at ≡ place = cc in told_place words at says ∙ ap (λ n. Some n) same);
-  always = λ place e. (let both : Some at ≡ Some place = sym (told_place words at says) ∙ e in let same : at ≡ place = cc in inl (ap (λ n. Usage n) same));
+-- a refusal tells its place
+refusal_tells : (found : WordsFault) (fault : Option ℕ) → ((at : ℕ) → found ≡ word.Place at → fault ≡ Some at) → TellsUsage (status_of_words found) fault
+refusal_tells (word.Place at) fault told = record {
+  only = λ place e. (let same : at ≡ place = cc in told at refl ∙ ap (λ n. Some n) same);
+  always = λ place e. (let both : Some at ≡ Some place = sym (told at refl) ∙ e in let same : at ≡ place = cc in inl (ap (λ n. Usage n) same));
 }
-usage_says word.Memory words says = record { only = λ place e. cc; always = λ place e. inr refl }
+refusal_tells word.Memory fault told = record { only = λ place e. cc; always = λ place e. inr refl }
+
+-- the place that was read
+read_place : (found : WordsFault) (words : List (List ℕ)) → ReadsWords (Err found) words → (at : ℕ) → found ≡ word.Place at → word_fault words ≡ Some at
+read_place (word.Place place) words says at e = let same : place ≡ at = cc in says ∙ ap (λ n. Some n) same
+read_place word.Memory words says at e = cc
+
+-- what a refusal tells of the words, where `serve` is refused too and where it is not
+pub usage_says : (found : WordsFault) (words : List (List ℕ)) → ReadsWords (Err found) words → TellsUsage (status_of_words found) (plain_fault words)
+usage_says found words says = refusal_tells found (plain_fault words) (λ at e. told_place words at (read_place found words says at e))
+
+pub refusal_usage : (found : WordsFault) (words : List (List ℕ)) → ReadsWords (Err found) words → TellsUsage (status_of_words found) (word_fault words)
+refusal_usage found words says = refusal_tells found (word_fault words) (read_place found words says)
 
 -- an unknown command is told in any case
 pub unknown_told : (found : WordsFault) (words : List (List ℕ)) → ReadsWords (Err found) words → word_fault words ≡ Some 0 → status_of_words found ≡ Usage 0
@@ -61,7 +73,7 @@ unknown_told (word.Place at) words says e = let same : at ≡ 0 = cc in ap (λ n
 unknown_told word.Memory words says e = absurd (known_command words says e)
 
 -- a status that is no refusal, where none is to be told
-tells_none : (status : Status) (fault : Option ℕ) → fault ≡ None → ((place : ℕ) → status ≡ Usage place → ⊥) → TellsUsage status fault
+pub tells_none : (status : Status) (fault : Option ℕ) → fault ≡ None → ((place : ℕ) → status ≡ Usage place → ⊥) → TellsUsage status fault
 tells_none status fault none other = record { only = λ place e. absurd (other place e); always = λ place e. (let both : None ≡ Some place = sym none ∙ e in cc) }
 
 -- the word `serve` is refused

@@ -1,14 +1,8 @@
 -- How a refusal of words is told (this project's own).
-use Rattle.std.specs.Prelude.{◌≡◌, ℕ, Bool, true, false, List, [], ◌∷◌, Option, Some, None, ◌⊎◌}
-use Rattle.std.specs.Str.{bytes_eq}
+use Rattle.std.specs.Prelude.{◌≡◌, ℕ, Bool, true, false, List, Option, Some, None, ◌⊎◌}
 use Rattle.gateway_mux.specs.declared.status.Status.{Status}
 use Rattle.gateway_mux.specs.declared.status.Status.TheVariants.{Usage, Memory, SinkFault}
-use Rattle.gateway_words.specs.Words.{serve_word, word_fault}
-
--- the first word is that of `serve`
-abbrev pub asks_to_serve : List (List ℕ) → Bool
-asks_to_serve [] = false
-asks_to_serve (command ∷ words) = bytes_eq command serve_word
+use Rattle.gateway_words.specs.Words.{asks_to_serve, word_fault}
 
 -- the place of a refusal; and the first place where there is none, but players are to be served
 abbrev pub fault_or_serve : Option ℕ → Bool → Option ℕ

@@ -2,7 +2,9 @@
 #![tactic(auto)]
 
 mod flushed;
+mod gateway;
 mod plain;
+mod served;
 mod standard;
 
 use crate::standard::run_between;
@@ -10,6 +12,7 @@ use gateway_mux::Status;
 use gateway_words::{Texts, program};
 use std::process::ExitCode;
 use std::{env, io};
+use tcp_world::TcpWorld;
 
 fn main(rt: HostRuntime) -> io::Result<ExitCode> {
     let mut words = Vec::new(rt.alloc());
@@ -29,10 +32,12 @@ fn main(rt: HostRuntime) -> io::Result<ExitCode> {
         return Ok(ExitCode::SUCCESS);
     }
     let status = run_between(
+        &rt,
         rt.alloc(),
         words.as_slice(),
         &mut rt.reader(),
         &mut io::writer(&rt),
+        &mut TcpWorld::new(&rt, rt.alloc()),
     );
     if status != Status::Done {
         eprintln!(rt; "rtspgate: {status}")?;

@@ -39,7 +39,7 @@ pub fn plain<S: Source, K: Sink>(
 }
 
 /// How a run ends whose words are refused.
-fn refusal(fault: WordsFault) -> Status
+pub fn refusal(fault: WordsFault) -> Status
     ensures { result ≡ status_of_words fault }
 {
     match fault {

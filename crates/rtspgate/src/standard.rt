@@ -1,14 +1,19 @@
 //! Readers and writers of std as source and sink, and a run over them. They tell no content: they are the trusted edge.
 ghost use Rattle.std.specs.Prelude.{◌≡◌, None, map, string_bytes};
 ghost use Rattle.gate_outside.specs.Causes.{HasCause};
-ghost use Rattle.rtspgate.specs.Usage.{plain_fault, TellsUsageAfterFlush};
+ghost use Rattle.gateway_words.specs.Words.{word_fault};
+ghost use Rattle.rtspgate.specs.Usage.{TellsUsageAfterFlush};
 
 use crate::flushed::after_flush;
-use crate::plain::plain;
+use crate::gateway::gateway;
 use gate_outside::{Failed, Sink, Source};
+use gate_world::World;
 use gateway_mux::Status;
 use std::alloc::Global;
 use std::io::{BufWriter, Read, Write};
+use std::sync::Wait;
+use std::thread::Threads;
+use std::time::Clock;
 
 /// A reader as a source.
 #[derive(Drop)]
@@ -89,22 +94,24 @@ impl<W: Write> Sink for WriteSink<W> {
     }
 }
 
-/// Runs the command that these words ask for over a reader and a writer, and flushes the writer at the end. A flush that
-/// fails makes it [`Status::SinkFault`].
+/// Does what these words ask for over a reader, a writer and a world, and flushes the writer at the end. A flush that fails
+/// makes it [`Status::SinkFault`].
 #[tactic(auto, using(crate::proofs::UsageLemmas::flushed_usage, crate::proofs::UsageLemmas::memory_usage))]
-pub fn run_between<R: Read, W: Write>(
+pub fn run_between<R: Read, W: Write, O: World, T: Threads + Wait + Clock + Sync>(
+    rt: &T,
     alloc: Global,
     words: &[String],
     reader: &mut R,
     writer: &mut W,
+    world: &mut O,
 ) -> Status
-    ensures { TellsUsageAfterFlush result (plain_fault (map string_bytes words.now)) }
+    ensures { TellsUsageAfterFlush result (word_fault (map string_bytes words.now)) }
 {
     let Ok(buffered) = BufWriter::new(alloc, writer) else {
         return Status::Memory;
     };
     let mut source = ReadSource::new(reader);
     let mut sink = WriteSink::new(buffered);
-    let status = plain(alloc, words, &mut source, &mut sink);
+    let status = gateway(rt, alloc, words, &mut source, &mut sink, world);
     after_flush(status, sink.flush())
 }

@@ -7,6 +7,7 @@ mod large;
 mod notation;
 mod one_player;
 mod players;
+mod served;
 
 use crate::plain::plain;
 use gate_bytes::Text;

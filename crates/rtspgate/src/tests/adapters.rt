@@ -1,5 +1,6 @@
 //! Runs over a reader and a writer of std that fail, and that move few bytes.
 
+use super::served::lonely_world;
 use super::{ANSWER, OPTIONS, words};
 use crate::standard::{WriteSink, run_between};
 use gate_outside::{Failed, Sink, write_all};
@@ -109,7 +110,9 @@ fn faults_of_a_reader_and_a_writer_are_told(rt: HostRuntime) -> Result<(), Fail>
             pieces_left: writes,
             is_flushable,
         };
-        let status = run_between(alloc, &words(alloc)?, &mut reader, &mut writer);
+        let mut world = lonely_world(alloc)?;
+        let words = words(alloc)?;
+        let status = run_between(&rt, alloc, &words, &mut reader, &mut writer, &mut world);
         assert_eq!(rt; status, wanted, "{reads} reads, {writes} writes");
         assert_eq!(rt;
             writer.bytes.as_slice(),
