@@ -6,7 +6,7 @@ REPLAY := replay rtsp://gate.example rtsp://media.example
 SOURCES := crates.txt $(shell find crates -name out -prune -o \( -name '*.rt' -o -name '*.antt' \) -print)
 EXAMPLES := sessions players options describe
 
-.PHONY: all demo chart try test check bench bench-hub install examples clean
+.PHONY: all demo serve-demo chart try test check bench bench-hub bench-serve install examples clean
 
 # The proved program. Nothing is built that is not proved, so a first `make` takes some minutes.
 all: $(PROGRAM)
@@ -24,6 +24,10 @@ demo: $(PROGRAM)
 	$(PROGRAM) $(REPLAY) < examples/sessions.rtspgw > examples/out/sessions.records
 	tools/transcript records < examples/out/sessions.records
 	$(PROGRAM) drill 64 7
+
+# Serves two players, between them and a small server, over sockets; with `PLAYER=ffprobe` that player, twice.
+serve-demo: $(PROGRAM)
+	tools/serve_demo $(PROGRAM) $(PLAYER)
 
 # Draws the sessions as a sequence chart.
 chart: $(PROGRAM)
@@ -43,9 +47,11 @@ test:
 
 # Runs the program over real files and pipes: cuts, the cases of its tests, bad words, faults of the source, the sink
 # and memory, and the longest transcript; and compares the records of drawn transcripts with a second reading of
-# docs/FORMATS.md.
+# docs/FORMATS.md. Then it serves players over sockets: ends of all kinds, bursts, a player that takes nothing, and what can't be
+# opened.
 check: $(PROGRAM)
 	tools/check_program $(PROGRAM)
+	tools/check_serve $(PROGRAM)
 	tools/compare $(PROGRAM)
 
 bench: $(PROGRAM)
@@ -55,6 +61,10 @@ bench: $(PROGRAM)
 bench-hub: $(PROGRAM)
 	cd crates/hub_bench && rt run -- options 1
 	bench/hub
+
+# What `serve` moves over loopback, beside a plain relay.
+bench-serve: $(PROGRAM)
+	bench/serve $(PROGRAM)
 
 install: $(PROGRAM)
 	install -d $(DESTDIR)$(PREFIX)/bin
