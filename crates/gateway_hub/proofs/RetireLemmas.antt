@@ -209,6 +209,14 @@ numbered_by : (conn pushed taken : ℕ) (fall : Option Bool) (ending : Option En
 numbered_by conn pushed taken fall ending receipt before now None r = ap (λ (x : Receipt). x.conn) r.1
 numbered_by conn pushed taken fall ending receipt before now (Some line) r = ap (λ (x : Receipt). x.conn) r.1
 
+pushed_by : (conn pushed taken : ℕ) (fall : Option Bool) (ending : Option Ending) (receipt : Receipt) (before now : List Place) (line : Option Line) → RetiresBy conn pushed taken fall ending receipt before now line → receipt.pushed ≡ pushed
+pushed_by conn pushed taken fall ending receipt before now None r = ap (λ (x : Receipt). x.pushed) r.1
+pushed_by conn pushed taken fall ending receipt before now (Some line) r = ap (λ (x : Receipt). x.pushed) r.1
+
+taken_by : (conn pushed taken : ℕ) (fall : Option Bool) (ending : Option Ending) (receipt : Receipt) (before now : List Place) (line : Option Line) → RetiresBy conn pushed taken fall ending receipt before now line → receipt.taken ≡ taken
+taken_by conn pushed taken fall ending receipt before now None r = ap (λ (x : Receipt). x.taken) r.1
+taken_by conn pushed taken fall ending receipt before now (Some line) r = ap (λ (x : Receipt). x.taken) r.1
+
 line_by : (conn pushed taken : ℕ) (receipt : Receipt) (stands : List Entry → Type 0) (told : Option (List Noted)) (faults : ℕ) (before mid now : Desk) (T : List Entry) → RetiresPlace conn pushed taken mid.fall mid.ending receipt mid.places.items now.places.items
     → (mid.ending ≡ None → is_alive conn T ≡ false) → now.server ≡ mid.server → now.fall ≡ mid.fall → now.ending ≡ mid.ending → (IsSeated conn before.places.items → IsSeated conn mid.places.items) → (line_at before.places.items conn ≡ None → mid ≡ before)
     → Keeps stands told faults mid T → (line : Option Line) → line_at before.places.items conn ≡ line → RetiresLine conn pushed taken line receipt now
@@ -242,6 +250,8 @@ retires_all conn pushed taken receipt stood stands told tells faults later befor
   keeps_so = λ T k. (retired_so conn pushed taken receipt (line_at mid.places.items conn) stands tells later mid now (e.more ++ T) refl retires (λ n s. e.over T k n) server fall ending (e.kept_so T k)).0;
   receipt_so = λ T k. line_by conn pushed taken receipt stands tells later before mid now (e.more ++ T) retires (e.over T k) server fall ending (e.seats T k) (λ at. (e.none T k at).0) (e.kept_so T k) (line_at before.places.items conn) refl;
   number = numbered_by conn pushed taken mid.fall mid.ending receipt mid.places.items now.places.items (line_at mid.places.items conn) retires;
+  all_pushed = pushed_by conn pushed taken mid.fall mid.ending receipt mid.places.items now.places.items (line_at mid.places.items conn) retires;
+  all_taken = taken_by conn pushed taken mid.fall mid.ending receipt mid.places.items now.places.items (line_at mid.places.items conn) retires;
 }
 
 -- What the code does, by the line.

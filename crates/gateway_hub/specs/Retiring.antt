@@ -82,7 +82,8 @@ pub record IsSameDesk (before now : Desk) : Type 0 where
   pub ending : now.ending ≡ before.ending
 
 -- The history has nothing more, or the end of the connection and what full ports asked for; nothing where an ending was kept
--- or the connection is not alive. Where it had no line nothing changed.
+-- or the connection is not alive. Where it had no line nothing changed. The receipt has the connection's number and what its
+-- two ends came back with, whether the hub knew the connection or not.
 pub record RetiresSo (conn pushed taken : ℕ) (receipt : Receipt) (kept keeps : HubHistories) (before now : Desk) : Type 0 where
   pub more : List Entry
   pub adds : AddsEnd conn more
@@ -91,3 +92,5 @@ pub record RetiresSo (conn pushed taken : ℕ) (receipt : Receipt) (kept keeps :
   pub receipt_so : (history : List Entry) → kept history → RetiresLine conn pushed taken (line_at before.places.items conn) receipt now
   pub stranger : (history : List Entry) → kept history → line_at before.places.items conn ≡ None → IsSameDesk before now × (more ≡ [])
   pub number : receipt.conn ≡ conn
+  pub all_pushed : receipt.pushed ≡ pushed
+  pub all_taken : receipt.taken ≡ taken

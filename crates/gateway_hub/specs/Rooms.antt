@@ -12,7 +12,7 @@ use Rattle.gateway_hub.specs.Ends.{PutsFor}
 use Rattle.gateway_hub.specs.Places.{LineChanges}
 
 -- The port took so many parcels more at one moment of a call: it held the others that it can.
-pub record HasRoom (room : ℕ) (outward : Putter) : Type 0 where
+pub record HasParcelRoom (room : ℕ) (outward : Putter) : Type 0 where
   pub waiting : ℕ
   pub held : HeldLast waiting outward
   pub whole : room + waiting ≡ capacity_of outward
@@ -20,7 +20,7 @@ pub record HasRoom (room : ℕ) (outward : Putter) : Type 0 where
 -- So many has a connection's port; as many as a new port has where the connection has no line.
 abbrev pub HasRoomFor : ℕ → Option Line → Type 0
 HasRoomFor room None = room ≡ OUTWARD_CAPACITY
-HasRoomFor room (Some line) = HasRoom room line.outward
+HasRoomFor room (Some line) = HasParcelRoom room line.outward
 
 -- A line's port for its client was looked at: all stands as it did.
 pub record IsLookedAt (before now : Line) : Type 0 where

@@ -1,7 +1,7 @@
 //! One connection of the hub: its ends of the two ports, or its receipt.
 ghost use Rattle.std.specs.Prelude.{◌≡◌, ◌<◌, ◌+◌, true, Some, None};
 ghost use Rattle.gateway_hub.specs.Places.{PutsBytes, PutsInto, Counts, Closes, Fetches, FetchesLine, PutsFirst, Changes, line_of, receipt_of};
-ghost use Rattle.gateway_hub.specs.Rooms.{HasRoom, HasRoomFor, IsLookedAt};
+ghost use Rattle.gateway_hub.specs.Rooms.{HasParcelRoom, HasRoomFor, IsLookedAt};
 
 use crate::{Close, OUTWARD_CAPACITY, Receipt};
 use client_ports::{Parcel, Putter, Taker};
@@ -119,7 +119,7 @@ impl Line {
     /// How many parcels more the port for the client took at one moment of the call.
     fn room<W: Wait>(&mut self, rt: &W) -> usize
         ensures line { IsLookedAt self.old self.new }
-        ensures room { HasRoom result self.old.outward }
+        ensures room { HasParcelRoom result self.old.outward }
     {
         let capacity = self.outward.capacity();
         let waiting = self.outward.waiting(rt);
