@@ -24,7 +24,7 @@ use Rattle.gateway_hub.specs.Kept.{Keeps, KeepsSome, EndsRightly}
 use Rattle.gateway_hub.specs.Receipts.{ClosesWith}
 use Rattle.gateway_run.specs.declared.told.Told.{Told}
 use Rattle.gateway_run.specs.Report.{report_text}
-use Rattle.gateway_run.specs.Serving.{GoesWith, EndsHistory, HasShown, HasLeftNone, NoLinkLeft, LinkShows, RanTo, WroteReport, TakesBack, AreSameAddresses, unrecorded, unreported, met_by}
+use Rattle.gateway_run.specs.Serving.{GoesWith, EndsHistory, HasShown, HasLeftNone, NoneIsLeft, LinkShows, RanTo, WroteReport, TakesBack, AreSameAddresses, unrecorded, unreported, met_by}
 
 -- the history ends as the status says, before what is written last is looked at
 ends_so : (status : Status) (told : Told) (faults : ℕ) (desk : Desk) (history : List Entry) → GoesWith status told → told.ending ≡ desk.ending
@@ -191,7 +191,7 @@ shown_last status flushed_status last told refused df de lf lo le rf before now 
     (shown_flushed status flushed_status flushed before now a b ok err flush_rose (shows status told refused df de lf lo le rf before now a b goes all back))
 
 -- where the run ended with the door, no link is left
-left_so : (status : Status) (told : Told) (left : Option ℕ) → GoesWith status told → (told.ended ≡ true → NoLinkLeft left) → HasLeftNone status left
+left_so : (status : Status) (told : Told) (left : Option ℕ) → GoesWith status told → (told.ended ≡ true → NoneIsLeft left) → HasLeftNone status left
 left_so Done told left goes none = none goes.1
 left_so (Upstream cause) told left goes none = tt
 left_so NumbersSpent told left goes none = tt
@@ -251,7 +251,7 @@ left_reported status last (Err u) left ok err none = subst (λ (s : Status). Has
 
 -- The answer tells no end of the door where a link is left.
 pub left_last : {E F : Type 0} (status flushed_status last : Status) (told : Told) (flushed : Result (Unit {0}) E) (written : Result (Unit {0}) F) (left : Option ℕ)
-    → GoesWith status told → (told.ended ≡ true → NoLinkLeft left) → OnOk flushed (flushed_status ≡ status) → OnErr flushed (flushed_status ≡ unrecorded status)
+    → GoesWith status told → (told.ended ≡ true → NoneIsLeft left) → OnOk flushed (flushed_status ≡ status) → OnErr flushed (flushed_status ≡ unrecorded status)
     → OnOk written (last ≡ flushed_status) → OnErr written (last ≡ unreported flushed_status) → HasLeftNone last left
 left_last status flushed_status last told flushed written left goes none ok err done undone =
     left_reported flushed_status last written left done undone

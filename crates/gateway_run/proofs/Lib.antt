@@ -1,4 +1,4 @@
 pub mod ReportLemmas
 pub mod EndingLemmas
 pub mod LinkLemmas
-pub mod RetireLemmas
+pub mod ReceiptLemmas

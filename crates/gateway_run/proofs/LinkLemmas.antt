@@ -9,7 +9,7 @@ use Rattle.gateway_hub.specs.Notes.{TellsNotes}
 use Rattle.link_reader.specs.Parcels.{parcel_shape}
 use Rattle.gateway_run.specs.Clients.{CountsAll}
 use Rattle.gateway_run.specs.Gates.{NoneLeft}
-use Rattle.gateway_run.specs.Serving.{NoLinkLeft}
+use Rattle.gateway_run.specs.Serving.{NoneIsLeft}
 use Rattle.rtsp_head.specs.declared.item.Item.{Item}
 use Rattle.rtsp_head.specs.Items.{items_of}
 use Rattle.rtsp_frame.specs.Framing.{Held}
@@ -46,12 +46,12 @@ tells_none None none = tt
 tells_none (Some noted) none = search rules
 
 -- no link is left at a door that tells none
-left_zero : {A : Type 0} (links : Option (List A)) → NoLinkLeft (option_map (λ found. 0) links)
+left_zero : {A : Type 0} (links : Option (List A)) → NoneIsLeft (option_map (λ found. 0) links)
 left_zero None = tt
 left_zero (Some found) = refl
 
-pub no_link_left : {A : Type 0} (links : Option (List A)) (left : Option ℕ) → NoneLeft links → left ≡ option_map length links → NoLinkLeft left
-no_link_left links left none told = subst NoLinkLeft (sym (told ∙ none)) (left_zero links)
+pub no_link_left : {A : Type 0} (links : Option (List A)) (left : Option ℕ) → NoneLeft links → left ≡ option_map length links → NoneIsLeft left
+no_link_left links left none told = subst NoneIsLeft (sym (told ∙ none)) (left_zero links)
 
 -- all items were put, and counted
 pub counts_all : (first left : Option (List ℕ)) (put : List Parcel) (pushed : ℕ) → PutAllSo first left put → pushed ≡ length put → CountsAll first left pushed

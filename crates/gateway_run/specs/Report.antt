@@ -6,16 +6,16 @@ use Rattle.gateway_hub.specs.Receipts.{last_receipt, receipt_count}
 use Rattle.gateway_replay.specs.Written.{close_byte}
 
 -- a name and a number
-abbrev pub named_number : List ℕ → ℕ → List ℕ
-named_number name number = name ++ decimal number
+abbrev pub name_and_number : List ℕ → ℕ → List ℕ
+name_and_number name number = name ++ decimal number
 
 -- what came in by a connection
 abbrev pub came_text : Receipt → List ℕ
-came_text receipt = named_number (codes "conn ") receipt.conn ++ (named_number (codes " pushed ") receipt.pushed ++ named_number (codes " arrived ") receipt.arrived)
+came_text receipt = name_and_number (codes "conn ") receipt.conn ++ (name_and_number (codes " pushed ") receipt.pushed ++ name_and_number (codes " arrived ") receipt.arrived)
 
 -- what went out by it, and why it was closed
 abbrev pub went_text : Receipt → List ℕ
-went_text receipt = named_number (codes " handed ") receipt.handed ++ (named_number (codes " taken ") receipt.taken ++ (codes " cause " ++ (close_byte receipt.why ∷ codes "\n")))
+went_text receipt = name_and_number (codes " handed ") receipt.handed ++ (name_and_number (codes " taken ") receipt.taken ++ (codes " cause " ++ (close_byte receipt.why ∷ codes "\n")))
 
 -- the line of a receipt
 abbrev pub receipt_line : Receipt → List ℕ

@@ -75,14 +75,14 @@ HasShown Memory before now a b = Unit {0}
 HasShown other before now a b = ⊥
 
 -- no link is left at the door, where that is told
-abbrev pub NoLinkLeft : Option ℕ → Type 0
-NoLinkLeft None = Unit {0}
-NoLinkLeft (Some count) = count ≡ 0
+abbrev pub NoneIsLeft : Option ℕ → Type 0
+NoneIsLeft None = Unit {0}
+NoneIsLeft (Some count) = count ≡ 0
 
 -- Where the run ended with the door, no link is left there.
 abbrev pub HasLeftNone : Status → Option ℕ → Type 0
-HasLeftNone Done left = NoLinkLeft left
-HasLeftNone SinkFault left = NoLinkLeft left
+HasLeftNone Done left = NoneIsLeft left
+HasLeftNone SinkFault left = NoneIsLeft left
 HasLeftNone other left = Unit {0}
 
 -- The history ends as the answer says: with the cause of the server's end, with as many connections as can enter, or with

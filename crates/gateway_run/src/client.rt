@@ -136,7 +136,7 @@ fn shut_connection<M: Core, R: Recorder, W: Wait>(
         hub.stop(StopWhy::Memory);
     }
     drop(hub);
-    common.bell.ring(common.rt);
+    common.tell_over();
 }
 
 /// Retires the connection, and wakes whoever waits for what that changed.
@@ -153,7 +153,7 @@ fn retire<M: Core, R: Recorder, W: Wait>(
         .hub
         .lock(common.rt)
         .retire(common.alloc, common.rt, seat, inward, outward);
-    common.bell.ring(common.rt);
+    common.tell_over();
     receipt
 }
 

@@ -9,7 +9,27 @@ use gateway_mux::{Core, UpWhy};
 use std::alloc::Global;
 use std::sync::{Mutex, Wait};
 
-/// What the workers of a run share: the hub under its lock, and the bell that rings when a worker may have something to do.
+/// The bells of a run.
+#[derive(Drop)]
+pub struct Bells {
+    /// Rings after each change that a worker may wait for.
+    pub change: Bell,
+    /// Rings before that after each change by which a link may be over. So a writer asks the hub only then, whose lock the
+    /// server's reader has most of the time.
+    pub over: Bell,
+}
+
+impl Bells {
+    /// Bells that have not rung. They take no memory.
+    pub fn new() -> Bells {
+        Bells {
+            change: Bell::new(),
+            over: Bell::new(),
+        }
+    }
+}
+
+/// What the workers of a run share: the hub under its lock, and the bells that ring when a worker may have something to do.
 /// It holds references alone, so that each worker has one of its own.
 #[derive(Drop)]
 pub struct Common<'a, M: Core, R: Recorder, W: Wait> {
@@ -19,8 +39,8 @@ pub struct Common<'a, M: Core, R: Recorder, W: Wait> {
     pub alloc: Global,
     /// The hub.
     pub hub: &'a Mutex<Hub<M, R>>,
-    /// Rings after each change that a worker may wait for.
-    pub bell: &'a Bell,
+    /// The bells.
+    pub bells: &'a Bells,
 }
 
 impl<'a, M: Core, R: Recorder, W: Wait> Common<'a, M, R, W> {
@@ -30,7 +50,13 @@ impl<'a, M: Core, R: Recorder, W: Wait> Common<'a, M, R, W> {
         requires record_fault { why ≢ stops.Record }
     {
         self.hub.lock(self.rt).stop(why);
-        self.bell.ring(self.rt);
+        self.tell_over();
+    }
+
+    /// Wakes all workers, since links may be over.
+    pub fn tell_over(&self) {
+        self.bells.over.ring(self.rt);
+        self.bells.change.ring(self.rt);
     }
 
     /// Has it noted that the server's connection ended, unless an ending was kept, and wakes all workers.
@@ -42,7 +68,7 @@ impl<'a, M: Core, R: Recorder, W: Wait> Common<'a, M, R, W> {
             hub.stop(StopWhy::Memory);
         }
         drop(hub);
-        self.bell.ring(self.rt);
+        self.tell_over();
     }
 
     /// Why no more events are taken, where an ending was kept.

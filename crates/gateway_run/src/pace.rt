@@ -43,11 +43,13 @@ struct Room {
     parcels: usize,
 }
 
-/// How long which players were waited for, and whose port was found to have the least room since the last wait.
+/// How long which players were waited for, whose port was found to have the least room since the last wait, and whether an
+/// item put nothing for any player.
 #[derive(Drop)]
 pub struct Pace {
     spent: Vec<Spent>,
     least: Option<Room>,
+    nobody: bool,
 }
 
 impl Pace {
@@ -56,12 +58,14 @@ impl Pace {
         Pace {
             spent: Vec::new(alloc),
             least: None,
+            nobody: false,
         }
     }
 
     /// Looks how much room the port has into which the hub put something last.
     pub fn look<M: Core, R: Recorder, W: Wait>(&mut self, rt: &W, hub: &mut Hub<M, R>) {
         let Some(conn) = hub.last_handed() else {
+            self.nobody = true;
             return;
         };
         let parcels = hub.room(rt, conn);
@@ -73,6 +77,14 @@ impl Pace {
         }
     }
 
+    /// Tells that a link may be over, where an item put nothing for any player: its port may have been full.
+    pub fn tell_over<M: Core, R: Recorder, W: Wait>(&mut self, common: &Common<'_, M, R, W>) {
+        if self.nobody {
+            self.nobody = false;
+            common.tell_over();
+        }
+    }
+
     /// Waits for the player whose port was found to have the least room, where it is nearly full and it may have pauses.
     pub fn wait<M: Core, R: Recorder, W: Wait + Clock>(&mut self, common: &Common<'_, M, R, W>) {
         let Some(room) = self.least.take() else {
@@ -81,7 +93,7 @@ impl Pace {
         if room.parcels >= LEAST_ROOM {
             return;
         }
-        common.bell.ring(common.rt);
+        common.bells.change.ring(common.rt);
         let pauses = pause(common, room, self.pauses_of(room.conn));
         self.remember(room.conn, pauses);
     }

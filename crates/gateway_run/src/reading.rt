@@ -60,7 +60,7 @@ pub fn read_on<I: Inlet + Drop, O: Outlet + Drop, M: Core, R: Recorder, W: Wait>
     ensures failed { result ≡ ends.Failed → Rose (I.faults reader.old.inlet) (I.faults reader.new.inlet) }
 {
     for _ in common.rt.forever() {
-        let seen = common.bell.rings(common.rt);
+        let seen = common.bells.change.rings(common.rt);
         let all_put = put_some(common, reader);
         match take_some(common, seat) {
             Line::More => {}
@@ -72,7 +72,7 @@ pub fn read_on<I: Inlet + Drop, O: Outlet + Drop, M: Core, R: Recorder, W: Wait>
             }
             Line::Busy if desk.is_back(common.rt) => return ReadEnd::Over,
             Line::Busy => {
-                common.bell.pause(common.rt, seen);
+                common.bells.change.pause(common.rt, seen);
             }
             Line::Over => return ReadEnd::Over,
             Line::Memory => return ReadEnd::Memory,
@@ -113,8 +113,10 @@ fn take_some<M: Core, R: Recorder, W: Wait>(common: &Common<'_, M, R, W>, seat: 
         line = take_one(common, &mut hub, seat);
     }
     drop(hub);
-    if first == Line::More {
-        common.bell.ring(common.rt);
+    if line == Line::Over {
+        common.tell_over();
+    } else if first == Line::More {
+        common.bells.change.ring(common.rt);
     }
     line
 }

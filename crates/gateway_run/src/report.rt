@@ -5,7 +5,7 @@ ghost use Rattle.gate_outside.specs.Contents.{WritesAll};
 ghost use Rattle.gateway_hub.specs.Receipts.{receipt_count};
 ghost use Rattle.gateway_hub.specs.declared.limits.TheConstants.{MOST_CONNECTIONS};
 ghost use Rattle.gateway_replay.specs.Written.{close_byte};
-ghost use Rattle.gateway_run.specs.Report.{named_number, came_text, went_text, receipt_line, receipt_line_in, lines_below, report_text};
+ghost use Rattle.gateway_run.specs.Report.{name_and_number, came_text, went_text, receipt_line, receipt_line_in, lines_below, report_text};
 
 use gate_outside::{Failed, Sink, write_all};
 use gateway_hub::{Receipt, Receipts};
@@ -102,7 +102,7 @@ fn write_cause<K: Sink>(sink: &mut K, why: CloseWhy) -> Result<(), Failed>
 
 /// Writes a name and a number.
 fn write_counted<K: Sink>(sink: &mut K, name: &[u8], number: u64) -> Result<(), Failed>
-    ensures bytes { WritesAll (K.written sink.old) (K.written sink.new) (named_number name.now number) result }
+    ensures bytes { WritesAll (K.written sink.old) (K.written sink.new) (name_and_number name.now number) result }
     ensures cause { HasCause (K.faults sink.old) (K.faults sink.new) result }
 {
     let Ok(()) = write_all(sink, name) else {

@@ -7,13 +7,12 @@ ghost use Rattle.mux_history.specs.Happenings.{Entry};
 ghost use Rattle.gateway_run.specs.Serving.{HasShown, HasLeftNone, RanTo, SaysRan, OpensNothing, TakesBack, OpensOnce, ServeSays, AreSameAddresses, IsSameAddress, counted_refusal};
 ghost use Rattle.gate_outside.specs.Causes.{Rose};
 
-use crate::common::{Common, rest_for_ever};
+use crate::common::{Bells, Common, rest_for_ever};
 use crate::crew::{Crew, ServerPost, StationPost, work};
 use crate::gate::Gate;
 use crate::report::write_report;
 use crate::told::{Told, after_flush, after_report};
 use crate::upstream::{UpBack, Upstream};
-use client_ports::Bell;
 use gate_bytes::Memory;
 use gate_outside::{Door, Failed, Inlet, Outlet, Sink};
 use gate_world::World;
@@ -223,7 +222,7 @@ where
 {
     let hub = Mutex::new(hub);
     let gate = Mutex::new(gate);
-    let bell = Bell::new();
+    let bells = Bells::new();
     let Crew {
         desks,
         server_desk,
@@ -234,7 +233,7 @@ where
         rt,
         alloc,
         hub: &hub,
-        bell: &bell,
+        bells: &bells,
     };
     let stations = StationPost {
         gate: &gate,

@@ -76,7 +76,7 @@ fn enter<M: Core, R: Recorder, W: Wait>(common: &Common<'_, M, R, W>) -> Option<
                 hub.stop(StopWhy::Memory);
             }
             drop(hub);
-            common.bell.ring(common.rt);
+            common.tell_over();
             None
         }
     }

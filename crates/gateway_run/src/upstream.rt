@@ -174,7 +174,7 @@ fn tell_end<M: Core, R: Recorder, W: Wait>(common: &Common<'_, M, R, W>, end: He
     match end {
         HearEnd::Ended => common.end_server(UpWhy::Ended),
         HearEnd::Failed => common.end_server(UpWhy::ReadFault),
-        HearEnd::Kept => common.bell.ring(common.rt),
+        HearEnd::Kept => common.tell_over(),
         HearEnd::Memory => common.stop(StopWhy::Memory),
     }
 }
@@ -224,11 +224,12 @@ fn take_all<I: Inlet + Drop, M: Core, R: Recorder, W: Wait + Clock>(
     for _ in common.rt.forever() {
         let all_put = put_some(common, reader);
         let heard = take_some(common, pace);
+        pace.tell_over(common);
         match heard {
             Heard::More => pace.wait(common),
             Heard::Empty if !all_put => {}
             heard => {
-                common.bell.ring(common.rt);
+                common.bells.change.ring(common.rt);
                 return heard;
             }
         }

@@ -20,7 +20,38 @@ pub fn write_from<O: Outlet + Drop, M: Core, R: Recorder, W: Wait>(
         };
         let writer = write_out(common, writer, &mut gather);
         desk.give_back(common.rt, writer);
-        common.bell.ring(common.rt);
+        common.bells.change.ring(common.rt);
+    }
+}
+
+/// Whether a link is over, as far as its writer knows.
+#[derive(Clone, Copy)]
+struct Life {
+    over: bool,
+    asked: Option<u64>,
+}
+
+impl Life {
+    /// The hub was not asked yet.
+    fn new() -> Life {
+        Life {
+            over: false,
+            asked: None,
+        }
+    }
+
+    /// Whether the link with this number is over. The hub is asked only where that may have changed.
+    fn is_over<M: Core, R: Recorder, W: Wait>(
+        &mut self,
+        common: &Common<'_, M, R, W>,
+        conn: Option<u32>,
+    ) -> bool {
+        let rings = common.bells.over.rings(common.rt);
+        if self.asked != Some(rings) {
+            self.asked = Some(rings);
+            self.over = !common.is_open(conn);
+        }
+        self.over
     }
 }
 
@@ -32,20 +63,22 @@ fn write_out<O: Outlet + Drop, M: Core, R: Recorder, W: Wait>(
     gather: &mut Gather,
 ) -> Writer<O> {
     let mut writer = writer;
+    let mut life = Life::new();
     for _ in common.rt.forever() {
-        let seen = common.bell.rings(common.rt);
-        // Asked before the port is looked at: what is put after this is put while the link is still open.
-        let open = common.is_open(writer.conn());
+        let seen = common.bells.change.rings(common.rt);
         match writer.turn(common.rt, gather) {
             Turn::Wrote => {}
             Turn::Failed => {
                 tell_failure(common, writer.conn());
                 break;
             }
-            Turn::Idle if open => {
-                common.bell.pause(common.rt, seen);
+            Turn::Idle if life.over => break,
+            Turn::Idle => {
+                // Where the link is over, the port is looked at once more: what was put before that is written.
+                if !life.is_over(common, writer.conn()) {
+                    common.bells.change.pause(common.rt, seen);
+                }
             }
-            Turn::Idle => break,
         }
     }
     writer.shut();
