@@ -1,0 +1,44 @@
+//! A program that rehearses `serve`: it reads scenes, runs each over a world in memory with real threads, and prints what
+//! everybody was handed. The gate compares that with what it must print.
+//!
+//! A scene is lines of words, each ended by a line feed:
+//!
+//! - `run NAME` begins a scene, of one station and with nothing said;
+//! - `stations COUNT` gives it so many;
+//! - `link` begins what comes by a link: first by the server's, then by each player's;
+//! - `say OUTLET AFTER LENGTH` says the so many bytes that follow, and a line feed behind them, once an outlet was handed
+//!   so many bytes: outlet 0 is the server's, and `n` that of the `n`th player, counted from 1;
+//! - `idle CALL` has nothing more come from this call on, and `fail CALL` has this call fail: of the link that was begun
+//!   last, or of the door where none was;
+//! - `replay` has what was recorded replayed, and its records printed.
+#![tactic(auto)]
+
+mod fault;
+mod reading;
+mod rehearsing;
+mod scene;
+mod telling;
+mod words;
+
+use crate::rehearsing::rehearse_all;
+use gate_bytes::Text;
+use std::io;
+use std::io::{Read, Write};
+use std::process::ExitCode;
+
+fn main(rt: HostRuntime) -> io::Result<ExitCode> {
+    let alloc = rt.alloc();
+    let mut script = Vec::new(alloc);
+    rt.reader().read_to_end(&mut script)?;
+    let mut text = Text::new(alloc);
+    match rehearse_all(&rt, alloc, script.as_slice(), &mut text) {
+        Ok(()) => {
+            io::writer(&rt).write_all(text.as_bytes())?;
+            Ok(ExitCode::SUCCESS)
+        }
+        Err(fault) => {
+            eprintln!(rt; "rehearsal: {fault}")?;
+            Ok(ExitCode::FAILURE)
+        }
+    }
+}

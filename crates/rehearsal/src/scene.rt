@@ -1,0 +1,130 @@
+//! Scenes: what everybody says in a run.
+ghost use Rattle.std.specs.Prelude.{◌<◌, ◌≤◌};
+ghost use Rattle.gateway_words.specs.declared.options.TheConstants.{MOST_STATIONS};
+
+use gate_bytes::{Memory, Text};
+use gate_outside::{
+    Links, MemoryDoor, MemoryInlet, MemoryOutlet, NewLink, Numbers, Part, Parts, Script,
+};
+use gate_transcript::MemoryRecorder;
+use gate_world::MemoryWorld;
+use std::alloc::Global;
+
+/// The most bytes that one call moves.
+const PIECE: usize = 65_536;
+
+/// A script by which no call fails, and nothing is ever waited for.
+pub fn calm(alloc: Global) -> Script {
+    Script {
+        fails: Numbers::new(alloc),
+        waits: Numbers::new(alloc),
+        idle: None,
+        piece: PIECE,
+    }
+}
+
+/// What comes by a link.
+#[derive(Drop)]
+pub struct Role {
+    /// What is said.
+    pub parts: Parts,
+    /// How the link's inlet behaves.
+    pub script: Script,
+}
+
+impl Role {
+    /// Nothing is said.
+    pub fn new(alloc: Global) -> Role {
+        Role {
+            parts: Parts::new(alloc),
+            script: calm(alloc),
+        }
+    }
+
+    /// Something more is said.
+    pub fn say(&mut self, part: Part) -> Result<(), Memory> {
+        match self.parts.push(part) {
+            Ok(()) => Ok(()),
+            Err((_, memory)) => Err(memory),
+        }
+    }
+
+    /// The link by which all that comes.
+    fn into_link(self, alloc: Global) -> Result<NewLink, Memory> {
+        let inlet = MemoryInlet::new(alloc, self.parts, self.script, u64::MAX)?;
+        let outlet = MemoryOutlet::new(alloc, calm(alloc))?;
+        Ok(NewLink::new(inlet, outlet))
+    }
+}
+
+/// What everybody says in a run.
+#[derive(Drop)]
+pub struct Scene {
+    /// Its name.
+    pub name: Text,
+    /// How many stations there are.
+    pub stations: u8,
+    /// Whether what was recorded is replayed.
+    pub is_replayed: bool,
+    /// How the door behaves.
+    pub door: Script,
+    /// What comes by each link: the server's, and then the players'.
+    pub roles: Vec<Role>,
+    pub ghost some: { (0 < stations) × (stations ≤ MOST_STATIONS) },
+}
+
+impl Scene {
+    /// A scene with this name and one station, in which nothing is said.
+    pub fn new(alloc: Global, name: Text) -> Scene {
+        Scene {
+            name,
+            stations: 1,
+            is_replayed: false,
+            door: calm(alloc),
+            roles: Vec::new(alloc),
+        }
+    }
+
+    /// Has nothing more come from this call on: of the link that was begun last, or of the door where none was.
+    pub fn idle_from(&mut self, call: u64) {
+        match self.roles.last_mut() {
+            Some(role) => role.script.idle = Some(call),
+            None => self.door.idle = Some(call),
+        }
+    }
+
+    /// Has this call fail: of the link that was begun last, or of the door where none was.
+    pub fn fail_at(&mut self, call: u64) -> Result<(), Memory> {
+        match self.roles.last_mut() {
+            Some(role) => add(&mut role.script, call),
+            None => add(&mut self.door, call),
+        }
+    }
+}
+
+/// Has this call fail by a script.
+fn add(script: &mut Script, call: u64) -> Result<(), Memory> {
+    match script.fails.push(call) {
+        Ok(()) => Ok(()),
+        Err((_, memory)) => Err(memory),
+    }
+}
+
+/// The world in which this is said, at a door that behaves so.
+pub fn world_of(alloc: Global, door: Script, roles: Vec<Role>) -> Result<MemoryWorld, Memory> {
+    let mut server = Role::new(alloc).into_link(alloc)?;
+    let mut players = Links::new(alloc);
+    let mut is_server = true;
+    for role in roles {
+        let link = role.into_link(alloc)?;
+        if is_server {
+            server = link;
+            is_server = false;
+        } else if let Err((_, memory)) = players.push(link) {
+            return Err(memory);
+        }
+    }
+    let door = MemoryDoor::new(alloc, players, door)?;
+    let recorder = MemoryRecorder::new(alloc, calm(alloc));
+    MemoryWorld::new(alloc, door, server, recorder)
+}
