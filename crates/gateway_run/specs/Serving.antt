@@ -1,5 +1,5 @@
 -- What is said of a whole run over real links (this project's own).
-use Rattle.std.specs.Prelude.{◌≡◌, ℕ, ◌<◌, ◌≤◌, ◌⊎◌, Bool, true, false, List, length, Option, Some, None}
+use Rattle.std.specs.Prelude.{◌≡◌, ℕ, ◌<◌, ◌≤◌, ◌⊎◌, ◌&&◌, Bool, true, false, List, length, Option, Some, None}
 use Rattle.gate_outside.specs.Causes.{Rose, counted_on}
 use Rattle.gate_outside.specs.Contents.{Grows, GrowsByFront}
 use Rattle.rtsp_uri.specs.declared.base.Base.{Base}
@@ -52,6 +52,15 @@ GoesWith AcceptFault told = told.failed ≡ true
 GoesWith CrewRefused told = told.refused ≡ true
 GoesWith Memory told = Unit {0}
 GoesWith other told = ⊥
+
+-- whether what the workers met shows the ending that the hub kept
+abbrev pub is_shown : Option Ending → Told → Bool
+is_shown None told = false
+is_shown (Some (endings.Upstream cause)) told = met_by cause told.run
+is_shown (Some (endings.Stopped stops.Crew)) told = told.refused
+is_shown (Some (endings.Stopped stops.Accept)) told = told.failed
+is_shown (Some (endings.Stopped stops.DoorEnd)) told = told.ended && told.over
+is_shown (Some (endings.Stopped other)) told = true
 
 -- What the end of the server's connection shows at its link.
 abbrev pub LinkShows : UpCause → Tally → Tally → Type 0

@@ -1,5 +1,5 @@
 //! The door under its lock, with the number of stations that have not ended.
-ghost use Rattle.std.specs.Prelude.{◌≡◌, ◌<◌, true, false};
+ghost use Rattle.std.specs.Prelude.{◌≡◌, ◌<◌, ◌-◌, ◌==◌, ◌&&◌, true, false};
 ghost use Rattle.gateway_run.specs.Gates.{GivesNew, NoneLeft};
 
 use crate::common::Common;
@@ -30,6 +30,7 @@ impl<D: Door + Drop> Gate<D> {
     /// A door that has not failed or ended, and so many stations.
     pub fn new(door: D, stations: u8) -> Gate<D>
         ensures door { result.door ≡ door }
+        ensures stations { result.stations ≡ stations }
         ensures failed { result.failed ≡ false }
         ensures ended { result.ended ≡ false }
     {
@@ -60,7 +61,11 @@ impl<D: Door + Drop> Gate<D> {
     }
 
     /// A station ends. True where it was the last one, and no link comes any more.
-    pub fn leave(&mut self) -> bool {
+    pub fn leave(&mut self) -> bool
+        ensures last { result ≡ (self.new.stations == 0 && self.old.ended) }
+        ensures stations { self.new.stations ≡ self.old.stations - 1 }
+        ensures door { self.new.door ≡ self.old.door }
+    {
         self.stations = self.stations.saturating_sub(1);
         self.stations == 0 && self.ended
     }

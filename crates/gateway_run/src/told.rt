@@ -1,7 +1,7 @@
 //! How a run ended, by what is left of it.
-ghost use Rattle.std.specs.Prelude.{◌≡◌, true, IfSome, OnOk, OnErr};
+ghost use Rattle.std.specs.Prelude.{◌≡◌, true, is_some, IfSome, OnOk, OnErr};
 ghost use Rattle.gateway_mux.specs.declared.status.Status.TheVariants as statuses;
-ghost use Rattle.gateway_run.specs.Serving.{GoesWith, met_by, unrecorded, unreported};
+ghost use Rattle.gateway_run.specs.Serving.{GoesWith, is_shown, met_by, unrecorded, unreported};
 
 use crate::upstream::UpRun;
 use gate_outside::Failed;
@@ -26,9 +26,10 @@ pub struct Told {
 }
 
 impl Told {
-    /// How the run ended. None where the ending does not go with what the workers met, which no right run does.
+    /// How the run ended. None exactly where what the workers met does not show the ending, which no right run tells.
     pub fn status(self) -> Option<Status>
-        ensures { IfSome result (λ status. GoesWith status self) }
+        ensures goes { IfSome result (λ status. GoesWith status self) }
+        ensures shown { is_some result ≡ is_shown self.ending self }
     {
         match self.ending? {
             Ending::Upstream(cause) => self.upstream_status(cause),
@@ -44,7 +45,8 @@ impl Told {
 
     /// How a run ended that ended with the server's connection.
     fn upstream_status(self, cause: UpCause) -> Option<Status>
-        ensures { IfSome result (λ status. (status ≡ statuses.Upstream cause) × (met_by cause self.run ≡ true)) }
+        ensures goes { IfSome result (λ status. (status ≡ statuses.Upstream cause) × (met_by cause self.run ≡ true)) }
+        ensures shown { is_some result ≡ met_by cause self.run }
     {
         let met = match cause {
             UpCause::Ended => self.run.ended,

@@ -21,7 +21,7 @@ returns-clause-says g c =
     (g.W.World.recorded c.give_back-flushed.new.world) (g.W.Rec.Recorder.faults hub.state.recorder) hub.state.desk c.close-recorder.result.1 c.told-told.result c.in_ok-status.status c.after_flush.result
     c.after_report.result c.give_back-flushed.result c.write_report-written.result (g.K.Sink.written c.args.sink.now) (g.K.Sink.written c.write_report-written.new.sink)
     (g.K.Sink.faults c.args.sink.now) (g.K.Sink.faults c.write_report-written.new.sink) hub.keeps (laws.history hub.state.core) ((rw c.bases.ensures at c.if-not-are_same_bases.ensures) refl)
-    (λ T k. rw c.give_back-flushed.ensures.recorded (c.close-recorder.ensures.receipts T k)) c.told-told.ensures.over c.told-told.ensures.ending c.in_ok-status.ensures
+    (λ T k. rw c.give_back-flushed.ensures.recorded (c.close-recorder.ensures.receipts T k)) c.told-told.ensures.over c.told-told.ensures.ending c.in_ok-status.ensures.goes
     c.after_flush.ensures.ok c.after_flush.ensures.err c.after_report.ensures.ok c.after_report.ensures.err
     (wrote_report (g.K.Sink.written c.args.sink.now) (g.K.Sink.written c.write_report-written.new.sink) (g.K.Sink.faults c.args.sink.now) (g.K.Sink.faults c.write_report-written.new.sink)
     (report_text c.close-recorder.result.1) c.write_report-written.result c.write_report-written.ensures.bytes c.write_report-written.ensures.cause.failed)
@@ -33,7 +33,7 @@ returns-clause-shown g c =
     shown_last c.in_ok-status.status c.after_flush.result c.after_report.result c.told-told.result c.args.ran.refused (g.W.Door.Door.faults c.args.ran.gate.door) (g.W.Door.Door.ends c.args.ran.gate.door)
     (g.W.UpIn.Inlet.faults back.inlet) (g.W.UpOut.Sink.faults back.outlet) (g.W.UpIn.Inlet.ends back.inlet) (g.W.Rec.Recorder.faults c.close-recorder.result.0)
     (g.W.World.tally c.args.world.now) (g.W.World.tally c.give_back-flushed.new.world) (g.K.Sink.faults c.args.sink.now) (g.K.Sink.faults c.write_report-written.new.sink)
-    c.give_back-flushed.result c.write_report-written.result c.in_ok-status.ensures
+    c.give_back-flushed.result c.write_report-written.result c.in_ok-status.ensures.goes
     (record {
       failed = λ yes. c.args.ran.gate.fault (sym c.told-told.ensures.failed ∙ yes);
       ended = λ yes. c.args.ran.gate.end (sym c.told-told.ensures.ended ∙ yes);
@@ -52,6 +52,6 @@ pub returns-clause-left : goal.returns-clause-left
 returns-clause-left g c =
     let gate = c.args.ran.gate in
     left_last c.in_ok-status.status c.after_flush.result c.after_report.result c.told-told.result c.give_back-flushed.result c.write_report-written.result
-    (g.W.World.links_left c.give_back-flushed.new.world) c.in_ok-status.ensures
+    (g.W.World.links_left c.give_back-flushed.new.world) c.in_ok-status.ensures.goes
     (λ yes. no_link_left (g.W.Door.Door.links gate.door) (g.W.World.links_left c.give_back-flushed.new.world) (gate.none_left (sym c.told-told.ensures.ended ∙ yes)) c.give_back-flushed.ensures.left)
     c.after_flush.ensures.ok c.after_flush.ensures.err c.after_report.ensures.ok c.after_report.ensures.err
