@@ -19,6 +19,7 @@ impl Connections {
     ghost use Rattle.gateway_mux.specs.Short.{IsShort, IsShortAnswer};
 
     /// Carries out what an event does. It takes no memory, and can't be refused.
+    #[inline(always)]
     pub fn commit(&mut self, event: Event, act: Act) -> Outcome
         requires act { IsAct self.old.bases (picture self.old.seats self.old.upstream) (happening_of event) act }
         requires key { IsKeyed self.old.seats act }
@@ -43,6 +44,7 @@ impl Connections {
     }
 
     /// Carries out the turn of a connection, after this answer to the server.
+    #[inline(always)]
     fn turn(&mut self, answer: Option<Text>, turn: Turn) -> Outcome
         requires turn { IsTurnOfSome self.old.bases (picture self.old.seats self.old.upstream) answer turn }
         requires key { IsKeyOf self.old.seats turn.conn turn.key }

@@ -86,6 +86,7 @@ impl Mux {
 
     /// What an event will do. Nothing changes, and all memory for it is taken. Only a request of a
     /// client or a message of the server may need memory.
+    #[inline(always)]
     pub fn plan(&self, alloc: Global, event: &Event) -> Result<Plan, Memory>
         ensures plan { IfOk result (IsPlanFor self.now event.now) }
         ensures free { needs_memory event.now ≡ false → IsOk result }
@@ -100,6 +101,7 @@ impl Mux {
 
     /// Carries out the plan for an event: what it hands out is the next entry of the history. It takes
     /// no memory, and can't be refused.
+    #[inline(always)]
     pub fn commit(&mut self, event: Event, plan: Plan) -> Outcome
         requires { IsPlanFor self.old event plan }
         ensures stands { (T : List Entry) → Stands self.old T → Stands self.new (entry_of event result ∷ T) }

@@ -27,6 +27,7 @@ impl Connections {
     ghost use Rattle.gateway_mux.specs.Turn.{free_once};
 
     /// What an event does. Nothing changes, and all memory for it is taken.
+    #[inline(always)]
     pub fn plan(&self, alloc: Global, event: &Event) -> Result<Act, Memory>
         ensures act { IfOk result (IsAct self.now.bases (picture self.now.seats self.now.upstream) (happening_of event.now)) }
         ensures short { IfOk result IsShortAct }
@@ -43,6 +44,7 @@ impl Connections {
     }
 
     /// What an item of a player does.
+    #[inline(always)]
     fn plan_item(&self, alloc: Global, conn: u32, item: &Item) -> Result<Act, Memory>
         ensures act { IfOk result (IsAct self.now.bases (picture self.now.seats self.now.upstream) (takes conn (shape_of item.now))) }
         ensures short { IfOk result IsShortAct }
@@ -61,6 +63,7 @@ impl Connections {
     }
 
     /// What a frame of a player does.
+    #[inline(always)]
     fn plan_rise(&self, conn: u32, item: &Item) -> Act
         requires { item.now.kind ≡ Frame }
         ensures act { IsAct self.now.bases (picture self.now.seats self.now.upstream) (takes conn (shape_of item.now)) result }

@@ -43,6 +43,7 @@ impl Connections {
     ghost use Rattle.gateway_mux.specs.Turn.{session_of_client};
 
     /// What an item of the server does.
+    #[inline(always)]
     pub fn plan_heard(&self, alloc: Global, item: &Item) -> Result<Act, Memory>
         ensures act { IfOk result (IsAct self.now.bases (picture self.now.seats self.now.upstream) (hears (shape_of item.now))) }
         ensures short { IfOk result IsShortAct }
@@ -60,6 +61,7 @@ impl Connections {
     }
 
     /// What a frame of the server does.
+    #[inline(always)]
     fn plan_fall(&self, item: &Item) -> Act
         requires { item.now.kind ≡ Frame }
         ensures act { IsAct self.now.bases (picture self.now.seats self.now.upstream) (hears (shape_of item.now)) result }
