@@ -7,6 +7,7 @@ import re
 import subprocess
 import sys
 
+from interleaved import Pieces
 from svg import Picture
 
 HEAD, MAGIC_LENGTH, MOST_ENTRIES = 9, 8, 400
@@ -17,37 +18,27 @@ SHOWN = (b"cseq", b"session", b"transport", b"range")
 GATEWAY, SERVER = "gateway", "server"
 
 
-class Stream:
-    """The messages and frames of one speaker, whose bytes come in pieces."""
+class Stream(Pieces):
+    """The messages and frames of one speaker, each as its label and the channel of a frame."""
 
-    def __init__(self):
-        self.left = b""
-
-    def take(self, piece):
-        """What is whole now, each as its label and the channel of a frame."""
-        self.left += piece
-        while True:
-            size, label, channel = first_item(self.left)
-            if size is None:
-                return
-            self.left = self.left[size:]
-            yield label, channel
+    def first(self):
+        return first_item(self.left)
 
 
 def first_item(data):
-    """The length, the label and the channel of the first whole item; no length where none is whole."""
+    """The label and the channel of the first whole item, and its length; none where none is whole."""
     if data[:1] == b"$":
         size = 4 + int.from_bytes(data[2:4], "big")
-        return (size, "", data[1]) if len(data) >= max(size, 4) else (None, "", None)
+        return (("", data[1]), size) if len(data) >= max(size, 4) else (None, 0)
     end = data.find(b"\r\n\r\n")
     if end < 0:
-        return None, "", None
+        return None, 0
     first, *lines = data[:end].strip(b"\r\n").split(b"\r\n")
     fields = [(name.strip().lower(), value.strip()) for name, _, value in (line.partition(b":") for line in lines)]
     body = next((int(value) for name, value in fields if name == b"content-length" and value.isdigit()), 0)
     if len(data) < end + 4 + body:
-        return None, "", None
-    return end + 4 + body, label_of(first, fields), None
+        return None, 0
+    return (label_of(first, fields), None), end + 4 + body
 
 
 def label_of(first, fields):
@@ -90,7 +81,7 @@ class Chart:
     def say(self, whence, whither, body):
         """The items of a piece, as arrows."""
         stream = self.streams.setdefault((whence, whither), Stream())
-        for label, channel in stream.take(body):
+        for label, channel in stream.feed(body):
             if channel is None:
                 self.rows.append([whence, whither, label, 0])
             else:

@@ -84,21 +84,32 @@ def body_length(message):
     return int(text or 0)
 
 
-class Items:
-    """A stream that comes in pieces, cut into frames and messages."""
+class Pieces:
+    """A stream that comes in pieces, cut into what `first` finds at its front."""
 
     def __init__(self):
         self.left = b""
+
+    def first(self):
+        """The first item and its length; neither where none is whole."""
+        raise NotImplementedError
 
     def feed(self, piece):
         """The items that are whole now."""
         self.left += piece
         while True:
-            item, size = self.first_frame() if self.left.startswith(b"$") else self.first_message()
+            item, size = self.first()
             if item is None:
                 return
             self.left = self.left[size:]
             yield item
+
+
+class Items(Pieces):
+    """A stream that is cut into frames and messages."""
+
+    def first(self):
+        return self.first_frame() if self.left.startswith(b"$") else self.first_message()
 
     def first_frame(self):
         size = 4 + int.from_bytes(self.left[2:4], "big")
