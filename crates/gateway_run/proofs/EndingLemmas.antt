@@ -1,5 +1,5 @@
 -- How a run ended, by what its hub kept and what its workers met.
-use Rattle.std.proofs.Common.{◌≡◌, ◌<◌, ◌≤◌, ◌⊎◌, ℕ, Bool, true, false, List, length, Option, Some, None, Result, Ok, Err, inl, inr, refl, sym, ◌∙◌, ap, subst, arith}
+use Rattle.std.proofs.Common.{◌≡◌, ◌<◌, ℕ, Bool, true, List, length, Option, Some, Result, Ok, Err, inl, inr, refl, sym, ◌∙◌, ap, subst}
 use Rattle.std.specs.Prelude.{OnOk, OnErr}
 use Rattle.std.proofs.Math.Logic.{∥∥₁_map, ∥∥₁_elim}
 use Rattle.std.proofs.Math.Bridge.{le_prop}
@@ -10,7 +10,7 @@ use Rattle.gate_transcript.specs.declared.entry.Entry.{Entry as Noted}
 use Rattle.gate_world.specs.declared.tally.Tally.{Tally}
 use Rattle.mux_history.specs.declared.event.UpCause.{UpCause}
 use Rattle.mux_history.specs.declared.event.UpCause.TheVariants as causes
-use Rattle.mux_history.specs.Happenings.{Entry, fault_in}
+use Rattle.mux_history.specs.Happenings.{Entry}
 use Rattle.mux_history.specs.Cores.{IsCoreHistory}
 use Rattle.gateway_mux.specs.declared.status.Status.{Status}
 use Rattle.gateway_mux.specs.declared.status.Status.TheVariants.{Done, Usage, SourceFault, SinkFault, BadTranscript, Upstream, ListenFault, RecordFault, CrewRefused, Memory, TooLong, AcceptFault, DialFault, NumbersSpent}

@@ -1,4 +1,4 @@
-use Rattle.std.proofs.Common.{◌≡◌, ◌≤◌, ◌<◌, ℕ, List, Option, length}
+use Rattle.std.proofs.Common.{◌≤◌, ◌<◌, ℕ, List, Option, length}
 use Rattle.link_reader.specs.Reading.{ReadsItems}
 use Rattle.gateway_run.proofs.reading.read_on.Given as goal
 

@@ -1,4 +1,4 @@
-use Rattle.std.proofs.Common.{[], ◌∷◌, codes}
+use Rattle.std.proofs.Common.{◌∷◌, codes}
 use Rattle.gateway_replay.specs.Written.{close_byte}
 use Rattle.gateway_run.proofs.ReportLemmas.{cut_first, then_writes}
 use Rattle.gateway_run.proofs.report.write_cause.Goals as goal

@@ -1,4 +1,4 @@
-use Rattle.std.proofs.Common.{[], ◌∷◌, ◌++◌, codes}
+use Rattle.std.proofs.Common.{◌∷◌, ◌++◌, codes}
 use Rattle.gateway_replay.specs.Written.{close_byte}
 use Rattle.gateway_run.specs.Report.{name_and_number}
 use Rattle.gateway_run.proofs.ReportLemmas.{cut_first, cut_second, then_writes}

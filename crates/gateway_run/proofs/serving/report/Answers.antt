@@ -1,5 +1,4 @@
 use Rattle.std.proofs.Common.{refl, sym, ap, ◌∙◌}
-use Rattle.gateway_hub.specs.Receipts.{receipt_count}
 use Rattle.gateway_run.specs.Report.{report_text}
 use Rattle.gateway_run.specs.declared.upstream.UpRun.{UpRun}
 use Rattle.gateway_run.proofs.ReceiptLemmas.{few_receipts}
