@@ -1,11 +1,12 @@
 -- How a queue grows by the items that are cut.
-use Rattle.std.proofs.Common.{◌≡◌, ℕ, ◌+◌, ◌≤◌, Bool, true, false, List, [], ◌∷◌, ◌++◌, length, take, drop, Option, Some, None, refl, sym, ap, ◌∙◌, arith, append_assoc}
-use Rattle.std.proofs.lemmas.List.{append-nil, take-append-le, take_at, length-take, length-drop, drop-drop, map_push}
+use Rattle.std.proofs.Common.{◌≡◌, ℕ, ◌+◌, ◌≤◌, Bool, true, false, not, List, [], ◌∷◌, ◌++◌, length, take, drop, Option, Some, None, refl, sym, ap, ◌∙◌, arith, append_assoc}
+use Rattle.std.proofs.lemmas.List.{append-nil, take-append-le, take_at, take_all, nil_from_length, length-take, length-drop, drop-drop, map_push}
 use Rattle.rtsp_head.specs.Items.{Shape, Cut, blank_lines, shape_at, first_extent, with_item, is_bad, behind, cut_with, cut}
 use Rattle.rtsp_head.specs.Shapes.{shape_of, shapes}
 use Rattle.rtsp_head.specs.declared.item.Item.{Item}
 use Rattle.rtsp_head.specs.declared.item.Extent.{Extent}
-use Rattle.rtsp_frame.specs.Cutting.{Joined}
+use Rattle.rtsp_head.specs.declared.item.Span.{Span}
+use Rattle.rtsp_frame.specs.Cutting.{Joined, IsWhole, left_if}
 use Rattle.rtsp_frame.proofs.HeadLemmas.{blank_lines_fit}
 use Rattle.rtsp_frame.proofs.ExtentLemmas.{first_is}
 use Rattle.rtsp_frame.proofs.CutLemmas.{cut_step}
@@ -89,3 +90,45 @@ cutting_breaks old now bytes left used e item h at same bad =
       within = tt;
       kept = kept_more old now item h.kept;
     }
+
+-- A piece that is one whole item, where nothing was held.
+whole_rest : (bytes : List ℕ) (span : Span) → IsWhole bytes span → drop (0 + span.len) bytes ≡ []
+whole_rest bytes span is = nil_from_length (drop (0 + span.len) bytes) (omega (arith, length-drop (0 + span.len) bytes, is.all))
+
+whole_shape : (bytes : List ℕ) (span : Span) → IsWhole bytes span → record { kind = span.kind; bytes = bytes; head = span.head } ≡ shape_at bytes (record { skipped = 0; span = span })
+whole_shape bytes span is = ap (λ (b : List ℕ). record { kind = span.kind; bytes = b; head = span.head }) (sym (take_all span.len bytes (omega (arith, is.all))))
+
+-- That item is all that it is cut into, and nothing is left.
+pub record IsCutAlone (bytes : List ℕ) (span : Span) (bad : Bool) : Type 0 where
+  pub items : record { kind = span.kind; bytes = bytes; head = span.head } ∷ [] ≡ (cut bytes).items
+  pub rest : left_if (not bad) [] ≡ (cut bytes).rest
+
+pub whole_cut : (bytes : List ℕ) (span : Span) → IsWhole bytes span → IsCutAlone bytes span (is_bad span.kind)
+whole_cut bytes span is = by (is_bad span.kind) refl
+  where
+    e : Extent
+    e = record { skipped = 0; span = span }
+
+    shape : record { kind = span.kind; bytes = bytes; head = span.head } ≡ shape_at bytes e
+    shape = whole_shape bytes span is
+
+    nothing : cut (drop (0 + span.len) bytes) ≡ record { items = []; rest = Some [] }
+    nothing = ap cut (whole_rest bytes span is)
+
+    by : (b : Bool) → is_bad span.kind ≡ b → IsCutAlone bytes span b
+    by true bad =
+        let first : cut bytes ≡ record { items = shape_at bytes e ∷ []; rest = None } =
+        cut_first bytes e is.first ∙ ap (λ (b : Bool). behind b (shape_at bytes e) (cut (drop (0 + span.len) bytes))) bad in
+        record {
+          items = ap (λ (s : Shape). s ∷ []) shape ∙ ap (λ (c : Cut). c.items) (sym first);
+          rest = ap (λ (c : Cut). c.rest) (sym first);
+        }
+    by false good =
+        let first : cut bytes ≡ record { items = shape_at bytes e ∷ []; rest = Some [] } =
+        cut_first bytes e is.first
+        ∙ ap (λ (b : Bool). behind b (shape_at bytes e) (cut (drop (0 + span.len) bytes))) good
+        ∙ ap (λ (c : Cut). with_item (shape_at bytes e) c) nothing in
+        record {
+          items = ap (λ (s : Shape). s ∷ []) shape ∙ ap (λ (c : Cut). c.items) (sym first);
+          rest = ap (λ (c : Cut). c.rest) (sym first);
+        }

@@ -1,8 +1,12 @@
 -- What a framer owes to a stream, when a piece comes.
-use Rattle.std.proofs.Common.{◌≡◌, ℕ, List, ◌++◌, Option, Some, None, sym, ap, ◌∙◌, append_assoc}
-use Rattle.rtsp_head.specs.Items.{Shape, Cut, cut}
-use Rattle.rtsp_frame.specs.Framing.{Held, Framed}
+use Rattle.std.proofs.Common.{◌≡◌, ℕ, not, List, [], ◌∷◌, ◌++◌, Option, Some, None, sym, ap, ◌∙◌, append_assoc}
+use Rattle.std.proofs.lemmas.List.{append-nil}
+use Rattle.rtsp_head.specs.Items.{Shape, Cut, is_bad, cut}
+use Rattle.rtsp_head.specs.declared.item.Span.{Span}
+use Rattle.rtsp_frame.specs.Cutting.{left_if}
+use Rattle.rtsp_frame.specs.Framing.{Held, Framed, IsAlone}
 use Rattle.rtsp_frame.proofs.CutLemmas.{joined_rest, cut_append}
+use Rattle.rtsp_frame.proofs.CuttingLemmas.{whole_cut}
 
 -- behind a bad item nothing is added
 pub framed_done : (held : Held) (stream piece : List ℕ) (given : List Shape) → held.rest ≡ None → Framed held stream given → Framed held (stream ++ piece) given
@@ -28,4 +32,18 @@ framed_more old new stream piece rest given some items left h =
           ∙ ap (λ (l : List Shape). l ++ (cut (rest ++ piece)).items) h.items
           ∙ ap (λ (c : Cut). c.items) (sym more);
       rest = left ∙ ap (λ (c : Cut). c.rest) (sym more);
+    }
+
+-- a piece that is one whole item, where nothing is held, is the next item
+pub framed_whole : (old new : Held) (stream piece : List ℕ) (span : Span) (given : List Shape) → IsAlone old piece span → new.waiting ≡ [] → new.rest ≡ left_if (not (is_bad span.kind)) []
+    → Framed old stream given → Framed new (stream ++ piece) (given ++ record { kind = span.kind; bytes = piece; head = span.head } ∷ [])
+framed_whole old new stream piece span given alone waiting rest h =
+    let shape : Shape = record { kind = span.kind; bytes = piece; head = span.head } in
+    let is = whole_cut piece span alone.whole in
+    let more : Framed (record { waiting = shape ∷ []; rest = left_if (not (is_bad span.kind)) [] }) (stream ++ piece) given =
+    framed_more old _ stream piece [] given (ap (λ (held : Held). held.rest) alone.nothing)
+    (is.items ∙ ap (λ (held : Held). held.waiting ++ (cut piece).items) (sym alone.nothing)) is.rest h in
+    record {
+      items = ap (λ (l : List Shape). (given ++ shape ∷ []) ++ l) waiting ∙ append-nil (given ++ shape ∷ []) ∙ more.items;
+      rest = rest ∙ more.rest;
     }

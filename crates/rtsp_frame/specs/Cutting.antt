@@ -1,9 +1,10 @@
 -- How bytes are cut into items that join a queue.
 use Rattle.std.specs.Prelude.{◌≡◌, ℕ, ◌≤◌, Bool, List, ◌++◌, length, take, drop, Option, Some, None, IfSome, if◌then◌else◌}
 use Rattle.std.specs.Option.{option_map}
-use Rattle.rtsp_head.specs.Items.{cut}
+use Rattle.rtsp_head.specs.Items.{first_extent, cut}
 use Rattle.rtsp_head.specs.Shapes.{shapes}
 use Rattle.rtsp_head.specs.declared.item.Item.{Item}
+use Rattle.rtsp_head.specs.declared.item.Span.{Span}
 
 -- The items of the bytes joined the queue; they and the empty lines behind them took so many of
 -- the bytes, or the last one is bad.
@@ -26,3 +27,8 @@ pub record Fed (old new : List Item) (held left piece : List ℕ) (goes_on : Boo
 -- nothing changed
 abbrev pub Same : List Item → List Item → List ℕ → List ℕ → Type 0
 Same old new held left = (new ≡ old) × (left ≡ held)
+
+-- The bytes are one whole item, and nothing else.
+pub record IsWhole (bytes : List ℕ) (span : Span) : Type 0 where
+  pub first : first_extent bytes ≡ Some (record { skipped = 0; span = span })
+  pub all : span.len ≡ length bytes

@@ -1,12 +1,12 @@
 //! Cutting bytes into items.
-ghost use Rattle.std.specs.Prelude.{◌≡◌, ◌++◌, Some, [], length, take, drop, ◌≤◌, IfOk, OnErr};
+ghost use Rattle.std.specs.Prelude.{◌≡◌, ◌++◌, Some, [], length, take, drop, ◌≤◌, IfOk, IfSome, OnErr};
 ghost use Rattle.rtsp_head.specs.Items.{first_extent, shape_at};
 ghost use Rattle.rtsp_head.specs.Shapes.{shape_of};
-ghost use Rattle.rtsp_frame.specs.Cutting.{Joined, Fed, Same};
+ghost use Rattle.rtsp_frame.specs.Cutting.{Joined, Fed, Same, IsWhole};
 
 use crate::extent::{blank_lines, first_extent};
 use gate_bytes::{Memory, Text, after, before};
-use rtsp_head::{Extent, Item};
+use rtsp_head::{Extent, Item, Span};
 use std::alloc::Global;
 use std::collections::VecDeque;
 
@@ -142,4 +142,16 @@ fn copy_item(alloc: Global, stream: &[u8], extent: Extent) -> Result<Item, Memor
         bytes: Text::copy(alloc, bytes)?,
         head: extent.span.head,
     })
+}
+
+/// The item that these bytes are, where they are one whole item and nothing else.
+pub fn whole(bytes: &[u8]) -> Option<Span>
+    ensures { IfSome result (IsWhole bytes.now) }
+{
+    let extent = first_extent(bytes)?;
+    if extent.skipped == 0 && extent.span.len == bytes.len() {
+        Some(extent.span)
+    } else {
+        None
+    }
 }

@@ -1,12 +1,12 @@
 //! The framer of a stream.
-ghost use Rattle.std.specs.Prelude.{◌≡◌, ℕ, List, [], ◌∷◌, ◌++◌, IfSome, IfNone, OnOk, OnErr};
+ghost use Rattle.std.specs.Prelude.{◌≡◌, ℕ, List, [], ◌∷◌, ◌++◌, IfSome, IfNone, IfOk, OnOk, OnErr};
 ghost use Rattle.rtsp_head.specs.Items.{Shape, items_of};
 ghost use Rattle.rtsp_head.specs.Shapes.{shape_of};
-ghost use Rattle.rtsp_frame.specs.Framing.{Framed};
+ghost use Rattle.rtsp_frame.specs.Framing.{Framed, IsAlone, GivesNext};
 
 use crate::cutting;
-use gate_bytes::Memory;
-use rtsp_head::Item;
+use gate_bytes::{Memory, Text};
+use rtsp_head::{Item, Span};
 use std::alloc::Global;
 use std::collections::VecDeque;
 use std::marker::Model;
@@ -59,6 +59,39 @@ impl Framer {
             self.rest = None;
         }
         Ok(())
+    }
+
+    /// Takes the next piece of the stream, which is given away, and gives the next whole item; none
+    /// where all that came were given. A piece that is one whole item is moved and not copied. Where
+    /// memory is wanting the piece was not taken, and nothing changes.
+    pub fn take(&mut self, alloc: Global, piece: Text) -> Result<Option<Item>, Memory>
+        ensures ok { IfOk result (λ taken. (stream : List ℕ) (given : List Shape) →
+            Framed self.old stream given → GivesNext self.new (stream ++ piece) given taken) }
+        ensures err { OnErr result (self.new ≡ self.old) }
+    {
+        let Some(span) = self.whole(piece.as_bytes()) else {
+            self.feed(alloc, piece.as_bytes())?;
+            return Ok(self.next());
+        };
+        if span.kind.is_bad() {
+            self.rest = None;
+        }
+        Ok(Some(Item {
+            kind: span.kind,
+            bytes: piece,
+            head: span.head,
+        }))
+    }
+
+    /// The item that a piece is, where it is one whole item, nothing of the stream is held before it,
+    /// and no item waits.
+    fn whole(&self, piece: &[u8]) -> Option<Span>
+        ensures { IfSome result (IsAlone self.now piece.now) }
+    {
+        match &self.rest {
+            Some(rest) if rest.is_empty() && self.waiting.is_empty() => cutting::whole(piece),
+            _ => None,
+        }
     }
 
     /// The next whole item; none where all that came were given. Behind a bad item there is none.

@@ -37,6 +37,26 @@ fn every_cut_gives_the_same_item(rt: HostRuntime) -> Result<(), Fail> {
 }
 
 #[test]
+fn a_piece_that_is_taken_gives_the_next_item(rt: HostRuntime) -> Result<(), Fail> {
+    let alloc = rt.alloc();
+    let mut framer = Framer::new(alloc);
+    let pieces: [(&[u8], Option<usize>); 6] = [
+        (OPTIONS, Some(31)),
+        (b"\n$\x01\0\x01z$\x02\0", Some(5)),
+        (b"\0$\x03\0\0", Some(4)),
+        (OPTIONS, Some(4)),
+        (b"hello\r\n\r\n", Some(31)),
+        (OPTIONS, Some(9)),
+    ];
+    for (piece, len) in pieces {
+        let item = framer.take(alloc, Text::copy(alloc, piece)?)?;
+        assert_eq!(rt; item.map(|item| item.bytes.len()), len);
+    }
+    assert_eq!(rt; next(&mut framer), None);
+    Ok(())
+}
+
+#[test]
 fn streams_have_these_items(rt: HostRuntime) -> Result<(), Fail> {
     let alloc = rt.alloc();
     let request = ItemKind::Request;
