@@ -1,12 +1,15 @@
 -- What a search among rising numbers tells of the key that stands beside a number.
-use Rattle.std.proofs.Common.{◌≡◌, ◌≢◌, ◌∙◌, ℕ, ◌<◌, ◌≤◌, ◌+◌, ◌==◌, nat_lt, Bool, true, false, List, length, Option, Some, None, is_some, get_or, if◌then◌else◌, refl, sym, ap, subst, arith}
+use Rattle.std.proofs.Common.{◌≡◌, ◌∙◌, ℕ, ◌<◌, ◌≤◌, ◌==◌, nat_lt, Bool, true, false, List, length, Option, Some, None, is_some, get_or, if◌then◌else◌, refl, sym, ap, subst, arith}
 use Rattle.std.specs.declared.result.Result.{Result}
 use Rattle.std.specs.declared.result.Result.TheVariants.{Ok, Err}
 use Rattle.std.specs.List.Sorted.{IsBinarySearchResult}
 use Rattle.std.specs.Ordering.{nat_cmp}
+use Rattle.std.specs.List.{remove}
+use Rattle.std.proofs.lemmas.Bool.{eqb-true}
+use Rattle.std.proofs.lemmas.List.Edits.{length-remove}
 use Rattle.std.proofs.lemmas.List.Sorted.{searched}
 use Rattle.connection_directory.specs.Rising.{IsRising, key_beside}
-use Rattle.connection_directory.proofs.RisingLemmas.{IsAbsent, absent_beside, found_beside, never_falls}
+use Rattle.connection_directory.proofs.RisingLemmas.{IsAbsent, absent_beside, found_beside, never_falls, removed_beside, removed_rises}
 
 abbrev IsSearched : List ℕ → ℕ → Result ℕ ℕ → Type 0
 IsSearched numbers conn result = IsBinarySearchResult (λ y. nat_cmp y conn) numbers result
@@ -55,3 +58,26 @@ next_at numbers keys from place rises paired is within = record {
 
 pub none_from : (numbers keys : List ℕ) (from place i : ℕ) → IsPlace numbers from place → length numbers ≤ place → from ≤ i → key_beside numbers keys i ≡ None
 none_from numbers keys from place i is past low = absent_beside numbers keys i (absent_here numbers from place i is low (λ k over inside. absurd (omega (arith, past, over, inside))))
+
+-- A number that was found is taken out, with its key.
+pub record IsWithout (numbers keys left left_keys : List ℕ) (conn : ℕ) : Type 0 where
+  pub keys_left : (i : ℕ) → key_beside left left_keys i ≡ (if conn == i then None else key_beside numbers keys i)
+  pub rising : IsRising left
+  pub paired : length left_keys ≡ length left
+
+pub taken_out : (numbers keys slice : List ℕ) (conn place : ℕ) → slice ≡ numbers → IsRising numbers → length keys ≡ length numbers → IsSearched slice conn (Ok place) → IsWithout numbers keys (remove numbers place) (remove keys place) conn
+taken_out numbers keys slice conn place same rises paired found =
+    let at = searched numbers conn (Ok place) (subst (λ (all : List ℕ). IsSearched all conn (Ok place)) same found) (never_falls numbers rises) in
+    let within = at.0 in
+    record {
+      keys_left = λ i. removed_beside numbers keys conn place i rises paired within at.1;
+      rising = removed_rises numbers place rises within;
+      paired = let one = length-remove numbers place within in let other = length-remove keys place (omega (arith, within, paired)) in omega (arith, one, other, paired);
+    }
+
+-- one that was not found isn't there
+pub stays_out : (key : ℕ → Option ℕ) (conn i : ℕ) → key conn ≡ None → key i ≡ (if conn == i then None else key i)
+stays_out key conn i none = by (conn == i) refl where
+  by : (t : Bool) → (conn == i) ≡ t → key i ≡ (if t then None else key i)
+  by true e = ap key (sym (eqb-true conn i e)) ∙ none
+  by false e = refl

@@ -1,8 +1,8 @@
 -- Lemmas on rising numbers and what stands beside them.
-use Rattle.std.proofs.Common.{◌≡◌, ◌≢◌, ◌∙◌, ℕ, suc, zero, ◌+◌, ◌-◌, nat_lt, ◌<◌, ◌≤◌, ◌==◌, Bool, true, false, List, [], ◌∷◌, length, Option, Some, None, get_or, if◌then◌else◌, refl, sym, ap, subst, arith}
-use Rattle.std.specs.List.{insert}
+use Rattle.std.proofs.Common.{◌≡◌, ◌≢◌, ◌∙◌, ℕ, suc, zero, ◌+◌, ◌-◌, nat_lt, ◌<◌, ◌≤◌, ◌==◌, Bool, true, false, List, [], ◌∷◌, length, Option, Some, None, get_or, if◌then◌else◌, refl, sym, ap, arith}
+use Rattle.std.specs.List.{insert, remove}
 use Rattle.std.proofs.lemmas.Bool.{eqb-true, eqb-false}
-use Rattle.std.proofs.lemmas.List.Edits.{length-insert, get_or-insert_below, get_or-insert_at, get_or-insert_above}
+use Rattle.std.proofs.lemmas.List.Edits.{length-insert, get_or-insert_below, get_or-insert_at, get_or-insert_above, length-remove, get_or-remove_below, get_or-remove_above}
 use Rattle.connection_directory.specs.Rising.{IsRising, key_beside}
 
 -- what rises goes on rising behind its first number
@@ -112,3 +112,58 @@ added_rises numbers conn p rises within low high i j before bound = by (nat_lt i
   by false false false false x y v w =
       let not_low : p ≤ i = grind (arith, x) in let apart : i ≢ p = eqb-false i p v in let over : p < i = omega (arith, not_low, apart) in
       let up = rises (i - 1) (j - 1) (omega (arith, over, before)) (omega (arith, bound, longer, over, before)) in omega (arith, above i over, above j (omega (arith, over, before)), up)
+
+-- one number less, with its key
+higher_absent : (n : ℕ) (numbers : List ℕ) → IsRising (n ∷ numbers) → IsAbsent numbers n
+higher_absent n numbers rises k within same =
+    let higher : n < get_or numbers k 0 = rises zero (suc k) (omega arith) (omega (arith, within)) in omega (arith, higher, same)
+
+pub removed_beside : (numbers keys : List ℕ) (conn p i : ℕ) → IsRising numbers → length keys ≡ length numbers → p < length numbers → get_or numbers p 0 ≡ conn
+    → key_beside (remove numbers p) (remove keys p) i ≡ (if conn == i then None else key_beside numbers keys i)
+removed_beside [] keys conn p i rises paired within is = absurd (omega (arith, within))
+removed_beside (n ∷ numbers) [] conn p i rises paired within is = absurd (omega (arith, paired))
+removed_beside (n ∷ numbers) (k ∷ keys) conn zero i rises paired within is =
+    by (n == i) refl ∙ ap (λ (m : ℕ). if m == i then None else (if n == i then Some k else key_beside numbers keys i)) is
+  where
+    by : (same : Bool) → (n == i) ≡ same → key_beside numbers keys i ≡ (if n == i then None else (if n == i then Some k else key_beside numbers keys i))
+    by true e =
+        ap (key_beside numbers keys) (sym (eqb-true n i e)) ∙ absent_beside numbers keys n (higher_absent n numbers rises)
+        ∙ sym (ap (λ (b : Bool). if b then None else (if b then Some k else key_beside numbers keys i)) e)
+    by false e = sym (ap (λ (b : Bool). if b then None else (if b then Some k else key_beside numbers keys i)) e)
+removed_beside (n ∷ numbers) (k ∷ keys) conn (suc p) i rises paired within is =
+    ap (λ (rest : Option ℕ). if n == i then Some k else rest)
+    (removed_beside numbers keys conn p i (rest_rises n numbers rises) (omega (arith, paired)) (omega (arith, within)) is)
+    ∙ by (n == i) (conn == i) refl refl
+  where
+    apart : n ≢ conn
+    apart same = let higher : n < get_or numbers p 0 = rises zero (suc p) (omega arith) within in omega (arith, higher, is, same)
+
+    by : (s t : Bool) → (n == i) ≡ s → (conn == i) ≡ t → (if s then Some k else (if t then None else key_beside numbers keys i)) ≡ (if t then None else (if s then Some k else key_beside numbers keys i))
+    by true true d e = absurd (apart (eqb-true n i d ∙ sym (eqb-true conn i e)))
+    by true false d e = refl
+    by false true d e = refl
+    by false false d e = refl
+
+pub removed_rises : (numbers : List ℕ) (p : ℕ) → IsRising numbers → p < length numbers → IsRising (remove numbers p)
+removed_rises numbers p rises within i j before bound = by (nat_lt i p) (nat_lt j p) refl refl where
+  shorter : length (remove numbers p) + 1 ≡ length numbers
+  shorter = length-remove numbers p within
+
+  below : (k : ℕ) → k < p → get_or (remove numbers p) k 0 ≡ get_or numbers k 0
+  below k under = get_or-remove_below numbers p 0 k under within
+
+  above : (k : ℕ) → p ≤ k → get_or (remove numbers p) k 0 ≡ get_or numbers (k + 1) 0
+  above k over = get_or-remove_above numbers p 0 k over within
+
+  by : (a b : Bool) → nat_lt i p ≡ a → nat_lt j p ≡ b → get_or (remove numbers p) i 0 < get_or (remove numbers p) j 0
+  by true true x y =
+      let i_low : i < p = grind (arith, x) in let j_low : j < p = grind (arith, y) in
+      let up = rises i j before (omega (arith, bound, shorter)) in omega (arith, below i i_low, below j j_low, up)
+  by true false x y =
+      let i_low : i < p = grind (arith, x) in let not_low : p ≤ j = grind (arith, y) in
+      let up = rises i (j + 1) (omega (arith, before)) (omega (arith, bound, shorter)) in omega (arith, below i i_low, above j not_low, up)
+  by false true x y =
+      let not_low : p ≤ i = grind (arith, x) in let j_low : j < p = grind (arith, y) in absurd (omega (arith, not_low, j_low, before))
+  by false false x y =
+      let i_high : p ≤ i = grind (arith, x) in let j_high : p ≤ j = grind (arith, y) in
+      let up = rises (i + 1) (j + 1) (omega (arith, before)) (omega (arith, bound, shorter)) in omega (arith, above i i_high, above j j_high, up)

@@ -1,9 +1,9 @@
--- The numbers of the connections that entered (this project's own).
+-- The numbers of the connections that are kept (this project's own).
 use Rattle.std.specs.Prelude.{◌≡◌, ℕ, ◌^◌, ◌≤◌, ◌<◌, vec_len, vec_capacity, Option, Some, None}
 use Rattle.connection_directory.specs.declared.directory.Directory.{Directory}
 use Rattle.connection_directory.specs.Rising.{key_beside}
 
--- the key under which connection i is kept, where it entered
+-- the key under which connection i is kept, where it is
 abbrev pub key_of : Directory → ℕ → Option ℕ
 key_of directory i = key_beside directory.numbers.items directory.keys.items i
 

@@ -5,7 +5,7 @@ ghost use Rattle.connection_directory.specs.Rising.{IsRising};
 use gate_bytes::Memory;
 use std::alloc::Global;
 
-/// The numbers of the connections that entered, rising, and the key under which each is kept.
+/// The numbers of the connections that are kept, rising, and the key under which each is kept.
 #[derive(Drop)]
 pub struct Directory {
     numbers: Vec<u32>,
@@ -27,7 +27,7 @@ impl Directory {
         }
     }
 
-    /// The key of a number; nothing where it never entered.
+    /// The key of a number; nothing where it isn't there.
     pub fn key(&self, conn: u32) -> Option<usize>
         ensures { result ≡ key_of self.now conn }
     {
@@ -37,7 +37,7 @@ impl Directory {
         }
     }
 
-    /// The first number from this one on that entered.
+    /// The first number from this one on that is there.
     pub fn next(&self, from: u32) -> Option<u32>
         ensures next { IsNextNumber self.now from result }
         ensures entered { IfSome result (λ conn. is_some (key_of self.now conn) ≡ true) }
@@ -77,5 +77,16 @@ impl Directory {
         let Ok(()) = self.keys.insert(place, key) else {
             unreachable!();
         };
+    }
+
+    /// Takes a number out, with its key. It takes no memory, and gives none back.
+    pub fn remove(&mut self, conn: u32)
+        ensures keys { (i : ℕ) → key_of self.new i ≡ (if conn == i then None else key_of self.old i) }
+        ensures place { HasPlace self.old → HasPlace self.new }
+    {
+        if let Ok(place) = self.numbers.binary_search(&conn) {
+            self.numbers.remove(place);
+            self.keys.remove(place);
+        }
     }
 }

@@ -13,7 +13,7 @@ fn seven_and_four(rt: &HostRuntime) -> Result<Directory, Fail> {
 
 #[test]
 fn numbers_are_found_in_any_order(rt: HostRuntime) -> Result<(), Fail> {
-    let directory = seven_and_four(&rt)?;
+    let mut directory = seven_and_four(&rt)?;
     let rows = [
         (3, None, Some(4)),
         (4, Some(1), Some(4)),
@@ -25,5 +25,9 @@ fn numbers_are_found_in_any_order(rt: HostRuntime) -> Result<(), Fail> {
         assert_eq!(rt; directory.key(number), key);
         assert_eq!(rt; directory.next(number), next);
     }
+    directory.remove(5);
+    directory.remove(4);
+    assert_eq!(rt; directory.key(4), None);
+    assert_eq!(rt; directory.next(4), Some(7));
     Ok(())
 }

@@ -1,5 +1,5 @@
 use Rattle.std.specs.Result.{is_ok}
-use Rattle.std.proofs.Common.{Bool, true, if◌then◌else◌, ◌≡◌, ◌∙◌, ◌+◌, ℕ, List, length, Option, Some, sym, ap, subst, arith}
+use Rattle.std.proofs.Common.{Bool, true, if◌then◌else◌, ◌≡◌, ◌∙◌, ◌+◌, ℕ, List, length, sym, ap, subst, arith}
 use Rattle.std.specs.List.{insert}
 use Rattle.std.proofs.lemmas.List.Edits.{length-insert}
 use Rattle.connection_directory.specs.Rising.{IsRising, key_beside}

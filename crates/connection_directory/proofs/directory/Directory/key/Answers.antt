@@ -1,4 +1,4 @@
-use Rattle.std.proofs.Common.{◌≡◌, ◌∙◌, ◌<◌, length, Some, sym, ap, refl, subst, arith}
+use Rattle.std.proofs.Common.{◌∙◌, ◌<◌, length, Some, sym, ap, arith}
 use Rattle.std.proofs.lemmas.List.{get_or_default}
 use Rattle.connection_directory.proofs.DirectoryLemmas.{found_key, missing_key}
 use Rattle.connection_directory.proofs.directory.Directory.key.Goals as goal
