@@ -21,13 +21,10 @@ use Rattle.mux_history.proofs.AgreeLemmas.{joined}
 use Rattle.mux_history.proofs.JoinedLemmas.{alone, AreJoined}
 use Rattle.gateway_mux.specs.Granting.{IsLowPurpose}
 use Rattle.gateway_mux.specs.Pictures.{Picture, IsPictureOf}
-use Rattle.gateway_mux.proofs.PictureLemmas.{client_in, entered_in, opened_entered}
+use Rattle.gateway_mux.proofs.OverLemmas.{busy_stays}
+use Rattle.gateway_mux.proofs.PictureLemmas.{some_under, client_in, entered_in, opened_entered}
 
 -- Who asked an open request entered, and has one open.
-some_under : (pairs : ℕ → ℕ) (pending : Option Purpose) → IsSome pending → IsSome (option_map (purpose_under pairs) pending)
-some_under pairs None some = cc
-some_under pairs (Some purpose) some = refl
-
 conn_is : (a b : ℕ) → Some a ≡ Some b → a ≡ b
 conn_is a b e = cc
 
@@ -42,7 +39,8 @@ asked_some bases one T is n i asked = by ((books_of T).opened n) refl (sym (is.a
     by (Some opened) e asker =
         let who : opened.conn ≡ i = conn_is opened.conn i asker in
         let here : entered i T ≡ true = subst (λ (j : ℕ). entered j T ≡ true) who (opened_entered bases T all n opened e) in
-        (shared (books_of T) i (alone bases T i).client, client_in bases one T is i here, some_under ((books_of T).pair_of i) (alone bases T i).client.pending ((all.1 i).last n opened e who).1)
+        let some : IsSome (shared (books_of T) i (alone bases T i).client).pending = some_under ((books_of T).pair_of i) (alone bases T i).client.pending ((all.1 i).last n opened e who).1 in
+        (shared (books_of T) i (alone bases T i).client, client_in bases one T is i here (busy_stays (shared (books_of T) i (alone bases T i).client) some), some)
 
 -- The same as an equation, which has one proof at most.
 pub asked_open : (bases : Bases) (one : Picture) (T : List Entry) → IsPictureOf bases one T → (n i : ℕ) → one.asker n ≡ Some i → IsSome (option_and_then (λ (client : Client). client.pending) (one.clients i))

@@ -17,7 +17,8 @@ use Rattle.mux_history.proofs.JoinedLemmas.{alone}
 use Rattle.mux_history.proofs.TurnStandLemmas.{entry_next, next_history}
 use Rattle.gateway_mux.specs.Pictures.{Picture, IsPictureOf}
 use Rattle.gateway_mux.proofs.IdleLemmas.{IsStill, still_nobody, shared_still, stands_still}
-use Rattle.gateway_mux.proofs.PictureLemmas.{absent_in}
+use Rattle.gateway_mux.specs.Over.{IsKeptOf}
+use Rattle.gateway_mux.proofs.OverLemmas.{kept_along}
 
 -- Nothing is handed out, and nothing of what was there changes.
 enters_still : (bases : Bases) (one : Picture) (T : List Entry) (conn : ℕ) → IsPictureOf bases one T → IsStill bases T (enters conn)
@@ -37,22 +38,22 @@ new_shared bases T conn i standing still absent e =
 old_shared : (bases : Bases) (T : List Entry) (conn i : ℕ) → IsStill bases T (enters conn) → (conn == i) ≡ false → shared_in bases i (entry_next bases T (enters conn) ∷ T) ≡ shared_in bases i T
 old_shared bases T conn i still e = shared_still bases T (enters conn) i still (ap (λ t. (t && is_none (fault_in T)) || entered i T) e)
 
-entered_clients : (bases : Bases) (one : Picture) (T : List Entry) (conn i : ℕ) (t : Bool) → IsPictureOf bases one T → one.clients conn ≡ None → (conn == i) ≡ t
-    → cond t (Some new_client) (one.clients i) ≡ shared_in bases i (entry_next bases T (enters conn) ∷ T)
-entered_clients bases one T conn i true is fresh e =
-    sym (new_shared bases T conn i is.standing (enters_still bases one T conn is) (absent_in bases one T is i (ap one.clients (sym (eqb-true conn i e)) ∙ fresh)) e)
-entered_clients bases one T conn i false is fresh e = is.clients i ∙ sym (old_shared bases T conn i (enters_still bases one T conn is) e)
+entered_clients : (bases : Bases) (one : Picture) (T : List Entry) (conn i : ℕ) (t : Bool) → IsPictureOf bases one T → entered conn T ≡ false → (conn == i) ≡ t
+    → IsKeptOf (cond t (Some new_client) (one.clients i)) (shared_in bases i (entry_next bases T (enters conn) ∷ T))
+entered_clients bases one T conn i true is never e =
+    new_shared bases T conn i is.standing (enters_still bases one T conn is) (ap (λ k. entered k T) (sym (eqb-true conn i e)) ∙ never) e
+entered_clients bases one T conn i false is never e = kept_along refl (is.clients i) (sym (old_shared bases T conn i (enters_still bases one T conn is) e))
 
-pub enter_follows : (bases : Bases) (one after : Picture) (T : List Entry) (conn : ℕ) → IsPictureOf bases one T → one.clients conn ≡ None → ((i : ℕ) → after.clients i ≡ cond (conn == i) (Some new_client) (one.clients i))
+pub enter_follows : (bases : Bases) (one after : Picture) (T : List Entry) (conn : ℕ) → IsPictureOf bases one T → entered conn T ≡ false → ((i : ℕ) → after.clients i ≡ cond (conn == i) (Some new_client) (one.clients i))
     → ((number : ℕ) → after.asker number ≡ one.asker number) → ((pair : ℕ) → after.held pair ≡ one.held pair) → ((id : List ℕ) → after.holder id ≡ one.holder id) → after.issued ≡ one.issued
     → IsPictureOf bases after (entering conn ∷ T)
-enter_follows bases one after T conn is fresh clients asker held holder issued =
+enter_follows bases one after T conn is never clients asker held holder issued =
     let still : IsStill bases T (enters conn) = enters_still bases one T conn is in
     subst (λ (out : Outcome). IsPictureOf bases after (record { happening = enters conn; outcome = out } ∷ T)) still.outcome
     (record {
       is_history = next_history bases T (enters conn) is.is_history;
       standing = stands_still bases T (enters conn) is.standing still;
-      clients = λ i. clients i ∙ entered_clients bases one T conn i (conn == i) is fresh refl;
+      clients = λ i. kept_along (clients i) (entered_clients bases one T conn i (conn == i) is never refl) refl;
       asker = λ number. asker number ∙ is.asker number ∙ ap (λ (b : Books). option_map (λ (opened : Opened). opened.conn) (b.opened number)) (sym still.books);
       held = λ pair. held pair ∙ is.held pair ∙ ap (λ (b : Books). b.held pair) (sym still.books);
       holder = λ id. holder id ∙ is.holder id ∙ ap (λ (b : Books). b.holder id) (sym still.books);

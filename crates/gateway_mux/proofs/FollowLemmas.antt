@@ -27,6 +27,8 @@ use Rattle.mux_history.proofs.TurnStandLemmas.{entry_next, next_history}
 use Rattle.gateway_mux.specs.Pictures.{Picture, books_in, IsPictureOf}
 use Rattle.gateway_mux.specs.Moves.{step_in, TakesTurn, books_stepped, IsAfterTurn}
 use Rattle.gateway_mux.proofs.BooksLemmas.{AreSame, turn_same, raw_same, answer_same, settled_same, free_same, lends_same}
+use Rattle.gateway_mux.specs.Over.{IsKeptOf}
+use Rattle.gateway_mux.proofs.OverLemmas.{kept_as, kept_along}
 use Rattle.gateway_mux.proofs.PictureLemmas.{entered_in, same_books, wrong_same}
 
 -- What comes to a connection in the numbers of all has a form in its own.
@@ -147,14 +149,15 @@ turn_follows bases one after T h i client raw is comes now = (outcome, is_after)
     none : (j : ℕ) → enters_here j h ≡ false
     none j = no_entering (books_in one) h i j comes.turns
 
-    clients : (j : ℕ) (t : Bool) → (j == i) ≡ t → after.clients j ≡ shared_in bases j (entry_next bases T h ∷ T)
+    clients : (j : ℕ) (t : Bool) → (j == i) ≡ t → IsKeptOf (after.clients j) (shared_in bases j (entry_next bases T h ∷ T))
     clients j true e =
-        ap after.clients (eqb-true j i e) ∙ now.is_client ∙ ap (λ (effect : Effect). Some effect.client) steps ∙ ap (λ one. Some one) (sym law.client)
+        kept_as
+        (ap after.clients (eqb-true j i e) ∙ now.is_client ∙ ap (λ (effect : Effect). Some effect.client) steps ∙ ap (λ one. Some one) (sym law.client)
         ∙ sym (shared_when bases (entry_next bases T h ∷ T) i true (entered_still T (entry_next bases T h) i (none i) ∙ enters.0))
-        ∙ ap (λ k. shared_in bases k (entry_next bases T h ∷ T)) (sym (eqb-true j i e))
+        ∙ ap (λ k. shared_in bases k (entry_next bases T h ∷ T)) (sym (eqb-true j i e)))
     clients j false e =
         let ne : j ≢ i = apart j i e in
-        now.others j ne ∙ is.clients j ∙ sym (other_client bases T (entry_next bases T h) j (none j) (law.others j ne))
+        kept_along (now.others j ne) (is.clients j) (sym (other_client bases T (entry_next bases T h) j (none j) (law.others j ne)))
 
     is_after : IsPictureOf bases after (entry_next bases T h ∷ T)
     is_after = record {

@@ -21,7 +21,7 @@ use Rattle.mux_history.specs.Follows.{event_in, effect_at, effect_of_turn, said_
 use Rattle.mux_history.specs.Next.{outcome_with, next}
 use Rattle.mux_history.specs.Shared.{shared, shared_in, raw_event, number_heard, kind_gone, outcome_by}
 use Rattle.mux_history.specs.Turns.{IsSteppedBy}
-use Rattle.mux_history.proofs.AgreeLemmas.{books_with, books_next, alone_with, event_for, alone_next}
+use Rattle.mux_history.proofs.AgreeLemmas.{joined, books_with, books_next, alone_with, event_for, alone_next}
 use Rattle.mux_history.proofs.CaseLemmas.{nobody_settles}
 use Rattle.mux_history.proofs.JoinedLemmas.{alone}
 use Rattle.mux_history.proofs.OverLemmas.{own_event, breach_standing}
@@ -31,7 +31,10 @@ use Rattle.mux_history.proofs.TurnStandLemmas.{entry_next, next_history}
 use Rattle.gateway_mux.specs.Pictures.{Picture, books_in, IsPictureOf}
 use Rattle.gateway_mux.specs.Moves.{IsIdleAt, IsIdleTurn, IsIdle, answering}
 use Rattle.gateway_mux.proofs.BooksLemmas.{AreSame, turn_same, raw_same, final_same, answer_same}
-use Rattle.gateway_mux.proofs.PictureLemmas.{entered_in, absent_in, same_books, wrong_same}
+use Rattle.gateway_mux.specs.Over.{is_over}
+use Rattle.gateway_mux.proofs.OverLemmas.{kept_along}
+use Rattle.gateway_mux.proofs.PictureLemmas.{entered_in, over_in, same_books, wrong_same}
+use Rattle.gateway_mux.proofs.QuietLemmas.{over_hears}
 use Rattle.gateway_mux.proofs.EndLemmas.{own_comes}
 
 -- The next entry hands out the answer alone, and leaves the books and every connection as they were.
@@ -132,6 +135,17 @@ still_heard bases T h i raw history standing said settles_none turns en is_raw i
         subst (λ (k : ℕ). shared (books_of (entry_next bases T h ∷ T)) k (alone bases (entry_next bases T h ∷ T) k).client ≡ shared (books_of T) k (alone bases T k).client) (eqb-true i j e) here
     by here others j false e = others j (λ is. true_is_false (sym (eq-eqb i j (sym is)) ∙ e))
 
+-- It is the turn of a connection that never entered, or is over.
+still_gone : (bases : Bases) (T : List Entry) (h : Happening) (i : ℕ) → IsHistory bases T → fault_in T ≡ None → said_breach bases T h ≡ None → final_in (books_of T) h ≡ None → turn (books_of T) h ≡ Some i
+    → (entered i T ≡ true → is_over (shared (books_of T) i (alone bases T i).client) ≡ true) → IsStill bases T h
+still_gone bases T h i history standing said settles_none turns over = by (entered i T) refl
+  where
+    by : (t : Bool) → entered i T ≡ t → IsStill bases T h
+    by true en =
+        let hears = over_hears bases T h i (joined bases T history standing) (over en) turns in
+        still_heard bases T h i hears.raw history standing said settles_none turns en hears.is_raw hears.idle
+    by false absent = still_absent bases T h i history standing said settles_none turns absent
+
 -- What the multiplexer has is what the longer history has.
 same_client : (bases : Bases) (T : List Entry) (e : Entry) (i : ℕ) (t : Bool) → shared (books_of (e ∷ T)) i (alone bases (e ∷ T) i).client ≡ shared (books_of T) i (alone bases T i).client
     → option_map (λ (p : Private). shared (books_of (e ∷ T)) i p.client) (cond t (Some (alone bases (e ∷ T) i)) None) ≡ option_map (λ (p : Private). shared (books_of T) i p.client) (cond t (Some (alone bases T i)) None)
@@ -150,7 +164,7 @@ same_picture : (bases : Bases) (one : Picture) (T : List Entry) (h : Happening) 
 same_picture bases one T h is nobody still = record {
   is_history = next_history bases T h is.is_history;
   standing = stands_still bases T h is.standing still;
-  clients = λ i. is.clients i ∙ sym (shared_still bases T h i still (ap (λ t. (t && is_none (fault_in T)) || entered i T) (nobody i)));
+  clients = λ i. kept_along refl (is.clients i) (sym (shared_still bases T h i still (ap (λ t. (t && is_none (fault_in T)) || entered i T) (nobody i))));
   asker = λ number. is.asker number ∙ ap (λ (b : Books). option_map (λ (opened : Opened). opened.conn) (b.opened number)) (sym still.books);
   held = λ pair. is.held pair ∙ ap (λ (b : Books). b.held pair) (sym still.books);
   holder = λ id. is.holder id ∙ ap (λ (b : Books). b.holder id) (sym still.books);
@@ -162,8 +176,8 @@ still_at : (bases : Bases) (one : Picture) (T : List Entry) (h : Happening) (ans
     → IsStill bases T h
 still_at bases one T h answer i None is idle turns here at =
     let same : AreSame (books_in one) (books_of T) = same_books bases one T is in
-    still_absent bases T h i is.is_history is.standing (sym (wrong_same bases one T is h) ∙ idle.said) (sym (final_same (books_in one) (books_of T) h same) ∙ idle.settles)
-    (sym (turn_same (books_in one) (books_of T) h same) ∙ turns) (absent_in bases one T is i here)
+    still_gone bases T h i is.is_history is.standing (sym (wrong_same bases one T is h) ∙ idle.said) (sym (final_same (books_in one) (books_of T) h same) ∙ idle.settles)
+    (sym (turn_same (books_in one) (books_of T) h same) ∙ turns) (λ en. over_in bases one T is i here en)
 still_at bases one T h answer i (Some client) is idle turns here at =
     let same : AreSame (books_in one) (books_of T) = same_books bases one T is in
     let there = entered_in bases one T is i client here in

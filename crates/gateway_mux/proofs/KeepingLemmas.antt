@@ -18,7 +18,7 @@ use Rattle.mux_history.specs.Happenings.{standing, entering}
 use Rattle.gateway_mux.specs.declared.settled.Settled.{Settled}
 use Rattle.gateway_mux.specs.declared.turn.Turn.{Turn}
 use Rattle.gateway_mux.specs.Acts.{IsTurnOfSome}
-use Rattle.gateway_mux.specs.Entering.{IsEntered, IsAsBefore}
+use Rattle.gateway_mux.specs.Entering.{IsNewIn, IsEntered, IsAsBefore}
 use Rattle.gateway_mux.specs.Granting.{IsLowPurpose}
 use Rattle.gateway_mux.specs.Moves.{handed_by}
 use Rattle.gateway_mux.specs.Pictures.{Picture, IsPictureOf, IsKept}
@@ -29,6 +29,7 @@ use Rattle.gateway_mux.proofs.ActLemmas.{turn_committed}
 use Rattle.gateway_mux.proofs.AskedLemmas.{asked_open, low_pending, low_pending_prop, low_tracks}
 use Rattle.gateway_mux.proofs.CommitLemmas.{IsTurned}
 use Rattle.gateway_mux.proofs.EnterLemmas.{enter_follows}
+use Rattle.gateway_mux.proofs.OverLemmas.{kept_along}
 use Rattle.gateway_mux.proofs.KeptLemmas.{room_for, kept_after, kept_entering, room_more, room_same, room_none}
 use Rattle.gateway_mux.proofs.SettleableLemmas.{can_settle, can_settle_prop}
 
@@ -107,10 +108,11 @@ keeps_turn bases one after answer it done requests sessions requests_now session
 }
 
 -- After an entering, and where more room was made.
-pub keeps_entering : (bases : Bases) (conn : ℕ) (one after : Picture) (requests sessions : ℕ) → one.clients conn ≡ None → IsEntered conn one after → IsKept bases one requests sessions → IsKept bases after (requests + 1) (sessions + 1)
-keeps_entering bases conn one after requests sessions none entered keeps = record {
-  history = entering conn ∷ keeps.history;
-  is_of = enter_follows bases one after keeps.history conn keeps.is_of none entered.clients entered.asker entered.held entered.holder entered.issued;
+pub keeps_entering : (bases : Bases) (conn : ℕ) (one after : Picture) (requests sessions : ℕ) → one.clients conn ≡ None → IsEntered conn one after → IsNewIn bases one conn → IsKept bases one requests sessions
+    → IsKept bases after (requests + 1) (sessions + 1)
+keeps_entering bases conn one after requests sessions none entered new keeps = record {
+  history = entering conn ∷ new.history;
+  is_of = enter_follows bases one after new.history conn new.is_of new.never entered.clients entered.asker entered.held entered.holder entered.issued;
   room = kept_entering conn one after requests sessions none entered.clients keeps.room;
   low = λ p some. keeps.low p (subst (λ (held : Option Held). IsSome held) (entered.held p) some);
 }
@@ -121,7 +123,7 @@ keeps_more bases one after a b c d same more_requests more_sessions keeps = reco
   is_of = record {
     is_history = keeps.is_of.is_history;
     standing = keeps.is_of.standing;
-    clients = λ i. same.clients i ∙ keeps.is_of.clients i;
+    clients = λ i. kept_along (same.clients i) (keeps.is_of.clients i) refl;
     asker = λ n. same.asker n ∙ keeps.is_of.asker n;
     held = λ p. same.held p ∙ keeps.is_of.held p;
     holder = λ id. same.holder id ∙ keeps.is_of.holder id;

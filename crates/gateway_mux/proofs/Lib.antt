@@ -7,11 +7,14 @@ pub mod EndLemmas
 pub mod EnterLemmas
 pub mod FinalLemmas
 pub mod FollowLemmas
+pub mod ForgetLemmas
 pub mod IdleLemmas
 pub mod ItemLemmas
 pub mod KeepingLemmas
 pub mod KeptLemmas
 pub mod MuxLemmas
+pub mod OverLemmas
+pub mod QuietLemmas
 pub mod PictureLemmas
 pub mod PlanLemmas
 pub mod ReadyLemmas
@@ -26,4 +29,3 @@ pub mod TurnLemmas
 pub mod TurnedLemmas
 pub mod UnsettledLemmas
 pub mod UpstreamLemmas
-pub mod CoreLemmas

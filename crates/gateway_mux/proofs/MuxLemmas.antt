@@ -1,22 +1,26 @@
 -- What the multiplexer stands for after each of its calls.
-use Rattle.std.proofs.Common.{◌≡◌, ◌∙◌, ℕ, ◌+◌, ◌-◌, ◌^◌, ◌≤◌, ◌<◌, min, ◌&&◌, nat_lt, Bool, true, false, List, ◌∷◌, Option, Some, None, Result, Ok, Err, OnErr, refl, sym, ap, subst, arith}
+use Rattle.std.proofs.Common.{◌≡◌, ◌∙◌, ℕ, ◌+◌, ◌-◌, ◌^◌, ◌≤◌, ◌<◌, min, ◌&&◌, nat_lt, Bool, true, false, List, ◌∷◌, Option, Some, None, Result, Ok, Err, IfOk, OnErr, refl, sym, ap, subst, arith}
 use Rattle.std.specs.Prelude.{is_some, is_none}
 use Rattle.rtsp_uri.specs.declared.base.Bases.{Bases}
+use Rattle.gate_bytes.specs.declared.memory.Memory.{Memory}
 use Rattle.mux_history.specs.declared.event.Event.{Event}
 use Rattle.mux_history.specs.declared.event.Outcome.{Outcome}
 use Rattle.mux_history.specs.declared.event.UpCause.{UpCause}
-use Rattle.mux_history.specs.Happenings.{Happening, Entry, fault_in, standing, silent, is_alive, happening_of, entry_of, entering}
+use Rattle.mux_history.specs.Cores.{IsNewTo, ever_entered}
+use Rattle.mux_history.specs.Happenings.{Happening, Entry, fault_in, standing, silent, is_alive, happening_of, entry_of, entered, entering}
 use Rattle.mux_history.specs.Follows.{IsHistory}
 use Rattle.mux_history.specs.Tells.{is_frame_item, is_dropped, dropped_frames, is_busy, IsFirstAlive}
+use Rattle.mux_history.proofs.CoreLemmas.{never_part}
 use Rattle.mux_history.proofs.TurnStandLemmas.{next_history}
+use Rattle.gateway_mux.specs.declared.act.Act.{Act}
 use Rattle.gateway_mux.specs.declared.mux.Mux.{Mux}
-use Rattle.gateway_mux.specs.declared.mux.Plan.{Plan}
 use Rattle.gateway_mux.specs.Acts.{IsAct, IsShortAct, IsKeyed}
-use Rattle.gateway_mux.specs.Entering.{IsEntered, IsAsBefore}
+use Rattle.gateway_mux.specs.Entering.{IsNewIn, IsEntered, IsAsBefore}
 use Rattle.gateway_mux.specs.Moves.{IsNext, IsCommitted}
 use Rattle.gateway_mux.specs.Pictures.{Picture, IsPictureOf}
 use Rattle.gateway_mux.specs.Stands.{Stands, IsActFor, picture_of, bases_of}
 use Rattle.gateway_mux.proofs.EnterLemmas.{enter_follows}
+use Rattle.gateway_mux.proofs.OverLemmas.{kept_along}
 use Rattle.gateway_mux.proofs.StandLemmas.{standing_open, fault_now, drops_one, drops_none, open_picture, over_stands}
 use Rattle.gateway_mux.proofs.TellLemmas.{alive_in, is_alive_client, alive_over, busy_over}
 
@@ -77,15 +81,20 @@ silent_stands mux h outcome over is T stands =
     subst (λ (out : Outcome). Stands mux (record { happening = h; outcome = out } ∷ T)) (sym is) (over_by mux T h mux.ended refl over stands)
 
 -- What was planned, before the end and after it
-pub planned : (ended : Option UpCause) (mux : Mux) (event : Event) (plan : Plan) → is_some ended ≡ false → IsActFor ended mux event plan
-    → IsAct (bases_of mux) (picture_of mux.connections) (happening_of event) plan.act × IsShortAct plan.act × IsKeyed mux.connections.seats plan.act
+pub planned : (ended : Option UpCause) (mux : Mux) (event : Event) (plan : Act) → is_some ended ≡ false → IsActFor ended mux event plan
+    → IsAct (bases_of mux) (picture_of mux.connections) (happening_of event) plan × IsShortAct plan × IsKeyed mux.connections.seats plan
 planned None mux event plan e is = is
 planned (Some cause) mux event plan e is = cc
 
-pub plan_for : (ended : Option UpCause) (mux : Mux) (event : Event) (plan : Plan) → is_some ended ≡ false → IsAct (bases_of mux) (picture_of mux.connections) (happening_of event) plan.act → IsShortAct plan.act → IsKeyed mux.connections.seats plan.act
+plan_for : (ended : Option UpCause) (mux : Mux) (event : Event) (plan : Act) → is_some ended ≡ false → IsAct (bases_of mux) (picture_of mux.connections) (happening_of event) plan → IsShortAct plan → IsKeyed mux.connections.seats plan
     → IsActFor ended mux event plan
 plan_for None mux event plan e act short key = (act, short, key)
 plan_for (Some cause) mux event plan e act short key = cc
+
+pub plans_for : (ended : Option UpCause) (mux : Mux) (event : Event) (result : Result Act Memory) → is_some ended ≡ false → IfOk result (IsAct (bases_of mux) (picture_of mux.connections) (happening_of event)) → IfOk result IsShortAct
+    → IfOk result (IsKeyed mux.connections.seats) → IfOk result (IsActFor ended mux event)
+plans_for ended mux event (Ok plan) e act short key = plan_for ended mux event plan e act short key
+plans_for ended mux event (Err memory) e act short key = tt
 
 -- Whether the event was a frame that was dropped
 pub frame_dropped : (h : Happening) (outcome : Outcome) → is_frame_item h ≡ true → is_some outcome.to_client ≡ false → is_some outcome.to_up.message ≡ false → is_dropped h outcome ≡ true
@@ -141,16 +150,16 @@ commit_stands mux new event outcome open_still ended bases commits count dropped
     (count ∙ stands.counts ∙ sym (drops_none T (entry_of event outcome) (sym stands.has_ended ∙ open_still) dropped))
 
 -- A connection enters.
-entered_picture : (mux new : Mux) (conn : ℕ) (T : List Entry) → Stands mux T → mux.ended ≡ None → (picture_of mux.connections).clients conn ≡ None
+entered_picture : (mux new : Mux) (conn : ℕ) (T : List Entry) → Stands mux T → mux.ended ≡ None → entered conn T ≡ false
     → IsEntered conn (picture_of mux.connections) (picture_of new.connections) → IsPictureOf (bases_of mux) (picture_of new.connections) (entering conn ∷ T)
-entered_picture mux new conn T stands open_still fresh is =
-    enter_follows (bases_of mux) (picture_of mux.connections) (picture_of new.connections) T conn (open_picture mux T stands open_still) fresh is.clients is.asker is.held is.holder is.issued
+entered_picture mux new conn T stands open_still never is =
+    enter_follows (bases_of mux) (picture_of mux.connections) (picture_of new.connections) T conn (open_picture mux T stands open_still) never is.clients is.asker is.held is.holder is.issued
 
-pub entered_stands : (mux new : Mux) (conn : ℕ) → mux.ended ≡ None → (picture_of mux.connections).clients conn ≡ None → new.ended ≡ mux.ended → new.dropped ≡ mux.dropped → bases_of new ≡ bases_of mux
-    → IsEntered conn (picture_of mux.connections) (picture_of new.connections) → (T : List Entry) → Stands mux T → Stands new (entering conn ∷ T)
-entered_stands mux new conn open_still fresh ended count bases is T stands =
+pub entered_stands : (mux new : Mux) (conn : ℕ) → mux.ended ≡ None → new.ended ≡ mux.ended → new.dropped ≡ mux.dropped → bases_of new ≡ bases_of mux
+    → IsEntered conn (picture_of mux.connections) (picture_of new.connections) → (T : List Entry) → Stands mux T → ever_entered conn T ≡ false → Stands new (entering conn ∷ T)
+entered_stands mux new conn open_still ended count bases is T stands never =
     let still : fault_in T ≡ None = sym stands.has_ended ∙ open_still in
-    let after : IsPictureOf (bases_of mux) (picture_of new.connections) (entering conn ∷ T) = entered_picture mux new conn T stands open_still fresh is in
+    let after : IsPictureOf (bases_of mux) (picture_of new.connections) (entering conn ∷ T) = entered_picture mux new conn T stands open_still (never_part T conn never) is in
     record {
       is_history = subst (λ (b : Bases). IsHistory b (entering conn ∷ T)) (sym bases) after.is_history;
       has_ended = ended ∙ open_still ∙ sym (fault_now T (entering conn) still);
@@ -165,11 +174,21 @@ as_before : (bases : Bases) (one after : Picture) (T : List Entry) → IsAsBefor
 as_before bases one after T same is = record {
   is_history = is.is_history;
   standing = is.standing;
-  clients = λ i. same.clients i ∙ is.clients i;
+  clients = λ i. kept_along (same.clients i) (is.clients i) refl;
   asker = λ number. same.asker number ∙ is.asker number;
   held = λ pair. same.held pair ∙ is.held pair;
   holder = λ id. same.holder id ∙ is.holder id;
   issued = same.issued ∙ is.issued;
+}
+
+-- Where it stands for a history without that number, so does what it has.
+pub new_picture : (mux after : Mux) (conn : ℕ) → mux.ended ≡ None → bases_of after ≡ bases_of mux → IsAsBefore (picture_of mux.connections) (picture_of after.connections) → IsNewTo (Stands mux) conn
+    → IsNewIn (bases_of after) (picture_of after.connections) conn
+new_picture mux after conn open_still bases same new = record {
+  history = new.history;
+  is_of = subst (λ (b : Bases). IsPictureOf b (picture_of after.connections) new.history) (sym bases)
+      (as_before (bases_of mux) (picture_of mux.connections) (picture_of after.connections) new.history same (open_picture mux new.history new.stood open_still));
+  never = never_part new.history conn new.never;
 }
 
 pub unchanged_stands : (mux new : Mux) → new.ended ≡ mux.ended → new.dropped ≡ mux.dropped → bases_of new ≡ bases_of mux → IsAsBefore (picture_of mux.connections) (picture_of new.connections)

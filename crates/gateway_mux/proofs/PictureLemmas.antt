@@ -25,7 +25,9 @@ use Rattle.mux_history.proofs.JoinedLemmas.{alone, AreJoined}
 use Rattle.mux_history.proofs.TurnNextLemmas.{kind_same}
 use Rattle.gateway_mux.specs.Pictures.{Picture, opened_in, books_in, IsPictureOf}
 use Rattle.gateway_mux.specs.Moves.{wrong_reply, wrong_heard, wrong_in}
+use Rattle.gateway_mux.specs.Over.{is_over, IsKeptOf}
 use Rattle.gateway_mux.specs.Turn.{session_of_client, kind_open}
+use Rattle.gateway_mux.proofs.OverLemmas.{busy_stays, kept_along, kept_none, kept_whole, kept_id}
 use Rattle.gateway_mux.proofs.BooksLemmas.{AreSame}
 
 -- a connection that entered
@@ -34,10 +36,15 @@ shared_by bases T i t e = ap (λ one. option_map (λ (private : Private). shared
 
 -- A connection that never entered is none.
 pub none_in : (bases : Bases) (one : Picture) (T : List Entry) → IsPictureOf bases one T → (i : ℕ) → entered i T ≡ false → one.clients i ≡ None
-none_in bases one T is i out = is.clients i ∙ shared_by bases T i false out
+none_in bases one T is i out = kept_none (one.clients i) (kept_along refl (is.clients i) (shared_by bases T i false out))
 
-pub client_in : (bases : Bases) (one : Picture) (T : List Entry) → IsPictureOf bases one T → (i : ℕ) → entered i T ≡ true → one.clients i ≡ Some (shared (books_of T) i (alone bases T i).client)
-client_in bases one T is i en = is.clients i ∙ shared_by bases T i true en
+-- One that entered is kept, where it isn't over.
+pub kept_in : (bases : Bases) (one : Picture) (T : List Entry) → IsPictureOf bases one T → (i : ℕ) → entered i T ≡ true → IsKeptOf (one.clients i) (Some (shared (books_of T) i (alone bases T i).client))
+kept_in bases one T is i en = kept_along refl (is.clients i) (shared_by bases T i true en)
+
+pub client_in : (bases : Bases) (one : Picture) (T : List Entry) → IsPictureOf bases one T → (i : ℕ) → entered i T ≡ true → is_over (shared (books_of T) i (alone bases T i).client) ≡ false
+    → one.clients i ≡ Some (shared (books_of T) i (alone bases T i).client)
+client_in bases one T is i en stays = kept_whole (one.clients i) (shared (books_of T) i (alone bases T i).client) (kept_in bases one T is i en) stays
 
 some_none : {A : Type 0} → (a : A) → None ≡ Some a → ⊥
 some_none a e = cc
@@ -50,15 +57,12 @@ pub entered_in : (bases : Bases) (one : Picture) (T : List Entry) → IsPictureO
 entered_in bases one T is i client here = by (entered i T) refl
   where
     by : (t : Bool) → entered i T ≡ t → (t ≡ true) × (client ≡ shared (books_of T) i (alone bases T i).client)
-    by true e = (refl, some_is (shared (books_of T) i (alone bases T i).client) client (sym (client_in bases one T is i e) ∙ here))
-    by false e = absurd (some_none client (sym (is.clients i ∙ shared_by bases T i false e) ∙ here))
+    by true e = (refl, some_is (shared (books_of T) i (alone bases T i).client) client (kept_along (sym here) (kept_in bases one T is i e) refl))
+    by false e = absurd (some_none client (sym (none_in bases one T is i e) ∙ here))
 
-pub absent_in : (bases : Bases) (one : Picture) (T : List Entry) → IsPictureOf bases one T → (i : ℕ) → one.clients i ≡ None → entered i T ≡ false
-absent_in bases one T is i none = by (entered i T) refl
-  where
-    by : (t : Bool) → entered i T ≡ t → t ≡ false
-    by false e = refl
-    by true e = absurd (some_none (shared (books_of T) i (alone bases T i).client) (sym none ∙ client_in bases one T is i e))
+-- One that entered and is not kept is over.
+pub over_in : (bases : Bases) (one : Picture) (T : List Entry) → IsPictureOf bases one T → (i : ℕ) → one.clients i ≡ None → entered i T ≡ true → is_over (shared (books_of T) i (alone bases T i).client) ≡ true
+over_in bases one T is i none en = kept_along (sym none) (kept_in bases one T is i en) refl
 
 -- The connection that asked an open request entered, and has one open.
 pub opened_entered : (bases : Bases) (T : List Entry) → AreJoined bases T → (number : ℕ) (opened : Opened) → (books_of T).opened number ≡ Some opened → entered opened.conn T ≡ true
@@ -73,6 +77,16 @@ opened_entered bases T all number opened e = by (entered opened.conn T) refl
     by : (t : Bool) → entered opened.conn T ≡ t → t ≡ true
     by true e = refl
     by false out = let some : IsSome new_private.client.pending = absent out in cc
+
+-- nor is it over
+pub some_under : (pairs : ℕ → ℕ) (pending : Option Purpose) → IsSome pending → IsSome (option_map (purpose_under pairs) pending)
+some_under pairs None some = cc
+some_under pairs (Some purpose) some = refl
+
+pub asker_stays : (bases : Bases) (T : List Entry) → AreJoined bases T → (number : ℕ) (opened : Opened) → (books_of T).opened number ≡ Some opened → is_over (shared (books_of T) opened.conn (alone bases T opened.conn).client) ≡ false
+asker_stays bases T all number opened e =
+    busy_stays (shared (books_of T) opened.conn (alone bases T opened.conn).client)
+    (some_under ((books_of T).pair_of opened.conn) (alone bases T opened.conn).client.pending ((all.1 opened.conn).last number opened e refl).1)
 
 opened_kind : (a b : Opened) → Some a ≡ Some b → a.kind ≡ b.kind
 opened_kind a b e = cc
@@ -102,7 +116,8 @@ opened_same bases one T is number = by ((books_of T).opened number) refl
     by None e = ap (option_map (λ conn. let entry : Opened = record { conn = conn; kind = kind_open (one.clients conn) } in entry)) (is.asker number ∙ ap (option_map (λ (o : Opened). o.conn)) e)
     by (Some opened) e =
         ap (option_map (λ conn. let entry : Opened = record { conn = conn; kind = kind_open (one.clients conn) } in entry)) (is.asker number ∙ ap (option_map (λ (o : Opened). o.conn)) e)
-        ∙ ap (λ (client : Option Client). let entry : Opened = record { conn = opened.conn; kind = kind_open client } in Some entry) (client_in bases one T is opened.conn (opened_entered bases T all number opened e))
+        ∙ ap (λ (client : Option Client). let entry : Opened = record { conn = opened.conn; kind = kind_open client } in Some entry)
+        (client_in bases one T is opened.conn (opened_entered bases T all number opened e) (asker_stays bases T all number opened e))
         ∙ ap (λ kind. let entry : Opened = record { conn = opened.conn; kind = kind } in Some entry) (kind_is bases T all number opened e)
 
 -- The books are the same.
@@ -128,7 +143,7 @@ kind_breach_same a b closes i session reply same = refl
 kind_breach_same a b plain i session reply same = refl
 
 session_same : (bases : Bases) (one : Picture) (T : List Entry) → IsPictureOf bases one T → (i : ℕ) → session_of_client (one.clients i) ≡ session_of_private (private_in bases i T)
-session_same bases one T is i = ap session_of_client (is.clients i) ∙ by (private_in bases i T)
+session_same bases one T is i = kept_id (one.clients i) (shared_in bases i T) (is.clients i) session_of_client refl (λ client. refl) ∙ by (private_in bases i T)
   where
     by : (private : Option Private) → session_of_client (option_map (λ (one : Private). shared (books_of T) i one.client) private) ≡ session_of_private private
     by None = refl

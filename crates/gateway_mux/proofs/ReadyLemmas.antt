@@ -1,17 +1,19 @@
 -- What is spare for the next connection, through a turn and an entering.
 use Rattle.std.proofs.Common.{◌≡◌, ◌∙◌, ◌≤◌, ◌<◌, ◌+◌, ◌-◌, ℕ, Bool, true, false, List, Option, Some, None, IsSome, IfSome, Result, Ok, Err, OnOk, OnErr, refl, sym, ap, subst, arith}
-use Rattle.std.specs.Prelude.{is_some}
-use Rattle.std.proofs.Math.Logic.{∥∥₁_map}
+use Rattle.std.specs.Prelude.{is_some, is_none}
+use Rattle.std.proofs.Math.Logic.{∥∥₁_map, ∥∥₁_elim}
+use Rattle.std.proofs.Props.{props}
 use Rattle.rtsp_uri.specs.declared.base.Bases.{Bases}
 use Rattle.gate_bytes.specs.declared.memory.Memory.{Memory}
 use Rattle.channel_map.specs.declared.map.Held.{Held}
+use Rattle.client_slot.specs.Client.{Client}
 use Rattle.gate_machine.specs.declared.parts.Done.{Done}
 use Rattle.gateway_mux.specs.declared.seats.Seats.{Seats}
 use Rattle.gateway_mux.specs.declared.settled.Settled.{Settled}
 use Rattle.gateway_mux.specs.declared.turn.Turn.{Turn}
 use Rattle.gateway_mux.specs.declared.upstream.Upstream.{Upstream}
 use Rattle.gateway_mux.specs.Acts.{IsTurnOfSome}
-use Rattle.gateway_mux.specs.Entering.{IsEntered, IsAsBefore}
+use Rattle.gateway_mux.specs.Entering.{IsNewIn, IsEntered, IsAsBefore}
 use Rattle.gateway_mux.specs.Pictures.{Picture, picture, IsKept}
 use Rattle.gateway_mux.specs.Seats.{client_at, is_ready, left}
 use Rattle.gateway_mux.specs.Settled.{CanSettle, binds, unbinds}
@@ -19,6 +21,7 @@ use Rattle.gateway_mux.specs.Turn.{session_of_client, one_if}
 use Rattle.gateway_mux.proofs.CommitLemmas.{IsTurned}
 use Rattle.gateway_mux.proofs.CarryingLemmas.{keeps_result, still_kept}
 use Rattle.gateway_mux.proofs.KeepingLemmas.{keeps_entering, room_asked, settles_now}
+use Rattle.gateway_mux.proofs.PictureLemmas.{none_in}
 
 -- What is kept for all but the next connection is kept for all.
 less_left : (spare : ℕ) (seats : Seats) → left spare seats ≤ spare
@@ -42,11 +45,22 @@ still_left old new true true false some free turned = let more = some refl in le
 still_left old new true false true some free turned = let more = some refl in (omega (arith, turned, more), λ e. omega (arith, turned, more))
 still_left old new true false false some free turned = let more = some refl in (omega (arith, turned, more), λ e. omega (arith, turned, more))
 
+-- One that never entered has no place yet.
+pub absent_new : (bases : Bases) (one : Picture) (conn : ℕ) → ∥ IsNewIn bases one conn ∥₁ → one.clients conn ≡ None
+absent_new bases one conn merely =
+    none_of (one.clients conn) (∥∥₁_elim merely (Prim.hlevel props) (λ new. ap (λ (client : Option Client). is_none client) (none_in bases one new.history new.is_of conn new.never)))
+  where
+    none_of : (client : Option Client) → is_none client ≡ true → client ≡ None
+    none_of None is = refl
+    none_of (Some client) is = cc
+
 -- A connection entered for which room was kept.
-pub entering_kept : (bases : Bases) (conn : ℕ) (one after : Picture) (a b c d : ℕ) → one.clients conn ≡ None → IsEntered conn one after → c ≡ a + 1 → d ≡ b + 1 → ∥ IsKept bases one a b ∥₁ → ∥ IsKept bases after c d ∥₁
-entering_kept bases conn one after a b c d none entered requests sessions keeps =
+pub entering_kept : (bases : Bases) (conn : ℕ) (one after : Picture) (a b c d : ℕ) → one.clients conn ≡ None → IsEntered conn one after → c ≡ a + 1 → d ≡ b + 1 → ∥ IsNewIn bases one conn ∥₁ → ∥ IsKept bases one a b ∥₁
+    → ∥ IsKept bases after c d ∥₁
+entering_kept bases conn one after a b c d none entered requests sessions new keeps =
     subst (λ (n : ℕ). ∥ IsKept bases after n d ∥₁) (sym requests)
-    (subst (λ (n : ℕ). ∥ IsKept bases after (a + 1) n ∥₁) (sym sessions) (∥∥₁_map keeps (keeps_entering bases conn one after a b none entered)))
+    (subst (λ (n : ℕ). ∥ IsKept bases after (a + 1) n ∥₁) (sym sessions)
+    (∥∥₁_elim new (Prim.hlevel props) (λ n. ∥∥₁_map keeps (keeps_entering bases conn one after a b none entered n))))
 
 no_settled : (settled : Option Settled) → is_some settled ≡ false → settled ≡ None
 no_settled None e = refl
@@ -116,11 +130,11 @@ room_grown bases seats seats_after upstream after idle ready same requests sessi
     kept_idle old new before now alike more = let same_one : one_if now ≡ one_if before = ap one_if alike in omega (arith, same_one, more)
 
 -- A connection entered, for which room was kept.
-pub room_used : (bases : Bases) (conn : ℕ) (seats seats_after : Seats) (upstream : Upstream) → is_ready seats ≡ true → is_ready seats_after ≡ false → client_at seats conn ≡ None → IsEntered conn (picture seats upstream) (picture seats_after upstream)
+pub room_used : (bases : Bases) (conn : ℕ) (seats seats_after : Seats) (upstream : Upstream) → is_ready seats ≡ true → is_ready seats_after ≡ false → ∥ IsNewIn bases (picture seats upstream) conn ∥₁ → IsEntered conn (picture seats upstream) (picture seats_after upstream)
     → IsKeptReady bases seats upstream → IsKeptReady bases seats_after upstream
-room_used bases conn seats seats_after upstream ready used none entered keeps = record {
-  kept = entering_kept bases conn (picture seats upstream) (picture seats_after upstream) (left upstream.requests.spare seats) (left upstream.sessions.spare seats) (left upstream.requests.spare seats_after) (left upstream.sessions.spare seats_after) none entered
-      (one_more upstream.requests.spare (is_ready seats) (is_ready seats_after) ready used (keeps.spare ready)) (one_more upstream.sessions.spare (is_ready seats) (is_ready seats_after) ready used (keeps.spare_session ready)) keeps.kept;
+room_used bases conn seats seats_after upstream ready used new entered keeps = record {
+  kept = entering_kept bases conn (picture seats upstream) (picture seats_after upstream) (left upstream.requests.spare seats) (left upstream.sessions.spare seats) (left upstream.requests.spare seats_after) (left upstream.sessions.spare seats_after) (absent_new bases (picture seats upstream) conn new) entered
+      (one_more upstream.requests.spare (is_ready seats) (is_ready seats_after) ready used (keeps.spare ready)) (one_more upstream.sessions.spare (is_ready seats) (is_ready seats_after) ready used (keeps.spare_session ready)) new keeps.kept;
   spare = λ is. absurd (true_false (sym is ∙ used));
   spare_session = λ is. absurd (true_false (sym is ∙ used));
 }

@@ -1,5 +1,5 @@
 -- Lemmas on the keys of connections and what is kept under them.
-use Rattle.std.proofs.Common.{◌≡◌, ◌≢◌, ℕ, true, false, Option, None, Some, is_some, refl, sym, ◌∙◌, ap, subst}
+use Rattle.std.proofs.Common.{◌≡◌, ◌≢◌, ℕ, true, false, Option, None, Some, is_some, refl, ◌∙◌, ap}
 use Rattle.std.specs.Option.{option_and_then}
 use Rattle.slab.specs.Slab.{get as slab_get}
 use Rattle.client_slot.specs.Client.{Client}

@@ -1,11 +1,12 @@
 -- What a multiplexer stands for, before and after the end of the connection to the server.
-use Rattle.std.proofs.Common.{◌≡◌, ◌∙◌, ℕ, ◌+◌, ◌-◌, ◌^◌, min, ◌&&◌, ◌||◌, Bool, true, false, cond, List, [], ◌∷◌, Option, Some, None, refl, sym, ap, subst, arith}
+use Rattle.std.proofs.Common.{◌≡◌, ◌∙◌, ℕ, ◌+◌, ◌-◌, ◌^◌, min, ◌&&◌, Bool, true, false, cond, List, [], ◌∷◌, Option, Some, None, refl, sym, ap, subst, arith}
 use Rattle.std.specs.Prelude.{is_some, is_none}
 use Rattle.std.specs.Option.{option_or}
 use Rattle.rtsp_uri.specs.declared.base.Bases.{Bases}
 use Rattle.mux_history.specs.declared.event.Outcome.{Outcome}
 use Rattle.mux_history.specs.declared.event.UpCause.{UpCause}
-use Rattle.mux_history.specs.Happenings.{Happening, Entry, fault_in, enters_here, entered, standing, silent}
+use Rattle.mux_history.specs.Cores.{ever_entered}
+use Rattle.mux_history.specs.Happenings.{Happening, Entry, fault_in, standing, silent}
 use Rattle.mux_history.specs.Own.{turn, books_of}
 use Rattle.mux_history.specs.Follows.{effect, breach, up_due, IsHistory}
 use Rattle.mux_history.specs.Next.{outcome_with, next}
@@ -14,7 +15,6 @@ use Rattle.mux_history.proofs.TurnStandLemmas.{next_history}
 use Rattle.gateway_mux.specs.declared.mux.Mux.{Mux}
 use Rattle.gateway_mux.specs.Pictures.{IsPictureOf}
 use Rattle.gateway_mux.specs.Stands.{picture_of, Stands, IsFresh, bases_of}
-use Rattle.gateway_mux.proofs.PictureLemmas.{none_in}
 
 -- While the connection to the server stands, that is all of the history.
 pub standing_open : (T : List Entry) → fault_in T ≡ None → standing T ≡ T
@@ -125,21 +125,5 @@ next_stands mux T e history open_still ended counts is = record {
 }
 
 -- A number that never entered is fresh.
-or_right : (a b : Bool) → (a || b) ≡ false → b ≡ false
-or_right true b e = cc
-or_right false b e = e
-
-either_out : (ended : Bool) (before all : List Entry) (conn : ℕ) → entered conn before ≡ false → entered conn all ≡ false → entered conn (cond ended before all) ≡ false
-either_out true before all conn out_before out_all = out_before
-either_out false before all conn out_before out_all = out_all
-
-not_entered_standing : (T : List Entry) (conn : ℕ) → entered conn T ≡ false → entered conn (standing T) ≡ false
-not_entered_standing [] conn out = refl
-not_entered_standing (e ∷ T) conn out =
-    let all : List Entry = e ∷ T in
-    either_out (is_some (fault_in all)) (standing T) all conn (not_entered_standing T conn (or_right (enters_here conn e.happening && is_none (fault_in T)) (entered conn T) out)) out
-
-pub not_entered_fresh : (mux : Mux) (T : List Entry) → Stands mux T → (conn : ℕ) → entered conn T ≡ false → IsFresh mux conn
-not_entered_fresh mux T stands conn out = record {
-  absent = none_in (bases_of mux) (picture_of mux.connections) (standing T) stands.is_picture conn (not_entered_standing T conn out);
-}
+pub never_fresh : (mux : Mux) (T : List Entry) (conn : ℕ) → Stands mux T → ever_entered conn T ≡ false → IsFresh mux conn
+never_fresh mux T conn stands never = ∣ record { history = T; stood = stands; never = never } ∣₁

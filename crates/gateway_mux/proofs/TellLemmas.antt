@@ -12,6 +12,7 @@ use Rattle.mux_history.specs.declared.event.UpCause.{UpCause}
 use Rattle.mux_history.specs.Happenings.{Entry, fault_in, entered, shut, is_alive}
 use Rattle.mux_history.specs.Own.{books_of, own}
 use Rattle.mux_history.specs.Follows.{IsHistory}
+use Rattle.mux_history.specs.Shared.{shared}
 use Rattle.mux_history.specs.Tells.{IsFirstAlive, is_busy_private, is_busy}
 use Rattle.mux_history.proofs.CaseLemmas.{not_over}
 use Rattle.mux_history.proofs.HistoryLemmas.{shut_as_alone}
@@ -20,7 +21,8 @@ use Rattle.mux_history.proofs.OverLemmas.{faults_over}
 use Rattle.gateway_mux.specs.Pictures.{Picture, IsPictureOf}
 use Rattle.gateway_mux.specs.Stands.{Stands, picture_of, bases_of}
 use Rattle.gateway_mux.specs.declared.mux.Mux.{Mux}
-use Rattle.gateway_mux.proofs.PictureLemmas.{none_in, client_in}
+use Rattle.gateway_mux.proofs.OverLemmas.{kept_alive}
+use Rattle.gateway_mux.proofs.PictureLemmas.{none_in, kept_in}
 use Rattle.gateway_mux.proofs.StandLemmas.{open_picture}
 
 -- whether a connection is alive or busy, where it entered
@@ -44,7 +46,7 @@ alive_in bases one T is i = by (entered i T) refl
     by true e =
         alive_live bases T is.is_history i e
         ∙ ap (λ over. not over && (alone bases T i).client.alive) (not_over bases T is.standing i)
-        ∙ sym (ap is_alive_client (client_in bases one T is i e))
+        ∙ kept_alive (one.clients i) (shared (books_of T) i (alone bases T i).client) (kept_in bases one T is i e) is_alive_client refl (λ client. client.alive) (λ client. refl) (λ client dead. dead)
     by false e = ap (λ t. t && is_empty_list (shut i T)) e ∙ sym (ap is_alive_client (none_in bases one T is i e))
 
 -- An open request is open in every numbering.
@@ -60,7 +62,8 @@ busy_in bases one T is i = by (entered i T) refl
         ap (λ t. is_busy_private (cond t (Some (alone bases T i)) None)) e
         ∙ ap (λ over. not over && ((alone bases T i).client.alive && is_some (alone bases T i).client.pending)) (not_over bases T is.standing i)
         ∙ ap (λ open_now. (alone bases T i).client.alive && open_now) (pending_same ((books_of T).pair_of i) (alone bases T i).client.pending)
-        ∙ sym (ap is_busy_client (client_in bases one T is i e))
+        ∙ kept_alive (one.clients i) (shared (books_of T) i (alone bases T i).client) (kept_in bases one T is i e) is_busy_client refl (λ client. client.alive && is_some client.pending) (λ client. refl)
+        (λ client dead. ap (λ t. t && is_some client.pending) dead)
     by false e = ap (λ t. is_busy_private (cond t (Some (alone bases T i)) None)) e ∙ sym (ap is_busy_client (none_in bases one T is i e))
 
 -- The first number from this one on of a connection that is alive.

@@ -1,7 +1,15 @@
 -- What the multiplexer has once a connection entered (this project's own).
-use Rattle.std.specs.Prelude.{◌≡◌, ℕ, ◌==◌, List, Some, if◌then◌else◌}
+use Rattle.std.specs.Prelude.{◌≡◌, ℕ, ◌==◌, false, List, Some, if◌then◌else◌}
+use Rattle.rtsp_uri.specs.declared.base.Bases.{Bases}
 use Rattle.client_slot.specs.Client.{new_client}
-use Rattle.gateway_mux.specs.Pictures.{Picture}
+use Rattle.mux_history.specs.Happenings.{Entry, entered}
+use Rattle.gateway_mux.specs.Pictures.{Picture, IsPictureOf}
+
+-- What it has is what some history has in which the connection never entered.
+pub record IsNewIn (bases : Bases) (one : Picture) (conn : ℕ) : Type 0 where
+  pub history : List Entry
+  pub is_of : IsPictureOf bases one history
+  pub never : entered conn history ≡ false
 
 -- all is as before
 pub record IsAsBefore (one after : Picture) : Type 0 where

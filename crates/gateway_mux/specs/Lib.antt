@@ -8,6 +8,7 @@ pub mod Granting
 pub mod Hearing
 pub mod Moves
 pub mod NoticesSeen
+pub mod Over
 pub mod Pictures
 pub mod Room
 pub mod Seats

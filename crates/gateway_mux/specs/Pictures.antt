@@ -16,6 +16,7 @@ use Rattle.mux_history.specs.Follows.{IsHistory}
 use Rattle.mux_history.specs.Shared.{shared_in}
 use Rattle.gateway_mux.specs.declared.seats.Seats.{Seats}
 use Rattle.gateway_mux.specs.declared.upstream.Upstream.{Upstream}
+use Rattle.gateway_mux.specs.Over.{IsKeptOf}
 use Rattle.gateway_mux.specs.Room.{HasRoom}
 use Rattle.gateway_mux.specs.Seats.{client_at}
 use Rattle.gateway_mux.specs.Turn.{kind_open}
@@ -56,12 +57,12 @@ books_in picture = record {
   issued = picture.issued;
 }
 
--- The list is a history in which the connection to the server stands, each connection is as it has it, and so are the
--- numbers of requests, the pairs of channels and the sessions.
+-- The list is a history in which the connection to the server stands, each connection is as it has it but for those that
+-- are over, and so are the numbers of requests, the pairs of channels and the sessions.
 pub record IsPictureOf (bases : Bases) (one : Picture) (history : List Entry) : Type 0 where
   pub is_history : IsHistory bases history
   pub standing : fault_in history ≡ None
-  pub clients : (i : ℕ) → one.clients i ≡ shared_in bases i history
+  pub clients : (i : ℕ) → IsKeptOf (one.clients i) (shared_in bases i history)
   pub asker : (number : ℕ) → one.asker number ≡ option_map (λ opened. opened.conn) ((books_of history).opened number)
   pub held : (pair : ℕ) → one.held pair ≡ (books_of history).held pair
   pub holder : (id : List ℕ) → one.holder id ≡ (books_of history).holder id

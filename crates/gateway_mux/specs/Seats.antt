@@ -8,7 +8,7 @@ use Rattle.gateway_mux.specs.Turn.{one_if}
 use Rattle.gateway_mux.specs.declared.seats.Seat.{Seat}
 use Rattle.gateway_mux.specs.declared.seats.Seats.{Seats}
 
--- connection i, where it entered
+-- connection i, where it is kept
 abbrev pub client_at : Seats → ℕ → Option Client
 client_at seats i = option_and_then (λ key. slab_get seats.slots key) (key_of seats.directory i)
 
@@ -24,12 +24,12 @@ left spare seats = spare - one_if (is_ready seats)
 abbrev pub IsKeyOf : Seats → ℕ → ℕ → Type 0
 IsKeyOf seats i key = key_of seats.directory i ≡ Some key
 
--- where connection i is kept; nothing where it never entered
+-- where connection i is kept; nothing where it isn't
 abbrev pub IsSeatAt : Seats → ℕ → Option Seat → Type 0
 IsSeatAt seats i None = client_at seats i ≡ None
 IsSeatAt seats i (Some seat) = IsKeyOf seats i seat.key × (client_at seats i ≡ Some seat.slot.now)
 
--- the first number from this one on that entered; none where there is none of 32 bits
+-- the first number from this one on that is kept; none where there is none of 32 bits
 abbrev pub IsNextSeat : Seats → ℕ → Option ℕ → Type 0
 IsNextSeat seats from None = (i : ℕ) → from ≤ i → i < 2 ^ 32 → client_at seats i ≡ None
 IsNextSeat seats from (Some conn) = (from ≤ conn) × ((i : ℕ) → from ≤ i → i < conn → client_at seats i ≡ None)

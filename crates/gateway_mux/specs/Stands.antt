@@ -4,14 +4,15 @@ use Rattle.rtsp_uri.specs.declared.base.Bases.{Bases}
 use Rattle.mux_history.specs.declared.event.UpCause.{UpCause}
 use Rattle.mux_history.specs.declared.event.Event.{Event}
 use Rattle.mux_history.specs.Happenings.{Entry, happening_of, fault_in, standing}
+use Rattle.mux_history.specs.Cores.{IsNewTo}
 use Rattle.mux_history.specs.Follows.{IsHistory}
 use Rattle.mux_history.specs.Tells.{dropped_frames}
+use Rattle.gateway_mux.specs.declared.act.Act.{Act}
 use Rattle.gateway_mux.specs.declared.connections.Connections.{Connections}
 use Rattle.gateway_mux.specs.declared.mux.Mux.{Mux}
-use Rattle.gateway_mux.specs.declared.mux.Plan.{Plan}
 use Rattle.gateway_mux.specs.Acts.{IsAct, IsShortAct, IsKeyed}
 use Rattle.gateway_mux.specs.Pictures.{Picture, picture, IsPictureOf}
-use Rattle.gateway_mux.specs.Seats.{client_at, is_ready}
+use Rattle.gateway_mux.specs.Seats.{is_ready}
 
 abbrev pub picture_of : Connections → Picture
 picture_of connections = picture connections.seats connections.upstream
@@ -25,16 +26,16 @@ pub record Stands (mux : Mux) (history : List Entry) : Type 0 where
   pub is_picture : IsPictureOf mux.connections.bases (picture_of mux.connections) (standing history)
 
 -- What was planned for an event is what it does.
-abbrev pub IsActFor : Option UpCause → Mux → Event → Plan → Type 0
+abbrev pub IsActFor : Option UpCause → Mux → Event → Act → Type 0
 IsActFor (Some cause) mux event plan = Unit {0}
-IsActFor None mux event plan = IsAct mux.connections.bases (picture_of mux.connections) (happening_of event) plan.act × IsShortAct plan.act × IsKeyed mux.connections.seats plan.act
+IsActFor None mux event plan = IsAct mux.connections.bases (picture_of mux.connections) (happening_of event) plan × IsShortAct plan × IsKeyed mux.connections.seats plan
 
-abbrev pub IsPlanFor : Mux → Event → Plan → Type 0
+abbrev pub IsPlanFor : Mux → Event → Act → Type 0
 IsPlanFor mux event plan = IsActFor mux.ended mux event plan
 
--- the number never entered, while the connection to the server stood
-pub record IsFresh (mux : Mux) (conn : ℕ) : Type 0 where
-  pub absent : client_at mux.connections.seats conn ≡ None
+-- It stands for a history in which the number never entered.
+abbrev pub IsFresh : Mux → ℕ → Type 0
+IsFresh mux conn = ∥ IsNewTo (Stands mux) conn ∥₁
 
 abbrev pub bases_of : Mux → Bases
 bases_of mux = mux.connections.bases

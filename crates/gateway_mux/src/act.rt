@@ -4,9 +4,10 @@ use crate::turn::Turn;
 use gate_bytes::Text;
 use mux_history::UpCause;
 
-/// What an event does, while the connection to the server stands.
+/// What an event will do to a multiplexer while the connection to the server stands; after that it
+/// does nothing. All memory for it is taken.
 #[derive(Drop)]
-pub(crate) enum Act {
+pub enum Act {
     /// Nothing.
     Nothing,
     /// A frame of a player goes up, on this channel of the server's connection.

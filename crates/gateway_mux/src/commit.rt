@@ -43,7 +43,8 @@ impl Connections {
         }
     }
 
-    /// Carries out the turn of a connection, after this answer to the server.
+    /// Carries out the turn of a connection, after this answer to the server. Once it is over it is
+    /// forgotten.
     #[inline(always)]
     fn turn(&mut self, answer: Option<Text>, turn: Turn) -> Outcome
         requires turn { IsTurnOfSome self.old.bases (picture self.old.seats self.old.upstream) answer turn }
@@ -53,9 +54,12 @@ impl Connections {
         ensures short { IsShortAnswer answer → IsShortPlan turn.plan → IsShort result }
         ensures bases { self.new.bases ≡ self.old.bases }
     {
-        let conn = turn.conn;
+        let (conn, key) = (turn.conn, turn.key);
         match commit_turn(&mut self.seats, &mut self.upstream, turn) {
-            Some(done) => handed(conn, answer, done),
+            Some(done) => {
+                self.seats.forget(conn, key);
+                handed(conn, answer, done)
+            }
             None => unreachable!(),
         }
     }

@@ -1,7 +1,7 @@
 //! The connections of a gateway: those of its players, and the one to the server.
 ghost use Rattle.std.specs.Prelude.{◌≡◌, ◌<◌, [], true, false, None, IsOk, OnOk, OnErr};
 ghost use Rattle.gateway_mux.specs.Pictures.{picture, IsKept, IsPictureOf};
-ghost use Rattle.gateway_mux.specs.Seats.{client_at, is_ready, left};
+ghost use Rattle.gateway_mux.specs.Seats.{is_ready, left};
 
 use crate::seats::Seats;
 use crate::upstream::Upstream;
@@ -22,7 +22,7 @@ pub(crate) struct Connections {
 }
 
 impl Connections {
-    ghost use Rattle.gateway_mux.specs.Entering.{IsEntered, IsAsBefore};
+    ghost use Rattle.gateway_mux.specs.Entering.{IsNewIn, IsEntered, IsAsBefore};
 
     /// No player, for a gateway with these addresses. It takes no memory.
     pub fn new(alloc: Global, bases: Bases) -> Connections
@@ -56,7 +56,7 @@ impl Connections {
     /// A player's connection enters, under a number that never entered. It takes no memory.
     pub fn enter(&mut self, conn: u32)
         requires ready { is_ready self.old.seats ≡ true }
-        requires new { client_at self.old.seats conn ≡ None }
+        requires new { ∥ IsNewIn self.old.bases (picture self.old.seats self.old.upstream) conn ∥₁ }
         ensures entered { IsEntered conn (picture self.old.seats self.old.upstream) (picture self.new.seats self.new.upstream) }
         ensures ready { is_ready self.new.seats ≡ false }
         ensures bases { self.new.bases ≡ self.old.bases }

@@ -25,7 +25,8 @@ mod tells;
 mod turn;
 mod upstream;
 
-pub use mux::{Mux, Plan};
+pub use act::Act as Plan;
+pub use mux::Mux;
 pub use mux_history::{
     Base, Bases, CloseWhy, Closed, Core, Event, FramingFault, Outcome, ToClient, ToUp, UpCause,
     UpMessage, UpWhy,

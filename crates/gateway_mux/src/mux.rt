@@ -1,5 +1,6 @@
 //! The multiplexer.
 ghost use Rattle.std.specs.Prelude.{◌≡◌, true, false, IfOk, OnOk, IsOk, IsSome, IfErr, OnErr, [], List, ◌∷◌, ℕ, None};
+ghost use Rattle.mux_history.specs.Cores.{ever_entered};
 ghost use Rattle.mux_history.specs.Happenings.{Entry, entry_of, entering, standing, is_alive, fault_in, happening_of};
 ghost use Rattle.mux_history.specs.Tells.{dropped_frames, IsFirstAlive, is_busy, is_frame_item};
 
@@ -21,12 +22,6 @@ pub struct Mux {
     connections: Connections,
     ended: Option<UpCause>,
     dropped: u64,
-}
-
-/// What an event will do to a multiplexer. All memory for it is taken.
-#[derive(Drop)]
-pub struct Plan {
-    act: Act,
 }
 
 impl Mux {
@@ -68,7 +63,7 @@ impl Mux {
     /// taken.
     pub fn enter(&mut self, alloc: Global, conn: u32) -> Result<(), Memory>
         requires { IsFresh self.old conn }
-        ensures ok { OnOk result ((T : List Entry) → Stands self.old T → Stands self.new (entering conn ∷ T)) }
+        ensures ok { OnOk result ((T : List Entry) → Stands self.old T → ever_entered conn T ≡ false → Stands self.new (entering conn ∷ T)) }
         ensures err { OnErr result ((T : List Entry) → Stands self.old T → Stands self.new T) }
         ensures free { IsSome (end_of self.old) → IsOk result }
         ensures prepared { is_prepared self.old ≡ true → IsOk result }
@@ -87,22 +82,20 @@ impl Mux {
     /// What an event will do. Nothing changes, and all memory for it is taken. Only a request of a
     /// client or a message of the server may need memory.
     #[inline(always)]
-    pub fn plan(&self, alloc: Global, event: &Event) -> Result<Plan, Memory>
+    pub fn plan(&self, alloc: Global, event: &Event) -> Result<Act, Memory>
         ensures plan { IfOk result (IsPlanFor self.now event.now) }
         ensures free { needs_memory event.now ≡ false → IsOk result }
     {
         if self.ended.is_some() {
-            return Ok(Plan { act: Act::Nothing });
+            return Ok(Act::Nothing);
         }
-        Ok(Plan {
-            act: self.connections.plan(alloc, event)?,
-        })
+        self.connections.plan(alloc, event)
     }
 
     /// Carries out the plan for an event: what it hands out is the next entry of the history. It takes
     /// no memory, and can't be refused.
     #[inline(always)]
-    pub fn commit(&mut self, event: Event, plan: Plan) -> Outcome
+    pub fn commit(&mut self, event: Event, plan: Act) -> Outcome
         requires { IsPlanFor self.old event plan }
         ensures stands { (T : List Entry) → Stands self.old T → Stands self.new (entry_of event result ∷ T) }
         ensures short { IsShort result }
@@ -112,7 +105,7 @@ impl Mux {
             return nothing();
         }
         let is_frame = is_frame(&event);
-        let outcome = self.connections.commit(event, plan.act);
+        let outcome = self.connections.commit(event, plan);
         self.ended = outcome.fault;
         if is_frame && outcome.to_client.is_none() && outcome.to_up.message.is_none() {
             self.dropped = self.dropped.saturating_add(1);

@@ -1,7 +1,8 @@
 //! The multiplexer as a core.
 ghost use Rattle.std.specs.Prelude.{◌≡◌, ◌∷◌, OnOk};
 
-use crate::mux::{Mux, Plan};
+use crate::act::Act;
+use crate::mux::Mux;
 use gate_bytes::Memory;
 use mux_history::{Bases, Core, Event, Outcome, UpCause};
 use std::alloc::Global;
@@ -12,7 +13,7 @@ impl Core for Mux {
     ghost use Rattle.gateway_mux.specs.Stands.{Stands, IsPlanFor, bases_of, is_prepared};
     ghost use Rattle.gateway_mux.specs.CoreLaws.{stands_for_history, one_follows, follows_in_order};
 
-    type Plan = Plan;
+    type Plan = Act;
 
     ghost bases = { bases_of };
 
@@ -36,11 +37,11 @@ impl Core for Mux {
         Mux::enter(self, alloc, conn)
     }
 
-    fn plan(&self, alloc: Global, event: &Event) -> Result<Plan, Memory> {
+    fn plan(&self, alloc: Global, event: &Event) -> Result<Act, Memory> {
         Mux::plan(self, alloc, event)
     }
 
-    fn commit(&mut self, event: Event, plan: Plan) -> Outcome {
+    fn commit(&mut self, event: Event, plan: Act) -> Outcome {
         Mux::commit(self, event, plan)
     }
 

@@ -4,6 +4,7 @@ ghost use Rattle.slab.specs.Slab.{get as slab_get};
 ghost use Rattle.client_slot.specs.Client.{new_client};
 ghost use Rattle.gate_machine.specs.Plans.{IsReady, IsShortPlan, IsShortDone};
 ghost use Rattle.gateway_mux.specs.Carried.{IsCarriedAt};
+ghost use Rattle.gateway_mux.specs.Over.{is_over};
 ghost use Rattle.connection_directory.specs.Directories.{key_of, HasPlace};
 
 use client_slot::Slot;
@@ -13,8 +14,7 @@ use gate_machine::{Done, Plan};
 use slab::Slab;
 use std::alloc::Global;
 
-/// A connection that entered, where it is kept: a plan for it tells the key, so that it is looked up
-/// once an event.
+/// A connection where it is kept: a plan for it tells the key, so that it is looked up once an event.
 #[derive(Clone, Copy)]
 pub(crate) struct Seat<'a> {
     /// The key of its slot.
@@ -23,7 +23,8 @@ pub(crate) struct Seat<'a> {
     pub slot: &'a Slot,
 }
 
-/// The connections that entered. Spare is the key of a slot for the next one, where that was made.
+/// The connections that entered and are not over. Spare is the key of a slot for the next one, where
+/// that was made.
 #[derive(Drop)]
 pub(crate) struct Seats {
     directory: Directory,
@@ -37,6 +38,7 @@ pub(crate) struct Seats {
 }
 
 impl Seats {
+    ghost use Rattle.gateway_mux.specs.Over.{unless_over};
     ghost use Rattle.gateway_mux.specs.Seats.{client_at, is_ready, IsKeyOf, IsSeatAt, IsNextSeat};
 
     /// No connection. It takes no memory.
@@ -51,7 +53,7 @@ impl Seats {
         }
     }
 
-    /// Where a connection is kept; nothing where it never entered.
+    /// Where a connection is kept; nothing where it never entered or is over.
     pub fn seat(&self, conn: u32) -> Option<Seat<'_>>
         ensures { IsSeatAt self.now conn result }
     {
@@ -67,7 +69,7 @@ impl Seats {
         self.slots.get(key)
     }
 
-    /// What is kept of a connection; nothing where it never entered.
+    /// What is kept of a connection; nothing where it never entered or is over.
     pub fn slot(&self, conn: u32) -> Option<&Slot>
         ensures { option_map (λ slot. slot.now) result ≡ client_at self.now conn }
     {
@@ -75,7 +77,7 @@ impl Seats {
         self.slots.get(key)
     }
 
-    /// The first number from this one on that entered.
+    /// The first number from this one on of a connection that is kept.
     pub fn next(&self, from: u32) -> Option<u32>
         ensures next { IsNextSeat self.now from result }
         ensures entered { IfSome result (λ conn. is_some (key_of self.now.directory conn) ≡ true) }
@@ -119,6 +121,23 @@ impl Seats {
         self.directory.add(conn, key);
     }
 
+    /// Forgets a connection where it is over: nothing can come of its events any more. It takes no
+    /// memory.
+    pub fn forget(&mut self, conn: u32, key: usize)
+        requires { IsKeyOf self.old conn key }
+        ensures others { (i : ℕ) → conn ≢ i → client_at self.new i ≡ client_at self.old i }
+        ensures here { client_at self.new conn ≡ unless_over (client_at self.old conn) }
+        ensures ready { is_ready self.new ≡ is_ready self.old }
+    {
+        let Some(slot) = self.slots.get(key) else {
+            return;
+        };
+        if is_over(slot) {
+            self.directory.remove(conn);
+            empty_at(&mut self.slots, key);
+        }
+    }
+
     /// Carries out a plan for a connection, which is kept under this key, by the numbers of its open
     /// request and of the next one.
     pub fn commit(
@@ -141,6 +160,22 @@ impl Seats {
     {
         commit_at(&mut self.slots, key, plan, number, next)
     }
+}
+
+/// Whether a connection is over: it was closed, has no request open, and no session that a TEARDOWN
+/// would go up for.
+fn is_over(slot: &Slot) -> bool
+    ensures { result ≡ is_over slot.now }
+{
+    !slot.alive() && !slot.busy() && slot.session().is_none()
+}
+
+/// Nothing is kept under a key any longer.
+fn empty_at(slots: &mut Slab<Slot>, key: usize)
+    ensures here { slab_get slots.new key ≡ None }
+    ensures others { (other : ℕ) → other ≢ key → slab_get slots.new other ≡ slab_get slots.old other }
+{
+    drop(slots.try_remove(key));
 }
 
 /// Carries out a plan for the connection at a key.

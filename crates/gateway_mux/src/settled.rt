@@ -18,7 +18,7 @@ use std::alloc::Global;
 
 /// What a final reply settles in the books.
 #[derive(Drop)]
-pub(crate) struct Settled {
+pub struct Settled {
     /// The number of the request that is open no longer.
     pub number: u32,
     /// The pairs of channels that it frees.

@@ -19,7 +19,7 @@ use gate_machine::{Done, Plan};
 
 /// What is planned for a connection: what the server's reply settles, and what the connection does.
 #[derive(Drop)]
-pub(crate) struct Turn {
+pub struct Turn {
     /// The connection.
     pub conn: u32,
     /// The key under which it is kept.
@@ -46,6 +46,7 @@ pub(crate) fn commit_turn(seats: &mut Seats, upstream: &mut Upstream, turn: Turn
     ensures done { IsSome (client_at seats.old turn.conn) → IfSome result (λ done. IsCarriedAt (client_at seats.old turn.conn) (client_at seats.new turn.conn) turn.plan turn.number turn.next done) }
     ensures some { IsSome (client_at seats.old turn.conn) → IsSome result }
     ensures short { IsShortPlan turn.plan → IfSome result IsShortDone }
+    ensures key { IsKeyOf seats.new turn.conn turn.key }
     ensures ready { is_ready seats.new ≡ is_ready seats.old }
     ensures others { (i : ℕ) → turn.conn ≢ i → client_at seats.new i ≡ client_at seats.old i }
     ensures issued { IsSome result → upstream.new.requests.issued ≡ issued_then turn.asks upstream.old.requests.issued }

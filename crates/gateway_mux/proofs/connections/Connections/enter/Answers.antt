@@ -1,6 +1,10 @@
 use Rattle.std.proofs.Common.{refl}
-use Rattle.gateway_mux.proofs.ReadyLemmas.{room_used}
+use Rattle.gateway_mux.specs.Pictures.{picture}
+use Rattle.gateway_mux.proofs.ReadyLemmas.{absent_new, room_used}
 use Rattle.gateway_mux.proofs.connections.Connections.enter.Goals as goal
+
+pub enter-requires-clause-new : goal.enter-requires-clause-new
+enter-requires-clause-new c = absent_new c.args.self.now.bases (picture c.args.self.now.seats c.args.self.now.upstream) c.args.conn c.requires.new
 
 pub invariant_of-self : goal.invariant_of-self
 invariant_of-self c =

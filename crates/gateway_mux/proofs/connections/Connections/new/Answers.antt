@@ -2,6 +2,7 @@ use Rattle.std.proofs.Common.{◌≡◌, ◌∙◌, ◌+◌, ℕ, true, false, s
 use Rattle.gateway_mux.specs.Pictures.{picture}
 use Rattle.gateway_mux.specs.Seats.{left}
 use Rattle.gateway_mux.proofs.KeepingLemmas.{keeps_none}
+use Rattle.gateway_mux.proofs.OverLemmas.{kept_along}
 use Rattle.gateway_mux.proofs.connections.Connections.new.Goals as goal
 
 none_issued : (n : ℕ) → n + 1 ≡ 1 → n ≡ 0
@@ -13,7 +14,7 @@ invariant_of-result c = record {
       (record {
         is_history = tt;
         standing = refl;
-        clients = λ i. c.new.ensures.none i;
+        clients = λ i. kept_along (c.new.ensures.none i) refl refl;
         asker = λ n. c.starting.ensures.open n;
         held = λ p. c.starting.ensures.held p;
         holder = λ id. c.starting.ensures.bound id;

@@ -1,4 +1,4 @@
-use Rattle.std.proofs.Common.{◌+◌, ℕ, Option, sym, subst}
+use Rattle.std.proofs.Common.{◌+◌, ℕ, Option, subst}
 use Rattle.channel_map.specs.Pairs.{held_at}
 use Rattle.gate_machine.specs.Plans.{incoming_seen, IsPlan}
 use Rattle.gateway_mux.specs.declared.seats.Seat.{Seat}

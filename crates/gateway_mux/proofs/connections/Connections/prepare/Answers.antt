@@ -1,4 +1,4 @@
-use Rattle.std.proofs.Common.{◌∙◌, ◌≤◌, ℕ, refl, sym, ap, arith}
+use Rattle.std.proofs.Common.{◌≤◌, ℕ, refl, sym, ap, arith}
 use Rattle.up_books.specs.Ids.{holder_in}
 use Rattle.up_books.specs.Numbers.{asker_in}
 use Rattle.gateway_mux.specs.declared.upstream.Upstream.{Upstream}

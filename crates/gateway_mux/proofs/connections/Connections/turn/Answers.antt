@@ -1,8 +1,9 @@
 use Rattle.std.proofs.Common.{Some}
 use Rattle.gateway_mux.specs.Moves.{handed_by}
-use Rattle.gateway_mux.specs.Pictures.{picture}
+use Rattle.gateway_mux.specs.Pictures.{Picture, picture}
 use Rattle.gateway_mux.proofs.ActLemmas.{turn_committed}
 use Rattle.gateway_mux.proofs.CarryingLemmas.{left_for, is_there, turned_result, committed_as}
+use Rattle.gateway_mux.proofs.ForgetLemmas.{forgotten_ready, forgotten_commits}
 use Rattle.gateway_mux.proofs.ReadyLemmas.{kept_in_all, keeps_ready}
 use Rattle.gateway_mux.proofs.KeepingLemmas.{room_asked, settles_now}
 use Rattle.gateway_mux.proofs.connections.Connections.turn.Goals as goal
@@ -22,18 +23,24 @@ pub invariant_of-self : goal.invariant_of-self
 invariant_of-self c =
     let there = is_there c.args.self.now.bases (picture c.args.self.now.seats c.args.self.now.upstream) c.args.answer c.args.turn c.requires.turn in
     let some = c.commit_turn.ensures.some there in
-    let after = keeps_ready c.args.self.now.bases c.args.self.now.seats c.commit_turn.new.seats c.args.self.now.upstream c.commit_turn.new.upstream c.args.answer c.args.turn c.commit_turn.result c.requires.turn some
+    let turned = keeps_ready c.args.self.now.bases c.args.self.now.seats c.commit_turn.new.seats c.args.self.now.upstream c.commit_turn.new.upstream c.args.answer c.args.turn c.commit_turn.result c.requires.turn some
     (turned_result (picture c.args.self.now.seats c.args.self.now.upstream) (picture c.commit_turn.new.seats c.commit_turn.new.upstream) c.args.turn c.commit_turn.result
     (c.commit_turn.ensures.done there)
     c.commit_turn.ensures.others c.commit_turn.ensures.issued c.commit_turn.ensures.asked c.commit_turn.ensures.held c.commit_turn.ensures.holder)
     (c.commit_turn.ensures.room some) (c.commit_turn.ensures.spare some) c.commit_turn.ensures.ready
     (record { kept = c.args.self.now.kept; spare = c.args.self.now.spare; spare_session = c.args.self.now.spare_session }) in
+    let after = forgotten_ready c.args.self.now.bases c.args.turn.conn c.commit_turn.new.seats c.forget.new.self c.commit_turn.new.upstream
+    (record { others = c.forget.ensures.others; here = c.forget.ensures.here }) c.forget.ensures.ready turned in
     record { kept = after.kept; spare = after.spare; spare_session = after.spare_session }
 
 pub returns-clause-commits : goal.returns-clause-commits
 returns-clause-commits c h planned =
-    committed_as c.args.self.now.bases (picture c.args.self.now.seats c.args.self.now.upstream) (picture c.commit_turn.new.seats c.commit_turn.new.upstream) h c.handed.result (handed_by c.args.turn.conn c.args.answer c.in-Some.done) c.handed.ensures.hands
-    (turn_committed c.args.self.now.bases (picture c.args.self.now.seats c.args.self.now.upstream) (picture c.commit_turn.new.seats c.commit_turn.new.upstream) h c.args.answer c.args.turn c.in-Some.done planned
-    (turned_result (picture c.args.self.now.seats c.args.self.now.upstream) (picture c.commit_turn.new.seats c.commit_turn.new.upstream) c.args.turn (Some c.in-Some.done)
-    (c.in-Some.ensures.done (is_there c.args.self.now.bases (picture c.args.self.now.seats c.args.self.now.upstream) c.args.answer c.args.turn c.requires.turn))
-    c.in-Some.ensures.others c.in-Some.ensures.issued c.in-Some.ensures.asked c.in-Some.ensures.held c.in-Some.ensures.holder))
+    let one : Picture = picture c.args.self.now.seats c.args.self.now.upstream in
+    let mid : Picture = picture c.commit_turn.new.seats c.commit_turn.new.upstream in
+    forgotten_commits c.args.self.now.bases one c.args.turn.conn c.commit_turn.new.seats c.forget.new.self c.commit_turn.new.upstream h c.handed.result
+    (record { others = c.forget.ensures.others; here = c.forget.ensures.here })
+    (committed_as c.args.self.now.bases one mid h c.handed.result (handed_by c.args.turn.conn c.args.answer c.in-Some.done) c.handed.ensures.hands
+    (turn_committed c.args.self.now.bases one mid h c.args.answer c.args.turn c.in-Some.done planned
+    (turned_result one mid c.args.turn (Some c.in-Some.done)
+    (c.in-Some.ensures.done (is_there c.args.self.now.bases one c.args.answer c.args.turn c.requires.turn))
+    c.in-Some.ensures.others c.in-Some.ensures.issued c.in-Some.ensures.asked c.in-Some.ensures.held c.in-Some.ensures.holder)))

@@ -1,4 +1,4 @@
-use Rattle.std.proofs.Common.{◌≡◌, ◌∙◌, ℕ, Option, None, Some, is_some, true, sym, ap, refl}
+use Rattle.std.proofs.Common.{◌≡◌, ◌∙◌, ℕ, Option, None, Some, is_some, sym, ap}
 use Rattle.slab.specs.Slab.{get as slab_get}
 use Rattle.connection_directory.specs.Directories.{key_of}
 use Rattle.gateway_mux.proofs.SeatLemmas.{not_among, kept_more}
