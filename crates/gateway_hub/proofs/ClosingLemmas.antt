@@ -123,12 +123,12 @@ closes_with stands told faults desk T k = record {
       | inr w ↦ let never = k.underway.numbered.new i w.0 in absurd (cc)
     ]
     each_by i en (Some (Seated line)) at =
-        let here : line_at desk.places.items i ≡ Some line = ap line_of at in
+        let here : line_at desk.places.items i ≡ Some line.value = ap line_of at in
         record {
-          receipt = receipt_for i line 0 0 desk.fall desk.ending;
+          receipt = receipt_for i line.value 0 0 desk.fall desk.ending;
           here = ap (receipt_in i desk.fall desk.ending) at;
-          tells = life_so i 0 0 line stands told faults desk T here k;
-          kept = inr (record { seated = (line, here); pushed = refl; taken = refl });
+          tells = life_so i 0 0 line.value stands told faults desk T here k;
+          kept = inr (record { seated = (line.value, here); pushed = refl; taken = refl });
         }
     each_by i en (Some (Retired receipt)) at = record {
       receipt = receipt;

@@ -19,7 +19,7 @@ use Rattle.gateway_hub.specs.declared.ending.HubFault.{HubFault}
 use Rattle.gateway_hub.specs.declared.ending.StopWhy.{StopWhy}
 use Rattle.gateway_hub.specs.declared.line.Line.{Line}
 use Rattle.gateway_hub.specs.declared.line.Place.{Place}
-use Rattle.gateway_hub.specs.declared.line.Place.TheVariants.{Seated, Retired}
+use Rattle.gateway_hub.specs.declared.line.Place.TheVariants.{Retired}
 use Rattle.gateway_hub.specs.declared.receipt.Receipt.{Receipt}
 use Rattle.gateway_hub.specs.declared.server.Server.{Server}
 use Rattle.gateway_hub.specs.declared.desk.Desk.{Desk}
@@ -216,7 +216,7 @@ others_as conn before now server same = record {
 
 pub seat_ends : (line : Line) (before now : Desk) → Seats line before now → KeepsOtherEnds (length before.places.items) before now
 seat_ends line before now seats = others_as (length before.places.items) before now seats.server (λ i other.
-    ap (λ (l : List Place). line_at l i) seats.places ∙ elim (snoc_get before.places.items (Seated line) i) [ inl same ↦ ap line_of same | inr new ↦ absurd (other new.0) ])
+    ap (λ (l : List Place). line_at l i) seats.places ∙ elim (snoc_get before.places.items seats.place i) [ inl same ↦ ap line_of same | inr new ↦ absurd (other new.0) ])
 
 retired_other : (conn pushed taken : ℕ) (fall : Option Bool) (ending : Option Ending) (receipt : Receipt) (before now : List Place) (line : Option Line) → RetiresBy conn pushed taken fall ending receipt before now line → (i : ℕ) → i ≢ conn → line_at now i ≡ line_at before i
 retired_other conn pushed taken fall ending receipt before now None retires i other = ap (λ (l : List Place). line_at l i) retires.0

@@ -29,7 +29,7 @@ use Rattle.gateway_hub.specs.declared.receipt.Close.{Close}
 use Rattle.gateway_hub.specs.declared.receipt.Receipt.{Receipt}
 use Rattle.gateway_hub.specs.declared.line.Line.{Line}
 use Rattle.gateway_hub.specs.declared.line.Place.{Place}
-use Rattle.gateway_hub.specs.declared.line.Place.TheVariants.{Seated}
+use Rattle.gateway_hub.specs.declared.line.Place.TheVariants.{Seated, Retired}
 use Rattle.gateway_hub.specs.declared.server.Server.{Server}
 use Rattle.gateway_hub.specs.declared.desk.Desk.{Desk}
 use Rattle.gateway_hub.specs.Closes.{close_in, fall_close}
@@ -83,16 +83,21 @@ snoc_get [] place (suc i) = inl refl
 snoc_get (p ∷ places) place zero = inl refl
 snoc_get (p ∷ places) place (suc i) = elim (snoc_get places place i) [ inl same ↦ inl same | inr new ↦ inr (let n = new.0 in omega arith, new.1) ]
 
-line_more : (places : List Place) (line : Line) (i : ℕ) (now : Line) → line_at (places ++ Seated line ∷ []) i ≡ Some now → (line_at places i ≡ Some now) ⊎ ((i ≡ length places) × (now ≡ line))
-line_more places line i now at = elim (snoc_get places (Seated line) i) [
+line_more : (places : List Place) (place : Place) (line : Line) (i : ℕ) (now : Line) → line_of (Some place) ≡ Some line → line_at (places ++ place ∷ []) i ≡ Some now → (line_at places i ≡ Some now) ⊎ ((i ≡ length places) × (now ≡ line))
+line_more places place line i now is at = elim (snoc_get places place i) [
   | inl same ↦ inl (sym (ap line_of same) ∙ at)
-  | inr new ↦ inr (new.0, let e : line_at (places ++ Seated line ∷ []) i ≡ Some line = ap line_of new.1 in cc)
+  | inr new ↦ inr (new.0, let e : line_at (places ++ place ∷ []) i ≡ Some line = ap line_of new.1 ∙ is in cc)
 ]
 
-receipt_same : (places : List Place) (line : Line) (i : ℕ) (receipt : Receipt) → receipt_at (places ++ Seated line ∷ []) i ≡ Some receipt → receipt_at places i ≡ Some receipt
-receipt_same places line i receipt at = elim (snoc_get places (Seated line) i) [
+-- one with a line has no receipt
+no_receipt_yet : (place : Place) (line : Line) → line_of (Some place) ≡ Some line → receipt_of (Some place) ≡ None
+no_receipt_yet (Seated boxed) line is = refl
+no_receipt_yet (Retired receipt) line is = cc
+
+receipt_same : (places : List Place) (place : Place) (line : Line) (i : ℕ) (receipt : Receipt) → line_of (Some place) ≡ Some line → receipt_at (places ++ place ∷ []) i ≡ Some receipt → receipt_at places i ≡ Some receipt
+receipt_same places place line i receipt is at = elim (snoc_get places place i) [
   | inl same ↦ sym (ap receipt_of same) ∙ at
-  | inr new ↦ let e : receipt_at (places ++ Seated line ∷ []) i ≡ None = ap receipt_of new.1 in absurd (cc)
+  | inr new ↦ let e : receipt_at (places ++ place ∷ []) i ≡ None = ap receipt_of new.1 ∙ no_receipt_yet place line is in absurd (cc)
 ]
 
 receipt_within : (places : List Place) (i : ℕ) (receipt : Receipt) → receipt_at places i ≡ Some receipt → i < length places
@@ -146,11 +151,11 @@ pub entered_keeps : (stood stands : List Entry → Type 0) (told tells : Option 
 entered_keeps stood stands told tells faults later before now line T few fresh seats stood_now noted none k =
     let n = length before.places.items in
     let u = k.underway in
-    let was : (i : ℕ) (l : Line) → line_at now.places.items i ≡ Some l → (line_at before.places.items i ≡ Some l) ⊎ ((i ≡ n) × (l ≡ line)) = λ i l at. line_more before.places.items line i l (ap (λ (x : List Place). line_at x i) (sym seats.places) ∙ at) in
+    let was : (i : ℕ) (l : Line) → line_at now.places.items i ≡ Some l → (line_at before.places.items i ≡ Some l) ⊎ ((i ≡ n) × (l ≡ line)) = λ i l at. line_more before.places.items seats.place line i l seats.is_line (ap (λ (x : List Place). line_at x i) (sym seats.places) ∙ at) in
     let nothing : (i : ℕ) → i ≡ n → HadNothing i T = λ i is. u.numbered.none i (omega arith) in
     let standing : fault_in T ≡ None = subst (λ (e : Option Ending). EndsRightly faults n e T) none k.cause in
     let unfallen : now.fall ≡ None = seats.fall ∙ u.fell ∙ fall_none T standing in
-    let size : length now.places.items ≡ n + 1 = ap (λ (x : List Place). length x) seats.places ∙ length-append before.places.items (Seated line ∷ []) in
+    let size : length now.places.items ≡ n + 1 = ap (λ (x : List Place). length x) seats.places ∙ length-append before.places.items (seats.place ∷ []) in
     let same_up : handed_up (entering n ∷ T) ≡ handed_up T = append-nil (handed_up T) in
     let up_same : IsHandedUp (put_of now.server.outward) (fulls_of now.server.outward) (entering n ∷ T) =
     subst (λ (s : Server). IsHandedUp (put_of s.outward) (fulls_of s.outward) (entering n ∷ T)) (sym seats.server) (record {
@@ -192,7 +197,7 @@ entered_keeps stood stands told tells faults later before now line T few fresh s
         ];
         up_handed = up_same;
         receipts = λ i receipt at.
-            let old : receipt_at before.places.items i ≡ Some receipt = receipt_same before.places.items line i receipt (ap (λ (l : List Place). receipt_at l i) (sym seats.places) ∙ at) in
+            let old : receipt_at before.places.items i ≡ Some receipt = receipt_same before.places.items seats.place line i receipt seats.is_line (ap (λ (l : List Place). receipt_at l i) (sym seats.places) ∙ at) in
             subst (λ (e : Option Ending). IsReceipt i receipt e (entering n ∷ T)) (sym seats.ending) (receipt_still i n receipt before.ending T (receipt_within before.places.items i receipt old) (u.receipts i receipt old));
         numbered = subst (λ (m : ℕ). AreNumbered m (entering n ∷ T)) (sym size) (record {
           bound = omega arith;

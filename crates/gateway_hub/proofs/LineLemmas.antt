@@ -1,5 +1,5 @@
 -- Lines and receipts after a change of one line.
-use Rattle.std.proofs.Common.{◌≡◌, ◌∙◌, ℕ, Bool, true, false, ◌==◌, List, length, Option, Some, None, refl, sym, ap, subst, inl, inr}
+use Rattle.std.proofs.Common.{◌≡◌, ◌∙◌, ℕ, Bool, true, false, ◌==◌, List, length, Option, Some, None, refl, sym, ap, subst, inl, inr, Box, Global}
 use Rattle.std.specs.Prelude.{◌⊎◌}
 use Rattle.mux_history.specs.declared.event.Closed.{Closed}
 use Rattle.mux_history.specs.declared.event.Closed.TheVariants.{Nobody, One, All}
@@ -48,8 +48,9 @@ part_twice part before between after first next i now is =
     (a.0, a.1, b.2 ∙ a.2)
 
 -- A place that has a line changes by it.
-pub seated_changes : (change : Line → Line → Type 0) (place : Place) (line now : Line) → place ≡ Seated line → change line now → Changes true change (line_of (Some place)) (Some now)
-seated_changes change place line now is changes = subst (λ (p : Place). Changes true change (line_of (Some p)) (Some now)) (sym is) (now, refl, changes)
+pub seated_changes : (change : Line → Line → Type 0) (place : Place) (boxed : Box Line Global) (line now : Line) → place ≡ Seated boxed → line ≡ boxed.value → change line now → Changes true change (line_of (Some place)) (Some now)
+seated_changes change place boxed line now is same changes =
+    subst (λ (p : Place). Changes true change (line_of (Some p)) (Some now)) (sym is) (now, refl, subst (λ (l : Line). change l now) same changes)
 
 -- the parts of a line that each change keeps
 pub record KeepsRest (before after : List Place) : Type 0 where

@@ -186,7 +186,7 @@ living_line places ending T i numbered receipts none alive = by (slice_get place
         let unentered = never_part T i (numbered.new i beyond) in
         let dead : is_alive i T ≡ false = ap (λ b. b && is_empty_list (shut i T)) unentered in
         absurd (cc)
-    by (Some (Seated line)) is = (line, ap line_of is)
+    by (Some (Seated line)) is = (line.value, ap line_of is)
     by (Some (Retired receipt)) is = let dead = (receipts receipt (ap receipt_of is)).over none in absurd (cc)
 
 -- Where a client is handed something, the connection to the server stands.

@@ -2,7 +2,7 @@
 use Rattle.std.specs.Prelude.{◌≡◌, ◌⊎◌, ◌<◌, ◌≤◌, List, [], ◌∷◌, ◌++◌, length, Some, None, Result, Ok, Err}
 use Rattle.client_ports.specs.Ends.{put_of, taken_of, fulls_of, capacity_of, OfOnePort}
 use Rattle.gateway_hub.specs.declared.line.Line.{Line}
-use Rattle.gateway_hub.specs.declared.line.Place.TheVariants.{Seated}
+use Rattle.gateway_hub.specs.declared.line.Place.{Place}
 use Rattle.gateway_hub.specs.declared.desk.Desk.{Desk}
 use Rattle.mux_history.specs.Happenings.{Entry, entering}
 use Rattle.gateway_hub.specs.declared.limits.TheConstants.{MOST_CONNECTIONS, INWARD_CAPACITY, OUTWARD_CAPACITY}
@@ -12,6 +12,7 @@ use Rattle.gateway_hub.specs.declared.ending.HubFault.{HubFault}
 use Rattle.gateway_hub.specs.declared.ending.HubFault.TheVariants as faults
 use Rattle.gateway_hub.specs.declared.seat.Entered.{Entered}
 use Rattle.gateway_hub.specs.Calls.{HubHistories, Stays, Fails}
+use Rattle.gateway_hub.specs.Places.{line_of}
 
 -- Nothing was put into the ports of a line and nothing taken of them.
 pub record IsNewLine (line : Line) : Type 0 where
@@ -35,7 +36,9 @@ pub record IsFreshDesk (desk : Desk) : Type 0 where
 -- The line has the next number.
 pub record Seats (line : Line) (before now : Desk) : Type 0 where
   pub server : now.server ≡ before.server
-  pub places : now.places.items ≡ before.places.items ++ Seated line ∷ []
+  pub place : Place
+  pub is_line : line_of (Some place) ≡ Some line
+  pub places : now.places.items ≡ before.places.items ++ place ∷ []
   pub fall : now.fall ≡ before.fall
   pub ending : now.ending ≡ before.ending
 

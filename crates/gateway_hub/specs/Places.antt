@@ -23,7 +23,7 @@ use Rattle.gateway_hub.specs.Parcels.{items_in, waiting}
 
 abbrev pub line_of : Option Place → Option Line
 line_of None = None
-line_of (Some (Seated line)) = Some line
+line_of (Some (Seated line)) = Some line.value
 line_of (Some (Retired receipt)) = None
 
 abbrev pub receipt_of : Option Place → Option Receipt

@@ -27,7 +27,7 @@ receipt_count receipts = length receipts.places.items
 -- the receipt of a connection: the one that was kept, or one with nothing pushed and nothing taken
 abbrev pub receipt_in : ℕ → Option Bool → Option Ending → Option Place → Option Receipt
 receipt_in i fall ending None = None
-receipt_in i fall ending (Some (Seated line)) = Some (receipt_for i line 0 0 fall ending)
+receipt_in i fall ending (Some (Seated line)) = Some (receipt_for i line.value 0 0 fall ending)
 receipt_in i fall ending (Some (Retired receipt)) = Some receipt
 
 abbrev pub last_receipt : Receipts → ℕ → Option Receipt

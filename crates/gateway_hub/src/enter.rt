@@ -58,6 +58,9 @@ impl<M: Core, R: Recorder> State<M, R> {
         let conn = self.desk.places.len() as u32;
         let (inward, items) = port(alloc, INWARD_CAPACITY)?;
         let (pieces, outward) = port(alloc, OUTWARD_CAPACITY)?;
+        let Ok(line) = Box::new(alloc, Line::new(items, pieces)) else {
+            return Err(HubFault::Memory);
+        };
         let Ok(()) = self.desk.places.reserve(1) else {
             return Err(HubFault::Memory);
         };
@@ -70,7 +73,6 @@ impl<M: Core, R: Recorder> State<M, R> {
             Ok(()) => {}
             Err(_) => return Err(HubFault::Memory),
         }
-        let line = Line::new(items, pieces);
         self.desk.places.push_reserved(Place::Seated(line));
         Ok(Entered {
             seat: Seat { conn },

@@ -24,11 +24,11 @@ pub struct Line {
     pub close: Option<Close>,
 }
 
-/// A connection that entered.
+/// A connection that entered. What is kept of one that is retired takes little.
 #[derive(Drop)]
 pub enum Place {
     /// It is not retired.
-    Seated(Line),
+    Seated(Box<Line>),
     /// It is retired.
     Retired(Receipt),
 }

@@ -3,6 +3,7 @@ use Rattle.std.specs.Option.{option_or}
 use Rattle.gateway_hub.specs.declared.ending.Ending.{Ending}
 use Rattle.gateway_hub.specs.declared.ending.Ending.TheVariants.{Stopped}
 use Rattle.gateway_hub.specs.declared.ending.StopWhy.TheVariants as stops
+use Rattle.gateway_hub.specs.declared.line.Line.{Line}
 use Rattle.gateway_hub.specs.declared.line.Place.{Place}
 use Rattle.gateway_hub.specs.declared.line.Place.TheVariants.{Seated}
 use Rattle.gateway_hub.specs.Entering.{Seats}
@@ -71,11 +72,11 @@ returns-clause-enters g c =
     let old = c.args.self.now in
     let now = record old.desk { places = c.push_reserved.new.self } in
     let n = length old.desk.places.items in
-    let line = c.new-line.result in
+    let line = c.new.result in
     let e : c.len-conn.result ≡ n = (let is = c.len-conn.ensures in omega (arith, old.desk.places.ok.0)) in
-    let fresh = new_line line c.in_ok-inward.items c.in_ok-pieces.pieces c.new-line.ensures c.in_ok-inward.ensures.taken c.in_ok-pieces.ensures.put c.in_ok-pieces.ensures.fulls in
+    let fresh = new_line line c.in_ok-inward.items c.in_ok-pieces.pieces c.new.ensures c.in_ok-inward.ensures.taken c.in_ok-pieces.ensures.put c.in_ok-pieces.ensures.fulls in
     let below : n < 4294967295 = (let is = c.len.ensures in let few = c.if-len-ge-MOST_CONNECTIONS.false in omega (arith, old.desk.places.ok.0)) in
-    let seats : Seats line old.desk now = record { server = refl; places = c.push_reserved.ensures.items ∙ ap (λ (l : List Place). l ++ Seated line ∷ []) c.reserve.ensures.items; fall = refl; ending = refl } in (
+    let seats : Seats line old.desk now = record { server = refl; place = Seated c.in-Ok.line; is_line = ap (λ (l : Line). Some l) c.in-Ok.ensures.ok; places = c.push_reserved.ensures.items ∙ ap (λ (l : List Place). l ++ Seated c.in-Ok.line ∷ []) c.reserve.ensures.items; fall = refl; ending = refl } in (
       c.in_default.is,
       below,
       e,
@@ -86,7 +87,7 @@ returns-clause-enters g c =
         line,
         fresh,
         seats,
-        as_given (record { seat = record { conn = c.len-conn.result }; inward = c.in_ok-inward.inward; outward = c.in_ok-pieces.outward }) line c.in_ok-inward.items c.in_ok-pieces.pieces c.new-line.ensures c.in_ok-inward.ensures.one c.in_ok-pieces.ensures.one c.in_ok-inward.ensures.capacity c.in_ok-pieces.ensures.capacity
+        as_given (record { seat = record { conn = c.len-conn.result }; inward = c.in_ok-inward.inward; outward = c.in_ok-pieces.outward }) line c.in_ok-inward.items c.in_ok-pieces.pieces c.new.ensures c.in_ok-inward.ensures.one c.in_ok-pieces.ensures.one c.in_ok-inward.ensures.capacity c.in_ok-pieces.ensures.capacity
             c.in_ok-inward.ensures.put c.in_ok-pieces.ensures.taken,
       ),
     )
@@ -103,8 +104,8 @@ returns-in-Err-clause-ends g c =
 pub returns-clause-ends : goal.returns-clause-ends
 returns-clause-ends g c =
     let old = c.args.self.now.desk in
-    seat_ends c.new-line.result old (record old { places = c.push_reserved.new.self })
-    (record { server = refl; places = c.push_reserved.ensures.items ∙ ap (λ (l : List Place). l ++ Seated c.new-line.result ∷ []) c.reserve.ensures.items; fall = refl; ending = refl })
+    seat_ends c.new.result old (record old { places = c.push_reserved.new.self })
+    (record { server = refl; place = Seated c.in-Ok.line; is_line = ap (λ (l : Line). Some l) c.in-Ok.ensures.ok; places = c.push_reserved.ensures.items ∙ ap (λ (l : List Place). l ++ Seated c.in-Ok.line ∷ []) c.reserve.ensures.items; fall = refl; ending = refl })
 
 pub returns-in-Some-clause-ends : goal.returns-in-Some-clause-ends
 returns-in-Some-clause-ends g c =
@@ -118,6 +119,11 @@ returns-in_err-inward-clause-ends g c =
 
 pub returns-in_err-pieces-clause-ends : goal.returns-in_err-pieces-clause-ends
 returns-in_err-pieces-clause-ends g c =
+    let old = c.args.self.now.desk in
+    other_same (length old.places.items) old old refl refl
+
+pub returns-in_default-new-clause-ends : goal.returns-in_default-new-clause-ends
+returns-in_default-new-clause-ends g c =
     let old = c.args.self.now.desk in
     other_same (length old.places.items) old old refl refl
 
