@@ -1,5 +1,5 @@
 -- Who enters in a history is who enters by the entries that tell it.
-use Rattle.std.proofs.Common.{◌≡◌, ◌≢◌, ◌∙◌, ℕ, Bool, true, false, ◌==◌, ◌&&◌, ◌||◌, List, [], ◌∷◌, ◌++◌, map, Option, Some, None, refl, sym, ap}
+use Rattle.std.proofs.Common.{◌≡◌, ◌∙◌, ℕ, Bool, true, false, ◌==◌, ◌&&◌, ◌||◌, List, [], ◌∷◌, ◌++◌, map, Option, Some, None, refl, sym, ap}
 use Rattle.rtsp_head.specs.Items.{Shape}
 use Rattle.rtsp_uri.specs.declared.base.Bases.{Bases}
 use Rattle.gate_transcript.specs.declared.entry.Entry.{Entry}
@@ -11,7 +11,7 @@ use Rattle.gate_transcript.specs.Transcript.{is_enter, has_entered}
 use Rattle.mux_history.specs.Cores.{ever_entered}
 use Rattle.mux_history.specs.Follows.{IsHistory}
 use Rattle.mux_history.specs.Happenings.{Happening, Entry as PastEntry, enters_here, happened}
-use Rattle.mux_history.specs.OnePlayer.{IsOnlyPlayer, HasAll}
+use Rattle.mux_history.specs.OnePlayer.{HasAll}
 use Rattle.mux_history.proofs.OnePlayerLemmas.{one_player}
 use Rattle.gateway_replay.specs.declared.streams.Speaker.{Speaker}
 use Rattle.gateway_replay.specs.declared.streams.Speaker.TheVariants as speaker

@@ -1,10 +1,16 @@
 -- Events, one after another: what the history gains and what is written.
-use Rattle.std.proofs.Common.{◌≡◌, ◌≢◌, ℕ, false, List, [], ◌∷◌, ◌++◌, map, Option, Some, None, Result, Ok, Err, refl, sym, ◌∙◌, ap, subst}
+use Rattle.std.proofs.Common.{◌≡◌, ◌≢◌, ℕ, false, List, [], ◌∷◌, ◌++◌, map, Option, Some, None, IfSome, Result, Ok, Err, refl, sym, ◌∙◌, ap, subst}
+use Rattle.std.specs.Option.{IfNone}
+use Rattle.std.specs.Prelude.{nat_eq}
+use Rattle.std.specs.HashMap.{get}
 use Rattle.std.proofs.lemmas.List.{append_assoc, append-nil, map-append}
 use Rattle.gate_outside.specs.Contents.{Grows, GrowsByFront}
 use Rattle.gate_outside.proofs.Fronts.{grows_twice}
 use Rattle.rtsp_head.specs.Items.{Shape, items_of}
-use Rattle.rtsp_frame.specs.Framing.{Held}
+use Rattle.rtsp_head.specs.Shapes.{shape_of}
+use Rattle.rtsp_head.specs.declared.item.Item.{Item}
+use Rattle.rtsp_frame.specs.Framing.{Held, Framed, GivesNext}
+use Rattle.rtsp_frame.proofs.CutLemmas.{items_append}
 use Rattle.rtsp_uri.specs.declared.base.Bases.{Bases}
 use Rattle.mux_history.specs.declared.event.Event.{Event}
 use Rattle.mux_history.specs.declared.event.Outcome.{Outcome}
@@ -24,9 +30,9 @@ use Rattle.gateway_replay.specs.Framers.{FramerFed}
 use Rattle.gateway_replay.specs.Streams.{framer_at}
 use Rattle.gateway_replay.specs.Written.{records, records_after, records_of}
 use Rattle.gateway_replay.specs.Watching.{Histories, Advances, EntersAs, EntersNew, with_new}
-use Rattle.gateway_replay.specs.Runs.{WritesAfter, EventTaken, TakesEvent, TakesItems, TakesSome, TakesBytes, IsFront, StreamsFit, ToldBy, TakesEntry, TakesUpEnd}
+use Rattle.gateway_replay.specs.Runs.{WritesAfter, EventTaken, TakesEvent, TakesPiece, TakesSome, TakesBytes, IsFront, StreamsFit, ToldBy, TakesEntry, TakesUpEnd}
 use Rattle.gateway_replay.proofs.RecordLemmas.{then_writes}
-use Rattle.gateway_replay.proofs.TellLemmas.{silent, told_items, told_nothing, told_client, told_server}
+use Rattle.gateway_replay.proofs.TellLemmas.{silent, told_items, told_in_part, told_client, told_server}
 
 pub grows_nothing : (written : Option (List ℕ)) → Grows written written []
 grows_nothing None = refl
@@ -93,93 +99,88 @@ pub taken_in_part : (made before now : Histories) (event : Event) (outcome : Out
     → TakesEvent made before now (happening_of event) written_before written_now (Err Sink)
 taken_in_part made before now event outcome written_before written_now steps grown = record { more = entry_of event outcome ∷ []; told = refl; advances = steps; written = grown }
 
--- the items of one connection
-pub fed_front : (framer : Option Held) (stream : List ℕ) (given : List Shape) → FramerFed framer stream given → IsFront given (items_of stream)
-fed_front None stream given fed = record {
-  more = [];
-  whole = append-nil given ∙ fed.1 ∙ sym (ap items_of fed.0);
-}
-fed_front (Some held) stream given fed = record { more = held.waiting; whole = fed.items }
+-- the items of one stream
+fed_front : (framer : Held) (stream : List ℕ) (given : List Shape) → Framed framer stream given → IsFront given (items_of stream)
+fed_front framer stream given fed = record { more = framer.waiting; whole = fed.items }
 
-pub takes_none : (streams : Streams) (stood : Histories) (who : Speaker) (written : Option (List ℕ)) → TakesSome streams streams stood stood who written written
-takes_none streams stood who written = record {
+pub takes_none : (framer between : Held) (next : Option Item) (stood : Histories) (who : Speaker) (piece : List ℕ) (written : Option (List ℕ))
+    → ((stream : List ℕ) (given : List Shape) → Framed framer stream given → GivesNext between (stream ++ piece) given next)
+    → TakesSome framer between next stood stood who piece written written
+takes_none framer between next stood who piece written feeds = record {
   more = [];
   shapes = [];
   told = refl;
   advances = λ bases T s. s;
   grown = λ bases T s. grows_nothing written;
-  fed = λ stream given fed. subst (λ (l : List Shape). FramerFed (framer_at streams who) stream l) (sym (append-nil given)) fed;
-  others = λ other apart. refl;
+  fed = λ stream given fed. subst (λ (l : List Shape). GivesNext between (stream ++ piece) l next) (sym (append-nil given)) (feeds stream given fed);
 }
 
--- what `next` says of a framer that gave an item
-abbrev pub GivesItem : Streams → Streams → Speaker → Shape → Type 0
-GivesItem before now who shape = (stream : List ℕ) (given : List Shape) → FramerFed (framer_at before who) stream given → FramerFed (framer_at now who) stream (given ++ shape ∷ [])
+-- what `next` says of a framer, whether it gave an item or none
+pub gives_next : (next : Option Item) (before now : Held)
+    → IfSome next (λ item. (stream : List ℕ) (given : List Shape) → Framed before stream given → Framed now stream (given ++ shape_of item ∷ []))
+    → IfNone next ((stream : List ℕ) (given : List Shape) → Framed before stream given → Framed now stream given × (given ≡ items_of stream))
+    → (stream : List ℕ) (given : List Shape) → Framed before stream given → GivesNext now stream given next
+gives_next None before now some none = none
+gives_next (Some item) before now some none = some
 
-pub takes_one_more : (streams between streams_now : Streams) (made before mid now : Histories) (who : Speaker) (shape : Shape) (written written_mid written_now : Option (List ℕ))
-    → TakesSome streams between before mid who written written_mid → GivesItem between streams_now who shape
-    → ((other : Speaker) → other ≢ who → framer_at streams_now other ≡ framer_at between other)
-    → TakesEvent made mid now (said_by who shape) written_mid written_now (Ok tt)
-    → TakesSome streams streams_now before now who written written_now
-takes_one_more streams between streams_now made before mid now who shape written written_mid written_now so_far gives others event = record {
+pub takes_one_more : (framer between framer_now : Held) (item : Item) (next : Option Item) (made before mid now : Histories) (who : Speaker) (piece : List ℕ) (written written_mid written_now : Option (List ℕ))
+    → TakesSome framer between (Some item) before mid who piece written written_mid
+    → ((stream : List ℕ) (given : List Shape) → Framed between stream given → GivesNext framer_now stream given next)
+    → TakesEvent made mid now (said_by who (shape_of item)) written_mid written_now (Ok tt)
+    → TakesSome framer framer_now next before now who piece written written_now
+takes_one_more framer between framer_now item next made before mid now who piece written written_mid written_now so_far gives event = record {
   more = event.more ++ so_far.more;
-  shapes = so_far.shapes ++ shape ∷ [];
+  shapes = so_far.shapes ++ shape_of item ∷ [];
   told =
       happened-append event.more so_far.more
       ∙ ap (λ (l : List Happening). l ++ happened event.more) so_far.told
       ∙ ap (λ (l : List Happening). map (said_by who) so_far.shapes ++ l) event.told
-      ∙ sym (map-append (said_by who) so_far.shapes (shape ∷ []));
+      ∙ sym (map-append (said_by who) so_far.shapes (shape_of item ∷ []));
   advances = advances_twice before mid now so_far.more event.more so_far.advances event.advances;
   grown = λ bases T s.
       writes_twice T written written_mid written_now so_far.more event.more (Ok tt) (so_far.grown bases T s) (event.written bases (so_far.more ++ T) (so_far.advances bases T s));
   fed = λ stream given fed.
-      subst (λ (l : List Shape). FramerFed (framer_at streams_now who) stream l) (append_assoc given so_far.shapes (shape ∷ []))
-      (gives stream (given ++ so_far.shapes) (so_far.fed stream given fed));
-  others = λ other apart. others other apart ∙ so_far.others other apart;
+      subst (λ (l : List Shape). GivesNext framer_now (stream ++ piece) l next) (append_assoc given so_far.shapes (shape_of item ∷ []))
+      (gives (stream ++ piece) ((given ++ so_far.shapes) ++ shape_of item ∷ []) (so_far.fed stream given fed));
 }
 
--- what `next` says of a framer that gave none
-pub takes_all : (streams between streams_now : Streams) (made before now : Histories) (who : Speaker) (written written_now : Option (List ℕ))
-    → TakesSome streams between before now who written written_now
-    → ((stream : List ℕ) (given : List Shape) → FramerFed (framer_at between who) stream given → FramerFed (framer_at streams_now who) stream given)
-    → ((stream : List ℕ) (given : List Shape) → FramerFed (framer_at between who) stream given → given ≡ items_of stream)
-    → ((other : Speaker) → other ≢ who → framer_at streams_now other ≡ framer_at between other)
-    → TakesItems streams streams_now made before now who written written_now (Ok tt)
-takes_all streams between streams_now made before now who written written_now so_far kept all others = record {
+-- where none is left, all were taken
+pub takes_all : (framer framer_now : Held) (made before now : Histories) (who : Speaker) (piece : List ℕ) (written written_now : Option (List ℕ))
+    → TakesSome framer framer_now None before now who piece written written_now
+    → TakesPiece framer framer_now made before now who piece written written_now (Ok tt)
+takes_all framer framer_now made before now who piece written written_now so_far = record {
   more = so_far.more;
   shapes = so_far.shapes;
   told = so_far.told;
   advances = so_far.advances;
   written = so_far.grown;
-  fed = λ stream given fed.
-      (kept stream (given ++ so_far.shapes) (so_far.fed stream given fed), all stream (given ++ so_far.shapes) (so_far.fed stream given fed));
-  others = λ other apart. others other apart ∙ so_far.others other apart;
+  fed = so_far.fed;
 }
 
 -- an event that failed ends the taking
-pub takes_to_fault : (streams between streams_now : Streams) (made before mid now : Histories) (who : Speaker) (shape : Shape) (written written_mid written_now : Option (List ℕ)) (fault : ProcessFault)
-    → TakesSome streams between before mid who written written_mid → GivesItem between streams_now who shape
-    → ((other : Speaker) → other ≢ who → framer_at streams_now other ≡ framer_at between other)
-    → TakesEvent made mid now (said_by who shape) written_mid written_now (Err fault)
-    → TakesItems streams streams_now made before now who written written_now (Err fault)
-takes_to_fault streams between streams_now made before mid now who shape written written_mid written_now Sink so_far gives others event = record {
+shorter_front : (given all : List Shape) (shape : Shape) → IsFront (given ++ shape ∷ []) all → IsFront given all
+shorter_front given all shape front = record { more = shape ∷ front.more; whole = sym (append_assoc given (shape ∷ []) front.more) ∙ front.whole }
+
+pub takes_to_fault : (framer between : Held) (item : Item) (made before mid now : Histories) (who : Speaker) (piece : List ℕ) (written written_mid written_now : Option (List ℕ)) (fault : ProcessFault)
+    → TakesSome framer between (Some item) before mid who piece written written_mid
+    → TakesEvent made mid now (said_by who (shape_of item)) written_mid written_now (Err fault)
+    → TakesPiece framer between made before now who piece written written_now (Err fault)
+takes_to_fault framer between item made before mid now who piece written written_mid written_now Sink so_far event = record {
   more = event.more ++ so_far.more;
-  shapes = so_far.shapes ++ shape ∷ [];
+  shapes = so_far.shapes ++ shape_of item ∷ [];
   told =
       happened-append event.more so_far.more
       ∙ ap (λ (l : List Happening). l ++ happened event.more) so_far.told
       ∙ ap (λ (l : List Happening). map (said_by who) so_far.shapes ++ l) event.told
-      ∙ sym (map-append (said_by who) so_far.shapes (shape ∷ []));
+      ∙ sym (map-append (said_by who) so_far.shapes (shape_of item ∷ []));
   advances = advances_twice before mid made so_far.more event.more so_far.advances event.advances;
   written = λ bases T s.
       writes_twice T written written_mid written_now so_far.more event.more (Err Sink) (so_far.grown bases T s) (event.written bases (so_far.more ++ T) (so_far.advances bases T s));
   fed = λ stream given fed.
-      fed_front (framer_at streams_now who) stream (given ++ (so_far.shapes ++ shape ∷ []))
-      (subst (λ (l : List Shape). FramerFed (framer_at streams_now who) stream l) (append_assoc given so_far.shapes (shape ∷ []))
-      (gives stream (given ++ so_far.shapes) (so_far.fed stream given fed)));
-  others = λ other apart. others other apart ∙ so_far.others other apart;
+      fed_front between (stream ++ piece) (given ++ (so_far.shapes ++ shape_of item ∷ []))
+      (subst (λ (l : List Shape). Framed between (stream ++ piece) l) (append_assoc given so_far.shapes (shape_of item ∷ [])) (so_far.fed stream given fed));
 }
-takes_to_fault streams between streams_now made before mid now who shape written written_mid written_now Memory so_far gives others event = record {
+takes_to_fault framer between item made before mid now who piece written written_mid written_now Memory so_far event = record {
   more = event.more ++ so_far.more;
   shapes = so_far.shapes;
   told =
@@ -190,30 +191,69 @@ takes_to_fault streams between streams_now made before mid now who shape written
   advances = advances_twice before mid made so_far.more event.more so_far.advances event.advances;
   written = λ bases T s.
       writes_twice T written written_mid written_now so_far.more event.more (Err Memory) (so_far.grown bases T s) (event.written bases (so_far.more ++ T) (so_far.advances bases T s));
-  fed = λ stream given fed. fed_front (framer_at between who) stream (given ++ so_far.shapes) (so_far.fed stream given fed);
-  others = λ other apart. others other apart ∙ so_far.others other apart;
+  fed = λ stream given fed. shorter_front (given ++ so_far.shapes) (items_of (stream ++ piece)) (shape_of item) (fed_front between (stream ++ piece) ((given ++ so_far.shapes) ++ shape_of item ∷ []) (so_far.fed stream given fed));
 }
 
--- the bytes of one speaker
-pub takes_bytes : (streams fed streams_now : Streams) (made before now : Histories) (who : Speaker) (piece : List ℕ) (written written_now : Option (List ℕ)) (result : Result (Unit {0}) ProcessFault)
-    → ((stream : List ℕ) (given : List Shape) → FramerFed (framer_at streams who) stream given → FramerFed (framer_at fed who) (stream ++ piece) given)
-    → ((other : Speaker) → other ≢ who → framer_at fed other ≡ framer_at streams other)
-    → TakesItems fed streams_now made before now who written written_now result
+-- nothing was taken where the framer's memory was wanting
+pub takes_no_piece : (framer framer_now : Held) (made before now : Histories) (who : Speaker) (piece : List ℕ) (written : Option (List ℕ)) → Advances before made [] → TakesPiece framer framer_now made before now who piece written written (Err Memory)
+takes_no_piece framer framer_now made before now who piece written kept = record {
+  more = [];
+  shapes = [];
+  told = refl;
+  advances = kept;
+  written = λ bases T s. grows_nothing written;
+  fed = λ stream given fed.
+      let (later, longer) = items_append stream piece in
+      record { more = framer.waiting ++ later; whole = ap (λ (l : List Shape). l ++ (framer.waiting ++ later)) (append-nil given) ∙ sym (append_assoc given framer.waiting later) ∙ ap (λ (l : List Shape). l ++ later) fed.items ∙ sym longer };
+}
+
+-- where one client's framer alone changed
+pub client_others : (conn : ℕ) (streams streams_now : Streams) → ((i : ℕ) → i ≢ conn → get nat_eq streams_now.clients i ≡ get nat_eq streams.clients i) → streams_now.server ≡ streams.server
+    → (other : Speaker) → other ≢ speaker.Client conn → framer_at streams_now other ≡ framer_at streams other
+client_others conn streams streams_now others same (speaker.Client i) apart = others i (λ is. apart (ap speaker.Client is))
+client_others conn streams streams_now others same speaker.Server apart = ap (λ (held : Held). Some held) same
+
+-- where the server's did
+pub server_others : (streams streams_now : Streams) → streams_now.clients ≡ streams.clients → (other : Speaker) → other ≢ speaker.Server → framer_at streams_now other ≡ framer_at streams other
+server_others streams streams_now same (speaker.Client i) apart = ap (λ clients. get nat_eq clients i) same
+server_others streams streams_now same speaker.Server apart = absurd (apart refl)
+
+-- the bytes of one speaker, by its framer before and now
+pub takes_bytes : (streams streams_now : Streams) (framer framer_now : Held) (made before now : Histories) (who : Speaker) (piece : List ℕ) (written written_now : Option (List ℕ)) (result : Result (Unit {0}) ProcessFault)
+    → ((stream : List ℕ) (given : List Shape) → FramerFed (framer_at streams who) stream given → Framed framer stream given)
+    → framer_at streams_now who ≡ Some framer_now
+    → ((other : Speaker) → other ≢ who → framer_at streams_now other ≡ framer_at streams other)
+    → TakesPiece framer framer_now made before now who piece written written_now result
     → TakesBytes streams streams_now made before now who piece written written_now result
-takes_bytes streams fed streams_now made before now who piece written written_now result feeds others t = record {
+takes_bytes streams streams_now framer framer_now made before now who piece written written_now result is_framer is_now others t = record {
   more = t.more;
   advances = t.advances;
   written = t.written;
-  told = λ earlier fit. told_items result streams fed streams_now who piece t.shapes (happened t.more) earlier feeds others t.fed t.others t.told fit;
+  told = λ earlier fit. told_items result streams streams_now framer framer_now who piece t.shapes (happened t.more) earlier is_framer is_now others t.fed t.told fit;
 }
 
-pub takes_no_bytes : (streams streams_now : Streams) (made before now : Histories) (who : Speaker) (piece : List ℕ) (written : Option (List ℕ)) → Advances before made []
-    → TakesBytes streams streams_now made before now who piece written written (Err Memory)
-takes_no_bytes streams streams_now made before now who piece written kept = record {
-  more = [];
-  advances = kept;
-  written = λ bases T s. grows_nothing written;
-  told = λ earlier fit. told_nothing streams_now who piece earlier Memory;
+-- and where they were not all taken, or memory was wanting for the framer afterwards
+pub takes_in_part : (streams streams_now : Streams) (framer framer_now : Held) (made before now : Histories) (who : Speaker) (piece : List ℕ) (written written_now : Option (List ℕ)) (fault : ProcessFault)
+    → ((stream : List ℕ) (given : List Shape) → FramerFed (framer_at streams who) stream given → Framed framer stream given)
+    → TakesPiece framer framer_now made before now who piece written written_now (Err fault)
+    → TakesBytes streams streams_now made before now who piece written written_now (Err fault)
+takes_in_part streams streams_now framer framer_now made before now who piece written written_now fault is_framer t = record {
+  more = t.more;
+  advances = t.advances;
+  written = t.written;
+  told = λ earlier fit. told_in_part streams framer who piece t.shapes (happened t.more) earlier is_framer (λ stream given fed. t.fed stream given fed) t.told fit;
+}
+
+pub takes_but_memory : (streams streams_now : Streams) (framer framer_now : Held) (made before now : Histories) (who : Speaker) (piece : List ℕ) (written written_now : Option (List ℕ))
+    → ((stream : List ℕ) (given : List Shape) → FramerFed (framer_at streams who) stream given → Framed framer stream given) → Advances now made []
+    → TakesPiece framer framer_now made before now who piece written written_now (Ok tt)
+    → TakesBytes streams streams_now made before now who piece written written_now (Err Memory)
+takes_but_memory streams streams_now framer framer_now made before now who piece written written_now is_framer kept t = record {
+  more = t.more;
+  advances = advances_twice before now made t.more [] t.advances kept;
+  written = t.written;
+  told = λ earlier fit. told_in_part streams framer who piece t.shapes (happened t.more) earlier is_framer
+      (λ stream given fed. record { more = []; whole = append-nil (given ++ t.shapes) ∙ (t.fed stream given fed).1 }) t.told fit;
 }
 
 -- Entries. A connection that enters never did before.

@@ -1,10 +1,11 @@
 -- What a piece of a speaker's bytes tells, and what its entry tells.
-use Rattle.std.proofs.Common.{◌≡◌, ◌≢◌, ℕ, Bool, true, false, cond, ◌==◌, List, [], ◌∷◌, ◌++◌, length, drop, map, Result, Ok, Err, refl, sym, ◌∙◌, ap, subst, inl, inr}
+use Rattle.std.proofs.Common.{◌≡◌, ◌≢◌, ℕ, Bool, true, false, cond, ◌==◌, List, [], ◌∷◌, ◌++◌, length, drop, map, Option, Some, Result, Ok, Err, refl, sym, ◌∙◌, ap, subst, inl, inr}
 use Rattle.std.specs.Prelude.{◌⊎◌}
 use Rattle.std.proofs.lemmas.Bool.{cases_Bool, eqb-true, eqb-false, eq-eqb, ne_eqb}
 use Rattle.std.proofs.lemmas.List.{append_assoc, append-nil, map-append}
 use Rattle.std.proofs.Math.Seq.{drop-append_seam}
 use Rattle.rtsp_head.specs.Items.{Shape, items_of}
+use Rattle.rtsp_frame.specs.Framing.{Held, Framed}
 use Rattle.mux_history.specs.Happenings.{Happening}
 use Rattle.gate_transcript.specs.declared.entry.Entry.{Entry}
 use Rattle.gate_transcript.specs.declared.entry.EntryKind.{EntryKind}
@@ -16,7 +17,7 @@ use Rattle.gateway_replay.specs.declared.watched.ProcessFault.{ProcessFault}
 use Rattle.gateway_replay.specs.Events.{speaks, bytes_here, stream_of, said_by, events_with, events_by}
 use Rattle.gateway_replay.specs.Framers.{FramerFed}
 use Rattle.gateway_replay.specs.Streams.{framer_at}
-use Rattle.gateway_replay.specs.Runs.{IsFront, FedBy, StreamsFit, FitsWith, ToldWith, ToldBy}
+use Rattle.gateway_replay.specs.Runs.{IsFront, FedBy, StreamsFit, FitsWith, ToldInPart, ToldWith, ToldBy}
 
 -- two speakers are one or not
 same_or_not : (one other : Speaker) → (one ≡ other) ⊎ (one ≢ other)
@@ -33,26 +34,16 @@ same_or_not speaker.Server speaker.Server = inl refl
 after_given : (given shapes all : List Shape) → given ++ shapes ≡ all → shapes ≡ drop (length given) all
 after_given given shapes all whole = sym (drop-append_seam given shapes) ∙ ap (drop (length given)) whole
 
--- what was told of a piece, by what came of its items
-pub told_items : (result : Result (Unit {0}) ProcessFault) (old mid new : Streams) (who : Speaker) (piece : List ℕ) (shapes : List Shape) (told : List Happening) (earlier : List Entry)
-    → ((stream : List ℕ) (given : List Shape) → FramerFed (framer_at old who) stream given → FramerFed (framer_at mid who) (stream ++ piece) given)
-    → ((other : Speaker) → other ≢ who → framer_at mid other ≡ framer_at old other)
-    → ((stream : List ℕ) (given : List Shape) → FramerFed (framer_at mid who) stream given → FedBy result (framer_at new who) stream (given ++ shapes))
-    → ((other : Speaker) → other ≢ who → framer_at new other ≡ framer_at mid other)
-    → told ≡ map (said_by who) shapes → StreamsFit old earlier → ToldWith result new who piece earlier told
-told_items (Ok u) old mid new who piece shapes told earlier fed fed_others took took_others is fit =
+-- what was told of a piece that was not all taken
+abbrev pub IsFramer : Streams → Speaker → Held → Type 0
+IsFramer streams who framer = (stream : List ℕ) (given : List Shape) → FramerFed (framer_at streams who) stream given → Framed framer stream given
+
+pub told_in_part : (old : Streams) (framer : Held) (who : Speaker) (piece : List ℕ) (shapes : List Shape) (told : List Happening) (earlier : List Entry) → IsFramer old who framer
+    → ((stream : List ℕ) (given : List Shape) → Framed framer stream given → IsFront (given ++ shapes) (items_of (stream ++ piece)))
+    → told ≡ map (said_by who) shapes → StreamsFit old earlier → ToldInPart told (events_with who piece earlier)
+told_in_part old framer who piece shapes told earlier is_framer took is fit =
     let stream = stream_of who earlier in
-    let done = took (stream ++ piece) (items_of stream) (fed stream (items_of stream) (fit who)) in (
-      record {
-        here = subst (λ (l : List Shape). FramerFed (framer_at new who) (stream ++ piece) l) done.1 done.0;
-        others = λ other apart.
-            subst (λ f. FramerFed f (stream_of other earlier) (items_of (stream_of other earlier))) (sym (took_others other apart ∙ fed_others other apart)) (fit other);
-      },
-      is ∙ ap (map (said_by who)) (after_given (items_of stream) shapes (items_of (stream ++ piece)) done.1),
-    )
-told_items (Err fault) old mid new who piece shapes told earlier fed fed_others took took_others is fit =
-    let stream = stream_of who earlier in
-    let front : IsFront (items_of stream ++ shapes) (items_of (stream ++ piece)) = took (stream ++ piece) (items_of stream) (fed stream (items_of stream) (fit who)) in record {
+    let front : IsFront (items_of stream ++ shapes) (items_of (stream ++ piece)) = took stream (items_of stream) (is_framer stream (items_of stream) (fit who)) in record {
       more = map (said_by who) front.more;
       whole =
           ap (λ (l : List Happening). l ++ map (said_by who) front.more) is
@@ -61,9 +52,25 @@ told_items (Err fault) old mid new who piece shapes told earlier fed fed_others 
           (after_given (items_of stream) (shapes ++ front.more) (items_of (stream ++ piece)) (sym (append_assoc (items_of stream) shapes front.more) ∙ front.whole));
     }
 
--- nothing of a piece was told
-pub told_nothing : (new : Streams) (who : Speaker) (piece : List ℕ) (earlier : List Entry) (fault : ProcessFault) → ToldWith (Err fault) new who piece earlier []
-told_nothing new who piece earlier fault = record { more = events_with who piece earlier; whole = refl }
+-- and of any piece, by what came of its items
+pub told_items : (result : Result (Unit {0}) ProcessFault) (old new : Streams) (framer framer_now : Held) (who : Speaker) (piece : List ℕ) (shapes : List Shape) (told : List Happening) (earlier : List Entry) → IsFramer old who framer
+    → framer_at new who ≡ Some framer_now
+    → ((other : Speaker) → other ≢ who → framer_at new other ≡ framer_at old other)
+    → ((stream : List ℕ) (given : List Shape) → Framed framer stream given → FedBy result framer_now (stream ++ piece) (given ++ shapes))
+    → told ≡ map (said_by who) shapes → StreamsFit old earlier → ToldWith result new who piece earlier told
+told_items (Ok u) old new framer framer_now who piece shapes told earlier is_framer is_now others took is fit =
+    let stream = stream_of who earlier in
+    let done = took stream (items_of stream) (is_framer stream (items_of stream) (fit who)) in (
+      record {
+        here = subst (λ (f : Option Held). FramerFed f (stream ++ piece) (items_of (stream ++ piece))) (sym is_now)
+            (subst (λ (l : List Shape). Framed framer_now (stream ++ piece) l) done.1 done.0);
+        others = λ other apart.
+            subst (λ (f : Option Held). FramerFed f (stream_of other earlier) (items_of (stream_of other earlier))) (sym (others other apart)) (fit other);
+      },
+      is ∙ ap (map (said_by who)) (after_given (items_of stream) shapes (items_of (stream ++ piece)) done.1),
+    )
+told_items (Err fault) old new framer framer_now who piece shapes told earlier is_framer is_now others took is fit =
+    told_in_part old framer who piece shapes told earlier is_framer took is fit
 
 -- the streams of all after an entry with a piece of one
 fits_at : (streams : Streams) (who other : Speaker) (entry : Entry) (earlier : List Entry) → bytes_here who entry ≡ entry.body

@@ -1,6 +1,7 @@
 -- What was fed to a connection's framer, where there is one, and what it gave (this project's own).
-use Rattle.std.specs.Prelude.{◌≡◌, ℕ, List, [], length, Option, None, Some}
+use Rattle.std.specs.Prelude.{◌≡◌, ℕ, ◌+◌, List, [], length, Option, None, Some}
 use Rattle.rtsp_head.specs.Items.{Shape}
+use Rattle.rtsp_head.specs.declared.item.Item.{Item}
 use Rattle.rtsp_frame.specs.Framing.{Held, Framed}
 
 -- the stream was fed, and these items were given; without a framer nothing was
@@ -8,7 +9,7 @@ abbrev pub FramerFed : Option Held → List ℕ → List Shape → Type 0
 FramerFed None stream given = (stream ≡ []) × (given ≡ [])
 FramerFed (Some held) stream given = Framed held stream given
 
--- how many items wait to be given
-abbrev pub waiting_in : Option Held → ℕ
-waiting_in None = 0
-waiting_in (Some held) = length held.waiting
+-- how many items are still to be taken, where one was given
+abbrev pub left_with : Option Item → Held → ℕ
+left_with None held = 0
+left_with (Some item) held = length held.waiting + 1

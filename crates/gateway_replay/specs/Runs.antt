@@ -4,7 +4,8 @@ use Rattle.std.specs.Prelude.{◌≡◌, ◌≢◌, ℕ, ◌≤◌, List, [], �
 use Rattle.gate_outside.specs.Causes.{Rose}
 use Rattle.gate_outside.specs.Contents.{Grows, GrowsByFront}
 use Rattle.rtsp_head.specs.Items.{Shape, items_of}
-use Rattle.rtsp_frame.specs.Framing.{Held}
+use Rattle.rtsp_head.specs.declared.item.Item.{Item}
+use Rattle.rtsp_frame.specs.Framing.{Held, Framed, GivesNext}
 use Rattle.mux_history.specs.Happenings.{Happening, up_ends, Entry as PastEntry, happened}
 use Rattle.rtsp_uri.specs.declared.base.Bases.{Bases}
 use Rattle.gate_transcript.specs.declared.entry.Entry.{Entry}
@@ -57,30 +58,28 @@ pub record IsFront (items all : List Shape) : Type 0 where
   pub whole : items ++ more ≡ all
 
 -- Where nothing failed all items were given; else the first ones were.
-abbrev pub FedBy : Result (Unit {0}) ProcessFault → Option Held → List ℕ → List Shape → Type 0
-FedBy (Ok u) framer stream given = FramerFed framer stream given × (given ≡ items_of stream)
+abbrev pub FedBy : Result (Unit {0}) ProcessFault → Held → List ℕ → List Shape → Type 0
+FedBy (Ok u) framer stream given = Framed framer stream given × (given ≡ items_of stream)
 FedBy (Err fault) framer stream given = IsFront given (items_of stream)
 
--- Some whole items of a speaker were taken, one event each: in all they and those that the framer gave before are the
--- first of its stream's items.
-pub record TakesItems (streams_before streams_now : Streams) (made before now : Histories) (speaker : Speaker) (written_before written_now : Option (List ℕ)) (result : Result (Unit {0}) ProcessFault) : Type 0 where
+-- A piece of a speaker's bytes was taken by its framer, and the items that were whole then, one event each: in all they and
+-- those that the framer gave before are the first of its stream's items.
+pub record TakesPiece (framer_before framer_now : Held) (made before now : Histories) (speaker : Speaker) (piece : List ℕ) (written_before written_now : Option (List ℕ)) (result : Result (Unit {0}) ProcessFault) : Type 0 where
   pub more : List PastEntry
   pub shapes : List Shape
   pub told : happened more ≡ map (said_by speaker) shapes
   pub advances : Advances before (left_by result now made) more
   pub written : WritesHistory before written_before written_now more result
-  pub fed : (stream : List ℕ) (given : List Shape) → FramerFed (framer_at streams_before speaker) stream given → FedBy result (framer_at streams_now speaker) stream (given ++ shapes)
-  pub others : (who : Speaker) → who ≢ speaker → framer_at streams_now who ≡ framer_at streams_before who
+  pub fed : (stream : List ℕ) (given : List Shape) → Framed framer_before stream given → FedBy result framer_now (stream ++ piece) (given ++ shapes)
 
--- The same, while the framer may still have items to give.
-pub record TakesSome (streams_before streams_now : Streams) (before now : Histories) (speaker : Speaker) (written_before written_now : Option (List ℕ)) : Type 0 where
+-- The same, while an item that the framer gave is still to be taken, or none is.
+pub record TakesSome (framer_before framer_now : Held) (next : Option Item) (before now : Histories) (speaker : Speaker) (piece : List ℕ) (written_before written_now : Option (List ℕ)) : Type 0 where
   pub more : List PastEntry
   pub shapes : List Shape
   pub told : happened more ≡ map (said_by speaker) shapes
   pub advances : Advances before now more
   pub grown : (bases : Bases) (T : List PastEntry) → before bases T → Grows written_before written_now (records_after T more)
-  pub fed : (stream : List ℕ) (given : List Shape) → FramerFed (framer_at streams_before speaker) stream given → FramerFed (framer_at streams_now speaker) stream (given ++ shapes)
-  pub others : (who : Speaker) → who ≢ speaker → framer_at streams_now who ≡ framer_at streams_before who
+  pub fed : (stream : List ℕ) (given : List Shape) → Framed framer_before stream given → GivesNext framer_now (stream ++ piece) (given ++ shapes) next
 
 -- each speaker's framer was fed its stream so far, and gave all items of it
 abbrev pub StreamsFit : Streams → List Entry → Type 0

@@ -203,7 +203,7 @@ fn process_entries<M: Core, K: Sink>(
 {
     loop {
         match reader.next(alloc) {
-            Ok(Some(entry)) => run.take(alloc, sink, &entry)?,
+            Ok(Some(entry)) => run.take(alloc, sink, entry)?,
             Ok(None) => return Ok(()),
             Err(fault) => return Err(Stop::from(fault)),
         }

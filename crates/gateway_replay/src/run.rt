@@ -4,15 +4,16 @@ ghost use Rattle.rtsp_head.specs.Shapes.{shape_of};
 ghost use Rattle.mux_history.specs.Cores.{IsCoreHistory};
 ghost use Rattle.mux_history.specs.Happenings.{happening_of};
 ghost use Rattle.gateway_replay.specs.Events.{said_by, why_of};
-ghost use Rattle.gateway_replay.specs.Runs.{TakesItems, SinkCause};
+ghost use Rattle.gateway_replay.specs.Runs.{TakesPiece, SinkCause};
 ghost use Rattle.gateway_replay.specs.Watching.{Watches};
 
 use crate::streams::{Speaker, Streams};
 use crate::watched::{ProcessFault, Watched};
+use gate_bytes::Text;
 use gate_outside::Sink;
 use gate_transcript::{Entry, EntryKind, UpEndReason, end_reason_in};
 use gateway_mux::{Core, Event, UpWhy};
-use rtsp_head::Item;
+use rtsp_frame::{Framer, Item};
 use std::alloc::Global;
 
 /// The event that an item of this speaker is.
@@ -37,20 +38,23 @@ fn why_of(reason: UpEndReason) -> UpWhy
     }
 }
 
-/// Takes all whole items of a speaker that were not taken yet.
-fn take_items<M: Core, K: Sink>(
+/// Takes a piece of a speaker's bytes, whose framer is given, and all items that are whole then.
+fn take_piece<M: Core, K: Sink>(
     alloc: Global,
-    streams: &mut Streams,
+    framer: &mut Framer,
     watched: &mut Watched<M>,
     sink: &mut K,
     speaker: Speaker,
+    piece: Text,
 ) -> Result<(), ProcessFault>
-    ensures takes { TakesItems streams.old streams.new (IsCoreHistory M.follows) (Watches M.stands M.bases watched.old.core watched.old.living) (Watches M.stands M.bases watched.new.core watched.new.living)
-        speaker (K.written sink.old) (K.written sink.new) result }
+    ensures takes { TakesPiece framer.old framer.new (IsCoreHistory M.follows) (Watches M.stands M.bases watched.old.core watched.old.living) (Watches M.stands M.bases watched.new.core watched.new.living)
+        speaker piece (K.written sink.old) (K.written sink.new) result }
     ensures cause { SinkCause (K.faults sink.old) (K.faults sink.new) result }
 {
-    while let Some(item) = streams.next(speaker) {
+    let mut next = framer.take(alloc, piece)?;
+    while let Some(item) = next {
         watched.take(alloc, sink, said_by(speaker, item))?;
+        next = framer.next();
     }
     Ok(())
 }
@@ -64,6 +68,7 @@ pub struct Run<M: Core> {
 
 impl<M: Core> Run<M> {
     ghost use Rattle.gateway_replay.specs.declared.streams.Speaker.{Speaker};
+    ghost use Rattle.gateway_replay.specs.declared.streams.Speaker.TheVariants.{Client};
     ghost use Rattle.gateway_replay.specs.Framers.{FramerFed};
     ghost use Rattle.gateway_replay.specs.Streams.{framer_at};
     ghost use Rattle.gateway_replay.specs.Runs.{TakesEntry, TakesUpEnd, TakesBytes};
@@ -87,25 +92,25 @@ impl<M: Core> Run<M> {
         &mut self,
         alloc: Global,
         sink: &mut K,
-        entry: &Entry,
+        entry: Entry,
     ) -> Result<(), ProcessFault>
-        requires { StandsForSome (with_new entry.now.kind entry.now.conn (Watches M.stands M.bases self.old.watched.core self.old.watched.living)) }
+        requires { StandsForSome (with_new entry.kind entry.conn (Watches M.stands M.bases self.old.watched.core self.old.watched.living)) }
         ensures takes { TakesEntry self.old.streams self.new.streams (IsCoreHistory M.follows)
-            (with_new entry.now.kind entry.now.conn (Watches M.stands M.bases self.old.watched.core self.old.watched.living))
-            (Watches M.stands M.bases self.new.watched.core self.new.watched.living) entry.now (K.written sink.old) (K.written sink.new) result }
+            (with_new entry.kind entry.conn (Watches M.stands M.bases self.old.watched.core self.old.watched.living))
+            (Watches M.stands M.bases self.new.watched.core self.new.watched.living) entry (K.written sink.old) (K.written sink.new) result }
         ensures cause { SinkCause (K.faults sink.old) (K.faults sink.new) result }
     {
-        let bytes = entry.body.as_bytes();
-        match entry.kind {
+        let Entry { kind, conn, body } = entry;
+        match kind {
             EntryKind::Enter => {
-                self.watched.enter(alloc, entry.conn)?;
+                self.watched.enter(alloc, conn)?;
                 Ok(())
             }
-            EntryKind::Client => self.take_bytes(alloc, sink, Speaker::Client(entry.conn), bytes),
-            EntryKind::Upstream => self.take_bytes(alloc, sink, Speaker::Server, bytes),
-            EntryKind::End => self.watched.take(alloc, sink, Event::End(entry.conn)),
-            EntryKind::Slow => self.watched.take(alloc, sink, Event::Slow(entry.conn)),
-            EntryKind::UpEnd => self.end_up(alloc, sink, bytes),
+            EntryKind::Client => self.take_bytes(alloc, sink, Speaker::Client(conn), body),
+            EntryKind::Upstream => self.take_bytes(alloc, sink, Speaker::Server, body),
+            EntryKind::End => self.watched.take(alloc, sink, Event::End(conn)),
+            EntryKind::Slow => self.watched.take(alloc, sink, Event::Slow(conn)),
+            EntryKind::UpEnd => self.end_up(alloc, sink, body.as_bytes()),
         }
     }
 
@@ -133,14 +138,45 @@ impl<M: Core> Run<M> {
         alloc: Global,
         sink: &mut K,
         speaker: Speaker,
-        bytes: &[u8],
+        bytes: Text,
     ) -> Result<(), ProcessFault>
         ensures takes { TakesBytes self.old.streams self.new.streams (IsCoreHistory M.follows) (Watches M.stands M.bases self.old.watched.core self.old.watched.living)
-            (Watches M.stands M.bases self.new.watched.core self.new.watched.living) speaker bytes.now (K.written sink.old) (K.written sink.new) result }
+            (Watches M.stands M.bases self.new.watched.core self.new.watched.living) speaker bytes (K.written sink.old) (K.written sink.new) result }
         ensures cause { SinkCause (K.faults sink.old) (K.faults sink.new) result }
     {
-        self.streams.feed(alloc, speaker, bytes)?;
-        take_items(alloc, &mut self.streams, &mut self.watched, sink, speaker)
+        match speaker {
+            Speaker::Client(conn) => self.take_client(alloc, sink, conn, bytes),
+            Speaker::Server => {
+                let framer = &mut self.streams.server;
+                take_piece(alloc, framer, &mut self.watched, sink, speaker, bytes)
+            }
+        }
+    }
+
+    /// Takes bytes of a client, whose framer is made where there is none.
+    fn take_client<K: Sink>(
+        &mut self,
+        alloc: Global,
+        sink: &mut K,
+        conn: u32,
+        bytes: Text,
+    ) -> Result<(), ProcessFault>
+        ensures takes { TakesBytes self.old.streams self.new.streams (IsCoreHistory M.follows) (Watches M.stands M.bases self.old.watched.core self.old.watched.living)
+            (Watches M.stands M.bases self.new.watched.core self.new.watched.living) (Client conn) bytes (K.written sink.old) (K.written sink.new) result }
+        ensures cause { SinkCause (K.faults sink.old) (K.faults sink.new) result }
+    {
+        let speaker = Speaker::Client(conn);
+        match self.streams.clients.get_mut(&conn) {
+            Some(framer) => take_piece(alloc, framer, &mut self.watched, sink, speaker, bytes),
+            None => {
+                let mut framer = Framer::new(alloc);
+                take_piece(alloc, &mut framer, &mut self.watched, sink, speaker, bytes)?;
+                match self.streams.clients.insert(conn, framer) {
+                    Ok(_) => Ok(()),
+                    Err(_) => Err(ProcessFault::Memory),
+                }
+            }
+        }
     }
 }
 
@@ -158,10 +194,10 @@ mod tests {
         speaker: Speaker,
         bytes: &[u8],
     ) -> Result<u64, Fail> {
-        let mut streams = Streams::new(alloc);
-        streams.feed(alloc, speaker, bytes)?;
+        let mut framer = Framer::new(alloc);
+        framer.feed(alloc, bytes)?;
         for _ in 0..3 {
-            if let Some(item) = streams.next(speaker) {
+            if let Some(item) = framer.next() {
                 mux.step(alloc, said_by(speaker, item))
                     .map_err(|refused| refused.1)?;
             }

@@ -1,23 +1,17 @@
-use Rattle.std.proofs.lemmas.Result.{err_from_is_err_and}
+use Rattle.std.proofs.Common.{refl, sym, ap, ◌∙◌}
 use Rattle.mux_history.specs.Cores.{IsCoreHistory}
+use Rattle.gateway_replay.specs.declared.streams.Streams.{Streams}
+use Rattle.gateway_replay.specs.Streams.{framer_at}
 use Rattle.gateway_replay.specs.Watching.{Watches}
-use Rattle.gateway_replay.proofs.RunLemmas.{takes_bytes, takes_no_bytes}
-use Rattle.gateway_replay.proofs.WatchLemmas.{watch_sound}
+use Rattle.gateway_replay.proofs.FedLemmas.{fed_framed}
+use Rattle.gateway_replay.proofs.RunLemmas.{server_others, takes_bytes}
 use Rattle.gateway_replay.proofs.run.Run.take_bytes.Goals as goal
 
-pub returns-clause-takes : goal.returns-clause-takes
-returns-clause-takes g c =
+pub returns-in-Server-clause-takes : goal.returns-in-Server-clause-takes
+returns-in-Server-clause-takes g c =
     let old = c.args.self.now in
-    takes_bytes old.streams c.feed.new.self c.take_items.new.streams (IsCoreHistory g.M.Core.follows) (Watches g.M.Core.stands g.M.Core.bases old.watched.core old.watched.living)
-    (Watches g.M.Core.stands g.M.Core.bases c.take_items.new.watched.core c.take_items.new.watched.living) c.args.speaker c.args.bytes.now
-    (g.K.Sink.written c.args.sink.now) (g.K.Sink.written c.take_items.new.sink) c.take_items.result c.in_ok-feed.ensures.ok c.feed.ensures.others c.take_items.ensures.takes
-
-pub returns-in_err-feed-clause-takes : goal.returns-in_err-feed-clause-takes
-returns-in_err-feed-clause-takes g c =
-    let laws = g.met.M.Core g.world.𝓛 g.world.𝓜 g.world.𝓡 ((λ s x. x), (λ x. x), (λ x. x), λ x. x) in
-    let old = c.args.self.now in
-    let stood = Watches g.M.Core.stands g.M.Core.bases old.watched.core old.watched.living in
-    let p = err_from_is_err_and c.from_residual.result c.from_residual.ensures.1 in
-    rw (p.1, p.2)
-    (takes_no_bytes old.streams c.feed.new.self (IsCoreHistory g.M.Core.follows) stood stood c.args.speaker c.args.bytes.now (g.K.Sink.written c.args.sink.now)
-    (watch_sound g.M.Core.stands g.M.Core.bases g.M.Core.follows laws.history old.watched.core old.watched.living))
+    let now : Streams = record { clients = old.streams.clients; server = c.take_piece.new.framer } in
+    takes_bytes old.streams now old.streams.server c.take_piece.new.framer (IsCoreHistory g.M.Core.follows) (Watches g.M.Core.stands g.M.Core.bases old.watched.core old.watched.living) (Watches g.M.Core.stands g.M.Core.bases c.take_piece.new.watched.core c.take_piece.new.watched.living) c.args.speaker c.args.bytes
+    (g.K.Sink.written c.args.sink.now) (g.K.Sink.written c.take_piece.new.sink) c.take_piece.result
+    (fed_framed (framer_at old.streams c.args.speaker) old.streams.server (ap (framer_at old.streams) c.in-Server.is)) (ap (framer_at now) c.in-Server.is)
+    (λ other apart. server_others old.streams now refl other (λ same. apart (same ∙ sym c.in-Server.is))) c.take_piece.ensures.takes
