@@ -7,15 +7,21 @@ use client_ports::Bell;
 use gateway_hub::{Ending, Hub, HubFault, Recorder, StopWhy};
 use gateway_mux::{Core, UpWhy};
 use std::alloc::Global;
+use std::array;
 use std::sync::{Mutex, Wait};
 
-/// The bells of a run.
+/// How many bells the players' connections have. Each is shared by those whose numbers leave the same rest.
+const PLAYER_BELLS: usize = 16;
+
+/// The bells of a run. A worker waits at that of its connection, so that what comes for one player wakes few others.
 #[derive(Drop)]
 pub struct Bells {
-    /// Rings after each change that a worker may wait for.
-    pub change: Bell,
-    /// Rings before that after each change by which a link may be over. So a writer asks the hub only then, whose lock the
-    /// server's reader has most of the time.
+    /// Each rings after a change that a worker of one of its connections may wait for.
+    players: [Bell; PLAYER_BELLS],
+    /// Rings after a change that the server's writer may wait for.
+    server: Bell,
+    /// Rings before all of those after each change by which a link may be over. So a writer asks the hub only then, whose lock
+    /// the server's reader has most of the time.
     pub over: Bell,
 }
 
@@ -23,9 +29,58 @@ impl Bells {
     /// Bells that have not rung. They take no memory.
     pub fn new() -> Bells {
         Bells {
-            change: Bell::new(),
+            players: array::from_fn(|_| Bell::new()),
+            server: Bell::new(),
             over: Bell::new(),
         }
+    }
+
+    /// The bell of the connection with this number, or of the server's.
+    pub fn of(&self, conn: Option<u32>) -> &Bell {
+        match conn {
+            Some(conn) => &self.players[conn as usize % PLAYER_BELLS],
+            None => &self.server,
+        }
+    }
+
+    /// Rings that of the server's connection, and those that are due, which are due no longer.
+    pub fn ring_due<W: Wait>(&self, rt: &W, due: &mut Due) {
+        self.server.ring(rt);
+        for place in 0..PLAYER_BELLS {
+            if due.players[place] {
+                self.players[place].ring(rt);
+            }
+        }
+        *due = Due::new();
+    }
+
+    /// Rings all.
+    fn ring_all<W: Wait>(&self, rt: &W) {
+        self.over.ring(rt);
+        self.server.ring(rt);
+        for bell in &self.players {
+            bell.ring(rt);
+        }
+    }
+}
+
+/// Which bells of players' connections are to ring.
+#[derive(Clone, Copy)]
+pub struct Due {
+    players: [bool; PLAYER_BELLS],
+}
+
+impl Due {
+    /// None of them.
+    pub fn new() -> Due {
+        Due {
+            players: [false; PLAYER_BELLS],
+        }
+    }
+
+    /// That of the connection with this number too.
+    pub fn add(&mut self, conn: u32) {
+        self.players[conn as usize % PLAYER_BELLS] = true;
     }
 }
 
@@ -55,8 +110,7 @@ impl<'a, M: Core, R: Recorder, W: Wait> Common<'a, M, R, W> {
 
     /// Wakes all workers, since links may be over.
     pub fn tell_over(&self) {
-        self.bells.over.ring(self.rt);
-        self.bells.change.ring(self.rt);
+        self.bells.ring_all(self.rt);
     }
 
     /// Has it noted that the server's connection ended, unless an ending was kept, and wakes all workers.

@@ -5,7 +5,7 @@
 //! was handed has been written. So a player that takes nothing delays the others only once, and is then found too slow. One
 //! that goes on taking has its pauses back: a burst is no reason to close it.
 
-use crate::common::Common;
+use crate::common::{Common, Due};
 use gateway_hub::{Hub, OUTWARD_CAPACITY, Recorder};
 use gateway_mux::Core;
 use std::alloc::Global;
@@ -43,12 +43,13 @@ struct Room {
     parcels: usize,
 }
 
-/// How long which players were waited for, whose port was found to have the least room since the last wait, and whether an
-/// item put nothing for any player.
+/// How long which players were waited for, whose port was found to have the least room since the last wait, whose bells are to
+/// ring, and whether an item put nothing for any player.
 #[derive(Drop)]
 pub struct Pace {
     spent: Vec<Spent>,
     least: Option<Room>,
+    due: Due,
     nobody: bool,
 }
 
@@ -58,6 +59,7 @@ impl Pace {
         Pace {
             spent: Vec::new(alloc),
             least: None,
+            due: Due::new(),
             nobody: false,
         }
     }
@@ -68,6 +70,7 @@ impl Pace {
             self.nobody = true;
             return;
         };
+        self.due.add(conn);
         let parcels = hub.room(rt, conn);
         if parcels == OUTWARD_CAPACITY {
             self.forget(conn);
@@ -85,6 +88,11 @@ impl Pace {
         }
     }
 
+    /// Wakes the server's writer, and those for whom something was put.
+    pub fn wake<M: Core, R: Recorder, W: Wait>(&mut self, common: &Common<'_, M, R, W>) {
+        common.bells.ring_due(common.rt, &mut self.due);
+    }
+
     /// Waits for the player whose port was found to have the least room, where it is nearly full and it may have pauses.
     pub fn wait<M: Core, R: Recorder, W: Wait + Clock>(&mut self, common: &Common<'_, M, R, W>) {
         let Some(room) = self.least.take() else {
@@ -93,7 +101,7 @@ impl Pace {
         if room.parcels >= LEAST_ROOM {
             return;
         }
-        common.bells.change.ring(common.rt);
+        self.wake(common);
         let pauses = pause(common, room, self.pauses_of(room.conn));
         self.remember(room.conn, pauses);
     }

@@ -59,8 +59,9 @@ pub fn read_on<I: Inlet + Drop, O: Outlet + Drop, M: Core, R: Recorder, W: Wait>
     ensures all { result ≡ ends.Ended → (first : Option (List ℕ)) → ReadsItems I.rest first reader.old → PutAll I.rest first reader.new }
     ensures failed { result ≡ ends.Failed → Rose (I.faults reader.old.inlet) (I.faults reader.new.inlet) }
 {
+    let bell = common.bells.of(Some(seat.number()));
     for _ in common.rt.forever() {
-        let seen = common.bells.change.rings(common.rt);
+        let seen = bell.rings(common.rt);
         let all_put = put_some(common, reader);
         match take_some(common, seat) {
             Line::More => {}
@@ -72,7 +73,7 @@ pub fn read_on<I: Inlet + Drop, O: Outlet + Drop, M: Core, R: Recorder, W: Wait>
             }
             Line::Busy if desk.is_back(common.rt) => return ReadEnd::Over,
             Line::Busy => {
-                common.bells.change.pause(common.rt, seen);
+                bell.pause(common.rt, seen);
             }
             Line::Over => return ReadEnd::Over,
             Line::Memory => return ReadEnd::Memory,
@@ -116,7 +117,8 @@ fn take_some<M: Core, R: Recorder, W: Wait>(common: &Common<'_, M, R, W>, seat: 
     if line == Line::Over {
         common.tell_over();
     } else if first == Line::More {
-        common.bells.change.ring(common.rt);
+        common.bells.of(Some(seat.number())).ring(common.rt);
+        common.bells.of(None).ring(common.rt);
     }
     line
 }

@@ -229,7 +229,7 @@ fn take_all<I: Inlet + Drop, M: Core, R: Recorder, W: Wait + Clock>(
             Heard::More => pace.wait(common),
             Heard::Empty if !all_put => {}
             heard => {
-                common.bells.change.ring(common.rt);
+                pace.wake(common);
                 return heard;
             }
         }

@@ -18,9 +18,10 @@ pub fn write_from<O: Outlet + Drop, M: Core, R: Recorder, W: Wait>(
         let Some(writer) = desk.take(common.rt) else {
             return;
         };
+        let bell = common.bells.of(writer.conn());
         let writer = write_out(common, writer, &mut gather);
         desk.give_back(common.rt, writer);
-        common.bells.change.ring(common.rt);
+        bell.ring(common.rt);
     }
 }
 
@@ -64,8 +65,9 @@ fn write_out<O: Outlet + Drop, M: Core, R: Recorder, W: Wait>(
 ) -> Writer<O> {
     let mut writer = writer;
     let mut life = Life::new();
+    let bell = common.bells.of(writer.conn());
     for _ in common.rt.forever() {
-        let seen = common.bells.change.rings(common.rt);
+        let seen = bell.rings(common.rt);
         match writer.turn(common.rt, gather) {
             Turn::Wrote => {}
             Turn::Failed => {
@@ -76,7 +78,7 @@ fn write_out<O: Outlet + Drop, M: Core, R: Recorder, W: Wait>(
             Turn::Idle => {
                 // Where the link is over, the port is looked at once more: what was put before that is written.
                 if !life.is_over(common, writer.conn()) {
-                    common.bells.change.pause(common.rt, seen);
+                    bell.pause(common.rt, seen);
                 }
             }
         }
