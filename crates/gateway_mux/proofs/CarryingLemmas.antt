@@ -21,7 +21,7 @@ use Rattle.mux_history.specs.Follows.{spent}
 use Rattle.mux_history.specs.Happenings.{Happening, happening_of, enters_here}
 use Rattle.gateway_mux.specs.declared.turn.Turn.{Turn}
 use Rattle.gateway_mux.specs.Acts.{IsPlannedTurn, IsTurnOfSome}
-use Rattle.gateway_mux.specs.Carried.{IsCarriedAt}
+use Rattle.client_seats.specs.Carried.{IsCarriedAt}
 use Rattle.gateway_mux.specs.Entering.{IsAsBefore}
 use Rattle.gateway_mux.specs.Moves.{IsCommitted}
 use Rattle.gateway_mux.specs.Pictures.{Picture, IsKept}

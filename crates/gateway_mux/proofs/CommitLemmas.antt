@@ -26,7 +26,7 @@ use Rattle.mux_history.specs.Shared.{raw_up, number_heard, outcome_by}
 use Rattle.gateway_mux.specs.declared.settled.Settled.{Settled}
 use Rattle.gateway_mux.specs.declared.turn.Turn.{Turn}
 use Rattle.gateway_mux.specs.Acts.{IsPlannedTurn}
-use Rattle.gateway_mux.specs.Carried.{IsCarriedAt}
+use Rattle.client_seats.specs.Carried.{IsCarriedAt}
 use Rattle.gateway_mux.specs.Moves.{step_in, IsAfterStep, IsAfterTurn, handed_by}
 use Rattle.gateway_mux.specs.Pictures.{Picture, books_in, IsPictureOf}
 use Rattle.gateway_mux.specs.Settled.{AreSettled, asker_settled, held_settled, holder_settled}

@@ -17,7 +17,7 @@ use Rattle.mux_history.proofs.JoinedLemmas.{alone}
 use Rattle.mux_history.proofs.TurnStandLemmas.{entry_next, next_history}
 use Rattle.gateway_mux.specs.Pictures.{Picture, IsPictureOf}
 use Rattle.gateway_mux.proofs.IdleLemmas.{IsStill, still_nobody, shared_still, stands_still}
-use Rattle.gateway_mux.specs.Over.{IsKeptOf}
+use Rattle.gateway_mux.specs.Gone.{IsKeptUnlessGone}
 use Rattle.gateway_mux.proofs.OverLemmas.{kept_along}
 
 -- Nothing is handed out, and nothing of what was there changes.
@@ -39,7 +39,7 @@ old_shared : (bases : Bases) (T : List Entry) (conn i : ℕ) → IsStill bases T
 old_shared bases T conn i still e = shared_still bases T (enters conn) i still (ap (λ t. (t && is_none (fault_in T)) || entered i T) e)
 
 entered_clients : (bases : Bases) (one : Picture) (T : List Entry) (conn i : ℕ) (t : Bool) → IsPictureOf bases one T → entered conn T ≡ false → (conn == i) ≡ t
-    → IsKeptOf (cond t (Some new_client) (one.clients i)) (shared_in bases i (entry_next bases T (enters conn) ∷ T))
+    → IsKeptUnlessGone (cond t (Some new_client) (one.clients i)) (shared_in bases i (entry_next bases T (enters conn) ∷ T))
 entered_clients bases one T conn i true is never e =
     new_shared bases T conn i is.standing (enters_still bases one T conn is) (ap (λ k. entered k T) (sym (eqb-true conn i e)) ∙ never) e
 entered_clients bases one T conn i false is never e = kept_along refl (is.clients i) (sym (old_shared bases T conn i (enters_still bases one T conn is) e))

@@ -27,7 +27,7 @@ use Rattle.mux_history.proofs.TurnStandLemmas.{entry_next, next_history}
 use Rattle.gateway_mux.specs.Pictures.{Picture, books_in, IsPictureOf}
 use Rattle.gateway_mux.specs.Moves.{step_in, TakesTurn, books_stepped, IsAfterTurn}
 use Rattle.gateway_mux.proofs.BooksLemmas.{AreSame, turn_same, raw_same, answer_same, settled_same, free_same, lends_same}
-use Rattle.gateway_mux.specs.Over.{IsKeptOf}
+use Rattle.gateway_mux.specs.Gone.{IsKeptUnlessGone}
 use Rattle.gateway_mux.proofs.OverLemmas.{kept_as, kept_along}
 use Rattle.gateway_mux.proofs.PictureLemmas.{entered_in, same_books, wrong_same}
 
@@ -149,7 +149,7 @@ turn_follows bases one after T h i client raw is comes now = (outcome, is_after)
     none : (j : ℕ) → enters_here j h ≡ false
     none j = no_entering (books_in one) h i j comes.turns
 
-    clients : (j : ℕ) (t : Bool) → (j == i) ≡ t → IsKeptOf (after.clients j) (shared_in bases j (entry_next bases T h ∷ T))
+    clients : (j : ℕ) (t : Bool) → (j == i) ≡ t → IsKeptUnlessGone (after.clients j) (shared_in bases j (entry_next bases T h ∷ T))
     clients j true e =
         kept_as
         (ap after.clients (eqb-true j i e) ∙ now.is_client ∙ ap (λ (effect : Effect). Some effect.client) steps ∙ ap (λ one. Some one) (sym law.client)

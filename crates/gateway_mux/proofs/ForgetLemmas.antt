@@ -7,13 +7,15 @@ use Rattle.client_slot.specs.Client.{Client}
 use Rattle.mux_history.specs.declared.event.Outcome.{Outcome}
 use Rattle.mux_history.specs.Happenings.{Happening, Entry}
 use Rattle.mux_history.specs.Shared.{shared_in}
-use Rattle.gateway_mux.specs.declared.seats.Seats.{Seats}
+use Rattle.client_seats.specs.declared.seats.Seats.{Seats}
 use Rattle.gateway_mux.specs.declared.upstream.Upstream.{Upstream}
 use Rattle.gateway_mux.specs.Moves.{IsNext, IsCommitted}
-use Rattle.gateway_mux.specs.Over.{is_over, unless_over, IsKeptOf}
+use Rattle.client_seats.specs.Over.{is_over, unless_over}
+use Rattle.gateway_mux.specs.Gone.{IsKeptUnlessGone}
 use Rattle.gateway_mux.specs.Pictures.{Picture, picture, IsPictureOf, IsKept}
 use Rattle.gateway_mux.specs.Room.{is_in, is_idle, is_unbound, HasRoom}
-use Rattle.gateway_mux.specs.Seats.{client_at, is_ready, left}
+use Rattle.client_seats.specs.Seats.{client_at, is_ready}
+use Rattle.gateway_mux.specs.Spare.{left}
 use Rattle.gateway_mux.specs.Turn.{one_if}
 use Rattle.gateway_mux.proofs.KeptLemmas.{room_same}
 use Rattle.gateway_mux.proofs.OverLemmas.{kept_along, kept_unless_over}
@@ -31,12 +33,12 @@ apart conn i e same = true_false (sym (eq-eqb conn i same) ∙ e)
     true_false : true ≡ false → ⊥
     true_false e = cc
 
-forgotten_clients : (conn : ℕ) (before after its : ℕ → Option Client) → IsForgotten conn before after → ((i : ℕ) → IsKeptOf (before i) (its i)) → (i : ℕ) → IsKeptOf (after i) (its i)
+forgotten_clients : (conn : ℕ) (before after its : ℕ → Option Client) → IsForgotten conn before after → ((i : ℕ) → IsKeptUnlessGone (before i) (its i)) → (i : ℕ) → IsKeptUnlessGone (after i) (its i)
 forgotten_clients conn before after its forgets kept i = by (conn == i) refl
   where
-    by : (t : Bool) → (conn == i) ≡ t → IsKeptOf (after i) (its i)
+    by : (t : Bool) → (conn == i) ≡ t → IsKeptUnlessGone (after i) (its i)
     by true e =
-        subst (λ (k : ℕ). IsKeptOf (after k) (its k)) (eqb-true conn i e)
+        subst (λ (k : ℕ). IsKeptUnlessGone (after k) (its k)) (eqb-true conn i e)
         (kept_along forgets.here (kept_unless_over (before conn) (its conn) (kept conn)) refl)
     by false e = kept_along (forgets.others i (apart conn i e)) (kept i) refl
 

@@ -31,7 +31,7 @@ use Rattle.mux_history.proofs.TurnStandLemmas.{entry_next, next_history}
 use Rattle.gateway_mux.specs.Pictures.{Picture, books_in, IsPictureOf}
 use Rattle.gateway_mux.specs.Moves.{IsIdleAt, IsIdleTurn, IsIdle, answering}
 use Rattle.gateway_mux.proofs.BooksLemmas.{AreSame, turn_same, raw_same, final_same, answer_same}
-use Rattle.gateway_mux.specs.Over.{is_over}
+use Rattle.client_seats.specs.Over.{is_over}
 use Rattle.gateway_mux.proofs.OverLemmas.{kept_along}
 use Rattle.gateway_mux.proofs.PictureLemmas.{entered_in, over_in, same_books, wrong_same}
 use Rattle.gateway_mux.proofs.QuietLemmas.{over_hears}

@@ -20,7 +20,6 @@ pub mod PlanLemmas
 pub mod ReadyLemmas
 pub mod RoomLemmas
 pub mod SaidLemmas
-pub mod SeatLemmas
 pub mod SettleableLemmas
 pub mod SettledLemmas
 pub mod StandLemmas

@@ -2,7 +2,8 @@
 use Rattle.std.proofs.Common.{◌≡◌, ◌∙◌, ◌&&◌, not, Bool, true, false, cond, ℕ, List, Option, Some, None, IsSome, is_some, refl, sym, ap, subst}
 use Rattle.client_slot.specs.declared.purpose.Purpose.{Purpose}
 use Rattle.client_slot.specs.Client.{Client}
-use Rattle.gateway_mux.specs.Over.{is_over, unless_over, is_gone, IsKeptOf}
+use Rattle.client_seats.specs.Over.{is_over, unless_over}
+use Rattle.gateway_mux.specs.Gone.{is_gone, IsKeptUnlessGone}
 
 true_is_false : true ≡ false → ⊥
 true_is_false e = cc
@@ -43,42 +44,42 @@ busy_stays client some = by (is_over client) refl
     by true e = absurd (none_some client.pending (over_idle client e) some)
 
 -- What is kept of a connection
-pub kept_same : (one : Option Client) → IsKeptOf one one
+pub kept_same : (one : Option Client) → IsKeptUnlessGone one one
 kept_same None = refl
 kept_same (Some client) = refl
 
-pub kept_along : {a b c d : Option Client} → a ≡ b → IsKeptOf b c → c ≡ d → IsKeptOf a d
-kept_along {a} {b} {c} {d} one is other = subst (λ (client : Option Client). IsKeptOf client d) (sym one) (subst (λ (client : Option Client). IsKeptOf b client) other is)
+pub kept_along : {a b c d : Option Client} → a ≡ b → IsKeptUnlessGone b c → c ≡ d → IsKeptUnlessGone a d
+kept_along {a} {b} {c} {d} one is other = subst (λ (client : Option Client). IsKeptUnlessGone client d) (sym one) (subst (λ (client : Option Client). IsKeptUnlessGone b client) other is)
 
-pub kept_as : {a b : Option Client} → a ≡ b → IsKeptOf a b
+pub kept_as : {a b : Option Client} → a ≡ b → IsKeptUnlessGone a b
 kept_as {a} {b} same = kept_along same (kept_same b) refl
 
-pub kept_none : (one : Option Client) → IsKeptOf one None → one ≡ None
+pub kept_none : (one : Option Client) → IsKeptUnlessGone one None → one ≡ None
 kept_none None is = refl
 kept_none (Some client) is = cc
 
 some_is : (a b : Client) → Some a ≡ Some b → a ≡ b
 some_is a b e = cc
 
-pub kept_whole : (one : Option Client) (its : Client) → IsKeptOf one (Some its) → is_over its ≡ false → one ≡ Some its
+pub kept_whole : (one : Option Client) (its : Client) → IsKeptUnlessGone one (Some its) → is_over its ≡ false → one ≡ Some its
 kept_whole None its is stays = absurd (true_is_false (sym is ∙ stays))
 kept_whole (Some client) its is stays = sym is
 
-pub kept_alive : (one : Option Client) (its : Client) → IsKeptOf one (Some its) → (told : Option Client → Bool) → told None ≡ false → (of : Client → Bool) → ((client : Client) → told (Some client) ≡ of client)
+pub kept_alive : (one : Option Client) (its : Client) → IsKeptUnlessGone one (Some its) → (told : Option Client → Bool) → told None ≡ false → (of : Client → Bool) → ((client : Client) → told (Some client) ≡ of client)
     → ((client : Client) → client.alive ≡ false → of client ≡ false) → of its ≡ told one
 kept_alive None its is told none of same dead = dead its (over_dead its is) ∙ sym none
 kept_alive (Some client) its is told none of same dead = ap of (some_is its client is) ∙ sym (same client)
 
-pub kept_id : (one its : Option Client) → IsKeptOf one its → (told : Option Client → Option (List ℕ)) → told None ≡ None → ((client : Client) → told (Some client) ≡ client.session.id) → told one ≡ told its
+pub kept_id : (one its : Option Client) → IsKeptUnlessGone one its → (told : Option Client → Option (List ℕ)) → told None ≡ None → ((client : Client) → told (Some client) ≡ client.session.id) → told one ≡ told its
 kept_id None None is told none some = refl
 kept_id None (Some its) is told none some = none ∙ sym (some its ∙ over_unbound its is)
 kept_id (Some client) its is told none some = ap told (sym is)
 
 -- Where one that is over is forgotten, nothing is kept of it.
-pub kept_unless_over : (one its : Option Client) → IsKeptOf one its → IsKeptOf (unless_over one) its
+pub kept_unless_over : (one its : Option Client) → IsKeptUnlessGone one its → IsKeptUnlessGone (unless_over one) its
 kept_unless_over None its is = is
 kept_unless_over (Some client) its is = by (is_over client) refl
   where
-    by : (t : Bool) → is_over client ≡ t → IsKeptOf (cond t None (Some client)) its
+    by : (t : Bool) → is_over client ≡ t → IsKeptUnlessGone (cond t None (Some client)) its
     by true e = ap is_gone is ∙ e
     by false e = is

@@ -25,7 +25,8 @@ use Rattle.mux_history.proofs.JoinedLemmas.{alone, AreJoined}
 use Rattle.mux_history.proofs.TurnNextLemmas.{kind_same}
 use Rattle.gateway_mux.specs.Pictures.{Picture, opened_in, books_in, IsPictureOf}
 use Rattle.gateway_mux.specs.Moves.{wrong_reply, wrong_heard, wrong_in}
-use Rattle.gateway_mux.specs.Over.{is_over, IsKeptOf}
+use Rattle.client_seats.specs.Over.{is_over}
+use Rattle.gateway_mux.specs.Gone.{IsKeptUnlessGone}
 use Rattle.gateway_mux.specs.Turn.{session_of_client, kind_open}
 use Rattle.gateway_mux.proofs.OverLemmas.{busy_stays, kept_along, kept_none, kept_whole, kept_id}
 use Rattle.gateway_mux.proofs.BooksLemmas.{AreSame}
@@ -39,7 +40,7 @@ pub none_in : (bases : Bases) (one : Picture) (T : List Entry) → IsPictureOf b
 none_in bases one T is i out = kept_none (one.clients i) (kept_along refl (is.clients i) (shared_by bases T i false out))
 
 -- One that entered is kept, where it isn't over.
-pub kept_in : (bases : Bases) (one : Picture) (T : List Entry) → IsPictureOf bases one T → (i : ℕ) → entered i T ≡ true → IsKeptOf (one.clients i) (Some (shared (books_of T) i (alone bases T i).client))
+pub kept_in : (bases : Bases) (one : Picture) (T : List Entry) → IsPictureOf bases one T → (i : ℕ) → entered i T ≡ true → IsKeptUnlessGone (one.clients i) (Some (shared (books_of T) i (alone bases T i).client))
 kept_in bases one T is i en = kept_along refl (is.clients i) (shared_by bases T i true en)
 
 pub client_in : (bases : Bases) (one : Picture) (T : List Entry) → IsPictureOf bases one T → (i : ℕ) → entered i T ≡ true → is_over (shared (books_of T) i (alone bases T i).client) ≡ false

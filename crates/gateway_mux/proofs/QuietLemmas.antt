@@ -20,7 +20,7 @@ use Rattle.mux_history.specs.Notices.{Notice, notice_field, session_named, known
 use Rattle.mux_history.specs.Own.{notice_turn, heard_turn, turn, books_of}
 use Rattle.mux_history.specs.Shared.{shared, heard_raw, raw_event, heard_number, number_heard}
 use Rattle.mux_history.proofs.JoinedLemmas.{alone, AreJoined}
-use Rattle.gateway_mux.specs.Over.{is_over}
+use Rattle.client_seats.specs.Over.{is_over}
 use Rattle.gateway_mux.proofs.OverLemmas.{over_dead, over_unbound}
 use Rattle.gateway_mux.proofs.PictureLemmas.{asker_stays}
 

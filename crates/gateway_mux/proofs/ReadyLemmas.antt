@@ -8,14 +8,15 @@ use Rattle.gate_bytes.specs.declared.memory.Memory.{Memory}
 use Rattle.channel_map.specs.declared.map.Held.{Held}
 use Rattle.client_slot.specs.Client.{Client}
 use Rattle.gate_machine.specs.declared.parts.Done.{Done}
-use Rattle.gateway_mux.specs.declared.seats.Seats.{Seats}
+use Rattle.client_seats.specs.declared.seats.Seats.{Seats}
 use Rattle.gateway_mux.specs.declared.settled.Settled.{Settled}
 use Rattle.gateway_mux.specs.declared.turn.Turn.{Turn}
 use Rattle.gateway_mux.specs.declared.upstream.Upstream.{Upstream}
 use Rattle.gateway_mux.specs.Acts.{IsTurnOfSome}
 use Rattle.gateway_mux.specs.Entering.{IsNewIn, IsEntered, IsAsBefore}
 use Rattle.gateway_mux.specs.Pictures.{Picture, picture, IsKept}
-use Rattle.gateway_mux.specs.Seats.{client_at, is_ready, left}
+use Rattle.client_seats.specs.Seats.{client_at, is_ready}
+use Rattle.gateway_mux.specs.Spare.{left}
 use Rattle.gateway_mux.specs.Settled.{CanSettle, binds, unbinds}
 use Rattle.gateway_mux.specs.Turn.{session_of_client, one_if}
 use Rattle.gateway_mux.proofs.CommitLemmas.{IsTurned}

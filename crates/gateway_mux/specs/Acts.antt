@@ -21,8 +21,8 @@ use Rattle.gateway_mux.specs.declared.said.Said.{Said}
 use Rattle.gateway_mux.specs.declared.turn.Turn.{Turn}
 use Rattle.gateway_mux.specs.Moves.{wrong_in, TakesTurn, IsIdle, IsEndAt}
 use Rattle.gateway_mux.specs.Pictures.{Picture, books_in}
-use Rattle.gateway_mux.specs.declared.seats.Seats.{Seats}
-use Rattle.gateway_mux.specs.Seats.{IsKeyOf}
+use Rattle.client_seats.specs.declared.seats.Seats.{Seats}
+use Rattle.client_seats.specs.Seats.{IsKeyOf}
 use Rattle.gateway_mux.specs.Settled.{AreSettled}
 use Rattle.gateway_mux.specs.Short.{IsShortAnswer}
 use Rattle.gateway_mux.specs.Turn.{free_once}

@@ -14,11 +14,11 @@ use Rattle.mux_history.specs.Happenings.{Entry, fault_in}
 use Rattle.mux_history.specs.Own.{books_of}
 use Rattle.mux_history.specs.Follows.{IsHistory}
 use Rattle.mux_history.specs.Shared.{shared_in}
-use Rattle.gateway_mux.specs.declared.seats.Seats.{Seats}
+use Rattle.client_seats.specs.declared.seats.Seats.{Seats}
 use Rattle.gateway_mux.specs.declared.upstream.Upstream.{Upstream}
-use Rattle.gateway_mux.specs.Over.{IsKeptOf}
+use Rattle.gateway_mux.specs.Gone.{IsKeptUnlessGone}
 use Rattle.gateway_mux.specs.Room.{HasRoom}
-use Rattle.gateway_mux.specs.Seats.{client_at}
+use Rattle.client_seats.specs.Seats.{client_at}
 use Rattle.gateway_mux.specs.Turn.{kind_open}
 
 -- the players' connections; who asked each open request; who holds each pair of channels; which connection has each
@@ -62,7 +62,7 @@ books_in picture = record {
 pub record IsPictureOf (bases : Bases) (one : Picture) (history : List Entry) : Type 0 where
   pub is_history : IsHistory bases history
   pub standing : fault_in history ≡ None
-  pub clients : (i : ℕ) → IsKeptOf (one.clients i) (shared_in bases i history)
+  pub clients : (i : ℕ) → IsKeptUnlessGone (one.clients i) (shared_in bases i history)
   pub asker : (number : ℕ) → one.asker number ≡ option_map (λ opened. opened.conn) ((books_of history).opened number)
   pub held : (pair : ℕ) → one.held pair ≡ (books_of history).held pair
   pub holder : (id : List ℕ) → one.holder id ≡ (books_of history).holder id

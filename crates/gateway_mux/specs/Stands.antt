@@ -12,7 +12,7 @@ use Rattle.gateway_mux.specs.declared.connections.Connections.{Connections}
 use Rattle.gateway_mux.specs.declared.mux.Mux.{Mux}
 use Rattle.gateway_mux.specs.Acts.{IsAct, IsShortAct, IsKeyed}
 use Rattle.gateway_mux.specs.Pictures.{Picture, picture, IsPictureOf}
-use Rattle.gateway_mux.specs.Seats.{is_ready}
+use Rattle.client_seats.specs.Seats.{is_ready}
 
 abbrev pub picture_of : Connections → Picture
 picture_of connections = picture connections.seats connections.upstream

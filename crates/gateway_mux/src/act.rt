@@ -5,7 +5,8 @@ use gate_bytes::Text;
 use mux_history::UpCause;
 
 /// What an event will do to a multiplexer while the connection to the server stands; after that it
-/// does nothing. All memory for it is taken.
+/// does nothing. All memory for it is taken. It is the plan that [`Mux`](crate::Mux) makes of an event
+/// as a [`Core`](crate::Core): others carry it from the one call to the next, and don't look into it.
 #[derive(Drop)]
 pub enum Act {
     /// Nothing.

@@ -15,7 +15,7 @@ impl Connections {
     ghost use Rattle.gateway_mux.specs.Acts.{IsAct, IsPlannedTurn, IsTurnOfSome, IsShortAct, IsKeyed};
     ghost use Rattle.gateway_mux.specs.Moves.{IsCommitted};
     ghost use Rattle.gateway_mux.specs.Pictures.{picture};
-    ghost use Rattle.gateway_mux.specs.Seats.{IsKeyOf};
+    ghost use Rattle.client_seats.specs.Seats.{IsKeyOf};
     ghost use Rattle.gateway_mux.specs.Short.{IsShort, IsShortAnswer};
 
     /// Carries out what an event does. It takes no memory, and can't be refused.

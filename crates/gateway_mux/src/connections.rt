@@ -1,10 +1,11 @@
 //! The connections of a gateway: those of its players, and the one to the server.
 ghost use Rattle.std.specs.Prelude.{◌≡◌, ◌<◌, [], true, false, None, IsOk, OnOk, OnErr};
 ghost use Rattle.gateway_mux.specs.Pictures.{picture, IsKept, IsPictureOf};
-ghost use Rattle.gateway_mux.specs.Seats.{is_ready, left};
+ghost use Rattle.client_seats.specs.Seats.{is_ready};
+ghost use Rattle.gateway_mux.specs.Spare.{left};
 
-use crate::seats::Seats;
 use crate::upstream::Upstream;
+use client_seats::Seats;
 use gate_bytes::Memory;
 use mux_history::Bases;
 use std::alloc::Global;

@@ -17,7 +17,6 @@ mod notice;
 mod outcome;
 mod planning;
 mod said;
-mod seats;
 mod server;
 mod settled;
 mod status;
@@ -25,7 +24,7 @@ mod tells;
 mod turn;
 mod upstream;
 
-pub use act::Act as Plan;
+pub use act::Act;
 pub use mux::Mux;
 pub use mux_history::{
     Base, Bases, CloseWhy, Closed, Core, Event, FramingFault, Outcome, ToClient, ToUp, UpCause,

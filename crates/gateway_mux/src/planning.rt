@@ -10,8 +10,8 @@ use crate::act::Act;
 use crate::connections::Connections;
 use crate::frames::channel_of;
 use crate::said::Said;
-use crate::seats::Seat;
 use crate::turn::Turn;
+use client_seats::Seat;
 use gate_bytes::Memory;
 use gate_machine::{CloseWhy, Incoming, Plan, half_for, plan, plan_close};
 use mux_history::{Event, UpCause, UpWhy};
@@ -22,7 +22,7 @@ impl Connections {
     ghost use Rattle.gateway_mux.specs.Acts.{IsAct, IsSaid, IsClosing, IsShortAct, IsKeyed};
     ghost use Rattle.gateway_mux.specs.Free.{is_client_request, needs_memory};
     ghost use Rattle.gateway_mux.specs.Pictures.{picture};
-    ghost use Rattle.gateway_mux.specs.Seats.{IsKeyOf, IsSeatAt};
+    ghost use Rattle.client_seats.specs.Seats.{IsKeyOf, IsSeatAt};
     ghost use Rattle.gateway_mux.specs.Short.{IsShortAnswer};
     ghost use Rattle.gateway_mux.specs.Turn.{free_once};
 

@@ -5,15 +5,15 @@ ghost use Rattle.client_slot.specs.Client.{Client};
 ghost use Rattle.up_books.specs.Ids.{holder_of};
 ghost use Rattle.up_books.specs.Numbers.{asker_of, next_number};
 ghost use Rattle.gate_machine.specs.Plans.{IsReady, IsShortPlan, IsShortDone};
-ghost use Rattle.gateway_mux.specs.Carried.{IsCarriedAt};
-ghost use Rattle.gateway_mux.specs.Seats.{client_at, is_ready, IsKeyOf};
+ghost use Rattle.client_seats.specs.Carried.{IsCarriedAt};
+ghost use Rattle.client_seats.specs.Seats.{client_at, is_ready, IsKeyOf};
 ghost use Rattle.gateway_mux.specs.Settled.{CanSettle, binds, unbinds, asker_settled, held_settled, holder_settled};
 ghost use Rattle.gateway_mux.specs.Upstream.{held_lent};
 ghost use Rattle.gateway_mux.specs.Turn.{session_of_client, asks_pair, asker_lent, issued_then, one_if, free_once};
 
-use crate::seats::Seats;
 use crate::settled::Settled;
 use crate::upstream::Upstream;
+use client_seats::Seats;
 use client_slot::Pending;
 use gate_machine::{Done, Plan};
 

@@ -2,14 +2,14 @@ use Rattle.std.proofs.Common.{IfSome}
 use Rattle.channel_map.specs.Pairs.{held_at}
 use Rattle.up_books.specs.Ids.{holder_of}
 use Rattle.up_books.specs.Numbers.{asker_of}
-use Rattle.gateway_mux.specs.Seats.{client_at}
+use Rattle.client_seats.specs.Seats.{client_at}
 use Rattle.gateway_mux.specs.Settled.{CanSettle, held_settled}
 use Rattle.gateway_mux.specs.Upstream.{held_lent}
 use Rattle.gateway_mux.specs.Turn.{free_once, asks_pair}
 use Rattle.std.proofs.Common.{sym, ◌∙◌, ap}
 use Rattle.std.specs.Option.{option_copied}
 use Rattle.gateway_mux.specs.declared.upstream.Upstream.{Upstream}
-use Rattle.gateway_mux.proofs.SeatLemmas.{kept_at}
+use Rattle.client_seats.proofs.SeatLemmas.{kept_at}
 use Rattle.gateway_mux.proofs.TurnLemmas.{reserved_settled, with_session}
 use Rattle.gateway_mux.proofs.turn.commit_turn.Goals.{then-asks, else-asks}
 use Rattle.gateway_mux.proofs.turn.commit_turn.Goals as goal

@@ -5,7 +5,7 @@ use Rattle.client_slot.specs.declared.purpose.Purpose.{Purpose}
 use Rattle.client_slot.specs.Purposes.{purpose_seen}
 use Rattle.gate_machine.specs.Plans.{replies}
 use Rattle.mux_history.specs.Happenings.{hears}
-use Rattle.gateway_mux.specs.Seats.{left}
+use Rattle.gateway_mux.specs.Spare.{left}
 use Rattle.gateway_mux.specs.declared.said.Said.{Said}
 use Rattle.gateway_mux.specs.Acts.{IsSaid}
 use Rattle.gateway_mux.specs.Granting.{IsLowPurpose}

@@ -1,8 +1,8 @@
 use Rattle.std.proofs.Common.{◌+◌, ℕ, Option, subst}
 use Rattle.channel_map.specs.Pairs.{held_at}
 use Rattle.gate_machine.specs.Plans.{incoming_seen, IsPlan}
-use Rattle.gateway_mux.specs.declared.seats.Seat.{Seat}
-use Rattle.gateway_mux.specs.Seats.{IsSeatAt}
+use Rattle.client_seats.specs.declared.seats.Seat.{Seat}
+use Rattle.client_seats.specs.Seats.{IsSeatAt}
 use Rattle.gateway_mux.specs.Turn.{free_once}
 use Rattle.gateway_mux.proofs.connections.Connections.plan_turn.Goals as goal
 

@@ -1,8 +1,8 @@
 use Rattle.std.proofs.Common.{◌≡◌, ◌∙◌, ℕ, Option, None, Some, is_some, sym, ap}
 use Rattle.slab.specs.Slab.{get as slab_get}
 use Rattle.connection_directory.specs.Directories.{key_of}
-use Rattle.gateway_mux.proofs.SeatLemmas.{not_among, kept_more}
-use Rattle.gateway_mux.proofs.seats.Seats.prepare.Goals as goal
+use Rattle.client_seats.proofs.SeatLemmas.{not_among, kept_more}
+use Rattle.client_seats.proofs.seats.Seats.prepare.Goals as goal
 
 pub invariant_of-self-2 : goal.invariant_of-self-2
 invariant_of-self-2 c =

@@ -3,8 +3,8 @@ use Rattle.std.proofs.Common.{◌≡◌, ◌≢◌, ℕ, true, false, Option, No
 use Rattle.std.specs.Option.{option_and_then}
 use Rattle.slab.specs.Slab.{get as slab_get}
 use Rattle.client_slot.specs.Client.{Client}
-use Rattle.gateway_mux.specs.declared.seats.Seats.{Seats}
-use Rattle.gateway_mux.specs.Seats.{client_at, IsKeyOf}
+use Rattle.client_seats.specs.declared.seats.Seats.{Seats}
+use Rattle.client_seats.specs.Seats.{client_at, IsKeyOf}
 
 -- a key that none of the connections has
 pub not_among : (keys : ℕ → Option ℕ) (slots : ℕ → Option Client) (key : ℕ) → ((i k : ℕ) → keys i ≡ Some k → is_some (slots k) ≡ true) → slots key ≡ None → (i : ℕ) → keys i ≢ Some key

@@ -1,24 +1,23 @@
--- What the multiplexer keeps of its connections (this project's own).
-use Rattle.std.specs.Prelude.{◌≡◌, ℕ, ◌-◌, ◌^◌, ◌≤◌, ◌<◌, Bool, is_some, Option, Some, None}
+-- What is kept of connections, each under its number (this project's own).
+use Rattle.std.specs.Prelude.{◌≡◌, ℕ, ◌^◌, ◌≤◌, ◌<◌, Bool, is_some, Option, Some, None}
 use Rattle.std.specs.Option.{option_and_then}
 use Rattle.slab.specs.Slab.{get as slab_get}
 use Rattle.client_slot.specs.Client.{Client}
 use Rattle.connection_directory.specs.Directories.{key_of}
-use Rattle.gateway_mux.specs.Turn.{one_if}
-use Rattle.gateway_mux.specs.declared.seats.Seat.{Seat}
-use Rattle.gateway_mux.specs.declared.seats.Seats.{Seats}
+use Rattle.client_seats.specs.declared.seats.Seat.{Seat}
+use Rattle.client_seats.specs.declared.seats.Seats.{Seats}
+
+-- what is kept under a key
+abbrev pub under_key : Seats → ℕ → Option Client
+under_key seats key = slab_get seats.slots key
 
 -- connection i, where it is kept
 abbrev pub client_at : Seats → ℕ → Option Client
-client_at seats i = option_and_then (λ key. slab_get seats.slots key) (key_of seats.directory i)
+client_at seats i = option_and_then (under_key seats) (key_of seats.directory i)
 
 -- The next connection can enter without memory.
 abbrev pub is_ready : Seats → Bool
 is_ready seats = is_some seats.spare
-
--- how much of what is spare is left beside what the next connection can ask for
-abbrev pub left : ℕ → Seats → ℕ
-left spare seats = spare - one_if (is_ready seats)
 
 -- Connection i is kept under that key.
 abbrev pub IsKeyOf : Seats → ℕ → ℕ → Type 0

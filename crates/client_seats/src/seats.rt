@@ -3,8 +3,8 @@ ghost use Rattle.std.specs.Prelude.{◌≡◌, ◌≢◌, ◌==◌, ℕ, true, f
 ghost use Rattle.slab.specs.Slab.{get as slab_get};
 ghost use Rattle.client_slot.specs.Client.{new_client};
 ghost use Rattle.gate_machine.specs.Plans.{IsReady, IsShortPlan, IsShortDone};
-ghost use Rattle.gateway_mux.specs.Carried.{IsCarriedAt};
-ghost use Rattle.gateway_mux.specs.Over.{is_over};
+ghost use Rattle.client_seats.specs.Carried.{IsCarriedAt};
+ghost use Rattle.client_seats.specs.Over.{is_over};
 ghost use Rattle.connection_directory.specs.Directories.{key_of, HasPlace};
 
 use client_slot::Slot;
@@ -16,7 +16,7 @@ use std::alloc::Global;
 
 /// A connection where it is kept: a plan for it tells the key, so that it is looked up once an event.
 #[derive(Clone, Copy)]
-pub(crate) struct Seat<'a> {
+pub struct Seat<'a> {
     /// The key of its slot.
     pub key: usize,
     /// What is kept of it.
@@ -26,7 +26,7 @@ pub(crate) struct Seat<'a> {
 /// The connections that entered and are not over. Spare is the key of a slot for the next one, where
 /// that was made.
 #[derive(Drop)]
-pub(crate) struct Seats {
+pub struct Seats {
     directory: Directory,
     slots: Slab<Slot>,
     spare: Option<usize>,
@@ -38,8 +38,8 @@ pub(crate) struct Seats {
 }
 
 impl Seats {
-    ghost use Rattle.gateway_mux.specs.Over.{unless_over};
-    ghost use Rattle.gateway_mux.specs.Seats.{client_at, is_ready, IsKeyOf, IsSeatAt, IsNextSeat};
+    ghost use Rattle.client_seats.specs.Over.{unless_over};
+    ghost use Rattle.client_seats.specs.Seats.{client_at, is_ready, under_key, IsKeyOf, IsSeatAt, IsNextSeat};
 
     /// No connection. It takes no memory.
     pub fn new(alloc: Global) -> Seats
@@ -64,7 +64,7 @@ impl Seats {
 
     /// What is kept under a key.
     pub fn at(&self, key: usize) -> Option<&Slot>
-        ensures { option_map (λ slot. slot.now) result ≡ slab_get self.now.slots key }
+        ensures { option_map (λ slot. slot.now) result ≡ under_key self.now key }
     {
         self.slots.get(key)
     }
@@ -73,14 +73,13 @@ impl Seats {
     pub fn slot(&self, conn: u32) -> Option<&Slot>
         ensures { option_map (λ slot. slot.now) result ≡ client_at self.now conn }
     {
-        let key = self.directory.key(conn)?;
-        self.slots.get(key)
+        Some(self.seat(conn)?.slot)
     }
 
     /// The first number from this one on of a connection that is kept.
     pub fn next(&self, from: u32) -> Option<u32>
         ensures next { IsNextSeat self.now from result }
-        ensures entered { IfSome result (λ conn. is_some (key_of self.now.directory conn) ≡ true) }
+        ensures kept { IfSome result (λ conn. is_some (client_at self.now conn) ≡ true) }
     {
         self.directory.next(from)
     }

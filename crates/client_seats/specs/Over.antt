@@ -1,5 +1,5 @@
 -- Connections that are over: nothing can come of their events any more, and nothing is kept of them (this project's own).
-use Rattle.std.specs.Prelude.{◌≡◌, ◌&&◌, not, Bool, true, is_some, Option, Some, None, if◌then◌else◌}
+use Rattle.std.specs.Prelude.{◌&&◌, not, Bool, is_some, Option, Some, None, if◌then◌else◌}
 use Rattle.client_slot.specs.Client.{Client}
 
 -- It was closed, has no request open, and has no session that a TEARDOWN would go up for.
@@ -10,13 +10,3 @@ is_over client = not client.alive && (not (is_some client.pending) && not (is_so
 abbrev pub unless_over : Option Client → Option Client
 unless_over None = None
 unless_over (Some client) = if is_over client then None else Some client
-
--- nothing need be kept of it: it never entered, or is over
-abbrev pub is_gone : Option Client → Bool
-is_gone None = true
-is_gone (Some client) = is_over client
-
--- What is kept of a connection is what a history has of it, or nothing, where nothing need be.
-abbrev pub IsKeptOf : Option Client → Option Client → Type 0
-IsKeptOf None its = is_gone its ≡ true
-IsKeptOf (Some client) its = its ≡ Some client
