@@ -7,17 +7,17 @@ use Rattle.std.proofs.lemmas.Option.{slice_get_cases, slice_get_within}
 use Rattle.mux_history.specs.Happenings.{Entry, entered, is_alive}
 use Rattle.mux_history.specs.Cores.{ever_entered}
 use Rattle.mux_history.proofs.CoreLemmas.{never_part}
-use Rattle.gateway_hub.specs.declared.ending.Ending.{Ending}
-use Rattle.gateway_hub.specs.declared.receipt.Close.{Close}
-use Rattle.gateway_hub.specs.declared.receipt.Receipt.{Receipt}
-use Rattle.gateway_hub.specs.declared.line.Place.{Place}
-use Rattle.gateway_hub.specs.declared.line.Place.TheVariants.{Seated, Retired}
-use Rattle.gateway_hub.specs.Closes.{close_in}
-use Rattle.gateway_hub.specs.Closing.{is_over, IsOver, AreOver, TellsOver}
+use Rattle.hub_places.specs.declared.ending.Ending.{Ending}
+use Rattle.hub_places.specs.declared.receipt.Close.{Close}
+use Rattle.hub_places.specs.declared.receipt.Receipt.{Receipt}
+use Rattle.hub_places.specs.declared.line.Place.{Place}
+use Rattle.hub_places.specs.declared.line.Place.TheVariants.{Seated, Retired}
+use Rattle.hub_places.specs.Closes.{close_in}
+use Rattle.gateway_hub.specs.Closing.{is_place_over, IsOver, AreOver, TellsOver}
 use Rattle.gate_transcript.specs.declared.entry.Entry.{Entry as Noted}
 use Rattle.gateway_hub.specs.declared.desk.Desk.{Desk}
 use Rattle.gateway_hub.specs.Kept.{IsReceipt, AreNumbered, Keeps}
-use Rattle.gateway_hub.specs.Places.{line_of, line_at, receipt_of, receipt_at}
+use Rattle.hub_places.specs.Places.{line_of, line_at, receipt_of, receipt_at}
 use Rattle.gateway_hub.specs.Receipts.{receipts_of, receipt_in, HasReceipt, ClosesWith}
 use Rattle.gateway_hub.specs.Retiring.{receipt_for}
 use Rattle.gateway_hub.proofs.RetireLemmas.{life_so}
@@ -63,20 +63,20 @@ ever i T en = by (ever_entered i T) refl
 
 -- It is told exactly whether all are over.
 pub tells_over : (told : Bool) (places : List Place) (ending : Option Ending) (T : List Entry) → AreNumbered (length places) T → ((i : ℕ) (receipt : Receipt) → receipt_at places i ≡ Some receipt → IsReceipt i receipt ending T)
-    → told ≡ list_all (is_over T) places → TellsOver told places T
+    → told ≡ list_all (is_place_over T) places → TellsOver told places T
 tells_over told places ending T numbered receipts is = record {
   over = λ yes i en. over_by (sym is ∙ yes) i en (slice_get places i) refl;
-  told_so = λ all. is ∙ from_each (is_over T) places (λ i place at. told_by all i place at);
+  told_so = λ all. is ∙ from_each (is_place_over T) places (λ i place at. told_by all i place at);
 }
   where
-    over_by : list_all (is_over T) places ≡ true → (i : ℕ) → ever_entered i T ≡ true → (found : Option Place) → slice_get places i ≡ found → IsOver i places T
+    over_by : list_all (is_place_over T) places ≡ true → (i : ℕ) → ever_entered i T ≡ true → (found : Option Place) → slice_get places i ≡ found → IsOver i places T
     over_by all i en None at = elim (slice_get_cases places i).1 [
       | inl w ↦ let some = w.2 in absurd (cc)
       | inr w ↦ let never = numbered.new i w.0 in absurd (cc)
     ]
-    over_by all i en (Some (Seated line)) at = let no : false ≡ true = at_each (is_over T) places i (Seated line) all at in absurd (cc)
+    over_by all i en (Some (Seated line)) at = let no : false ≡ true = at_each (is_place_over T) places i (Seated line) all at in absurd (cc)
     over_by all i en (Some (Retired receipt)) at =
-        let own = and_parts (not (is_alive receipt.conn T)) (nat_le receipt.arrived receipt.pushed && nat_le receipt.taken receipt.handed) (at_each (is_over T) places i (Retired receipt) all at) in
+        let own = and_parts (not (is_alive receipt.conn T)) (nat_le receipt.arrived receipt.pushed && nat_le receipt.taken receipt.handed) (at_each (is_place_over T) places i (Retired receipt) all at) in
         let counts = and_parts (nat_le receipt.arrived receipt.pushed) (nat_le receipt.taken receipt.handed) own.1 in
         let number : receipt.conn ≡ i = (receipts i receipt (ap receipt_of at)).tells.conn in
         let dead : is_alive i T ≡ false = subst (λ (n : ℕ). is_alive n T ≡ false) number (not_false (is_alive receipt.conn T) own.0) in
@@ -88,7 +88,7 @@ tells_over told places ending T numbered receipts is = record {
           taken = leb-true receipt.taken receipt.handed counts.1;
         }
 
-    told_by : AreOver places T → (i : ℕ) (place : Place) → slice_get places i ≡ Some place → is_over T place ≡ true
+    told_by : AreOver places T → (i : ℕ) (place : Place) → slice_get places i ≡ Some place → is_place_over T place ≡ true
     told_by all i (Seated line) at =
         let o = all i (ever i T (numbered.old i (slice_get_within places i (Seated line) at))) in
         let none : receipt_at places i ≡ None = ap receipt_of at in

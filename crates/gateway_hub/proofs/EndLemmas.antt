@@ -14,28 +14,29 @@ use Rattle.mux_history.specs.declared.event.Event.{Event}
 use Rattle.mux_history.specs.declared.event.Event.TheVariants as events
 use Rattle.mux_history.specs.declared.event.Outcome.{Outcome}
 use Rattle.mux_history.specs.declared.event.ToClient.{ToClient}
-use Rattle.gateway_hub.specs.declared.ending.Ending.{Ending}
-use Rattle.gateway_hub.specs.declared.ending.HubFault.{HubFault}
-use Rattle.gateway_hub.specs.declared.ending.StopWhy.{StopWhy}
-use Rattle.gateway_hub.specs.declared.line.Line.{Line}
-use Rattle.gateway_hub.specs.declared.line.Place.{Place}
-use Rattle.gateway_hub.specs.declared.line.Place.TheVariants.{Retired}
-use Rattle.gateway_hub.specs.declared.receipt.Receipt.{Receipt}
-use Rattle.gateway_hub.specs.declared.server.Server.{Server}
+use Rattle.hub_places.specs.declared.ending.Ending.{Ending}
+use Rattle.gateway_hub.specs.declared.fault.HubFault.{HubFault}
+use Rattle.hub_places.specs.declared.ending.StopWhy.{StopWhy}
+use Rattle.hub_places.specs.declared.line.Line.{Line}
+use Rattle.hub_places.specs.declared.line.Place.{Place}
+use Rattle.hub_places.specs.declared.line.Place.TheVariants.{Retired}
+use Rattle.hub_places.specs.declared.receipt.Receipt.{Receipt}
+use Rattle.hub_places.specs.declared.server.Server.{Server}
 use Rattle.gateway_hub.specs.declared.desk.Desk.{Desk}
 use Rattle.gateway_hub.specs.declared.desk.Delivery.{Delivery}
 use Rattle.gateway_hub.specs.Ends.{KeepsTaker, KeepsPort, KeepsLine, EachLine, KeepsEnds, KeepsOtherEnds}
 use Rattle.gateway_hub.specs.Entering.{Seats}
 use Rattle.gateway_hub.specs.Retiring.{RetiresBy, RetiresPlace}
-use Rattle.gateway_hub.specs.Rooms.{IsLookedAt, LooksAt}
-use Rattle.gateway_hub.specs.Places.{line_of, line_at, Changes, LineChanges, Counts, FetchesLine, PutsFirst, PutsBytes, ClosesOne, HandsOut}
-use Rattle.gateway_hub.specs.Servers.{FetchesUp}
+use Rattle.hub_places.specs.Room.{IsLookedAt}
+use Rattle.gateway_hub.specs.Rooms.{LooksAt}
+use Rattle.hub_places.specs.Places.{line_of, line_at, Changes, LineChanges, Counts, FetchesLine, PutsFirst, PutsBytes, ClosesOne, HandsOut}
+use Rattle.hub_places.specs.Servers.{FetchesUp}
 use Rattle.gateway_hub.specs.Desks.{CountsOne, HandsAll}
 use Rattle.gateway_hub.specs.Taking.{Stops}
 use Rattle.gateway_hub.specs.Calls.{GivesBack, Refuses}
 use Rattle.gateway_hub.proofs.EnterLemmas.{snoc_get}
-use Rattle.gateway_hub.proofs.PlaceLemmas.{found_other}
-use Rattle.gateway_hub.proofs.FrontLemmas.{begins_as, begins_twice, into_front}
+use Rattle.hub_places.proofs.PlaceLemmas.{found_other}
+use Rattle.hub_places.proofs.FrontLemmas.{begins_as, begins_twice, into_front}
 
 -- One end.
 taker_as : (before now : Taker) → now ≡ before → KeepsTaker before now

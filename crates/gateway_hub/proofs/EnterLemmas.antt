@@ -17,26 +17,26 @@ use Rattle.client_ports.specs.Ends.{put_of, taken_of, fulls_of, capacity_of, OfO
 use Rattle.mux_history.specs.declared.event.UpCause.{UpCause}
 use Rattle.mux_history.specs.Happenings.{Entry, enters, entering, entered, fault_in, shut, is_alive, silent}
 use Rattle.mux_history.specs.Cores.{ever_entered}
-use Rattle.gateway_hub.specs.declared.ending.Ending.{Ending}
-use Rattle.gateway_hub.specs.declared.ending.HubFault.{HubFault}
-use Rattle.gateway_hub.specs.declared.ending.HubFault.TheVariants as faults
-use Rattle.gateway_hub.specs.declared.ending.StopWhy.TheVariants as stops
+use Rattle.hub_places.specs.declared.ending.Ending.{Ending}
+use Rattle.gateway_hub.specs.declared.fault.HubFault.{HubFault}
+use Rattle.gateway_hub.specs.declared.fault.HubFault.TheVariants as faults
+use Rattle.hub_places.specs.declared.ending.StopWhy.TheVariants as stops
 use Rattle.gateway_hub.specs.declared.seat.Entered.{Entered}
 use Rattle.gate_transcript.specs.declared.recorder.NoteFault.{NoteFault}
 use Rattle.gate_transcript.specs.declared.recorder.NoteFault.TheVariants as notes
 use Rattle.gateway_hub.specs.Calls.{Refuses, Fails}
-use Rattle.gateway_hub.specs.declared.receipt.Close.{Close}
-use Rattle.gateway_hub.specs.declared.receipt.Receipt.{Receipt}
-use Rattle.gateway_hub.specs.declared.line.Line.{Line}
-use Rattle.gateway_hub.specs.declared.line.Place.{Place}
-use Rattle.gateway_hub.specs.declared.line.Place.TheVariants.{Seated, Retired}
-use Rattle.gateway_hub.specs.declared.server.Server.{Server}
+use Rattle.hub_places.specs.declared.receipt.Close.{Close}
+use Rattle.hub_places.specs.declared.receipt.Receipt.{Receipt}
+use Rattle.hub_places.specs.declared.line.Line.{Line}
+use Rattle.hub_places.specs.declared.line.Place.{Place}
+use Rattle.hub_places.specs.declared.line.Place.TheVariants.{Seated, Retired}
+use Rattle.hub_places.specs.declared.server.Server.{Server}
 use Rattle.gateway_hub.specs.declared.desk.Desk.{Desk}
-use Rattle.gateway_hub.specs.Closes.{close_in, fall_close}
+use Rattle.hub_places.specs.Closes.{close_in, fall_close}
 use Rattle.gateway_hub.specs.Endings.{fell_full, stopped_noting}
 use Rattle.gateway_hub.specs.Notes.{note_of, TellsNotes}
-use Rattle.gateway_hub.specs.Parcels.{items_in, waiting, arrivals, heard_items, as_parcels, handed_up}
-use Rattle.gateway_hub.specs.Places.{line_of, receipt_of, line_at, receipt_at, Lacks}
+use Rattle.hub_places.specs.Parcels.{items_in, waiting, arrivals, heard_items, as_parcels, handed_up}
+use Rattle.hub_places.specs.Places.{line_of, receipt_of, line_at, receipt_at, Lacks}
 use Rattle.gateway_hub.specs.Kept.{IsHanded, IsHandedUp, IsReceipt, HadNothing, AreNumbered, EndsRightly, Keeps, is_excused, is_server_excused, close_why, by_upstream_of}
 use Rattle.gateway_hub.specs.Entering.{IsNewLine, IsFreshDesk, Seats, IsGiven, Enters}
 use Rattle.gateway_hub.proofs.HistoryLemmas.{or_none, fall_none}

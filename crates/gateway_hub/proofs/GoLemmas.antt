@@ -1,10 +1,10 @@
 -- Whichever answer a call gives, the hub keeps what it keeps.
 use Rattle.std.proofs.Common.{ℕ, Bool, true, false, List, ◌∷◌, ◌++◌, Option, Some, None, Result, Ok, Err}
 use Rattle.mux_history.specs.Happenings.{Happening, Entry, takes, ends, hears, up_ends}
-use Rattle.gateway_hub.specs.declared.ending.Ending.{Ending}
-use Rattle.gateway_hub.specs.declared.ending.HubFault.{HubFault}
-use Rattle.gateway_hub.specs.declared.ending.HubFault.TheVariants as faults
-use Rattle.gateway_hub.specs.declared.line.Line.{Line}
+use Rattle.hub_places.specs.declared.ending.Ending.{Ending}
+use Rattle.gateway_hub.specs.declared.fault.HubFault.{HubFault}
+use Rattle.gateway_hub.specs.declared.fault.HubFault.TheVariants as faults
+use Rattle.hub_places.specs.declared.line.Line.{Line}
 use Rattle.gateway_hub.specs.declared.desk.Desk.{Desk}
 use Rattle.gateway_hub.specs.declared.seat.Taken.{Taken}
 use Rattle.gateway_hub.specs.declared.seat.Taken.TheVariants.{Done, Empty, Busy, Closed}

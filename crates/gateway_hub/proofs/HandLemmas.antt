@@ -8,11 +8,11 @@ use Rattle.client_ports.specs.Ends.{put_of, fulls_of}
 use Rattle.mux_history.specs.declared.event.Outcome.{Outcome}
 use Rattle.mux_history.specs.declared.event.ToClient.{ToClient}
 use Rattle.mux_history.specs.Happenings.{Happening, Entry, enters, takes, ends, lags, hears, up_ends, pieces_to, sent, is_alive}
-use Rattle.gateway_hub.specs.declared.line.Line.{Line}
-use Rattle.gateway_hub.specs.declared.line.Place.{Place}
-use Rattle.gateway_hub.specs.Closes.{lags_here, lagged}
-use Rattle.gateway_hub.specs.Parcels.{as_parcels}
-use Rattle.gateway_hub.specs.Places.{line_at, PutsInto, HandsOut}
+use Rattle.hub_places.specs.declared.line.Line.{Line}
+use Rattle.hub_places.specs.declared.line.Place.{Place}
+use Rattle.hub_places.specs.Closes.{lags_here, lagged}
+use Rattle.hub_places.specs.Parcels.{as_parcels}
+use Rattle.hub_places.specs.Places.{line_at, PutsInto, HandsOut}
 use Rattle.gateway_hub.specs.Kept.{IsHanded}
 use Rattle.gateway_hub.specs.Taking.{may_hand}
 use Rattle.gateway_hub.proofs.OrderLemmas.{Orders, handed_living}

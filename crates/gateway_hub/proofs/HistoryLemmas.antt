@@ -11,8 +11,8 @@ use Rattle.mux_history.specs.declared.event.UpCause.{UpCause}
 use Rattle.mux_history.specs.Happenings.{Happening, Entry, enters_here, fault_in, entered, closes_of, shut, is_alive}
 use Rattle.mux_history.specs.Cores.{stays_alive}
 use Rattle.mux_history.proofs.CoreLemmas.{alive_after}
-use Rattle.gateway_hub.specs.declared.receipt.Close.{Close}
-use Rattle.gateway_hub.specs.Closes.{is_heard, closing, close_by, close_in, fall_by, fall_in, fall_close}
+use Rattle.hub_places.specs.declared.receipt.Close.{Close}
+use Rattle.hub_places.specs.Closes.{is_heard, closing, close_by, close_in, fall_by, fall_in, fall_close}
 use Rattle.gateway_hub.proofs.OrderLemmas.{Orders, past, falls_down, goes_on, goes_not_all}
 
 -- an entry

@@ -14,16 +14,16 @@ use Rattle.client_ports.specs.Ends.{taken_of}
 use Rattle.mux_history.specs.declared.event.Event.{Event}
 use Rattle.mux_history.specs.declared.event.Event.TheVariants as events
 use Rattle.mux_history.specs.Happenings.{Happening, Entry, ends, hears}
-use Rattle.gateway_hub.specs.declared.ending.HubFault.{HubFault}
-use Rattle.gateway_hub.specs.declared.ending.StopWhy.TheVariants as stops
-use Rattle.gateway_hub.specs.declared.line.Line.{Line}
-use Rattle.gateway_hub.specs.declared.line.Place.{Place}
-use Rattle.gateway_hub.specs.declared.server.Server.{Server}
+use Rattle.gateway_hub.specs.declared.fault.HubFault.{HubFault}
+use Rattle.hub_places.specs.declared.ending.StopWhy.TheVariants as stops
+use Rattle.hub_places.specs.declared.line.Line.{Line}
+use Rattle.hub_places.specs.declared.line.Place.{Place}
+use Rattle.hub_places.specs.declared.server.Server.{Server}
 use Rattle.gateway_hub.specs.declared.desk.Desk.{Desk}
 use Rattle.gateway_hub.specs.Notes.{TellsNotes, StillTells}
-use Rattle.gateway_hub.specs.Parcels.{items_in, waiting, arrival_here, arrivals, heard_here, heard_items, coming}
-use Rattle.gateway_hub.specs.Places.{line_at, receipt_at}
-use Rattle.gateway_hub.specs.Servers.{FetchesUp}
+use Rattle.hub_places.specs.Parcels.{items_in, waiting, arrival_here, arrivals, heard_here, heard_items, coming}
+use Rattle.hub_places.specs.Places.{line_at, receipt_at}
+use Rattle.hub_places.specs.Servers.{FetchesUp}
 use Rattle.gateway_hub.specs.Kept.{TookItems, TookServerItems, Keeps}
 use Rattle.gateway_hub.specs.Taking.{IsUntaken, HasInHand, is_late}
 use Rattle.gateway_hub.specs.Calls.{GivesBack, Refuses, Stays, GrowsBy, Fails, Shuts}

@@ -16,18 +16,18 @@ use Rattle.client_ports.specs.Ends.{put_of, taken_of, fulls_of}
 use Rattle.mux_history.specs.declared.event.Event.{Event}
 use Rattle.mux_history.specs.declared.event.Event.TheVariants as events
 use Rattle.mux_history.specs.Happenings.{Happening, Entry, takes, is_alive}
-use Rattle.gateway_hub.specs.declared.ending.Ending.{Ending}
-use Rattle.gateway_hub.specs.declared.ending.Ending.TheVariants.{Stopped}
-use Rattle.gateway_hub.specs.declared.ending.HubFault.{HubFault}
-use Rattle.gateway_hub.specs.declared.ending.StopWhy.TheVariants as stops
-use Rattle.gateway_hub.specs.declared.receipt.Close.{Close}
-use Rattle.gateway_hub.specs.declared.line.Line.{Line}
-use Rattle.gateway_hub.specs.declared.line.Place.{Place}
-use Rattle.gateway_hub.specs.declared.server.Server.{Server}
+use Rattle.hub_places.specs.declared.ending.Ending.{Ending}
+use Rattle.hub_places.specs.declared.ending.Ending.TheVariants.{Stopped}
+use Rattle.gateway_hub.specs.declared.fault.HubFault.{HubFault}
+use Rattle.hub_places.specs.declared.ending.StopWhy.TheVariants as stops
+use Rattle.hub_places.specs.declared.receipt.Close.{Close}
+use Rattle.hub_places.specs.declared.line.Line.{Line}
+use Rattle.hub_places.specs.declared.line.Place.{Place}
+use Rattle.hub_places.specs.declared.server.Server.{Server}
 use Rattle.gateway_hub.specs.declared.desk.Desk.{Desk}
-use Rattle.gateway_hub.specs.Closes.{fall_close}
-use Rattle.gateway_hub.specs.Parcels.{items_in, waiting, arrival_here, arrivals, heard_items, coming}
-use Rattle.gateway_hub.specs.Places.{line_at, receipt_at, Changes, LineChanges, FetchesLine, PutsFirst}
+use Rattle.hub_places.specs.Closes.{fall_close}
+use Rattle.hub_places.specs.Parcels.{items_in, waiting, arrival_here, arrivals, heard_items, coming}
+use Rattle.hub_places.specs.Places.{line_at, receipt_at, Changes, LineChanges, FetchesLine, PutsFirst}
 use Rattle.gateway_hub.specs.Kept.{TookItems, TookServerItems, IsHanded, IsHandedUp, IsReceipt, AreNumbered, Underway, ArePortsSettled, EndsRightly, Keeps, is_excused, is_server_excused}
 use Rattle.gateway_hub.specs.Taking.{IsUntaken, HasInHand}
 use Rattle.gateway_hub.specs.Calls.{GivesBack, Refuses, Stays, Fails, IsEmptyLine}

@@ -8,13 +8,13 @@ use Rattle.client_ports.specs.Ends.{fulls_of}
 use Rattle.mux_history.specs.declared.event.UpCause.{UpCause}
 use Rattle.mux_history.specs.declared.event.UpWhy.TheVariants as whys
 use Rattle.mux_history.specs.Happenings.{Happening, Entry, enters, takes, ends, lags, hears, up_ends, enters_here, fault_in, is_alive}
-use Rattle.gateway_hub.specs.declared.ending.Ending.{Ending}
-use Rattle.gateway_hub.specs.declared.ending.Ending.TheVariants.{Upstream, Stopped}
+use Rattle.hub_places.specs.declared.ending.Ending.{Ending}
+use Rattle.hub_places.specs.declared.ending.Ending.TheVariants.{Upstream, Stopped}
 use Rattle.gateway_hub.specs.declared.desk.Desk.{Desk}
 use Rattle.gateway_hub.specs.declared.desk.Delivery.{Delivery}
-use Rattle.gateway_hub.specs.Closes.{lags_here, lagged}
+use Rattle.hub_places.specs.Closes.{lags_here, lagged}
 use Rattle.gateway_hub.specs.Endings.{cut_short, stopped_noting, fell_full, is_stopped}
-use Rattle.gateway_hub.specs.Places.{IsRefused, IsSeated}
+use Rattle.hub_places.specs.Places.{IsRefused, IsSeated}
 use Rattle.gateway_hub.specs.Kept.{ArePortsSettled, EndsRightly, KeepsOwing, is_excused}
 use Rattle.gateway_hub.specs.Taking.{IsReadyToTake, owes, TakesOneEvent, is_late, AreLate, SettlesOwed, HasInHand, TakesHubEvent}
 use Rattle.gateway_hub.proofs.HistoryLemmas.{entry, dead_more}

@@ -2,8 +2,6 @@
 pub mod ClosingLemmas
 pub mod EndLemmas
 pub mod EnterLemmas
-pub mod FetchLemmas
-pub mod FrontLemmas
 pub mod GoLemmas
 pub mod HandLemmas
 pub mod HistoryLemmas
@@ -14,7 +12,6 @@ pub mod LateLemmas
 pub mod LineLemmas
 pub mod OrderLemmas
 pub mod OweLemmas
-pub mod PlaceLemmas
 pub mod PutLemmas
 pub mod ReceiptLemmas
 pub mod RetireLemmas

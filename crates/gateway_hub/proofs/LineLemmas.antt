@@ -1,14 +1,13 @@
 -- Lines and receipts after a change of one line.
-use Rattle.std.proofs.Common.{◌≡◌, ◌∙◌, ℕ, Bool, true, false, ◌==◌, List, length, Option, Some, None, refl, sym, ap, subst, inl, inr, Box, Global}
+use Rattle.std.proofs.Common.{◌≡◌, ◌∙◌, ℕ, Bool, true, false, ◌==◌, List, length, Option, Some, None, refl, sym, ap, subst, inl, inr}
 use Rattle.std.specs.Prelude.{◌⊎◌}
 use Rattle.mux_history.specs.declared.event.Closed.{Closed}
 use Rattle.mux_history.specs.declared.event.Closed.TheVariants.{Nobody, One, All}
 use Rattle.mux_history.specs.declared.event.ToClient.{ToClient}
-use Rattle.gateway_hub.specs.declared.receipt.Close.{Close}
-use Rattle.gateway_hub.specs.declared.line.Line.{Line}
-use Rattle.gateway_hub.specs.declared.line.Place.{Place}
-use Rattle.gateway_hub.specs.declared.line.Place.TheVariants.{Seated}
-use Rattle.gateway_hub.specs.Places.{line_of, line_at, receipt_at, Changes, LineChanges, Counts, Closes, PutsBytes, ClosesOne, HandsOut}
+use Rattle.hub_places.specs.declared.receipt.Close.{Close}
+use Rattle.hub_places.specs.declared.line.Line.{Line}
+use Rattle.hub_places.specs.declared.line.Place.{Place}
+use Rattle.hub_places.specs.Places.{line_at, receipt_at, Changes, LineChanges, Counts, Closes, PutsBytes, ClosesOne, HandsOut}
 use Rattle.gateway_hub.specs.Desks.{CountsOne}
 
 -- a line that is there now was there, and was changed so or not at all
@@ -46,11 +45,6 @@ part_twice part before between after first next i now is =
     let b = next i now is in
     let a = first i b.0 b.1 in
     (a.0, a.1, b.2 ∙ a.2)
-
--- A place that has a line changes by it.
-pub seated_changes : (change : Line → Line → Type 0) (place : Place) (boxed : Box Line Global) (line now : Line) → place ≡ Seated boxed → line ≡ boxed.value → change line now → Changes true change (line_of (Some place)) (Some now)
-seated_changes change place boxed line now is same changes =
-    subst (λ (p : Place). Changes true change (line_of (Some p)) (Some now)) (sym is) (now, refl, subst (λ (l : Line). change l now) same changes)
 
 -- the parts of a line that each change keeps
 pub record KeepsRest (before after : List Place) : Type 0 where

@@ -12,24 +12,24 @@ use Rattle.client_ports.specs.Ends.{put_of, fulls_of}
 use Rattle.mux_history.specs.declared.event.UpCause.{UpCause}
 use Rattle.mux_history.specs.declared.event.UpWhy.TheVariants as whys
 use Rattle.mux_history.specs.Happenings.{Happening, Entry, up_ends, fault_in}
-use Rattle.gateway_hub.specs.declared.ending.Ending.{Ending}
-use Rattle.gateway_hub.specs.declared.ending.Ending.TheVariants.{Upstream, Stopped}
-use Rattle.gateway_hub.specs.declared.ending.StopWhy.{StopWhy}
-use Rattle.gateway_hub.specs.declared.ending.StopWhy.TheVariants as stops
+use Rattle.hub_places.specs.declared.ending.Ending.{Ending}
+use Rattle.hub_places.specs.declared.ending.Ending.TheVariants.{Upstream, Stopped}
+use Rattle.hub_places.specs.declared.ending.StopWhy.{StopWhy}
+use Rattle.hub_places.specs.declared.ending.StopWhy.TheVariants as stops
 use Rattle.gate_transcript.specs.declared.recorder.NoteFault.{NoteFault}
 use Rattle.gate_transcript.specs.declared.recorder.NoteFault.TheVariants.{Failed, Memory}
-use Rattle.gateway_hub.specs.declared.line.Line.{Line}
-use Rattle.gateway_hub.specs.declared.line.Place.{Place}
-use Rattle.gateway_hub.specs.declared.receipt.Receipt.{Receipt}
-use Rattle.gateway_hub.specs.declared.server.Server.{Server}
+use Rattle.hub_places.specs.declared.line.Line.{Line}
+use Rattle.hub_places.specs.declared.line.Place.{Place}
+use Rattle.hub_places.specs.declared.receipt.Receipt.{Receipt}
+use Rattle.hub_places.specs.declared.server.Server.{Server}
 use Rattle.gateway_hub.specs.declared.desk.Desk.{Desk}
 use Rattle.gateway_hub.specs.declared.desk.Delivery.{Delivery}
-use Rattle.gateway_hub.specs.Closes.{lagged, close_in, fall_close}
+use Rattle.hub_places.specs.Closes.{lagged, close_in, fall_close}
 use Rattle.gateway_hub.specs.Desks.{ending_by}
 use Rattle.gateway_hub.specs.Endings.{cut_short, stopped_noting, fell_full, is_note_stop, is_stopped}
 use Rattle.gateway_hub.specs.Notes.{StillTells}
-use Rattle.gateway_hub.specs.Parcels.{waiting, arrival_here, arrivals, heard_here, heard_items, coming}
-use Rattle.gateway_hub.specs.Places.{line_at, receipt_at, IsRefused, IsSeated}
+use Rattle.hub_places.specs.Parcels.{waiting, arrival_here, arrivals, heard_here, heard_items, coming}
+use Rattle.hub_places.specs.Places.{line_at, receipt_at, IsRefused, IsSeated}
 use Rattle.gateway_hub.specs.Kept.{TookItems, TookServerItems, IsHanded, IsHandedUp, IsReceipt, AreNumbered, Underway, ArePortsSettled, EndsRightly, KeepsOwing, MayOwe, is_owed, is_excused, is_server_excused}
 use Rattle.gateway_hub.specs.Taking.{IsReadyToTake, owes, TakesOneEvent, IsUntaken, Stops, stop_of, SettlesOwed}
 use Rattle.gateway_hub.proofs.HistoryLemmas.{entry}

@@ -8,12 +8,12 @@ use Rattle.client_ports.specs.declared.parcel.Parcel.TheVariants as parcels
 use Rattle.client_ports.specs.Ends.{put_of}
 use Rattle.mux_history.specs.declared.event.Outcome.{Outcome}
 use Rattle.mux_history.specs.declared.event.ToClient.{ToClient}
-use Rattle.gateway_hub.specs.declared.line.Line.{Line}
-use Rattle.gateway_hub.specs.declared.line.Place.{Place}
+use Rattle.hub_places.specs.declared.line.Line.{Line}
+use Rattle.hub_places.specs.declared.line.Place.{Place}
 use Rattle.gateway_hub.specs.declared.desk.Desk.{Desk}
 use Rattle.gateway_hub.specs.declared.desk.Delivery.{Delivery}
 use Rattle.gateway_hub.specs.Ends.{KeepsLine, EachLine, PutsNothing, PutsMore, PutsFor}
-use Rattle.gateway_hub.specs.Places.{line_at, Changes, LineChanges, PutsBytes, HandsOut, told_full}
+use Rattle.hub_places.specs.Places.{line_at, Changes, LineChanges, PutsBytes, HandsOut, told_full}
 use Rattle.gateway_hub.specs.Desks.{HandsAll, addressee_of, landed_for}
 use Rattle.gateway_hub.proofs.EndLemmas.{changes_twice, each_same, each_one, each_twice, each_counted, each_closed}
 

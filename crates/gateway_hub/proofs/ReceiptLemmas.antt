@@ -17,14 +17,14 @@ use Rattle.mux_history.specs.Happenings.{Happening, Entry, enters, takes, ends, 
 use Rattle.mux_history.specs.Cores.{ever_entered, stays_alive}
 use Rattle.mux_history.specs.Orderly.{IsOrderlyEvent, IsOrderly}
 use Rattle.mux_history.proofs.CoreLemmas.{alive_after, entry_closed, never_part}
-use Rattle.gateway_hub.specs.declared.ending.Ending.{Ending}
-use Rattle.gateway_hub.specs.declared.ending.Ending.TheVariants.{Upstream, Stopped}
-use Rattle.gateway_hub.specs.declared.receipt.Close.{Close}
-use Rattle.gateway_hub.specs.declared.receipt.Receipt.{Receipt}
-use Rattle.gateway_hub.specs.Closes.{is_heard, closing, close_by, close_in, fall_by, fall_in, fall_close, lags_here, lagged}
+use Rattle.hub_places.specs.declared.ending.Ending.{Ending}
+use Rattle.hub_places.specs.declared.ending.Ending.TheVariants.{Upstream, Stopped}
+use Rattle.hub_places.specs.declared.receipt.Close.{Close}
+use Rattle.hub_places.specs.declared.receipt.Receipt.{Receipt}
+use Rattle.hub_places.specs.Closes.{is_heard, closing, close_by, close_in, fall_by, fall_in, fall_close, lags_here, lagged}
 use Rattle.gateway_hub.specs.Desks.{ending_by}
 use Rattle.gateway_hub.specs.Kept.{IsReceipt, HadNothing, AreNumbered, EndsRightly, close_why, by_upstream_of}
-use Rattle.gateway_hub.specs.Parcels.{arrival_here, arrivals}
+use Rattle.hub_places.specs.Parcels.{arrival_here, arrivals}
 use Rattle.gateway_hub.proofs.OrderLemmas.{Orders, past, falls_down, goes_on, handed_living}
 use Rattle.gateway_hub.proofs.HistoryLemmas.{entry, or_none, alive_unclosed, dead_more}
 use Rattle.gateway_hub.proofs.HandLemmas.{handed_same}

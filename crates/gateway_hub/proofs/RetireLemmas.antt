@@ -8,19 +8,19 @@ use Rattle.std.proofs.lemmas.List.{length-set, append_assoc}
 use Rattle.gate_transcript.specs.declared.entry.Entry.{Entry as Noted}
 use Rattle.client_ports.specs.Ends.{put_of, fulls_of}
 use Rattle.mux_history.specs.Happenings.{Entry, ends, is_alive}
-use Rattle.gateway_hub.specs.declared.ending.Ending.{Ending}
-use Rattle.gateway_hub.specs.declared.ending.Ending.TheVariants.{Stopped}
-use Rattle.gateway_hub.specs.declared.receipt.Receipt.{Receipt}
-use Rattle.gateway_hub.specs.declared.line.Line.{Line}
-use Rattle.gateway_hub.specs.declared.line.Place.{Place}
-use Rattle.gateway_hub.specs.declared.line.Place.TheVariants.{Retired}
-use Rattle.gateway_hub.specs.declared.server.Server.{Server}
+use Rattle.hub_places.specs.declared.ending.Ending.{Ending}
+use Rattle.hub_places.specs.declared.ending.Ending.TheVariants.{Stopped}
+use Rattle.hub_places.specs.declared.receipt.Receipt.{Receipt}
+use Rattle.hub_places.specs.declared.line.Line.{Line}
+use Rattle.hub_places.specs.declared.line.Place.{Place}
+use Rattle.hub_places.specs.declared.line.Place.TheVariants.{Retired}
+use Rattle.hub_places.specs.declared.server.Server.{Server}
 use Rattle.gateway_hub.specs.declared.desk.Desk.{Desk}
-use Rattle.gateway_hub.specs.Closes.{fall_close}
-use Rattle.gateway_hub.specs.Places.{line_of, receipt_of, line_at, receipt_at, IsSeated}
+use Rattle.hub_places.specs.Closes.{fall_close}
+use Rattle.hub_places.specs.Places.{line_of, receipt_of, line_at, receipt_at, IsSeated}
 use Rattle.gateway_hub.specs.Kept.{TookServerItems, IsHandedUp, TellsLife, IsReceipt, AreNumbered, EndsRightly, Keeps, is_excused, is_server_excused, close_why, by_upstream_of}
 use Rattle.gateway_hub.specs.Retiring.{receipt_for, stranger_receipt, RetiresBy, RetiresPlace, IsUnended, EndsFirst, RetiresLine, IsSameDesk, RetiresSo}
-use Rattle.gateway_hub.proofs.PlaceLemmas.{found_here, found_other}
+use Rattle.hub_places.proofs.PlaceLemmas.{found_here, found_other}
 use Rattle.gateway_hub.proofs.IdleLemmas.{moved_keeps, idle_in_hand}
 use Rattle.gateway_hub.proofs.TakeLemmas.{living_line}
 use Rattle.gateway_hub.proofs.OweLemmas.{stop_keeps, stopped_since, seated_stopped, rose_some, is_failed, not_spent}

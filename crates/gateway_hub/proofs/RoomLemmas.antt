@@ -2,11 +2,12 @@
 use Rattle.std.proofs.Common.{◌≡◌, ℕ, false, List, Option, None, sym, ap, subst}
 use Rattle.gate_transcript.specs.declared.entry.Entry.{Entry as Noted}
 use Rattle.mux_history.specs.Happenings.{Entry}
-use Rattle.gateway_hub.specs.declared.line.Line.{Line}
-use Rattle.gateway_hub.specs.declared.server.Server.{Server}
+use Rattle.hub_places.specs.declared.line.Line.{Line}
+use Rattle.hub_places.specs.declared.server.Server.{Server}
 use Rattle.gateway_hub.specs.declared.desk.Desk.{Desk}
 use Rattle.gateway_hub.specs.Kept.{TookServerItems, Keeps}
-use Rattle.gateway_hub.specs.Rooms.{IsLookedAt, LooksAt}
+use Rattle.hub_places.specs.Room.{IsLookedAt}
+use Rattle.gateway_hub.specs.Rooms.{LooksAt}
 use Rattle.gateway_hub.proofs.LineLemmas.{part_kept}
 use Rattle.gateway_hub.proofs.StepLemmas.{incoming, took_same}
 use Rattle.gateway_hub.proofs.InwardLemmas.{put_and_fulls, OnlyInward, underway_inward, settled_inward, cause_inward}

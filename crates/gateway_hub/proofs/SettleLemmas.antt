@@ -9,12 +9,12 @@ use Rattle.mux_history.specs.declared.event.Outcome.{Outcome}
 use Rattle.mux_history.specs.declared.event.ToClient.{ToClient}
 use Rattle.mux_history.specs.declared.event.UpCause.{UpCause}
 use Rattle.mux_history.specs.Happenings.{Happening, Entry, fault_in}
-use Rattle.gateway_hub.specs.declared.ending.Ending.{Ending}
-use Rattle.gateway_hub.specs.declared.line.Line.{Line}
-use Rattle.gateway_hub.specs.declared.line.Place.{Place}
-use Rattle.gateway_hub.specs.Closes.{lags_here, lagged}
+use Rattle.hub_places.specs.declared.ending.Ending.{Ending}
+use Rattle.hub_places.specs.declared.line.Line.{Line}
+use Rattle.hub_places.specs.declared.line.Place.{Place}
+use Rattle.hub_places.specs.Closes.{lags_here, lagged}
 use Rattle.gateway_hub.specs.Endings.{cut_short, stopped_noting, fell_full}
-use Rattle.gateway_hub.specs.Places.{line_at, PutsBytes, PutsAll, HandsOut, told_full}
+use Rattle.hub_places.specs.Places.{line_at, PutsBytes, PutsAll, HandsOut, told_full}
 use Rattle.gateway_hub.specs.Kept.{is_owed, is_excused, is_server_excused}
 use Rattle.gateway_hub.specs.Taking.{owes}
 use Rattle.gateway_hub.proofs.HistoryLemmas.{entry}

@@ -13,12 +13,12 @@ use Rattle.mux_history.specs.declared.event.Closed.{Closed}
 use Rattle.mux_history.specs.declared.event.Closed.TheVariants.{Nobody, One, All}
 use Rattle.mux_history.specs.declared.event.Outcome.{Outcome}
 use Rattle.mux_history.specs.Happenings.{Happening, Entry, enters, takes, ends, lags, hears, up_ends, entered}
-use Rattle.gateway_hub.specs.declared.line.Line.{Line}
-use Rattle.gateway_hub.specs.declared.line.Place.{Place}
-use Rattle.gateway_hub.specs.Closes.{is_heard, closing, close_in, fall_by, fall_in, fall_close}
+use Rattle.hub_places.specs.declared.line.Line.{Line}
+use Rattle.hub_places.specs.declared.line.Place.{Place}
+use Rattle.hub_places.specs.Closes.{is_heard, closing, close_in, fall_by, fall_in, fall_close}
 use Rattle.gateway_hub.specs.Notes.{asker_noted}
-use Rattle.gateway_hub.specs.Parcels.{items_in, waiting, arrival_here, arrivals, coming}
-use Rattle.gateway_hub.specs.Places.{line_at, Counts, ClosesOne}
+use Rattle.hub_places.specs.Parcels.{items_in, waiting, arrival_here, arrivals, coming}
+use Rattle.hub_places.specs.Places.{line_at, Counts, ClosesOne}
 use Rattle.gateway_hub.specs.Desks.{CountsOne}
 use Rattle.gateway_hub.specs.Kept.{TookItems}
 use Rattle.gateway_hub.proofs.OrderLemmas.{Orders}

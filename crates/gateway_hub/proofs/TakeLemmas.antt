@@ -24,23 +24,23 @@ use Rattle.mux_history.specs.Happenings.{Happening, Entry, happening_of, enters_
 use Rattle.mux_history.specs.Cores.{IsCoreHistory}
 use Rattle.mux_history.specs.Orderly.{IsOrderly}
 use Rattle.mux_history.proofs.CoreLemmas.{Following, FollowsOrderly, never_part}
-use Rattle.gateway_hub.specs.declared.ending.Ending.{Ending}
-use Rattle.gateway_hub.specs.declared.receipt.Close.{Close}
-use Rattle.gateway_hub.specs.declared.receipt.Receipt.{Receipt}
-use Rattle.gateway_hub.specs.declared.line.Line.{Line}
-use Rattle.gateway_hub.specs.declared.line.Place.{Place}
-use Rattle.gateway_hub.specs.declared.line.Place.TheVariants.{Seated, Retired}
-use Rattle.gateway_hub.specs.declared.server.Server.{Server}
+use Rattle.hub_places.specs.declared.ending.Ending.{Ending}
+use Rattle.hub_places.specs.declared.receipt.Close.{Close}
+use Rattle.hub_places.specs.declared.receipt.Receipt.{Receipt}
+use Rattle.hub_places.specs.declared.line.Line.{Line}
+use Rattle.hub_places.specs.declared.line.Place.{Place}
+use Rattle.hub_places.specs.declared.line.Place.TheVariants.{Seated, Retired}
+use Rattle.hub_places.specs.declared.server.Server.{Server}
 use Rattle.gateway_hub.specs.declared.desk.Desk.{Desk}
 use Rattle.gateway_hub.specs.declared.desk.Delivery.{Delivery}
-use Rattle.gateway_hub.specs.Closes.{is_heard, fall_by, fall_close, lags_here}
+use Rattle.hub_places.specs.Closes.{is_heard, fall_by, fall_close, lags_here}
 use Rattle.gateway_hub.specs.Endings.{fell_full}
 use Rattle.gateway_hub.specs.Notes.{note_of, TellsNotes, StillTells, asker_noted}
 use Rattle.gate_transcript.specs.declared.recorder.NoteFault.{NoteFault}
 use Rattle.gate_transcript.specs.declared.recorder.NoteFault.TheVariants.{Failed, Memory}
 use Rattle.gate_transcript.specs.Notes.{NotesSo}
-use Rattle.gateway_hub.specs.Parcels.{items_in, waiting, coming, heard_items, up_parcels}
-use Rattle.gateway_hub.specs.Places.{line_of, receipt_of, line_at, receipt_at, Changes, LineChanges, Counts, Closes, PutsBytes, ClosesOne, HandsOut, told_full, PutsAll, IsRefused}
+use Rattle.hub_places.specs.Parcels.{items_in, waiting, coming, heard_items, up_parcels}
+use Rattle.hub_places.specs.Places.{line_of, receipt_of, line_at, receipt_at, Changes, LineChanges, Counts, Closes, PutsBytes, ClosesOne, HandsOut, told_full, PutsAll, IsRefused}
 use Rattle.gateway_hub.specs.Desks.{CountsOne, HandsAll, ending_by}
 use Rattle.gateway_hub.specs.Kept.{Underway, AreNumbered, IsReceipt, EndsRightly, TookServerItems, is_excused, is_server_excused}
 use Rattle.gateway_hub.specs.Taking.{may_hand, IsReadyToTake, owes, StepsOn, TakesOneEvent}

@@ -2,7 +2,7 @@
 use Rattle.std.proofs.Common.{◌≡◌, ◌∙◌, ◌<◌, Bool, true, false, List, [], ◌∷◌, ◌++◌, Option, Some, refl, sym, ap, subst, arith}
 use Rattle.std.specs.Prelude.{is_some}
 use Rattle.std.specs.Option.{option_or}
-use Rattle.std.proofs.lemmas.List.{append-nil, append_assoc}
+use Rattle.std.proofs.lemmas.List.{append-nil}
 use Rattle.client_ports.specs.declared.parcel.Parcel.{Parcel}
 use Rattle.client_ports.specs.declared.putter.Putter.{Putter}
 use Rattle.client_ports.specs.Ends.{put_of, fulls_of}
@@ -12,36 +12,12 @@ use Rattle.mux_history.specs.declared.event.UpCause.{UpCause}
 use Rattle.mux_history.specs.declared.event.UpWhy.TheVariants as whys
 use Rattle.mux_history.specs.Happenings.{Happening, Entry, up_ends, fault_in, nothing_up}
 use Rattle.gateway_hub.specs.Endings.{fell_full}
-use Rattle.gateway_hub.specs.Parcels.{answer_parcels, message_parcels, up_parcels, handed_up}
-use Rattle.gateway_hub.specs.Places.{Lacks, PutsAll}
+use Rattle.hub_places.specs.Parcels.{up_parcels, handed_up}
+use Rattle.hub_places.specs.Places.{Lacks, PutsAll}
 use Rattle.gateway_hub.specs.Kept.{IsHandedUp}
 use Rattle.gateway_hub.specs.Taking.{may_ask}
 use Rattle.gateway_hub.proofs.OrderLemmas.{Orders, past, falls_down, goes_on, asked_nothing, full_event}
 use Rattle.gateway_hub.proofs.HistoryLemmas.{entry}
-
--- The answer is put, and then the message.
-append_empty : (one other : List Parcel) → one ++ other ≡ [] → one ≡ []
-append_empty [] other is = refl
-append_empty (p ∷ one) other is = cc
-
-pub hands_front : (up : ToUp) (before after : Putter) (full : Bool) → full ≡ true → PutsAll (answer_parcels up.answer) full before after → PutsAll (up_parcels up) true before after
-hands_front up before after full is puts = record {
-  end = puts.end;
-  front = puts.front;
-  none = λ empty. sym is ∙ puts.none (append_empty (answer_parcels up.answer) (message_parcels up.message) empty);
-  landed = λ no. absurd (cc);
-  refused = λ _.
-      let r = puts.refused is in (
-        record {
-          first = r.0.first;
-          later = r.0.later ++ message_parcels up.message;
-          whole = sym (append_assoc (put_of after) (r.0.first ∷ r.0.later) (message_parcels up.message))
-              ∙ ap (λ (l : List Parcel). l ++ message_parcels up.message) r.0.whole
-              ∙ append_assoc (put_of before) (answer_parcels up.answer) (message_parcels up.message);
-        },
-        r.1,
-      );
-}
 
 some_of : (o : Option UpCause) (cause : UpCause) → o ≡ Some cause → is_some o ≡ true
 some_of o cause is = ap (λ (x : Option UpCause). is_some x) is

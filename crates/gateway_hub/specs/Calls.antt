@@ -11,19 +11,19 @@ use Rattle.mux_history.specs.declared.event.Event.TheVariants.{Client, Up, End, 
 use Rattle.mux_history.specs.declared.event.Outcome.{Outcome}
 use Rattle.mux_history.specs.declared.event.UpWhy.{UpWhy}
 use Rattle.mux_history.specs.Happenings.{Happening, takes, ends, hears, up_ends, Entry, is_alive}
-use Rattle.gateway_hub.specs.declared.ending.Ending.{Ending}
-use Rattle.gateway_hub.specs.declared.ending.Ending.TheVariants.{Upstream, Stopped}
-use Rattle.gateway_hub.specs.declared.ending.HubFault.{HubFault}
-use Rattle.gateway_hub.specs.declared.ending.HubFault.TheVariants as faults
-use Rattle.gateway_hub.specs.declared.ending.StopWhy.TheVariants as stops
+use Rattle.hub_places.specs.declared.ending.Ending.{Ending}
+use Rattle.hub_places.specs.declared.ending.Ending.TheVariants.{Upstream, Stopped}
+use Rattle.gateway_hub.specs.declared.fault.HubFault.{HubFault}
+use Rattle.gateway_hub.specs.declared.fault.HubFault.TheVariants as faults
+use Rattle.hub_places.specs.declared.ending.StopWhy.TheVariants as stops
 use Rattle.gateway_hub.specs.declared.seat.Taken.{Taken}
 use Rattle.gateway_hub.specs.declared.seat.Taken.TheVariants.{Done, Empty, Busy, Closed}
-use Rattle.gateway_hub.specs.declared.line.Line.{Line}
-use Rattle.gateway_hub.specs.declared.line.Place.{Place}
-use Rattle.gateway_hub.specs.declared.server.Server.{Server}
+use Rattle.hub_places.specs.declared.line.Line.{Line}
+use Rattle.hub_places.specs.declared.line.Place.{Place}
+use Rattle.hub_places.specs.declared.server.Server.{Server}
 use Rattle.gateway_hub.specs.declared.desk.Desk.{Desk}
-use Rattle.gateway_hub.specs.Places.{LineChanges, PutsFirst, line_at}
-use Rattle.gateway_hub.specs.Servers.{PutsFirstUp}
+use Rattle.hub_places.specs.Places.{LineChanges, PutsFirst, line_at}
+use Rattle.hub_places.specs.Servers.{PutsFirstUp}
 use Rattle.gateway_hub.specs.Taking.{AreLate, Stops}
 
 -- The item of an event that was not taken is first in line again.

@@ -2,12 +2,12 @@
 use Rattle.std.specs.Prelude.{◌≡◌, ◌≤◌, ℕ, Bool, true, false, ◌&&◌, not, nat_le, is_none, is_some, List, Option, Some}
 use Rattle.mux_history.specs.Happenings.{Entry, is_alive}
 use Rattle.mux_history.specs.Cores.{ever_entered}
-use Rattle.gateway_hub.specs.declared.ending.Ending.{Ending}
-use Rattle.gateway_hub.specs.declared.receipt.Receipt.{Receipt}
-use Rattle.gateway_hub.specs.declared.line.Place.{Place}
-use Rattle.gateway_hub.specs.declared.line.Place.TheVariants.{Seated, Retired}
-use Rattle.gateway_hub.specs.Closes.{close_in}
-use Rattle.gateway_hub.specs.Places.{receipt_at}
+use Rattle.hub_places.specs.declared.ending.Ending.{Ending}
+use Rattle.hub_places.specs.declared.receipt.Receipt.{Receipt}
+use Rattle.hub_places.specs.declared.line.Place.{Place}
+use Rattle.hub_places.specs.declared.line.Place.TheVariants.{Seated, Retired}
+use Rattle.hub_places.specs.Closes.{close_in}
+use Rattle.hub_places.specs.Places.{receipt_at}
 
 -- whether connection i is open: it is alive, and no ending was kept
 abbrev pub is_open_by : ℕ → Option Ending → List Entry → Bool
@@ -15,9 +15,9 @@ is_open_by i ending history = is_none ending && is_alive i history
 
 -- whether a connection is over, by its place: it is retired and not alive, and no more arrived than was pushed, and no more
 -- was taken than was handed
-abbrev pub is_over : List Entry → Place → Bool
-is_over history (Seated line) = false
-is_over history (Retired receipt) = not (is_alive receipt.conn history) && (nat_le receipt.arrived receipt.pushed && nat_le receipt.taken receipt.handed)
+abbrev pub is_place_over : List Entry → Place → Bool
+is_place_over history (Seated line) = false
+is_place_over history (Retired receipt) = not (is_alive receipt.conn history) && (nat_le receipt.arrived receipt.pushed && nat_le receipt.taken receipt.handed)
 
 -- Connection i is over: it was retired, the history closes it, and its receipt has arrived from it no more than was pushed,
 -- and taken by it no more than was handed.

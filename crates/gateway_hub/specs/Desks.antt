@@ -4,14 +4,14 @@ use Rattle.std.specs.Option.{option_or}
 use Rattle.mux_history.specs.declared.event.Outcome.{Outcome}
 use Rattle.mux_history.specs.declared.event.ToClient.{ToClient}
 use Rattle.mux_history.specs.declared.event.UpCause.{UpCause}
-use Rattle.gateway_hub.specs.declared.ending.Ending.{Ending}
-use Rattle.gateway_hub.specs.declared.ending.Ending.TheVariants.{Upstream}
-use Rattle.gateway_hub.specs.declared.line.Place.{Place}
+use Rattle.hub_places.specs.declared.ending.Ending.{Ending}
+use Rattle.hub_places.specs.declared.ending.Ending.TheVariants.{Upstream}
+use Rattle.hub_places.specs.declared.line.Place.{Place}
 use Rattle.gateway_hub.specs.declared.desk.Desk.{Desk}
 use Rattle.gateway_hub.specs.declared.desk.Delivery.{Delivery}
-use Rattle.gateway_hub.specs.Closes.{fall_by}
-use Rattle.gateway_hub.specs.Places.{LineChanges, Counts, ClosesOne, HandsOut}
-use Rattle.gateway_hub.specs.Servers.{HandsUp}
+use Rattle.hub_places.specs.Closes.{fall_by}
+use Rattle.hub_places.specs.Places.{LineChanges, Counts, ClosesOne, HandsOut}
+use Rattle.hub_places.specs.Servers.{HandsUp}
 
 abbrev pub CountsOne : Option ℕ → List Place → List Place → Type 0
 CountsOne None before now = now ≡ before

@@ -2,12 +2,12 @@
 use Rattle.std.specs.Prelude.{Bool, true, false, Option, Some, None}
 use Rattle.mux_history.specs.declared.event.UpCause.{UpCause}
 use Rattle.mux_history.specs.declared.event.UpCause.TheVariants as causes
-use Rattle.gateway_hub.specs.declared.ending.Ending.{Ending}
-use Rattle.gateway_hub.specs.declared.ending.Ending.TheVariants.{Upstream, Stopped}
-use Rattle.gateway_hub.specs.declared.ending.HubFault.{HubFault}
-use Rattle.gateway_hub.specs.declared.ending.HubFault.TheVariants as faults
-use Rattle.gateway_hub.specs.declared.ending.StopWhy.{StopWhy}
-use Rattle.gateway_hub.specs.declared.ending.StopWhy.TheVariants as stops
+use Rattle.hub_places.specs.declared.ending.Ending.{Ending}
+use Rattle.hub_places.specs.declared.ending.Ending.TheVariants.{Upstream, Stopped}
+use Rattle.gateway_hub.specs.declared.fault.HubFault.{HubFault}
+use Rattle.gateway_hub.specs.declared.fault.HubFault.TheVariants as faults
+use Rattle.hub_places.specs.declared.ending.StopWhy.{StopWhy}
+use Rattle.hub_places.specs.declared.ending.StopWhy.TheVariants as stops
 
 -- what a call answers after an ending was kept
 abbrev pub fault_of : Ending → HubFault

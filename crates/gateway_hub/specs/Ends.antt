@@ -5,10 +5,10 @@ use Rattle.client_ports.specs.declared.putter.Putter.{Putter}
 use Rattle.client_ports.specs.declared.taker.Taker.{Taker}
 use Rattle.client_ports.specs.Ends.{put_of, taken_of, takers_port, KeepsPutter}
 use Rattle.client_ports.specs.Rule.{BeginsIn}
-use Rattle.gateway_hub.specs.declared.line.Line.{Line}
-use Rattle.gateway_hub.specs.declared.line.Place.{Place}
+use Rattle.hub_places.specs.declared.line.Line.{Line}
+use Rattle.hub_places.specs.declared.line.Place.{Place}
 use Rattle.gateway_hub.specs.declared.desk.Desk.{Desk}
-use Rattle.gateway_hub.specs.Places.{Changes, line_at}
+use Rattle.hub_places.specs.Places.{Changes, line_at}
 
 -- The taker is of the same port, and what it took before is the first of what it took.
 pub record KeepsTaker (before now : Taker) : Type 0 where

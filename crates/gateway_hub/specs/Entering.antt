@@ -1,18 +1,18 @@
 -- A hub to which nothing happened, and a connection that enters (this project's own).
 use Rattle.std.specs.Prelude.{◌≡◌, ◌⊎◌, ◌<◌, ◌≤◌, List, [], ◌∷◌, ◌++◌, length, Some, None, Result, Ok, Err}
 use Rattle.client_ports.specs.Ends.{put_of, taken_of, fulls_of, capacity_of, OfOnePort}
-use Rattle.gateway_hub.specs.declared.line.Line.{Line}
-use Rattle.gateway_hub.specs.declared.line.Place.{Place}
+use Rattle.hub_places.specs.declared.line.Line.{Line}
+use Rattle.hub_places.specs.declared.line.Place.{Place}
 use Rattle.gateway_hub.specs.declared.desk.Desk.{Desk}
 use Rattle.mux_history.specs.Happenings.{Entry, entering}
-use Rattle.gateway_hub.specs.declared.limits.TheConstants.{MOST_CONNECTIONS, INWARD_CAPACITY, OUTWARD_CAPACITY}
-use Rattle.gateway_hub.specs.declared.ending.Ending.TheVariants.{Stopped}
-use Rattle.gateway_hub.specs.declared.ending.StopWhy.TheVariants as stops
-use Rattle.gateway_hub.specs.declared.ending.HubFault.{HubFault}
-use Rattle.gateway_hub.specs.declared.ending.HubFault.TheVariants as faults
+use Rattle.hub_places.specs.declared.limits.TheConstants.{MOST_CONNECTIONS, INWARD_CAPACITY, OUTWARD_CAPACITY}
+use Rattle.hub_places.specs.declared.ending.Ending.TheVariants.{Stopped}
+use Rattle.hub_places.specs.declared.ending.StopWhy.TheVariants as stops
+use Rattle.gateway_hub.specs.declared.fault.HubFault.{HubFault}
+use Rattle.gateway_hub.specs.declared.fault.HubFault.TheVariants as faults
 use Rattle.gateway_hub.specs.declared.seat.Entered.{Entered}
 use Rattle.gateway_hub.specs.Calls.{HubHistories, Stays, Fails}
-use Rattle.gateway_hub.specs.Places.{line_of}
+use Rattle.hub_places.specs.Places.{line_of}
 
 -- Nothing was put into the ports of a line and nothing taken of them.
 pub record IsNewLine (line : Line) : Type 0 where

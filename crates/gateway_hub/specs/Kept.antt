@@ -8,21 +8,21 @@ use Rattle.client_ports.specs.Ends.{put_of, taken_of, fulls_of}
 use Rattle.mux_history.specs.Happenings.{Entry, entered, sent, is_alive, fault_in}
 use Rattle.mux_history.specs.Cores.{ever_entered}
 use Rattle.std.specs.Option.{option_or}
-use Rattle.gateway_hub.specs.declared.ending.Ending.{Ending}
-use Rattle.gateway_hub.specs.declared.ending.Ending.TheVariants.{Upstream, Stopped}
-use Rattle.gateway_hub.specs.declared.ending.StopWhy.TheVariants.{Spent, Record}
-use Rattle.gateway_hub.specs.declared.limits.TheConstants.{MOST_CONNECTIONS}
-use Rattle.gateway_hub.specs.declared.receipt.Close.{Close}
-use Rattle.gateway_hub.specs.declared.receipt.Receipt.{Receipt}
-use Rattle.gateway_hub.specs.declared.line.Line.{Line}
-use Rattle.gateway_hub.specs.declared.line.Place.{Place}
-use Rattle.gateway_hub.specs.declared.server.Server.{Server}
+use Rattle.hub_places.specs.declared.ending.Ending.{Ending}
+use Rattle.hub_places.specs.declared.ending.Ending.TheVariants.{Upstream, Stopped}
+use Rattle.hub_places.specs.declared.ending.StopWhy.TheVariants.{Spent, Record}
+use Rattle.hub_places.specs.declared.limits.TheConstants.{MOST_CONNECTIONS}
+use Rattle.hub_places.specs.declared.receipt.Close.{Close}
+use Rattle.hub_places.specs.declared.receipt.Receipt.{Receipt}
+use Rattle.hub_places.specs.declared.line.Line.{Line}
+use Rattle.hub_places.specs.declared.line.Place.{Place}
+use Rattle.hub_places.specs.declared.server.Server.{Server}
 use Rattle.gateway_hub.specs.declared.desk.Desk.{Desk}
-use Rattle.gateway_hub.specs.Closes.{close_in, fall_in, fall_close, lagged}
+use Rattle.hub_places.specs.Closes.{close_in, fall_in, fall_close, lagged}
 use Rattle.gateway_hub.specs.Endings.{stopped_noting, fell_full, cut_short}
 use Rattle.gateway_hub.specs.Notes.{TellsNotes}
-use Rattle.gateway_hub.specs.Parcels.{items_in, waiting, arrivals, heard_items, as_parcels, handed_up}
-use Rattle.gateway_hub.specs.Places.{line_at, receipt_at, Lacks, IsRefused}
+use Rattle.hub_places.specs.Parcels.{items_in, waiting, arrivals, heard_items, as_parcels, handed_up}
+use Rattle.hub_places.specs.Places.{line_at, receipt_at, Lacks, IsRefused}
 
 -- The items that were taken as events, and the one that is first in line, are those that the hub took of each port.
 abbrev pub TookItems : List Place → List Entry → Type 0

@@ -1,13 +1,9 @@
-pub mod Closes
 pub mod Endings
 pub mod Ends
 pub mod Entering
 pub mod Notes
-pub mod Parcels
-pub mod Places
 pub mod Desks
 pub mod Retiring
-pub mod Servers
 pub mod Kept
 pub mod Taking
 pub mod Calls

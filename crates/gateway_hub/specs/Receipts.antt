@@ -5,16 +5,16 @@ use Rattle.rtsp_uri.specs.declared.base.Bases.{Bases}
 use Rattle.gate_transcript.specs.declared.entry.Entry.{Entry as Noted}
 use Rattle.mux_history.specs.Happenings.{Entry}
 use Rattle.mux_history.specs.Cores.{IsCoreHistory, ever_entered}
-use Rattle.gateway_hub.specs.declared.ending.Ending.{Ending}
-use Rattle.gateway_hub.specs.declared.receipt.Receipt.{Receipt}
+use Rattle.hub_places.specs.declared.ending.Ending.{Ending}
+use Rattle.hub_places.specs.declared.receipt.Receipt.{Receipt}
 use Rattle.gateway_hub.specs.declared.receipts.Receipts.{Receipts}
-use Rattle.gateway_hub.specs.declared.line.Place.{Place}
-use Rattle.gateway_hub.specs.declared.line.Place.TheVariants.{Seated, Retired}
+use Rattle.hub_places.specs.declared.line.Place.{Place}
+use Rattle.hub_places.specs.declared.line.Place.TheVariants.{Seated, Retired}
 use Rattle.gateway_hub.specs.declared.desk.Desk.{Desk}
-use Rattle.gateway_hub.specs.declared.limits.TheConstants.{MOST_CONNECTIONS}
+use Rattle.hub_places.specs.declared.limits.TheConstants.{MOST_CONNECTIONS}
 use Rattle.gateway_hub.specs.Kept.{TellsLife}
 use Rattle.gateway_hub.specs.Notes.{TellsNotes}
-use Rattle.gateway_hub.specs.Places.{IsSeated, receipt_at}
+use Rattle.hub_places.specs.Places.{IsSeated, receipt_at}
 use Rattle.gateway_hub.specs.Retiring.{receipt_for}
 
 -- the receipts of all connections of a desk

@@ -5,16 +5,16 @@ use Rattle.std.specs.Option.{option_or}
 use Rattle.gate_machine.specs.declared.why.CloseWhy.TheVariants as whys
 use Rattle.mux_history.specs.declared.event.Outcome.{Outcome}
 use Rattle.mux_history.specs.Happenings.{ends, Entry, is_alive}
-use Rattle.gateway_hub.specs.declared.ending.Ending.{Ending}
-use Rattle.gateway_hub.specs.declared.receipt.Receipt.{Receipt}
-use Rattle.gateway_hub.specs.declared.line.Line.{Line}
-use Rattle.gateway_hub.specs.declared.line.Place.{Place}
-use Rattle.gateway_hub.specs.declared.line.Place.TheVariants.{Retired}
+use Rattle.hub_places.specs.declared.ending.Ending.{Ending}
+use Rattle.hub_places.specs.declared.receipt.Receipt.{Receipt}
+use Rattle.hub_places.specs.declared.line.Line.{Line}
+use Rattle.hub_places.specs.declared.line.Place.{Place}
+use Rattle.hub_places.specs.declared.line.Place.TheVariants.{Retired}
 use Rattle.gateway_hub.specs.declared.desk.Desk.{Desk}
 use Rattle.gateway_hub.specs.Calls.{HubHistories}
-use Rattle.gateway_hub.specs.Closes.{fall_close}
+use Rattle.hub_places.specs.Closes.{fall_close}
 use Rattle.gateway_hub.specs.Kept.{close_why, by_upstream_of}
-use Rattle.gateway_hub.specs.Places.{IsSeated, line_at, receipt_at}
+use Rattle.hub_places.specs.Places.{IsSeated, line_at, receipt_at}
 use Rattle.gateway_hub.specs.Taking.{AreLate}
 
 -- the receipt of a connection that has this line, with what its ends came back with

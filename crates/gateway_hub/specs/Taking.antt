@@ -10,18 +10,18 @@ use Rattle.gate_transcript.specs.declared.recorder.NoteFault.{NoteFault}
 use Rattle.gate_transcript.specs.declared.recorder.NoteFault.TheVariants.{Failed, Memory}
 use Rattle.gateway_hub.specs.declared.desk.Desk.{Desk}
 use Rattle.gateway_hub.specs.declared.desk.Delivery.{Delivery}
-use Rattle.gateway_hub.specs.declared.line.Line.{Line}
-use Rattle.gateway_hub.specs.Closes.{lags_here}
+use Rattle.hub_places.specs.declared.line.Line.{Line}
+use Rattle.hub_places.specs.Closes.{lags_here}
 use Rattle.gateway_hub.specs.Desks.{ending_by}
 use Rattle.gateway_hub.specs.Endings.{fell_full}
 use Rattle.gateway_hub.specs.Notes.{StillTells}
-use Rattle.gateway_hub.specs.Parcels.{arrival_here, coming}
-use Rattle.gateway_hub.specs.declared.ending.Ending.TheVariants.{Stopped}
-use Rattle.gateway_hub.specs.declared.ending.StopWhy.{StopWhy}
-use Rattle.gateway_hub.specs.declared.ending.StopWhy.TheVariants as stops
+use Rattle.hub_places.specs.Parcels.{arrival_here, coming}
+use Rattle.hub_places.specs.declared.ending.Ending.TheVariants.{Stopped}
+use Rattle.hub_places.specs.declared.ending.StopWhy.{StopWhy}
+use Rattle.hub_places.specs.declared.ending.StopWhy.TheVariants as stops
 use Rattle.std.specs.Option.{option_or}
 use Rattle.mux_history.specs.declared.event.UpWhy.{UpWhy}
-use Rattle.gateway_hub.specs.Places.{line_at, IsRefused, IsSeated}
+use Rattle.hub_places.specs.Places.{line_at, IsRefused, IsSeated}
 use Rattle.gateway_hub.specs.Kept.{Underway, ArePortsSettled, EndsRightly, KeepsOwing}
 
 -- whether an event may hand bytes to a client, and whether it may hand any to the server

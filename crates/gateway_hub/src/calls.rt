@@ -3,14 +3,14 @@ ghost use Rattle.std.specs.Prelude.{◌≡◌, ◌≤◌, false};
 ghost use Rattle.gateway_hub.specs.Calls.{TakesFirst, TakesFirstUp, Shuts, ShutsUp};
 ghost use Rattle.gateway_hub.specs.Ends.{KeepsEnds};
 ghost use Rattle.gateway_hub.specs.Kept.{Keeps};
-ghost use Rattle.gateway_hub.specs.Places.{line_at};
+ghost use Rattle.hub_places.specs.Places.{line_at};
 ghost use Rattle.gateway_hub.specs.Rooms.{RemembersLast};
 ghost use Rattle.gateway_hub.specs.Taking.{is_full_reason};
 
-use crate::places::{is_seated, next_of};
 use crate::state::State;
 use crate::{HubFault, Recorder, Taken};
 use gateway_mux::{Core, Event, UpWhy};
+use hub_places::{is_seated, next_of};
 use std::alloc::Global;
 use std::sync::Wait;
 

@@ -2,18 +2,18 @@
 ghost use Rattle.std.specs.Prelude.{◌≡◌, List};
 ghost use Rattle.std.specs.List.{list_all};
 ghost use Rattle.mux_history.specs.Happenings.{Entry};
-ghost use Rattle.gateway_hub.specs.Closing.{is_over};
+ghost use Rattle.gateway_hub.specs.Closing.{is_place_over};
 ghost use Rattle.gateway_hub.specs.Receipts.{receipts_of};
 
-use crate::line::Place;
 use crate::state::State;
 use crate::{Receipts, Recorder};
 use gateway_mux::Core;
+use hub_places::Place;
 
 /// Whether a connection is over, by its place: it is retired and not alive, and no more arrived than was pushed, and no more
 /// was taken than was handed.
-fn is_over<M: Core>(core: &M, place: &Place) -> bool
-    ensures { (T : List Entry) → M.stands core.now T → result ≡ is_over T place.now }
+fn is_place_over<M: Core>(core: &M, place: &Place) -> bool
+    ensures { (T : List Entry) → M.stands core.now T → result ≡ is_place_over T place.now }
 {
     match place {
         Place::Seated(_) => false,
@@ -28,10 +28,10 @@ fn is_over<M: Core>(core: &M, place: &Place) -> bool
 impl<M: Core, R: Recorder> State<M, R> {
     /// Whether all connections that entered are over.
     pub fn all_closed(&self) -> bool
-        ensures { (T : List Entry) → M.stands self.now.core T → result ≡ list_all (is_over T) self.now.desk.places.items }
+        ensures { (T : List Entry) → M.stands self.now.core T → result ≡ list_all (is_place_over T) self.now.desk.places.items }
     {
         for place in &self.desk.places {
-            if !is_over(&self.core, place) {
+            if !is_place_over(&self.core, place) {
                 return false;
             }
         }

@@ -5,11 +5,9 @@ ghost use Rattle.gateway_hub.specs.Endings.{is_stopped};
 ghost use Rattle.gateway_hub.specs.Calls.{GivesBack, Refuses};
 ghost use Rattle.gateway_hub.specs.Taking.{Stops};
 
-use crate::line::Place;
-use crate::places::{count_arrival, hand_out, note_close, put_first};
-use crate::server::Server;
 use crate::{Ending, HubFault, NoteFault, StopWhy};
 use gateway_mux::{Event, Outcome, ToClient, UpCause};
+use hub_places::{Place, Server, count_arrival, hand_out, note_close, put_first};
 use std::sync::Wait;
 
 /// All that the hub keeps beside its core and its recorder.

@@ -5,8 +5,6 @@ ghost use Rattle.gateway_hub.specs.Entering.{Enters};
 ghost use Rattle.gateway_hub.specs.Kept.{Keeps, KeepsSome};
 
 use crate::desk::Desk;
-use crate::line::{Line, Place};
-use crate::server::Server;
 use crate::state::State;
 use crate::{
     Entered, HubFault, INWARD_CAPACITY, MOST_CONNECTIONS, OUTWARD_CAPACITY, Recorder, Seat, StopWhy,
@@ -14,6 +12,7 @@ use crate::{
 use client_ports::{Putter, Taker, port};
 use gate_transcript::EntryKind;
 use gateway_mux::Core;
+use hub_places::{Line, Place, Server};
 use std::alloc::Global;
 
 /// A desk at which nothing happened, with the hub's ends of the server's two ports.

@@ -9,27 +9,24 @@
 mod calls;
 mod closing;
 mod desk;
-mod ending;
 mod enter;
+mod fault;
 mod hub;
 mod laws;
-mod limits;
-mod line;
 mod noting;
-mod places;
-mod receipt;
 mod receipts;
 mod retire;
 mod seat;
-mod server;
 mod state;
 
-pub use ending::{Ending, HubFault, StopWhy};
+pub use fault::HubFault;
 pub use gate_transcript::{NoteFault, Recorder};
 pub use hub::Hub;
+pub use hub_places::{
+    Close, Ending, INWARD_CAPACITY, MOST_CONNECTIONS, OUTWARD_CAPACITY, Receipt, SERVER_CAPACITY,
+    SERVER_INWARD_CAPACITY, StopWhy,
+};
 pub use laws::what_was_noted_tells_the_history;
-pub use limits::{INWARD_CAPACITY, MOST_CONNECTIONS, OUTWARD_CAPACITY, SERVER_CAPACITY};
-pub use receipt::{Close, Receipt};
 pub use receipts::Receipts;
 pub use seat::{Entered, Seat, Taken};
 

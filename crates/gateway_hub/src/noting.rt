@@ -1,7 +1,7 @@
 //! The entry that an event is noted by.
 ghost use Rattle.std.specs.Prelude.{◌≡◌};
 ghost use Rattle.mux_history.specs.Happenings.{happening_of};
-ghost use Rattle.gateway_hub.specs.Closes.{is_heard};
+ghost use Rattle.hub_places.specs.Closes.{is_heard};
 ghost use Rattle.gateway_hub.specs.Notes.{noting, note_of, reason_noted, asker_noted};
 ghost use Rattle.gate_transcript.specs.Notes.{NotesSo, HasNoteCause};
 

@@ -1,18 +1,18 @@
 //! How a connection is retired.
 ghost use Rattle.std.specs.Prelude.{◌≡◌, ◌≤◌, length};
 ghost use Rattle.std.specs.Option.{option_or, option_map};
-ghost use Rattle.gateway_hub.specs.Places.{line_at};
+ghost use Rattle.hub_places.specs.Places.{line_at};
 ghost use Rattle.client_ports.specs.Ends.{put_of, taken_of};
-ghost use Rattle.gateway_hub.specs.Closes.{fall_close};
+ghost use Rattle.hub_places.specs.Closes.{fall_close};
 ghost use Rattle.gateway_hub.specs.Ends.{KeepsEnds, KeepsOtherEnds};
 ghost use Rattle.gateway_hub.specs.Kept.{Keeps, close_why, by_upstream_of};
 ghost use Rattle.gateway_hub.specs.Retiring.{EndsFirst, RetiresPlace, RetiresSo, receipt_for, stranger_receipt};
 
-use crate::line::{Line, Place};
 use crate::state::{State, stop_of};
 use crate::{Close, Ending, Receipt, Recorder};
 use client_ports::{Putter, Taker};
 use gateway_mux::{CloseWhy, Core, Event};
+use hub_places::{Line, Place};
 use std::alloc::Global;
 use std::sync::Wait;
 

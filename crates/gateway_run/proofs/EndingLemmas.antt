@@ -16,9 +16,9 @@ use Rattle.gateway_mux.specs.declared.status.Status.{Status}
 use Rattle.gateway_mux.specs.declared.status.Status.TheVariants.{Done, Usage, SourceFault, SinkFault, BadTranscript, Upstream, ListenFault, RecordFault, CrewRefused, Memory, TooLong, AcceptFault, DialFault, NumbersSpent}
 use Rattle.gateway_hub.specs.declared.desk.Desk.{Desk}
 use Rattle.gateway_hub.specs.declared.receipts.Receipts.{Receipts}
-use Rattle.gateway_hub.specs.declared.ending.Ending.{Ending}
-use Rattle.gateway_hub.specs.declared.ending.Ending.TheVariants as endings
-use Rattle.gateway_hub.specs.declared.ending.StopWhy.TheVariants as stops
+use Rattle.hub_places.specs.declared.ending.Ending.{Ending}
+use Rattle.hub_places.specs.declared.ending.Ending.TheVariants as endings
+use Rattle.hub_places.specs.declared.ending.StopWhy.TheVariants as stops
 use Rattle.gateway_hub.specs.Closing.{TellsOver}
 use Rattle.gateway_hub.specs.Kept.{Keeps, KeepsSome, EndsRightly}
 use Rattle.gateway_hub.specs.Receipts.{ClosesWith}

@@ -5,7 +5,7 @@ use Rattle.std.proofs.Math.Bridge.{le_prop}
 use Rattle.gate_transcript.specs.declared.entry.Entry.{Entry as Noted}
 use Rattle.mux_history.specs.Happenings.{Entry}
 use Rattle.gateway_hub.specs.declared.desk.Desk.{Desk}
-use Rattle.gateway_hub.specs.declared.limits.TheConstants.{MOST_CONNECTIONS}
+use Rattle.hub_places.specs.declared.limits.TheConstants.{MOST_CONNECTIONS}
 use Rattle.gateway_hub.specs.declared.receipts.Receipts.{Receipts}
 use Rattle.gateway_hub.specs.Kept.{Keeps, KeepsSome}
 use Rattle.gateway_hub.specs.Receipts.{ClosesWith, receipt_count}

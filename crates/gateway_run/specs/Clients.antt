@@ -3,8 +3,8 @@ use Rattle.std.specs.Prelude.{◌≡◌, ℕ, ◌<◌, Bool, true, false, List, 
 use Rattle.rtsp_head.specs.Items.{items_of}
 use Rattle.gate_machine.specs.declared.why.CloseWhy.TheVariants as closes
 use Rattle.client_ports.specs.declared.parcel.Parcel.{Parcel}
-use Rattle.gateway_hub.specs.declared.ending.Ending.TheVariants as endings
-use Rattle.gateway_hub.specs.declared.receipt.Receipt.{Receipt}
+use Rattle.hub_places.specs.declared.ending.Ending.TheVariants as endings
+use Rattle.hub_places.specs.declared.receipt.Receipt.{Receipt}
 use Rattle.link_reader.specs.Reading.{GaveBytes}
 use Rattle.link_writer.specs.Parcels.{HasWritten}
 use Rattle.gateway_run.specs.declared.client.ClientWhy.{ClientWhy}

@@ -1,6 +1,6 @@
 -- The report at the end of a run: a line for each connection that entered (this project's own).
 use Rattle.std.specs.Prelude.{ℕ, zero, suc, codes, decimal, List, [], ◌∷◌, ◌++◌, Option, Some, None}
-use Rattle.gateway_hub.specs.declared.receipt.Receipt.{Receipt}
+use Rattle.hub_places.specs.declared.receipt.Receipt.{Receipt}
 use Rattle.gateway_hub.specs.declared.receipts.Receipts.{Receipts}
 use Rattle.gateway_hub.specs.Receipts.{last_receipt, receipt_count}
 use Rattle.gateway_replay.specs.Written.{close_byte}

@@ -14,10 +14,10 @@ use Rattle.mux_history.specs.Cores.{IsCoreHistory}
 use Rattle.gateway_mux.specs.declared.status.Status.{Status}
 use Rattle.gateway_mux.specs.declared.status.Status.TheVariants.{Done, SinkFault, Upstream, ListenFault, RecordFault, CrewRefused, Memory, AcceptFault, DialFault, NumbersSpent}
 use Rattle.gateway_hub.specs.declared.desk.Desk.{Desk}
-use Rattle.gateway_hub.specs.declared.ending.Ending.{Ending}
-use Rattle.gateway_hub.specs.declared.ending.Ending.TheVariants as endings
-use Rattle.gateway_hub.specs.declared.ending.StopWhy.TheVariants as stops
-use Rattle.gateway_hub.specs.declared.limits.TheConstants.{MOST_CONNECTIONS}
+use Rattle.hub_places.specs.declared.ending.Ending.{Ending}
+use Rattle.hub_places.specs.declared.ending.Ending.TheVariants as endings
+use Rattle.hub_places.specs.declared.ending.StopWhy.TheVariants as stops
+use Rattle.hub_places.specs.declared.limits.TheConstants.{MOST_CONNECTIONS}
 use Rattle.gateway_hub.specs.declared.receipts.Receipts.{Receipts}
 use Rattle.gateway_hub.specs.Closing.{AreOver}
 use Rattle.gateway_hub.specs.Receipts.{ClosesWith}

@@ -1,7 +1,7 @@
 //! What the workers of a run share.
 ghost use Rattle.std.specs.Prelude.{◌≡◌, ◌≢◌, false};
 ghost use Rattle.gateway_hub.specs.Taking.{is_full_reason};
-ghost use Rattle.gateway_hub.specs.declared.ending.StopWhy.TheVariants as stops;
+ghost use Rattle.hub_places.specs.declared.ending.StopWhy.TheVariants as stops;
 
 use client_ports::Bell;
 use gateway_hub::{Ending, Hub, HubFault, Recorder, StopWhy};

@@ -3,7 +3,7 @@ ghost use Rattle.std.specs.Prelude.{◌≤◌, ◌++◌, ◌∷◌, codes};
 ghost use Rattle.gate_outside.specs.Causes.{HasCause};
 ghost use Rattle.gate_outside.specs.Contents.{WritesAll};
 ghost use Rattle.gateway_hub.specs.Receipts.{receipt_count};
-ghost use Rattle.gateway_hub.specs.declared.limits.TheConstants.{MOST_CONNECTIONS};
+ghost use Rattle.hub_places.specs.declared.limits.TheConstants.{MOST_CONNECTIONS};
 ghost use Rattle.gateway_replay.specs.Written.{close_byte};
 ghost use Rattle.gateway_run.specs.Report.{name_and_number, came_text, went_text, receipt_line, receipt_line_in, lines_below, report_text};
 

@@ -2,31 +2,32 @@
 ghost use Rattle.std.specs.Prelude.{◌≡◌, ◌≢◌, List, [], Some, None, false, length, IfOk};
 ghost use Rattle.client_ports.specs.Ends.{OfOnePort, capacity_of, put_of, taken_of};
 ghost use Rattle.mux_history.specs.Happenings.{Entry};
-ghost use Rattle.gateway_hub.specs.declared.ending.StopWhy.TheVariants as stops;
-ghost use Rattle.gateway_hub.specs.declared.limits.TheConstants.{INWARD_CAPACITY, SERVER_CAPACITY};
+ghost use Rattle.hub_places.specs.declared.ending.StopWhy.TheVariants as stops;
+ghost use Rattle.hub_places.specs.declared.limits.TheConstants.{SERVER_INWARD_CAPACITY, SERVER_CAPACITY};
 ghost use Rattle.gateway_hub.specs.Calls.{TakesFirst, TakesFirstUp, Shuts, ShutsUp, Stays};
 ghost use Rattle.gateway_hub.specs.Closing.{TellsOver, is_open_by};
 ghost use Rattle.gateway_hub.specs.Ends.{KeepsEnds, KeepsOtherEnds};
 ghost use Rattle.gateway_hub.specs.Entering.{IsFreshDesk, Enters};
 ghost use Rattle.gateway_hub.specs.Kept.{Keeps};
 ghost use Rattle.gateway_hub.specs.Notes.{TellsNotes};
-ghost use Rattle.gateway_hub.specs.Places.{line_at};
+ghost use Rattle.hub_places.specs.Places.{line_at};
 ghost use Rattle.gateway_hub.specs.Receipts.{ClosesWith, ClosesSome};
 ghost use Rattle.gateway_hub.specs.Retiring.{RetiresSo};
-ghost use Rattle.gateway_hub.specs.Rooms.{HasRoomFor, LooksAt, RemembersLast};
+ghost use Rattle.hub_places.specs.Room.{HasRoomFor};
+ghost use Rattle.gateway_hub.specs.Rooms.{LooksAt, RemembersLast};
 ghost use Rattle.gateway_hub.specs.Taking.{Stops, is_full_reason};
 
 use super::Hub;
 use crate::enter::fresh_desk;
-use crate::places::room_of;
 use crate::state::State;
 use crate::{
-    Ending, Entered, HubFault, INWARD_CAPACITY, Receipt, Receipts, Recorder, SERVER_CAPACITY, Seat,
-    StopWhy, Taken,
+    Ending, Entered, HubFault, Receipt, Receipts, Recorder, SERVER_CAPACITY,
+    SERVER_INWARD_CAPACITY, Seat, StopWhy, Taken,
 };
 use client_ports::{Putter, Taker, port};
 use gate_bytes::Memory;
 use gateway_mux::{Bases, Core, UpWhy};
+use hub_places::room_of;
 use std::alloc::Global;
 use std::sync::Wait;
 
@@ -48,10 +49,10 @@ impl<M: Core, R: Recorder> Hub<M, R> {
         ensures outward { IfOk result (λ made. OfOnePort made.0.state.desk.server.outward made.2) }
         ensures put { IfOk result (λ made. put_of made.1 ≡ []) }
         ensures taken { IfOk result (λ made. taken_of made.2 ≡ []) }
-        ensures inward_capacity { IfOk result (λ made. capacity_of made.1 ≡ INWARD_CAPACITY) }
+        ensures inward_capacity { IfOk result (λ made. capacity_of made.1 ≡ SERVER_INWARD_CAPACITY) }
         ensures outward_capacity { IfOk result (λ made. capacity_of made.0.state.desk.server.outward ≡ SERVER_CAPACITY) }
     {
-        let (inward, items) = match port(alloc, INWARD_CAPACITY) {
+        let (inward, items) = match port(alloc, SERVER_INWARD_CAPACITY) {
             Ok(ends) => ends,
             Err(memory) => return Err((core, recorder, memory)),
         };

@@ -1,6 +1,6 @@
 use Rattle.std.proofs.Math.Logic.{∥∥₁_map}
 use Rattle.gateway_hub.specs.Kept.{Keeps}
-use Rattle.gateway_hub.specs.Places.{line_at}
+use Rattle.hub_places.specs.Places.{line_at}
 use Rattle.gateway_hub.proofs.GoLemmas.{shuts_go}
 use Rattle.gateway_hub.proofs.hub.Hub.shut.Goals as goal
 

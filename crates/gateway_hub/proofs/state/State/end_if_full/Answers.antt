@@ -6,7 +6,7 @@ use Rattle.gateway_hub.proofs.PutLemmas.{nothing_put}
 use Rattle.std.proofs.Common.{ap, ◌∙◌}
 use Rattle.gateway_hub.specs.declared.desk.Desk.{Desk}
 use Rattle.std.specs.Global.{Vec}
-use Rattle.gateway_hub.specs.declared.line.Place.{Place}
+use Rattle.hub_places.specs.declared.line.Place.{Place}
 use Rattle.gateway_hub.proofs.state.State.end_if_full.Goals as goal
 
 pub returns-in-Ok-clause-settles : goal.returns-in-Ok-clause-settles

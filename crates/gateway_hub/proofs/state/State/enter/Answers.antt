@@ -1,11 +1,11 @@
 use Rattle.std.proofs.Common.{◌≡◌, ◌∙◌, ◌<◌, ◌≤◌, ◌++◌, ℕ, List, [], ◌∷◌, length, Option, Some, Ok, refl, ap, subst, inl, arith}
 use Rattle.std.specs.Option.{option_or}
-use Rattle.gateway_hub.specs.declared.ending.Ending.{Ending}
-use Rattle.gateway_hub.specs.declared.ending.Ending.TheVariants.{Stopped}
-use Rattle.gateway_hub.specs.declared.ending.StopWhy.TheVariants as stops
-use Rattle.gateway_hub.specs.declared.line.Line.{Line}
-use Rattle.gateway_hub.specs.declared.line.Place.{Place}
-use Rattle.gateway_hub.specs.declared.line.Place.TheVariants.{Seated}
+use Rattle.hub_places.specs.declared.ending.Ending.{Ending}
+use Rattle.hub_places.specs.declared.ending.Ending.TheVariants.{Stopped}
+use Rattle.hub_places.specs.declared.ending.StopWhy.TheVariants as stops
+use Rattle.hub_places.specs.declared.line.Line.{Line}
+use Rattle.hub_places.specs.declared.line.Place.{Place}
+use Rattle.hub_places.specs.declared.line.Place.TheVariants.{Seated}
 use Rattle.gateway_hub.specs.Entering.{Seats}
 use Rattle.std.proofs.Math.Logic.{∥∥₁_map}
 use Rattle.std.proofs.lemmas.Result.{err_from_is_err_and}

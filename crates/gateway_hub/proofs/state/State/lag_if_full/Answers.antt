@@ -9,7 +9,7 @@ use Rattle.gateway_hub.proofs.PutLemmas.{nothing_put, puts_twice}
 use Rattle.std.proofs.Common.{ap, refl, ◌∙◌}
 use Rattle.gateway_hub.specs.declared.desk.Desk.{Desk}
 use Rattle.std.specs.Global.{Vec}
-use Rattle.gateway_hub.specs.declared.line.Place.{Place}
+use Rattle.hub_places.specs.declared.line.Place.{Place}
 use Rattle.gateway_hub.proofs.state.State.lag_if_full.Goals as goal
 
 pub returns-then-is_stopped-clause-settles : goal.returns-then-is_stopped-clause-settles

@@ -1,9 +1,9 @@
 use Rattle.std.proofs.Common.{◌≡◌, true, List, refl, sym, subst}
 use Rattle.std.specs.Prelude.{is_some}
-use Rattle.gateway_hub.specs.declared.line.Place.{Place}
+use Rattle.hub_places.specs.declared.line.Place.{Place}
 use Rattle.mux_history.specs.Happenings.{ends}
 use Rattle.gateway_hub.specs.Kept.{Keeps}
-use Rattle.gateway_hub.specs.Places.{line_at}
+use Rattle.hub_places.specs.Places.{line_at}
 use Rattle.gateway_hub.proofs.IdleLemmas.{idle_in_hand, idle_refused, shuts_line}
 use Rattle.gateway_hub.proofs.EndLemmas.{ends_here, ends_twice, refuse_ends}
 use Rattle.gateway_hub.proofs.state.State.shut.Goals as goal

@@ -1,5 +1,5 @@
 use Rattle.std.proofs.Common.{ℕ, Bool, Option, refl, subst}
-use Rattle.gateway_hub.specs.Closes.{is_heard}
+use Rattle.hub_places.specs.Closes.{is_heard}
 use Rattle.gateway_hub.specs.Notes.{note_of}
 use Rattle.gateway_hub.specs.Desks.{HandsAll}
 use Rattle.mux_history.specs.Happenings.{happening_of}

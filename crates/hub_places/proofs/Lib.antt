@@ -1,0 +1,3 @@
+pub mod FetchLemmas
+pub mod FrontLemmas
+pub mod PlaceLemmas
