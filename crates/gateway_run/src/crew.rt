@@ -6,6 +6,7 @@ use crate::common::Common;
 use crate::gate::Gate;
 use crate::meeting::Meeting;
 use crate::stations::station;
+use crate::taking::{Taking, take_on};
 use crate::upstream::{UpBack, Upstream, run_upstream};
 use crate::writing::write_from;
 use gate_bytes::Memory;
@@ -90,7 +91,7 @@ pub struct StationPost<'a, D: Door + Drop> {
     pub buffers: Vec<Buffers>,
 }
 
-/// What the two threads of the server's link work on: their desk, their buffers, and the link.
+/// What the threads of the server's link work on: their desk, their buffers, and the link.
 #[derive(Drop)]
 pub struct ServerPost<'a, I: Inlet + Drop, P: Outlet + Drop> {
     /// The desk.
@@ -181,8 +182,8 @@ where
     )
 }
 
-/// Starts the writer of the server's link, and serves the server's connection in this thread until it is over. Whether a
-/// thread was refused.
+/// Starts the writer of the server's link and the thread that takes what the server said, and serves the server's connection
+/// in this thread until it is over. Whether a thread was refused.
 fn work_server<
     I: Inlet + Drop,
     P: Outlet + Drop,
@@ -198,6 +199,8 @@ where
     M::Plan: Send,
 {
     let met = meeting.meet(common.rt);
+    let taking = Taking::new(common.alloc);
+    let taking = &taking;
     thread::scope(
         thread::scope_env(),
         common.rt,
@@ -218,12 +221,16 @@ where
                 refused = true;
                 desk.close(common.rt);
             }
+            if scope.spawn(move || take_on(common, taking)).is_err() {
+                refused = true;
+            }
             if refused {
                 common.stop(StopWhy::Crew);
             }
             let mut read = read;
-            let back = run_upstream(common, desk, upstream, read.as_mut_slice());
+            let back = run_upstream(common, desk, taking, upstream, read.as_mut_slice());
             desk.close(common.rt);
+            taking.came.ring(common.rt);
             (back, refused)
         },
     )

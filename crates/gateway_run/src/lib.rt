@@ -1,6 +1,7 @@
 //! Running a gateway over real links.
 //!
-//! All threads are made before the first player comes: a reader and a writer for each station, and the same for the server.
+//! All threads are made before the first player comes: a reader and a writer for each station, the same for the server, and
+//! one that takes what the server said while its reader reads on.
 //! A reader has its link by value; it hands the outlet and its end of the port to its writer over a desk, and takes both back
 //! the same way. All events are taken under the lock of one hub.
 #![tactic(auto)]
@@ -10,6 +11,7 @@ mod collecting;
 mod common;
 mod crew;
 mod gate;
+mod life;
 mod meeting;
 mod next;
 mod pace;
@@ -17,6 +19,7 @@ mod reading;
 mod report;
 mod serving;
 mod stations;
+mod taking;
 mod told;
 mod upstream;
 mod writing;

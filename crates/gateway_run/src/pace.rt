@@ -1,9 +1,9 @@
-//! How the server's reader waits for players that are behind.
+//! How whoever takes the server's items waits for players that are behind.
 //!
-//! A port holds far less than a server may send at once. So where a port is nearly full, the server's reader waits a little
-//! for its writer, before more is put. Each player may have some pauses; once it had them, nobody waits for it until all that it
-//! was handed has been written. So a player that takes nothing delays the others only once, and is then found too slow. One
-//! that goes on taking has its pauses back: a burst is no reason to close it.
+//! A port holds far less than a server may send at once. So where a port is nearly full, whoever takes the server's items
+//! waits a little for its writer, before more are taken. Each player may have some pauses; once it had them, nobody waits for
+//! it until all that it was handed has been written. So a player that takes nothing delays the others only once, and is then
+//! found too slow. One that goes on taking has its pauses back: a burst is no reason to close it.
 
 use crate::common::{Common, Due};
 use gateway_hub::{Hub, OUTWARD_CAPACITY, Recorder};
@@ -43,11 +43,12 @@ struct Room {
     parcels: usize,
 }
 
-/// How long which players were waited for, whose port was found to have the least room since the last wait, whose bells are to
-/// ring, and whether an item put nothing for any player.
+/// How long which players were waited for, for whom bytes were put last, whose port was found to have the least room since the
+/// last wait, whose bells are to ring, and whether an item put nothing for any player.
 #[derive(Drop)]
 pub struct Pace {
     spent: Vec<Spent>,
+    handed: Option<u32>,
     least: Option<Room>,
     due: Due,
     nobody: bool,
@@ -58,16 +59,29 @@ impl Pace {
     pub fn new(alloc: Global) -> Pace {
         Pace {
             spent: Vec::new(alloc),
+            handed: None,
             least: None,
             due: Due::new(),
             nobody: false,
         }
     }
 
-    /// Looks how much room the port has into which the hub put something last.
-    pub fn look<M: Core, R: Recorder, W: Wait>(&mut self, rt: &W, hub: &mut Hub<M, R>) {
+    /// Notes for whom the hub put something as it took an item. Where that is another one than for the item before, the port of
+    /// that one is looked at.
+    pub fn note<M: Core, R: Recorder, W: Wait>(&mut self, rt: &W, hub: &mut Hub<M, R>) {
         let Some(conn) = hub.last_handed() else {
             self.nobody = true;
+            return;
+        };
+        if self.handed != Some(conn) {
+            self.look(rt, hub);
+            self.handed = Some(conn);
+        }
+    }
+
+    /// Looks how much room the port has into which something was put last.
+    pub fn look<M: Core, R: Recorder, W: Wait>(&mut self, rt: &W, hub: &mut Hub<M, R>) {
+        let Some(conn) = self.handed.take() else {
             return;
         };
         self.due.add(conn);

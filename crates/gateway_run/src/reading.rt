@@ -13,7 +13,7 @@ use link_writer::Desk;
 use std::sync::Wait;
 use std::thread;
 
-/// How many items of one link are put before they are taken, under one lock.
+/// How many items are taken under one lock, and how many of a player are put before that.
 pub const ITEMS_AT_ONCE: u32 = 16;
 
 /// Why a player's link is read no more.
@@ -62,7 +62,7 @@ pub fn read_on<I: Inlet + Drop, O: Outlet + Drop, M: Core, R: Recorder, W: Wait>
     let bell = common.bells.of(Some(seat.number()));
     for _ in common.rt.forever() {
         let seen = bell.rings(common.rt);
-        let all_put = put_some(common, reader);
+        let all_put = put_some(common, reader, ITEMS_AT_ONCE);
         match take_some(common, seat) {
             Line::More => {}
             Line::Empty if !all_put => {}
@@ -82,17 +82,18 @@ pub fn read_on<I: Inlet + Drop, O: Outlet + Drop, M: Core, R: Recorder, W: Wait>
     unreachable!()
 }
 
-/// Puts the next items that came, as many as are taken under one lock. True where no whole item is left of what came.
+/// Puts the next items that came, so many at most. True where no whole item is left of what came.
 pub fn put_some<I: Inlet + Drop, M: Core, R: Recorder, W: Wait>(
     common: &Common<'_, M, R, W>,
     reader: &mut Reader<I>,
+    most: u32,
 ) -> bool
     ensures inlet { reader.new.inlet ≡ reader.old.inlet }
     ensures reads { (first : Option (List ℕ)) → ReadsItems I.rest first reader.old → ReadsItems I.rest first reader.new }
     ensures front { (first : Option (List ℕ)) → ReadsFront I.rest first reader.old → ReadsFront I.rest first reader.new }
     ensures all { result ≡ true → (first : Option (List ℕ)) → ReadsItems I.rest first reader.old → PutAll I.rest first reader.new }
 {
-    for _ in 0..ITEMS_AT_ONCE {
+    for _ in 0..most {
         match reader.push(common.rt) {
             Push::Put => {}
             Push::Full => return false,

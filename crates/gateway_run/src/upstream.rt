@@ -5,23 +5,32 @@ ghost use Rattle.client_ports.specs.Ends.{put_of, taken_of};
 ghost use Rattle.link_reader.specs.Reading.{ReadsItems, ReadsFront, PutAll, PutAllSo};
 ghost use Rattle.link_writer.specs.Parcels.{HasWritten};
 ghost use Rattle.gateway_run.specs.declared.upstream.HearEnd.TheVariants as ends;
-ghost use Rattle.gateway_run.specs.declared.upstream.Heard.TheVariants as heard;
+ghost use Rattle.gateway_run.specs.declared.taking.Heard.TheVariants as heard;
 ghost use Rattle.link_reader.specs.Promise.{BeginsGiven};
 ghost use Rattle.std.specs.Option.{option_map};
 
 use crate::collecting::collect;
 use crate::common::Common;
-use crate::pace::Pace;
-use crate::reading::{ITEMS_AT_ONCE, put_some};
+use crate::life::Life;
+use crate::reading::put_some;
+use crate::taking::{Heard, Taking, take_all, take_few};
 use client_ports::{Putter, Taker};
 use gate_outside::{Inlet, Outlet};
-use gateway_hub::{Hub, HubFault, Recorder, StopWhy};
+use gateway_hub::{Recorder, StopWhy};
 use gateway_mux::{Core, UpWhy};
 use link_reader::{Read, Reader};
 use link_writer::{Desk, Writer};
 use std::sync::Wait;
 use std::thread;
-use std::time::Clock;
+use std::time::{Clock, Duration};
+
+/// So many items, or fewer, are few. A read that is full has more frames of 1,400 bytes than this: where fewer came nothing was
+/// left behind, and the thread that read them takes them, since waking another one would take longer.
+const FEW_ITEMS: u32 = 184;
+
+/// How long the reader pauses where the server's port is full, in microseconds: for less than it takes to take what the port
+/// holds.
+const FULL_PAUSE_MICROS: u64 = 50;
 
 /// The server's link, and its ends of the hub's ports. It keeps that nothing was put, taken or written.
 #[derive(Drop)]
@@ -82,24 +91,13 @@ enum HearEnd {
     Memory,
 }
 
-/// What came of taking what the server said.
-#[derive(Clone, Copy, PartialEq, Eq)]
-enum Heard {
-    /// An item was taken, and more may be in line.
-    More,
-    /// Nothing is left in line.
-    Empty,
-    /// An ending was kept.
-    Kept,
-    /// Memory was wanting.
-    Memory,
-}
-
 /// Serves the server's connection until an ending is kept: reads what it says and has it taken, while the writer of this desk
-/// writes what it is handed. Nothing was read from the inlet or written to the outlet before.
+/// writes what it is handed, and a thread beside this one takes where much comes. Nothing was read from the inlet
+/// or written to the outlet before.
 pub fn run_upstream<I: Inlet + Drop, O: Outlet + Drop, M: Core, R: Recorder, W: Wait + Clock>(
     common: &Common<'_, M, R, W>,
     desk: &Desk<O>,
+    taking: &Taking,
     upstream: Upstream<I, O>,
     buffer: &mut [u8],
 ) -> UpBack<I, O>
@@ -119,7 +117,7 @@ pub fn run_upstream<I: Inlet + Drop, O: Outlet + Drop, M: Core, R: Recorder, W: 
     } = upstream;
     let mut reader = Reader::new(common.alloc, inlet, inward);
     let writer = Writer::new(None, outlet, outward);
-    let (end, writer) = hear_link(common, desk, &mut reader, writer, buffer);
+    let (end, writer) = hear_link(common, desk, taking, &mut reader, writer, buffer);
     let run = run_of(end, writer.has_failed());
     let (inlet, inward) = reader.into_ends();
     let (outlet, outward) = writer.into_ends();
@@ -149,6 +147,7 @@ fn run_of(end: HearEnd, write_failed: bool) -> UpRun
 fn hear_link<I: Inlet + Drop, O: Outlet + Drop, M: Core, R: Recorder, W: Wait + Clock>(
     common: &Common<'_, M, R, W>,
     desk: &Desk<O>,
+    taking: &Taking,
     reader: &mut Reader<I>,
     writer: Writer<O>,
     buffer: &mut [u8],
@@ -164,7 +163,7 @@ fn hear_link<I: Inlet + Drop, O: Outlet + Drop, M: Core, R: Recorder, W: Wait + 
         // Nobody writes.
         Err(writer) => return (HearEnd::Kept, writer),
     }
-    let end = hear_on(common, desk, reader, buffer);
+    let end = hear_on(common, desk, taking, reader, buffer);
     tell_end(common, end);
     (end, collect(common, desk, reader))
 }
@@ -183,6 +182,7 @@ fn tell_end<M: Core, R: Recorder, W: Wait>(common: &Common<'_, M, R, W>, end: He
 fn hear_on<I: Inlet + Drop, O: Outlet + Drop, M: Core, R: Recorder, W: Wait + Clock>(
     common: &Common<'_, M, R, W>,
     desk: &Desk<O>,
+    taking: &Taking,
     reader: &mut Reader<I>,
     buffer: &mut [u8],
 ) -> HearEnd
@@ -194,77 +194,62 @@ fn hear_on<I: Inlet + Drop, O: Outlet + Drop, M: Core, R: Recorder, W: Wait + Cl
     ensures all { result ≡ ends.Ended → (first : Option (List ℕ)) → ReadsItems I.rest first reader.old → PutAll I.rest first reader.new }
     ensures failed { result ≡ ends.Failed → Rose (I.faults reader.old.inlet) (I.faults reader.new.inlet) }
 {
-    let mut pace = Pace::new(common.alloc);
+    let mut life = Life::new();
     for _ in common.rt.forever() {
-        match take_all(common, reader, &mut pace) {
-            Heard::More => {}
-            Heard::Empty => {
-                if let Some(end) = hear_more(common, desk, reader, buffer) {
-                    return end;
-                }
-            }
+        match put_all(common, taking, &mut life, reader) {
+            Heard::Empty => {}
             Heard::Kept => return HearEnd::Kept,
             Heard::Memory => return HearEnd::Memory,
+        }
+        if let Some(end) = hear_more(common, desk, reader, buffer) {
+            return end_after_rest(common, taking, end);
         }
     }
     unreachable!()
 }
 
-/// Has all taken that came of the server, and wakes whoever may wait for what came of it.
-fn take_all<I: Inlet + Drop, M: Core, R: Recorder, W: Wait + Clock>(
+/// Puts all that came of the server, and has it taken: here where little came, and else by the thread beside this one.
+fn put_all<I: Inlet + Drop, M: Core, R: Recorder, W: Wait + Clock>(
     common: &Common<'_, M, R, W>,
+    taking: &Taking,
+    life: &mut Life,
     reader: &mut Reader<I>,
-    pace: &mut Pace,
 ) -> Heard
     ensures inlet { reader.new.inlet ≡ reader.old.inlet }
     ensures reads { (first : Option (List ℕ)) → ReadsItems I.rest first reader.old → ReadsItems I.rest first reader.new }
     ensures front { (first : Option (List ℕ)) → ReadsFront I.rest first reader.old → ReadsFront I.rest first reader.new }
     ensures all { result ≡ heard.Empty → (first : Option (List ℕ)) → ReadsItems I.rest first reader.old → PutAll I.rest first reader.new }
 {
+    if put_some(common, reader, FEW_ITEMS) {
+        return take_few(common, taking, life);
+    }
     for _ in common.rt.forever() {
-        let all_put = put_some(common, reader);
-        let heard = take_some(common, pace);
-        pace.tell_over(common);
-        match heard {
-            Heard::More => pace.wait(common),
-            Heard::Empty if !all_put => {}
-            heard => {
-                pace.wake(common);
-                return heard;
-            }
+        let all_put = put_some(common, reader, u32::MAX);
+        taking.came.ring(common.rt);
+        if life.is_over(common, None) {
+            return Heard::Kept;
         }
+        if all_put {
+            return Heard::Empty;
+        }
+        thread::sleep(common.rt, Duration::from_micros(FULL_PAUSE_MICROS));
     }
     unreachable!()
 }
 
-/// Has what is in line taken, under one lock.
-fn take_some<M: Core, R: Recorder, W: Wait>(
+/// Has all taken that was put, before it is told why the link is read no more.
+fn end_after_rest<M: Core, R: Recorder, W: Wait + Clock>(
     common: &Common<'_, M, R, W>,
-    pace: &mut Pace,
-) -> Heard {
-    let mut hub = common.hub.lock(common.rt);
-    for _ in 0..ITEMS_AT_ONCE {
-        match take_one(common, &mut hub) {
-            Heard::More => pace.look(common.rt, &mut hub),
-            heard => return heard,
-        }
-    }
-    Heard::More
-}
-
-/// Has the first item in line taken.
-fn take_one<M: Core, R: Recorder, W: Wait>(
-    common: &Common<'_, M, R, W>,
-    hub: &mut Hub<M, R>,
-) -> Heard {
-    match hub.take_up(common.alloc, common.rt) {
-        Ok(true) => Heard::More,
-        Ok(false) => Heard::Empty,
-        Err(HubFault::Memory) => {
-            hub.stop(StopWhy::Memory);
-            Heard::Memory
-        }
-        Err(HubFault::Ended(_) | HubFault::Stopped(_) | HubFault::RecordFault) => Heard::Kept,
+    taking: &Taking,
+    end: HearEnd,
+) -> HearEnd
+    ensures end { result ≡ ends.Ended → end ≡ ends.Ended }
+    ensures failed { result ≡ ends.Failed → end ≡ ends.Failed }
+{
+    let heard = take_all(common, &mut taking.pace.lock(common.rt));
+    match heard {
+        Heard::Memory => HearEnd::Memory,
+        Heard::Empty | Heard::Kept => end,
     }
 }
 

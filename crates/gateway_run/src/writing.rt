@@ -1,6 +1,7 @@
 //! The threads that write: each serves one link after another, as a desk hands them over.
 
 use crate::common::Common;
+use crate::life::Life;
 use gate_outside::Outlet;
 use gateway_hub::Recorder;
 use gateway_mux::{Core, UpWhy};
@@ -22,37 +23,6 @@ pub fn write_from<O: Outlet + Drop, M: Core, R: Recorder, W: Wait>(
         let writer = write_out(common, writer, &mut gather);
         desk.give_back(common.rt, writer);
         bell.ring(common.rt);
-    }
-}
-
-/// Whether a link is over, as far as its writer knows.
-#[derive(Clone, Copy)]
-struct Life {
-    over: bool,
-    asked: Option<u64>,
-}
-
-impl Life {
-    /// The hub was not asked yet.
-    fn new() -> Life {
-        Life {
-            over: false,
-            asked: None,
-        }
-    }
-
-    /// Whether the link with this number is over. The hub is asked only where that may have changed.
-    fn is_over<M: Core, R: Recorder, W: Wait>(
-        &mut self,
-        common: &Common<'_, M, R, W>,
-        conn: Option<u32>,
-    ) -> bool {
-        let rings = common.bells.over.rings(common.rt);
-        if self.asked != Some(rings) {
-            self.asked = Some(rings);
-            self.over = !common.is_open(conn);
-        }
-        self.over
     }
 }
 

@@ -1,6 +1,6 @@
 use Rattle.std.proofs.Common.{◌≡◌, ℕ, List, Option}
 use Rattle.link_reader.specs.Reading.{ReadsItems, ReadsFront}
-use Rattle.gateway_run.proofs.upstream.take_all.Given as goal
+use Rattle.gateway_run.proofs.upstream.put_all.Given as goal
 
 -- nothing more was read, and what was put is still the first of the items that came
 abbrev pub invariant-loop : goal.invariant-loop
