@@ -38,7 +38,8 @@ kept_more old now item h =
 cut_first : (left : List ℕ) (e : Extent) → first_extent left ≡ Some e → cut left ≡ behind (is_bad e.span.kind) (shape_at left e) (cut (drop (e.skipped + e.span.len) left))
 cut_first left e h = cut_step left ∙ ap (λ (o : Option Extent). cut_with o left cut) h
 
-joins : (now : List Item) (item : Item) (shape : Shape) (later : List Shape) → shape_of item ≡ shape → shapes (now ++ item ∷ []) ++ later ≡ shapes now ++ (shape ∷ later)
+-- an item at the end of the queue, and those behind it
+pub joins : (now : List Item) (item : Item) (shape : Shape) (later : List Shape) → shape_of item ≡ shape → shapes (now ++ item ∷ []) ++ later ≡ shapes now ++ (shape ∷ later)
 joins now item shape later h =
     ap (λ (front : List Shape). front ++ later) (map_push shape_of now item)
     ∙ append_assoc (shapes now) (shape_of item ∷ []) later

@@ -4,6 +4,7 @@ pub mod CutLemmas
 pub mod LineLemmas
 pub mod AloneLemmas
 pub mod CuttingLemmas
+pub mod EndedLemmas
 pub mod FramedLemmas
 pub mod FaultLemmas
 pub mod WholeLemmas

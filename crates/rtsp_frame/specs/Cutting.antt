@@ -28,6 +28,10 @@ pub record Fed (old new : List Item) (held left piece : List ℕ) (goes_on : Boo
 abbrev pub Same : List Item → List Item → List ℕ → List ℕ → Type 0
 Same old new held left = (new ≡ old) × (left ≡ held)
 
+-- Nothing changed but that some items stand behind those that waited.
+abbrev pub IsUndone : List Item → List Item → List ℕ → List ℕ → Type 0
+IsUndone old new held left = (take (length old) new ≡ old) × (left ≡ held)
+
 -- The bytes are one whole item, and nothing else.
 pub record IsWhole (bytes : List ℕ) (span : Span) : Type 0 where
   pub first : first_extent bytes ≡ Some (record { skipped = 0; span = span })

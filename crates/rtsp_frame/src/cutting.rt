@@ -2,18 +2,20 @@
 ghost use Rattle.std.specs.Prelude.{◌≡◌, ◌++◌, Some, [], length, take, drop, ◌≤◌, IfOk, IfSome, OnErr};
 ghost use Rattle.rtsp_head.specs.Items.{first_extent, shape_at};
 ghost use Rattle.rtsp_head.specs.Shapes.{shape_of};
-ghost use Rattle.rtsp_frame.specs.Cutting.{Joined, Fed, Same, IsWhole};
+ghost use Rattle.rtsp_frame.specs.Cutting.{Joined, Fed, Same, IsUndone, IsWhole};
 
 use crate::extent::{blank_lines, first_extent};
-use gate_bytes::{Memory, Text, after, before};
+use gate_bytes::{Memory, after, before};
 use rtsp_head::{Extent, Item, Span};
 use std::alloc::Global;
 use std::collections::VecDeque;
+use text_pool::TextPool;
 
 /// Cuts what was held and a piece that follows it, and keeps what is left of both. Whether the
 /// stream goes on: it does not where the last item is bad. Where memory is wanting, nothing changes.
 pub fn feed(
     alloc: Global,
+    pool: &mut TextPool,
     waiting: &mut VecDeque<Item>,
     rest: &mut Vec<u8>,
     piece: &[u8],
@@ -24,15 +26,30 @@ pub fn feed(
         Same waiting.old.items waiting.new.items rest.old.items rest.new.items) }
 {
     if rest.is_empty() {
-        feed_fresh(alloc, waiting, rest, piece)
+        return feed_fresh(alloc, pool, waiting, rest, piece);
+    }
+    let missing = missing_of_frame(rest.as_slice());
+    if 0 < missing && missing <= piece.len() {
+        feed_ended(alloc, pool, waiting, rest, piece, missing)
     } else {
-        feed_more(alloc, waiting, rest, piece)
+        feed_more(alloc, pool, waiting, rest, piece)
+    }
+}
+
+/// How many bytes the frame at the front lacks; 0 where it has too few bytes to tell, or no frame stands there.
+fn missing_of_frame(bytes: &[u8]) -> usize {
+    match bytes {
+        [b'$', _, high, low, ..] => {
+            (4 + 256 * usize::from(*high) + usize::from(*low)).saturating_sub(bytes.len())
+        }
+        _ => 0,
     }
 }
 
 /// The same where nothing was held: the items are cut straight from the piece.
 fn feed_fresh(
     alloc: Global,
+    pool: &mut TextPool,
     waiting: &mut VecDeque<Item>,
     rest: &mut Vec<u8>,
     piece: &[u8],
@@ -44,7 +61,7 @@ fn feed_fresh(
         Same waiting.old.items waiting.new.items rest.old.items rest.new.items) }
 {
     let waited = waiting.len();
-    let Some(used) = cut(alloc, waiting, piece)? else {
+    let Some(used) = cut(alloc, pool, waiting, piece)? else {
         return Ok(false);
     };
     if rest.extend_from_slice(after(piece, used)).is_err() {
@@ -54,9 +71,69 @@ fn feed_fresh(
     Ok(true)
 }
 
+/// The same where something was held that these first bytes of the piece end: that item alone is joined, and the others are cut
+/// straight from the piece.
+fn feed_ended(
+    alloc: Global,
+    pool: &mut TextPool,
+    waiting: &mut VecDeque<Item>,
+    rest: &mut Vec<u8>,
+    piece: &[u8],
+    ends: usize,
+) -> Result<bool, Memory>
+    requires { ends ≤ length piece.now }
+    ensures ok { IfOk result (λ goes_on.
+        Fed waiting.old.items waiting.new.items rest.old.items rest.new.items piece.now goes_on) }
+    ensures err { OnErr result (
+        Same waiting.old.items waiting.new.items rest.old.items rest.new.items) }
+{
+    let waited = waiting.len();
+    let result = feed_joined(alloc, pool, waiting, rest, piece, ends);
+    if result.is_err() {
+        waiting.truncate(waited);
+    }
+    result
+}
+
+/// The same, where items that were cut already may stay when memory is wanting.
+fn feed_joined(
+    alloc: Global,
+    pool: &mut TextPool,
+    waiting: &mut VecDeque<Item>,
+    rest: &mut Vec<u8>,
+    piece: &[u8],
+    ends: usize,
+) -> Result<bool, Memory>
+    requires { ends ≤ length piece.now }
+    ensures ok { IfOk result (λ goes_on.
+        Fed waiting.old.items waiting.new.items rest.old.items rest.new.items piece.now goes_on) }
+    ensures err { OnErr result (
+        IsUndone waiting.old.items waiting.new.items rest.old.items rest.new.items) }
+{
+    let joined = pool.join(alloc, rest.as_slice(), before(piece, ends))?;
+    let Some(span) = whole(joined.as_bytes()) else {
+        return feed_more(alloc, pool, waiting, rest, piece);
+    };
+    waiting.push_back(Item {
+        kind: span.kind,
+        bytes: joined,
+        head: span.head,
+    })?;
+    if span.kind.is_bad() {
+        return Ok(false);
+    }
+    let more = after(piece, ends);
+    let Some(used) = cut_on(alloc, pool, waiting, more)? else {
+        return Ok(false);
+    };
+    *rest = Vec::from_slice(alloc, after(more, used))?;
+    Ok(true)
+}
+
 /// The same where something was held: the piece joins it in place.
 fn feed_more(
     alloc: Global,
+    pool: &mut TextPool,
     waiting: &mut VecDeque<Item>,
     rest: &mut Vec<u8>,
     piece: &[u8],
@@ -68,7 +145,7 @@ fn feed_more(
 {
     let held = rest.len();
     rest.extend_from_slice(piece)?;
-    match cut(alloc, waiting, rest.as_slice()) {
+    match cut(alloc, pool, waiting, rest.as_slice()) {
         Ok(Some(used)) => {
             drop_front(rest, used);
             Ok(true)
@@ -96,12 +173,17 @@ fn drop_front(bytes: &mut Vec<u8>, count: usize)
 
 /// Cuts the items of these bytes, which join the queue. How many bytes they took, with the empty
 /// lines behind them; none where the last of them is bad. Where memory is wanting, nothing changes.
-fn cut(alloc: Global, waiting: &mut VecDeque<Item>, bytes: &[u8]) -> Result<Option<usize>, Memory>
+fn cut(
+    alloc: Global,
+    pool: &mut TextPool,
+    waiting: &mut VecDeque<Item>,
+    bytes: &[u8],
+) -> Result<Option<usize>, Memory>
     ensures ok { IfOk result (λ used. Joined waiting.old.items waiting.new.items bytes.now used) }
     ensures err { OnErr result (waiting.new.items ≡ waiting.old.items) }
 {
     let waited = waiting.len();
-    let result = cut_on(alloc, waiting, bytes);
+    let result = cut_on(alloc, pool, waiting, bytes);
     if result.is_err() {
         waiting.truncate(waited);
     }
@@ -111,6 +193,7 @@ fn cut(alloc: Global, waiting: &mut VecDeque<Item>, bytes: &[u8]) -> Result<Opti
 /// The same, where items that were cut already may stay when memory is wanting.
 fn cut_on(
     alloc: Global,
+    pool: &mut TextPool,
     waiting: &mut VecDeque<Item>,
     bytes: &[u8],
 ) -> Result<Option<usize>, Memory>
@@ -120,7 +203,7 @@ fn cut_on(
     let mut used = 0;
     let mut left = bytes;
     while let Some(extent) = first_extent(left) {
-        waiting.push_back(copy_item(alloc, left, extent)?)?;
+        waiting.push_back(copy_item(alloc, pool, left, extent)?)?;
         if extent.span.kind.is_bad() {
             return Ok(None);
         }
@@ -132,14 +215,19 @@ fn cut_on(
 }
 
 /// The first item of a stream.
-fn copy_item(alloc: Global, stream: &[u8], extent: Extent) -> Result<Item, Memory>
+fn copy_item(
+    alloc: Global,
+    pool: &mut TextPool,
+    stream: &[u8],
+    extent: Extent,
+) -> Result<Item, Memory>
     requires { first_extent stream.now ≡ Some extent }
     ensures { IfOk result (λ item. shape_of item ≡ shape_at stream.now extent) }
 {
     let bytes = before(after(stream, extent.skipped), extent.span.len);
     Ok(Item {
         kind: extent.span.kind,
-        bytes: Text::copy(alloc, bytes)?,
+        bytes: pool.copy(alloc, bytes)?,
         head: extent.span.head,
     })
 }

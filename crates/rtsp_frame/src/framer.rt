@@ -10,6 +10,7 @@ use rtsp_head::{Item, Span};
 use std::alloc::Global;
 use std::collections::VecDeque;
 use std::marker::Model;
+use text_pool::TextPool;
 
 /// Takes a stream piece by piece, and gives its items in order.
 ///
@@ -19,6 +20,7 @@ use std::marker::Model;
 pub struct Framer {
     waiting: VecDeque<Item>,
     rest: Option<Vec<u8>>,
+    pool: TextPool,
 }
 
 impl Model for Framer {
@@ -42,7 +44,15 @@ impl Framer {
         Framer {
             waiting: VecDeque::new(alloc),
             rest: Some(Vec::new(alloc)),
+            pool: TextPool::new(alloc),
         }
+    }
+
+    /// Takes texts that are done with, in whose memory those of the next items are made. What is given is the same.
+    pub fn refill(&mut self, pool: &mut TextPool)
+        ensures { self.new ≡ self.old }
+    {
+        self.pool.refill(pool);
     }
 
     /// Takes the next piece of the stream. Where memory is wanting it was not taken, and nothing
@@ -55,7 +65,7 @@ impl Framer {
         let Some(rest) = &mut self.rest else {
             return Ok(());
         };
-        if !cutting::feed(alloc, &mut self.waiting, rest, piece)? {
+        if !cutting::feed(alloc, &mut self.pool, &mut self.waiting, rest, piece)? {
             self.rest = None;
         }
         Ok(())

@@ -37,6 +37,25 @@ fn every_cut_gives_the_same_item(rt: HostRuntime) -> Result<(), Fail> {
 }
 
 #[test]
+fn every_cut_gives_the_same_frames(rt: HostRuntime) -> Result<(), Fail> {
+    let alloc = rt.alloc();
+    let (first, second) = (b"$\x01\0\x02ab".as_slice(), b"$\x02\0\x01c".as_slice());
+    let stream = b"$\x01\0\x02ab$\x02\0\x01c".as_slice();
+    for at in 0..12 {
+        let (front, back) = stream.split_at(at);
+        let mut framer = Framer::new(alloc);
+        framer.feed(alloc, front)?;
+        framer.feed(alloc, back)?;
+        for want in [first, second] {
+            let item = framer.next().ok_or("no item")?;
+            assert_eq!(rt; item.bytes.as_bytes(), want, "cut at {at}");
+        }
+        assert_eq!(rt; next(&mut framer), None, "cut at {at}");
+    }
+    Ok(())
+}
+
+#[test]
 fn a_piece_that_is_taken_gives_the_next_item(rt: HostRuntime) -> Result<(), Fail> {
     let alloc = rt.alloc();
     let mut framer = Framer::new(alloc);

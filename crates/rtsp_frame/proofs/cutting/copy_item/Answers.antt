@@ -16,7 +16,7 @@ before-bytes-requires c =
 pub invariant_of-result : goal.invariant_of-result
 invariant_of-result c =
     let copied : c.in_ok-copy.field-0 ≡ take c.args.extent.span.len (drop c.args.extent.skipped c.args.stream.now) =
-    c.in_ok-copy.ensures ∙ c.before-bytes.ensures ∙ ap (take c.args.extent.span.len) c.after.ensures in
+    c.in_ok-copy.ensures.copy ∙ c.before-bytes.ensures ∙ ap (take c.args.extent.span.len) c.after.ensures in
     record {
       whole = subst (λ (text : List ℕ). first_extent text ≡ Some (record { skipped = 0; span = record { kind = c.args.extent.span.kind; len = length text; head = c.args.extent.span.head } }))
           (sym copied) (first_alone c.args.stream.now c.args.extent c.requires);
