@@ -9,6 +9,7 @@ use gateway_mux::{Core, UpWhy};
 use std::alloc::Global;
 use std::array;
 use std::sync::{Mutex, Wait};
+use text_pool::TextPool;
 
 /// How many bells the players' connections have. Each is shared by those whose numbers leave the same rest.
 const PLAYER_BELLS: usize = 16;
@@ -43,9 +44,11 @@ impl Bells {
         }
     }
 
-    /// Rings that of the server's connection, and those that are due, which are due no longer.
+    /// Rings those that are due, which are due no longer.
     pub fn ring_due<W: Wait>(&self, rt: &W, due: &mut Due) {
-        self.server.ring(rt);
+        if due.server {
+            self.server.ring(rt);
+        }
         for place in 0..PLAYER_BELLS {
             if due.players[place] {
                 self.players[place].ring(rt);
@@ -64,9 +67,11 @@ impl Bells {
     }
 }
 
-/// Which bells of players' connections are to ring.
+/// Which bells are to ring.
 #[derive(Clone, Copy)]
 pub struct Due {
+    /// Whether that of the server's connection is.
+    pub server: bool,
     players: [bool; PLAYER_BELLS],
 }
 
@@ -74,6 +79,7 @@ impl Due {
     /// None of them.
     pub fn new() -> Due {
         Due {
+            server: false,
             players: [false; PLAYER_BELLS],
         }
     }
@@ -84,7 +90,8 @@ impl Due {
     }
 }
 
-/// What the workers of a run share: the hub under its lock, and the bells that ring when a worker may have something to do.
+/// What the workers of a run share: the hub under its lock, the bells that ring when a worker may have something to do, and the
+/// texts that are done with.
 /// It holds references alone, so that each worker has one of its own.
 #[derive(Drop)]
 pub struct Common<'a, M: Core, R: Recorder, W: Wait> {
@@ -96,6 +103,8 @@ pub struct Common<'a, M: Core, R: Recorder, W: Wait> {
     pub hub: &'a Mutex<Hub<M, R>>,
     /// The bells.
     pub bells: &'a Bells,
+    /// The texts that writers are done with, in whose memory those of the server's items are made.
+    pub spent: &'a Mutex<TextPool>,
 }
 
 impl<'a, M: Core, R: Recorder, W: Wait> Common<'a, M, R, W> {

@@ -44,13 +44,15 @@ struct Room {
 }
 
 /// How long which players were waited for, for whom bytes were put last, whose port was found to have the least room since the
-/// last wait, whose bells are to ring, and whether an item put nothing for any player.
+/// last wait, whose bells are to ring, how many parcels had been put for the server, and whether an item put nothing for any
+/// player.
 #[derive(Drop)]
 pub struct Pace {
     spent: Vec<Spent>,
     handed: Option<u32>,
     least: Option<Room>,
     due: Due,
+    asked: u64,
     nobody: bool,
 }
 
@@ -62,6 +64,7 @@ impl Pace {
             handed: None,
             least: None,
             due: Due::new(),
+            asked: 0,
             nobody: false,
         }
     }
@@ -94,6 +97,15 @@ impl Pace {
         }
     }
 
+    /// Looks whether something was put for the server.
+    pub fn look_up<M: Core, R: Recorder>(&mut self, hub: &Hub<M, R>) {
+        let asked = hub.asked();
+        if asked != self.asked {
+            self.asked = asked;
+            self.due.server = true;
+        }
+    }
+
     /// Tells that a link may be over, where an item put nothing for any player: its port may have been full.
     pub fn tell_over<M: Core, R: Recorder, W: Wait>(&mut self, common: &Common<'_, M, R, W>) {
         if self.nobody {
@@ -102,7 +114,7 @@ impl Pace {
         }
     }
 
-    /// Wakes the server's writer, and those for whom something was put.
+    /// Wakes those for whom something was put.
     pub fn wake<M: Core, R: Recorder, W: Wait>(&mut self, common: &Common<'_, M, R, W>) {
         common.bells.ring_due(common.rt, &mut self.due);
     }

@@ -23,6 +23,7 @@ use std::alloc::Global;
 use std::sync::{Mutex, Wait};
 use std::thread::Threads;
 use std::time::Clock;
+use text_pool::TextPool;
 
 /// The port of a server that names none (RFC 7826, 20.2; RFC 2326, 3.2).
 const RTSP_PORT: u16 = 554;
@@ -223,6 +224,7 @@ where
     let hub = Mutex::new(hub);
     let gate = Mutex::new(gate);
     let bells = Bells::new();
+    let spent = Mutex::new(TextPool::new(alloc));
     let Crew {
         desks,
         server_desk,
@@ -234,6 +236,7 @@ where
         alloc,
         hub: &hub,
         bells: &bells,
+        spent: &spent,
     };
     let stations = StationPost {
         gate: &gate,

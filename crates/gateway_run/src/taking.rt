@@ -132,6 +132,7 @@ fn take_some<M: Core, R: Recorder, W: Wait>(
         pace.note(common.rt, &mut hub);
     }
     pace.look(common.rt, &mut hub);
+    pace.look_up(&hub);
     heard
 }
 

@@ -269,6 +269,7 @@ fn hear_more<I: Inlet + Drop, O: Outlet + Drop, M: Core, R: Recorder, W: Wait>(
     ensures all { result ≡ Some ends.Ended → (first : Option (List ℕ)) → PutAll I.rest first reader.old → PutAll I.rest first reader.new }
     ensures failed { result ≡ Some ends.Failed → Rose (I.faults reader.old.inlet) (I.faults reader.new.inlet) }
 {
+    reader.refill(&mut common.spent.lock(common.rt));
     match reader.read(common.alloc, buffer) {
         Read::Came => None,
         Read::End => Some(HearEnd::Ended),

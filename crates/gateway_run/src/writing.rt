@@ -39,7 +39,7 @@ fn write_out<O: Outlet + Drop, M: Core, R: Recorder, W: Wait>(
     for _ in common.rt.forever() {
         let seen = bell.rings(common.rt);
         match writer.turn(common.rt, gather) {
-            Turn::Wrote => {}
+            Turn::Wrote => gather.give_spent(&mut common.spent.lock(common.rt)),
             Turn::Failed => {
                 tell_failure(common, writer.conn());
                 break;

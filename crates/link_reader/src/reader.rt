@@ -15,6 +15,7 @@ use rtsp_frame::Framer;
 use rtsp_head::Item;
 use std::alloc::Global;
 use std::sync::Wait;
+use text_pool::TextPool;
 
 /// What comes in by one link: an inlet, whose bytes are framed into items, and the end of the port into which they are put.
 #[derive(Drop)]
@@ -79,6 +80,17 @@ impl<I: Inlet> Reader<I> {
             Ok(Got::NotYet) => Read::NotYet,
             Err(Failed) => Read::Failed,
         }
+    }
+
+    /// Takes texts that are done with, in whose memory those of the next items are made.
+    pub fn refill(&mut self, pool: &mut TextPool)
+        ensures inlet { self.new.inlet ≡ self.old.inlet }
+        ensures framer { self.new.framer ≡ self.old.framer }
+        ensures inward { self.new.inward ≡ self.old.inward }
+        ensures waiting { self.new.waiting ≡ self.old.waiting }
+        ensures over { self.new.over ≡ self.old.over }
+    {
+        self.framer.refill(pool);
     }
 
     /// Puts the next item that came into the port. Where that is full the item waits here, and is the next one again. It

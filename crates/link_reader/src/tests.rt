@@ -7,6 +7,7 @@ use gate_outside::{MemoryInlet, Numbers, Part, Parts, Script};
 use std::alloc::Global;
 use std::sync::Wait;
 use std::test::Fail;
+use text_pool::TextPool;
 
 // Three frames of one, two and no bytes, and the front of a fourth.
 const STREAM: &[u8] = b"$\x00\x00\x01a$\x01\x00\x02bc$\x02\x00\x00$\x03";
@@ -58,6 +59,9 @@ fn push_all(rt: &impl Wait, reader: &mut Reader<MemoryInlet>) -> Push {
 fn read_all(rt: &impl Wait, alloc: Global, piece: usize) -> Result<(Text, bool, u64), Fail> {
     let (putter, mut taker) = port(alloc, 2)?;
     let mut reader = Reader::new(alloc, inlet(alloc, STREAM, piece)?, putter);
+    let mut spent = TextPool::new(alloc);
+    spent.keep(Text::copy(alloc, &[0; 600])?);
+    reader.refill(&mut spent);
     let mut buffer = [0u8; 100];
     let mut came = Text::new(alloc);
     let mut full = false;

@@ -74,6 +74,7 @@ fn gather_more<O: Sink, R: Wait>(
             return Ok(());
         };
         add(outlet, gather, bytes_of(&parcel))?;
+        gather.keep(parcel);
     }
     Ok(())
 }
@@ -116,7 +117,10 @@ impl<O: Outlet> Ends<O> {
             return Turn::Idle;
         };
         match self.write_from(rt, gather, &first) {
-            Ok(()) => Turn::Wrote,
+            Ok(()) => {
+                gather.keep(first);
+                Turn::Wrote
+            }
             Err(Failed) => {
                 self.failed = true;
                 Turn::Failed

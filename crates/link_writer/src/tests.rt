@@ -8,6 +8,7 @@ use gate_outside::{MemoryOutlet, Numbers, Outlet, Script};
 use std::alloc::Global;
 use std::sync::Wait;
 use std::test::Fail;
+use text_pool::TextPool;
 
 // A script of large pieces, whose calls with these numbers fail.
 fn script(alloc: Global, fails: &[u64]) -> Result<Script, Fail> {
@@ -56,13 +57,15 @@ fn shared_desk<O: Outlet + Drop>(desk: &Desk<O>) -> &Desk<O> {
 fn parcels_are_written_in_turns(rt: HostRuntime) -> Result<(), Fail> {
     let alloc = rt.alloc();
     let mut gather = Gather::new(alloc)?;
-    let cases: [(&[usize], &[u64], Turn, usize); 4] = [
-        (&[], &[], Turn::Idle, 0),
-        (&[3, 65_534, 70_000, 2], &[], Turn::Wrote, 135_539),
-        (&[3, 65_534], &[0], Turn::Failed, 0),
-        (&[3, 65_534], &[1], Turn::Failed, 3),
+    // How many texts are kept of a turn, beside what is written.
+    let cases: [(&[usize], &[u64], Turn, usize, usize); 5] = [
+        (&[], &[], Turn::Idle, 0, 0),
+        (&[3, 65_534, 70_000, 2], &[], Turn::Wrote, 135_539, 0),
+        (&[600, 700], &[], Turn::Wrote, 1_300, 2),
+        (&[3, 65_534], &[0], Turn::Failed, 0, 0),
+        (&[3, 65_534], &[1], Turn::Failed, 3, 0),
     ];
-    for (sizes, fails, turn, written) in cases {
+    for (sizes, fails, turn, written, spent) in cases {
         let (_, mut writer) = writer(alloc, &rt, sizes, fails)?;
         assert_eq!(rt; writer.turn(&rt, &mut gather), turn);
         writer.shut();
@@ -70,6 +73,9 @@ fn parcels_are_written_in_turns(rt: HostRuntime) -> Result<(), Fail> {
         let (outlet, _) = writer.into_ends();
         assert_eq!(rt; outlet.as_bytes().len(), written);
         assert!(rt; outlet.is_shut());
+        let mut pool = TextPool::new(alloc);
+        gather.give_spent(&mut pool);
+        assert_eq!(rt; pool.len(), spent);
     }
     Ok(())
 }

@@ -122,6 +122,13 @@ impl<M: Core, R: Recorder> Hub<M, R> {
         self.state.last.take()
     }
 
+    /// How many parcels were put for the server's writer.
+    pub fn asked(&self) -> u64
+        ensures { result ≡ length (put_of self.now.state.desk.server.outward) }
+    {
+        self.state.desk.server.outward.count()
+    }
+
     /// How many parcels more the port for a connection's client took at one moment of the call; `OUTWARD_CAPACITY` where the
     /// hub never gave the number, or has retired it.
     pub fn room<W: Wait>(&mut self, rt: &W, conn: u32) -> usize

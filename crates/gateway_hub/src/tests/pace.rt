@@ -16,6 +16,11 @@ fn room_is(rt: &impl Wait, hub: &mut TestHub, conn: u32, wanted: usize) -> bool 
     hub.room(rt, conn) == wanted
 }
 
+// Whether so many parcels were put for the server.
+fn asked_is(hub: &TestHub, wanted: u64) -> bool {
+    hub.asked() == wanted
+}
+
 // Whether the connection of a seat is open.
 fn is_open(hub: &TestHub, seat: &Seat) -> bool {
     hub.is_open(seat.number())
@@ -29,6 +34,7 @@ fn the_last_client_is_told_once_and_its_room(rt: HostRuntime) -> Result<(), Fail
     let mut second = enter(alloc, &mut hub).expect(&rt, "the second enters");
     assert!(rt; both_ask(&rt, alloc, &mut hub, &mut first, &mut second));
     assert!(rt; none_handed(&mut hub));
+    assert!(rt; asked_is(&hub, 2));
     assert!(rt; both_are_granted(&rt, alloc, &mut hub, &mut says));
     assert!(rt; last_is(&mut hub, 1));
     assert!(rt; none_handed(&mut hub));
