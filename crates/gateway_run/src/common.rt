@@ -8,6 +8,7 @@ use gateway_hub::{Ending, Hub, HubFault, Recorder, StopWhy};
 use gateway_mux::{Core, UpWhy};
 use std::alloc::Global;
 use std::array;
+use std::sync::atomic::{AtomicU64, Ordering};
 use std::sync::{Mutex, Wait};
 use text_pool::TextPool;
 
@@ -21,9 +22,9 @@ pub struct Bells {
     players: [Bell; PLAYER_BELLS],
     /// Rings after a change that the server's writer may wait for.
     server: Bell,
-    /// Rings before all of those after each change by which a link may be over. So a writer asks the hub only then, whose lock
-    /// the server's reader has most of the time.
-    pub over: Bell,
+    /// How often a link may have come to be over. So a writer asks the hub only after that, whose lock the server's reader has
+    /// most of the time.
+    overs: AtomicU64,
 }
 
 impl Bells {
@@ -32,7 +33,7 @@ impl Bells {
         Bells {
             players: array::from_fn(|_| Bell::new()),
             server: Bell::new(),
-            over: Bell::new(),
+            overs: AtomicU64::new(0),
         }
     }
 
@@ -57,9 +58,14 @@ impl Bells {
         *due = Due::new();
     }
 
-    /// Rings all.
+    /// How often a link may have come to be over. It is counted before all bells ring for it.
+    pub fn overs(&self) -> u64 {
+        self.overs.load(Ordering::SeqCst)
+    }
+
+    /// Rings all, since a link may be over.
     fn ring_all<W: Wait>(&self, rt: &W) {
-        self.over.ring(rt);
+        self.overs.fetch_add(1, Ordering::SeqCst);
         self.server.ring(rt);
         for bell in &self.players {
             bell.ring(rt);

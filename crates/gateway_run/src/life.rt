@@ -28,9 +28,9 @@ impl Life {
         common: &Common<'_, M, R, W>,
         conn: Option<u32>,
     ) -> bool {
-        let rings = common.bells.over.rings(common.rt);
-        if self.asked != Some(rings) {
-            self.asked = Some(rings);
+        let overs = common.bells.overs();
+        if self.asked != Some(overs) {
+            self.asked = Some(overs);
             self.over = !common.is_open(conn);
         }
         self.over

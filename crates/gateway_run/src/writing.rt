@@ -7,6 +7,7 @@ use gateway_hub::Recorder;
 use gateway_mux::{Core, UpWhy};
 use link_writer::{Desk, Gather, Turn, Writer};
 use std::sync::Wait;
+use text_pool::TextPool;
 
 /// Writes for one link after another, as the desk hands them over, until the desk is closed.
 pub fn write_from<O: Outlet + Drop, M: Core, R: Recorder, W: Wait>(
@@ -15,12 +16,13 @@ pub fn write_from<O: Outlet + Drop, M: Core, R: Recorder, W: Wait>(
     gather: Gather,
 ) {
     let mut gather = gather;
+    let mut spent = TextPool::new(common.alloc);
     for _ in common.rt.forever() {
         let Some(writer) = desk.take(common.rt) else {
             return;
         };
         let bell = common.bells.of(writer.conn());
-        let writer = write_out(common, writer, &mut gather);
+        let writer = write_out(common, writer, &mut gather, &mut spent);
         desk.give_back(common.rt, writer);
         bell.ring(common.rt);
     }
@@ -32,14 +34,15 @@ fn write_out<O: Outlet + Drop, M: Core, R: Recorder, W: Wait>(
     common: &Common<'_, M, R, W>,
     writer: Writer<O>,
     gather: &mut Gather,
+    spent: &mut TextPool,
 ) -> Writer<O> {
     let mut writer = writer;
     let mut life = Life::new();
     let bell = common.bells.of(writer.conn());
     for _ in common.rt.forever() {
         let seen = bell.rings(common.rt);
-        match writer.turn(common.rt, gather) {
-            Turn::Wrote => gather.give_spent(&mut common.spent.lock(common.rt)),
+        match writer.turn(common.rt, gather, spent) {
+            Turn::Wrote => common.spent.lock(common.rt).keep_all(spent),
             Turn::Failed => {
                 tell_failure(common, writer.conn());
                 break;

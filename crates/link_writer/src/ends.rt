@@ -10,6 +10,7 @@ use crate::{Gather, MOST_PARCELS, Turn};
 use client_ports::{Parcel, Taker};
 use gate_outside::{Failed, Outlet, Sink, write_all};
 use std::sync::Wait;
+use text_pool::TextPool;
 
 /// An outlet, and the end of the port whose parcels are written to it.
 #[derive(Drop)]
@@ -27,6 +28,14 @@ fn bytes_of(parcel: &Parcel) -> &[u8]
     match parcel {
         Parcel::Item(item) => item.bytes.as_bytes(),
         Parcel::Bytes(text) => text.as_bytes(),
+    }
+}
+
+/// Keeps the text of a parcel that is done with.
+fn keep(spent: &mut TextPool, parcel: Parcel) {
+    match parcel {
+        Parcel::Item(item) => spent.keep(item.bytes),
+        Parcel::Bytes(text) => spent.keep(text),
     }
 }
 
@@ -57,12 +66,13 @@ fn add<O: Sink>(outlet: &mut O, gather: &mut Gather, bytes: &[u8]) -> Result<(),
     write_all(outlet, bytes)
 }
 
-/// Gathers the parcels that are there, so many at most. Where the buffer is full they are written.
+/// Gathers the parcels that are there, so many at most, and keeps their texts. Where the buffer is full they are written.
 fn gather_more<O: Sink, R: Wait>(
     rt: &R,
     outlet: &mut O,
     taker: &mut Taker,
     gather: &mut Gather,
+    spent: &mut TextPool,
 ) -> Result<(), Failed>
     ensures port { takers_port taker.new ≡ takers_port taker.old }
     ensures told { told_of taker.new ≡ told_of taker.old }
@@ -74,7 +84,7 @@ fn gather_more<O: Sink, R: Wait>(
             return Ok(());
         };
         add(outlet, gather, bytes_of(&parcel))?;
-        gather.keep(parcel);
+        keep(spent, parcel);
     }
     Ok(())
 }
@@ -85,6 +95,7 @@ impl<O: Outlet> Ends<O> {
         &mut self,
         rt: &R,
         gather: &mut Gather,
+        spent: &mut TextPool,
         first: &Parcel,
     ) -> Result<(), Failed>
         ensures port { takers_port self.new.taker ≡ takers_port self.old.taker }
@@ -95,12 +106,12 @@ impl<O: Outlet> Ends<O> {
     {
         gather.clear();
         add(&mut self.outlet, gather, bytes_of(first))?;
-        gather_more(rt, &mut self.outlet, &mut self.taker, gather)?;
+        gather_more(rt, &mut self.outlet, &mut self.taker, gather, spent)?;
         write_out(&mut self.outlet, gather)
     }
 
-    /// Writes the parcels that are there, where the outlet has not failed.
-    pub fn turn<R: Wait>(&mut self, rt: &R, gather: &mut Gather) -> Turn
+    /// Writes the parcels that are there, where the outlet has not failed. Texts that were written go to the pool.
+    pub fn turn<R: Wait>(&mut self, rt: &R, gather: &mut Gather, spent: &mut TextPool) -> Turn
         ensures port { takers_port self.new.taker ≡ takers_port self.old.taker }
         ensures told { told_of self.new.taker ≡ told_of self.old.taker }
         ensures failed { self.new.failed ≡ is_failure result }
@@ -116,9 +127,9 @@ impl<O: Outlet> Ends<O> {
         let Some(first) = self.taker.take(rt) else {
             return Turn::Idle;
         };
-        match self.write_from(rt, gather, &first) {
+        match self.write_from(rt, gather, spent, &first) {
             Ok(()) => {
-                gather.keep(first);
+                keep(spent, first);
                 Turn::Wrote
             }
             Err(Failed) => {

@@ -3,21 +3,17 @@ ghost use Rattle.std.specs.Prelude.{◌≡◌, ◌≤◌, ◌+◌, [], ◌++◌,
 ghost use Rattle.std.specs.Bool.{OnTrue, OnFalse};
 ghost use Rattle.std.specs.Vec.{vec_capacity};
 
-use client_ports::Parcel;
 use gate_bytes::Memory;
 use std::alloc::Global;
 use std::marker::Model;
-use text_pool::TextPool;
 
 /// The most bytes that are gathered before they are written (this project's own).
 pub const BUFFER_SIZE: usize = 65_536;
 
-/// A buffer of [`BUFFER_SIZE`] bytes, made once by a thread for all that it writes, and the texts that it is done with.
-/// Contracts see it as the bytes in it.
+/// A buffer of [`BUFFER_SIZE`] bytes, made once by a thread for all that it writes. Contracts see it as the bytes in it.
 #[derive(Drop)]
 pub struct Gather {
     bytes: Vec<u8>,
-    spent: TextPool,
     ghost fits: { length bytes.items ≤ 65536 },
     ghost room: { 65536 ≤ vec_capacity bytes },
 }
@@ -37,25 +33,7 @@ impl Gather {
     {
         Ok(Gather {
             bytes: Vec::with_capacity(alloc, BUFFER_SIZE)?,
-            spent: TextPool::new(alloc),
         })
-    }
-
-    /// Gives the texts that it is done with to a pool.
-    pub fn give_spent(&mut self, pool: &mut TextPool)
-        ensures { self.new ≡ self.old }
-    {
-        pool.keep_all(&mut self.spent);
-    }
-
-    /// Keeps the text of a parcel, which it is done with.
-    pub(crate) fn keep(&mut self, parcel: Parcel)
-        ensures { self.new ≡ self.old }
-    {
-        match parcel {
-            Parcel::Item(item) => self.spent.keep(item.bytes),
-            Parcel::Bytes(text) => self.spent.keep(text),
-        }
     }
 
     /// The bytes in it.

@@ -67,14 +67,13 @@ fn parcels_are_written_in_turns(rt: HostRuntime) -> Result<(), Fail> {
     ];
     for (sizes, fails, turn, written, spent) in cases {
         let (_, mut writer) = writer(alloc, &rt, sizes, fails)?;
-        assert_eq!(rt; writer.turn(&rt, &mut gather), turn);
+        let mut pool = TextPool::new(alloc);
+        assert_eq!(rt; writer.turn(&rt, &mut gather, &mut pool), turn);
         writer.shut();
         assert_eq!(rt; writer.has_failed(), turn == Turn::Failed);
         let (outlet, _) = writer.into_ends();
         assert_eq!(rt; outlet.as_bytes().len(), written);
         assert!(rt; outlet.is_shut());
-        let mut pool = TextPool::new(alloc);
-        gather.give_spent(&mut pool);
         assert_eq!(rt; pool.len(), spent);
     }
     Ok(())

@@ -9,6 +9,7 @@ use crate::{Gather, Turn};
 use client_ports::Taker;
 use gate_outside::Outlet;
 use std::sync::Wait;
+use text_pool::TextPool;
 
 /// What goes out by one link: the outlet, and the end of the port whose parcels are written to it.
 ///
@@ -46,8 +47,9 @@ impl<O: Outlet> Writer<O> {
     }
 
     /// Takes the parcels that are there, and writes their bytes: all in one write, where they fit into the buffer. No more
-    /// than [`MOST_PARCELS`](crate::MOST_PARCELS) are taken. It takes no memory, and does nothing where the outlet has failed.
-    pub fn turn<R: Wait>(&mut self, rt: &R, gather: &mut Gather) -> Turn
+    /// than [`MOST_PARCELS`](crate::MOST_PARCELS) are taken. Their texts go to the pool. It takes no memory but the pool's, and
+    /// does nothing where the outlet has failed.
+    pub fn turn<R: Wait>(&mut self, rt: &R, gather: &mut Gather, spent: &mut TextPool) -> Turn
         ensures conn { self.new.conn ≡ self.old.conn }
         ensures port { takers_port self.new.ends.taker ≡ takers_port self.old.ends.taker }
         ensures told { told_of self.new.ends.taker ≡ told_of self.old.ends.taker }
@@ -58,7 +60,7 @@ impl<O: Outlet> Writer<O> {
         ensures empty { result ≡ turns.Idle → WasEmpty self.new.ends.taker }
         ensures over { self.old.ends.failed ≡ true → self.new.ends ≡ self.old.ends }
     {
-        self.ends.turn(rt, gather)
+        self.ends.turn(rt, gather, spent)
     }
 
     /// Tells the other side of the link that no more comes. What was written stays so.

@@ -1,4 +1,4 @@
-use Rattle.std.proofs.Common.{arith, sym, ◌∙◌}
+use Rattle.std.proofs.Common.{arith, ◌∙◌}
 use Rattle.std.proofs.lemmas.Result.{err_from_is_err_and}
 use Rattle.client_ports.specs.Ends.{taken_of}
 use Rattle.link_writer.proofs.Moved.{gathering_more, gathering_fails}
@@ -20,8 +20,8 @@ loop-preserved g c = (
   c.take.ensures.told ∙ c.loop.invariant.1,
   gathering_more (g.O.Sink.written c.args.outlet.now) (g.O.Sink.written c.loop.outlet) (g.O.Sink.written c.add.new.outlet)
       (taken_of c.args.taker.now) (taken_of c.loop.taker) (taken_of c.take.new.self)
-      c.args.gather.now c.loop.gather c.keep.new.self c.in-Some.parcel
+      c.args.gather.now c.loop.gather c.add.new.gather c.in-Some.parcel
       c.loop.invariant.2 c.in-Some.ensures.some
-      (rw (c.bytes_of.ensures, sym c.keep.ensures) at c.in_ok-add.ensures.moves),
+      (rw c.bytes_of.ensures at c.in_ok-add.ensures.moves),
   omega (arith, c.loop.invariant.3, c.add.ensures.cause.later),
 )
