@@ -1,6 +1,7 @@
 -- How bytes are cut into items that join a queue.
-use Rattle.std.specs.Prelude.{◌≡◌, ℕ, ◌≤◌, Bool, List, ◌++◌, length, take, drop, Option, Some, None, IfSome, if◌then◌else◌}
+use Rattle.std.specs.Prelude.{◌≡◌, ℕ, ◌≤◌, ◌+◌, ◌*◌, slice_index, Bool, List, ◌++◌, length, take, drop, Option, Some, None, IfSome, if◌then◌else◌}
 use Rattle.std.specs.Option.{option_map}
+use Rattle.gate_bytes.specs.Ascii.{dollar}
 use Rattle.rtsp_head.specs.Items.{first_extent, cut}
 use Rattle.rtsp_head.specs.Shapes.{shapes}
 use Rattle.rtsp_head.specs.declared.item.Item.{Item}
@@ -36,3 +37,9 @@ IsUndone old new held left = (take (length old) new ≡ old) × (left ≡ held)
 pub record IsWhole (bytes : List ℕ) (span : Span) : Type 0 where
   pub first : first_extent bytes ≡ Some (record { skipped = 0; span = span })
   pub all : span.len ≡ length bytes
+
+-- The front of a frame that lacks so many bytes of its length, which its first four bytes tell (RFC 2326, 10.12).
+pub record IsFrameFront (bytes : List ℕ) (missing : ℕ) : Type 0 where
+  pub begins : slice_index bytes 0 ≡ dollar
+  pub told : 4 ≤ length bytes
+  pub whole : length bytes + missing ≡ 4 + (256 * slice_index bytes 2 + slice_index bytes 3)

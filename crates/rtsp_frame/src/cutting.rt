@@ -2,11 +2,11 @@
 ghost use Rattle.std.specs.Prelude.{◌≡◌, ◌++◌, Some, [], length, take, drop, ◌≤◌, IfOk, IfSome, OnErr};
 ghost use Rattle.rtsp_head.specs.Items.{first_extent, shape_at};
 ghost use Rattle.rtsp_head.specs.Shapes.{shape_of};
-ghost use Rattle.rtsp_frame.specs.Cutting.{Joined, Fed, Same, IsUndone, IsWhole};
+ghost use Rattle.rtsp_frame.specs.Cutting.{Joined, Fed, Same, IsUndone, IsWhole, IsFrameFront};
 
 use crate::extent::{blank_lines, first_extent};
 use gate_bytes::{Memory, after, before};
-use rtsp_head::{Extent, Item, Span};
+use rtsp_head::{Extent, Item, ItemKind, Span};
 use std::alloc::Global;
 use std::collections::VecDeque;
 use text_pool::TextPool;
@@ -28,22 +28,23 @@ pub fn feed(
     if rest.is_empty() {
         return feed_fresh(alloc, pool, waiting, rest, piece);
     }
-    let missing = missing_of_frame(rest.as_slice());
-    if 0 < missing && missing <= piece.len() {
-        feed_ended(alloc, pool, waiting, rest, piece, missing)
-    } else {
-        feed_more(alloc, pool, waiting, rest, piece)
+    match missing_of_frame(rest.as_slice()) {
+        Some(missing) if missing <= piece.len() => {
+            feed_frame(alloc, pool, waiting, rest, piece, missing)
+        }
+        _ => feed_more(alloc, pool, waiting, rest, piece),
     }
 }
 
-/// How many bytes the frame at the front lacks; 0 where it has too few bytes to tell, or no frame stands there.
-fn missing_of_frame(bytes: &[u8]) -> usize {
-    match bytes {
-        [b'$', _, high, low, ..] => {
-            (4 + 256 * usize::from(*high) + usize::from(*low)).saturating_sub(bytes.len())
-        }
-        _ => 0,
+/// How many bytes the frame lacks whose front this is; none where it is no front of a frame, or too short to tell.
+fn missing_of_frame(bytes: &[u8]) -> Option<usize>
+    ensures { IfSome result (IsFrameFront bytes.now) }
+{
+    if bytes.len() < 4 || bytes[0] != b'$' {
+        return None;
     }
+    let whole = 4 + (256 * usize::from(bytes[2]) + usize::from(bytes[3]));
+    whole.checked_sub(bytes.len())
 }
 
 /// The same where nothing was held: the items are cut straight from the piece.
@@ -71,24 +72,25 @@ fn feed_fresh(
     Ok(true)
 }
 
-/// The same where something was held that these first bytes of the piece end: that item alone is joined, and the others are cut
+/// The same where the front of a frame was held that lacks so many bytes: these alone join it, and the items behind it are cut
 /// straight from the piece.
-fn feed_ended(
+fn feed_frame(
     alloc: Global,
     pool: &mut TextPool,
     waiting: &mut VecDeque<Item>,
     rest: &mut Vec<u8>,
     piece: &[u8],
-    ends: usize,
+    missing: usize,
 ) -> Result<bool, Memory>
-    requires { ends ≤ length piece.now }
+    requires front { IsFrameFront rest.old.items missing }
+    requires come { missing ≤ length piece.now }
     ensures ok { IfOk result (λ goes_on.
         Fed waiting.old.items waiting.new.items rest.old.items rest.new.items piece.now goes_on) }
     ensures err { OnErr result (
         Same waiting.old.items waiting.new.items rest.old.items rest.new.items) }
 {
     let waited = waiting.len();
-    let result = feed_joined(alloc, pool, waiting, rest, piece, ends);
+    let result = end_frame(alloc, pool, waiting, rest, piece, missing);
     if result.is_err() {
         waiting.truncate(waited);
     }
@@ -96,34 +98,29 @@ fn feed_ended(
 }
 
 /// The same, where items that were cut already may stay when memory is wanting.
-fn feed_joined(
+fn end_frame(
     alloc: Global,
     pool: &mut TextPool,
     waiting: &mut VecDeque<Item>,
     rest: &mut Vec<u8>,
     piece: &[u8],
-    ends: usize,
+    missing: usize,
 ) -> Result<bool, Memory>
-    requires { ends ≤ length piece.now }
+    requires front { IsFrameFront rest.old.items missing }
+    requires come { missing ≤ length piece.now }
     ensures ok { IfOk result (λ goes_on.
         Fed waiting.old.items waiting.new.items rest.old.items rest.new.items piece.now goes_on) }
     ensures err { OnErr result (
         IsUndone waiting.old.items waiting.new.items rest.old.items rest.new.items) }
 {
-    let joined = pool.join(alloc, rest.as_slice(), before(piece, ends))?;
-    let Some(span) = whole(joined.as_bytes()) else {
-        return feed_more(alloc, pool, waiting, rest, piece);
-    };
+    let frame = pool.join(alloc, rest.as_slice(), before(piece, missing))?;
     waiting.push_back(Item {
-        kind: span.kind,
-        bytes: joined,
-        head: span.head,
+        kind: ItemKind::Frame,
+        bytes: frame,
+        head: 0,
     })?;
-    if span.kind.is_bad() {
-        return Ok(false);
-    }
-    let more = after(piece, ends);
-    let Some(used) = cut_on(alloc, pool, waiting, more)? else {
+    let more = after(piece, missing);
+    let Some(used) = cut(alloc, pool, waiting, more)? else {
         return Ok(false);
     };
     *rest = Vec::from_slice(alloc, after(more, used))?;
