@@ -11,28 +11,34 @@ use std::alloc::Global;
 use std::collections::VecDeque;
 use text_pool::TextPool;
 
+/// The items that wait to be given, and the texts in whose memory those of the next items are made.
+#[derive(Drop)]
+pub struct Queue {
+    pub waiting: VecDeque<Item>,
+    pub pool: TextPool,
+}
+
 /// Cuts what was held and a piece that follows it, and keeps what is left of both. Whether the
 /// stream goes on: it does not where the last item is bad. Where memory is wanting, nothing changes.
 pub fn feed(
     alloc: Global,
-    pool: &mut TextPool,
-    waiting: &mut VecDeque<Item>,
+    queue: &mut Queue,
     rest: &mut Vec<u8>,
     piece: &[u8],
 ) -> Result<bool, Memory>
     ensures ok { IfOk result (λ goes_on.
-        Fed waiting.old.items waiting.new.items rest.old.items rest.new.items piece.now goes_on) }
+        Fed queue.old.waiting.items queue.new.waiting.items rest.old.items rest.new.items piece.now goes_on) }
     ensures err { OnErr result (
-        Same waiting.old.items waiting.new.items rest.old.items rest.new.items) }
+        Same queue.old.waiting.items queue.new.waiting.items rest.old.items rest.new.items) }
 {
     if rest.is_empty() {
-        return feed_fresh(alloc, pool, waiting, rest, piece);
+        return feed_fresh(alloc, queue, rest, piece);
     }
     match missing_of_frame(rest.as_slice()) {
         Some(missing) if missing <= piece.len() => {
-            feed_frame(alloc, pool, waiting, rest, piece, missing)
+            feed_frame(alloc, queue, rest, piece, missing)
         }
-        _ => feed_more(alloc, pool, waiting, rest, piece),
+        _ => feed_more(alloc, queue, rest, piece),
     }
 }
 
@@ -50,34 +56,33 @@ fn missing_of_frame(bytes: &[u8]) -> Option<usize>
 /// The same where nothing was held: the items are cut straight from the piece.
 fn feed_fresh(
     alloc: Global,
-    pool: &mut TextPool,
-    waiting: &mut VecDeque<Item>,
+    queue: &mut Queue,
     rest: &mut Vec<u8>,
     piece: &[u8],
 ) -> Result<bool, Memory>
     requires { rest.old.items ≡ [] }
     ensures ok { IfOk result (λ goes_on.
-        Fed waiting.old.items waiting.new.items rest.old.items rest.new.items piece.now goes_on) }
+        Fed queue.old.waiting.items queue.new.waiting.items rest.old.items rest.new.items piece.now goes_on) }
     ensures err { OnErr result (
-        Same waiting.old.items waiting.new.items rest.old.items rest.new.items) }
+        Same queue.old.waiting.items queue.new.waiting.items rest.old.items rest.new.items) }
 {
-    let waited = waiting.len();
-    let Some(used) = cut(alloc, pool, waiting, piece)? else {
+    let waited = queue.waiting.len();
+    let Some(used) = cut(alloc, queue, piece)? else {
         return Ok(false);
     };
     if rest.extend_from_slice(after(piece, used)).is_err() {
-        waiting.truncate(waited);
+        queue.waiting.truncate(waited);
         return Err(Memory);
     }
     Ok(true)
 }
 
 /// The same where the front of a frame was held that lacks so many bytes: these alone join it, and the items behind it are cut
-/// straight from the piece.
+/// straight from the piece. It is called apart, so that messages cost nothing of it.
+#[inline(never)]
 fn feed_frame(
     alloc: Global,
-    pool: &mut TextPool,
-    waiting: &mut VecDeque<Item>,
+    queue: &mut Queue,
     rest: &mut Vec<u8>,
     piece: &[u8],
     missing: usize,
@@ -85,14 +90,14 @@ fn feed_frame(
     requires front { IsFrameFront rest.old.items missing }
     requires come { missing ≤ length piece.now }
     ensures ok { IfOk result (λ goes_on.
-        Fed waiting.old.items waiting.new.items rest.old.items rest.new.items piece.now goes_on) }
+        Fed queue.old.waiting.items queue.new.waiting.items rest.old.items rest.new.items piece.now goes_on) }
     ensures err { OnErr result (
-        Same waiting.old.items waiting.new.items rest.old.items rest.new.items) }
+        Same queue.old.waiting.items queue.new.waiting.items rest.old.items rest.new.items) }
 {
-    let waited = waiting.len();
-    let result = end_frame(alloc, pool, waiting, rest, piece, missing);
+    let waited = queue.waiting.len();
+    let result = end_frame(alloc, queue, rest, piece, missing);
     if result.is_err() {
-        waiting.truncate(waited);
+        queue.waiting.truncate(waited);
     }
     result
 }
@@ -100,8 +105,7 @@ fn feed_frame(
 /// The same, where items that were cut already may stay when memory is wanting.
 fn end_frame(
     alloc: Global,
-    pool: &mut TextPool,
-    waiting: &mut VecDeque<Item>,
+    queue: &mut Queue,
     rest: &mut Vec<u8>,
     piece: &[u8],
     missing: usize,
@@ -109,18 +113,20 @@ fn end_frame(
     requires front { IsFrameFront rest.old.items missing }
     requires come { missing ≤ length piece.now }
     ensures ok { IfOk result (λ goes_on.
-        Fed waiting.old.items waiting.new.items rest.old.items rest.new.items piece.now goes_on) }
+        Fed queue.old.waiting.items queue.new.waiting.items rest.old.items rest.new.items piece.now goes_on) }
     ensures err { OnErr result (
-        IsUndone waiting.old.items waiting.new.items rest.old.items rest.new.items) }
+        IsUndone queue.old.waiting.items queue.new.waiting.items rest.old.items rest.new.items) }
 {
-    let frame = pool.join(alloc, rest.as_slice(), before(piece, missing))?;
-    waiting.push_back(Item {
+    let frame = queue
+        .pool
+        .join(alloc, rest.as_slice(), before(piece, missing))?;
+    queue.waiting.push_back(Item {
         kind: ItemKind::Frame,
         bytes: frame,
         head: 0,
     })?;
     let more = after(piece, missing);
-    let Some(used) = cut(alloc, pool, waiting, more)? else {
+    let Some(used) = cut(alloc, queue, more)? else {
         return Ok(false);
     };
     *rest = Vec::from_slice(alloc, after(more, used))?;
@@ -130,19 +136,18 @@ fn end_frame(
 /// The same where something was held: the piece joins it in place.
 fn feed_more(
     alloc: Global,
-    pool: &mut TextPool,
-    waiting: &mut VecDeque<Item>,
+    queue: &mut Queue,
     rest: &mut Vec<u8>,
     piece: &[u8],
 ) -> Result<bool, Memory>
     ensures ok { IfOk result (λ goes_on.
-        Fed waiting.old.items waiting.new.items rest.old.items rest.new.items piece.now goes_on) }
+        Fed queue.old.waiting.items queue.new.waiting.items rest.old.items rest.new.items piece.now goes_on) }
     ensures err { OnErr result (
-        Same waiting.old.items waiting.new.items rest.old.items rest.new.items) }
+        Same queue.old.waiting.items queue.new.waiting.items rest.old.items rest.new.items) }
 {
     let held = rest.len();
     rest.extend_from_slice(piece)?;
-    match cut(alloc, pool, waiting, rest.as_slice()) {
+    match cut(alloc, queue, rest.as_slice()) {
         Ok(Some(used)) => {
             drop_front(rest, used);
             Ok(true)
@@ -170,37 +175,28 @@ fn drop_front(bytes: &mut Vec<u8>, count: usize)
 
 /// Cuts the items of these bytes, which join the queue. How many bytes they took, with the empty
 /// lines behind them; none where the last of them is bad. Where memory is wanting, nothing changes.
-fn cut(
-    alloc: Global,
-    pool: &mut TextPool,
-    waiting: &mut VecDeque<Item>,
-    bytes: &[u8],
-) -> Result<Option<usize>, Memory>
-    ensures ok { IfOk result (λ used. Joined waiting.old.items waiting.new.items bytes.now used) }
-    ensures err { OnErr result (waiting.new.items ≡ waiting.old.items) }
+fn cut(alloc: Global, queue: &mut Queue, bytes: &[u8]) -> Result<Option<usize>, Memory>
+    ensures ok { IfOk result (λ used. Joined queue.old.waiting.items queue.new.waiting.items bytes.now used) }
+    ensures err { OnErr result (queue.new.waiting.items ≡ queue.old.waiting.items) }
 {
-    let waited = waiting.len();
-    let result = cut_on(alloc, pool, waiting, bytes);
+    let waited = queue.waiting.len();
+    let result = cut_on(alloc, queue, bytes);
     if result.is_err() {
-        waiting.truncate(waited);
+        queue.waiting.truncate(waited);
     }
     result
 }
 
 /// The same, where items that were cut already may stay when memory is wanting.
-fn cut_on(
-    alloc: Global,
-    pool: &mut TextPool,
-    waiting: &mut VecDeque<Item>,
-    bytes: &[u8],
-) -> Result<Option<usize>, Memory>
-    ensures ok { IfOk result (λ used. Joined waiting.old.items waiting.new.items bytes.now used) }
-    ensures err { OnErr result (take (length waiting.old.items) waiting.new.items ≡ waiting.old.items) }
+fn cut_on(alloc: Global, queue: &mut Queue, bytes: &[u8]) -> Result<Option<usize>, Memory>
+    ensures ok { IfOk result (λ used. Joined queue.old.waiting.items queue.new.waiting.items bytes.now used) }
+    ensures err { OnErr result (take (length queue.old.waiting.items) queue.new.waiting.items ≡ queue.old.waiting.items) }
 {
     let mut used = 0;
     let mut left = bytes;
     while let Some(extent) = first_extent(left) {
-        waiting.push_back(copy_item(alloc, pool, left, extent)?)?;
+        let item = copy_item(alloc, &mut queue.pool, left, extent)?;
+        queue.waiting.push_back(item)?;
         if extent.span.kind.is_bad() {
             return Ok(None);
         }
@@ -211,7 +207,8 @@ fn cut_on(
     Ok(Some(used + blank_lines(left)))
 }
 
-/// The first item of a stream.
+/// The first item of a stream. It is called apart, so that a piece in which no item ends costs nothing of it.
+#[inline(never)]
 fn copy_item(
     alloc: Global,
     pool: &mut TextPool,

@@ -5,6 +5,7 @@ ghost use Rattle.rtsp_head.specs.Shapes.{shape_of};
 ghost use Rattle.rtsp_frame.specs.Framing.{Framed, IsAlone, GivesNext};
 
 use crate::cutting;
+use crate::cutting::Queue;
 use gate_bytes::{Memory, Text};
 use rtsp_head::{Item, Span};
 use std::alloc::Global;
@@ -18,9 +19,8 @@ use text_pool::TextPool;
 /// says what that is for a stream that was fed and for the items that were given.
 #[derive(Drop)]
 pub struct Framer {
-    waiting: VecDeque<Item>,
+    queue: Queue,
     rest: Option<Vec<u8>>,
-    pool: TextPool,
 }
 
 impl Model for Framer {
@@ -31,7 +31,7 @@ impl Model for Framer {
     ghost Value = { Held };
 
     ghost view = { λ f. record {
-      waiting = shapes f.waiting.items;
+      waiting = shapes f.queue.waiting.items;
       rest = option_map (λ rest. rest.items) f.rest;
     } };
 }
@@ -42,9 +42,11 @@ impl Framer {
         ensures { Framed result [] [] }
     {
         Framer {
-            waiting: VecDeque::new(alloc),
+            queue: Queue {
+                waiting: VecDeque::new(alloc),
+                pool: TextPool::new(alloc),
+            },
             rest: Some(Vec::new(alloc)),
-            pool: TextPool::new(alloc),
         }
     }
 
@@ -52,7 +54,7 @@ impl Framer {
     pub fn refill(&mut self, pool: &mut TextPool)
         ensures { self.new ≡ self.old }
     {
-        self.pool.refill(pool);
+        self.queue.pool.refill(pool);
     }
 
     /// Takes the next piece of the stream. Where memory is wanting it was not taken, and nothing
@@ -65,7 +67,7 @@ impl Framer {
         let Some(rest) = &mut self.rest else {
             return Ok(());
         };
-        if !cutting::feed(alloc, &mut self.pool, &mut self.waiting, rest, piece)? {
+        if !cutting::feed(alloc, &mut self.queue, rest, piece)? {
             self.rest = None;
         }
         Ok(())
@@ -99,7 +101,7 @@ impl Framer {
         ensures { IfSome result (IsAlone self.now piece.now) }
     {
         match &self.rest {
-            Some(rest) if rest.is_empty() && self.waiting.is_empty() => cutting::whole(piece),
+            Some(rest) if rest.is_empty() && self.queue.waiting.is_empty() => cutting::whole(piece),
             _ => None,
         }
     }
@@ -113,6 +115,6 @@ impl Framer {
         ensures none { IfNone result ((stream : List ℕ) (given : List Shape) →
             Framed self.old stream given → Framed self.new stream given × (given ≡ items_of stream)) }
     {
-        self.waiting.pop_front()
+        self.queue.waiting.pop_front()
     }
 }

@@ -16,9 +16,9 @@ left_over c =
 
 pub returns-then-is_bad-clause-ok : goal.returns-then-is_bad-clause-ok
 returns-then-is_bad-clause-ok c =
-    subst (λ (items : List Item). Joined c.args.waiting.now.items items c.args.bytes.now None) (sym {A = List Item} c.in_ok-push_back.ensures.items)
-    (cutting_breaks c.args.waiting.now.items c.loop-extent.waiting.items c.args.bytes.now c.loop-extent.left.now c.loop-extent.used
-    c.in-Some.extent c.in_ok-copy_item.field-0 c.loop-extent.invariant (sym c.in-Some.ensures) c.in_ok-copy_item.ensures
+    subst (λ (items : List Item). Joined c.args.queue.now.waiting.items items c.args.bytes.now None) (sym {A = List Item} c.in_ok-push_back.ensures.items)
+    (cutting_breaks c.args.queue.now.waiting.items c.loop-extent.queue.waiting.items c.args.bytes.now c.loop-extent.left.now c.loop-extent.used
+    c.in-Some.extent c.in_ok-item.item c.loop-extent.invariant (sym c.in-Some.ensures) c.in_ok-item.ensures
     (sym c.is_bad.ensures ∙ c.if-is_bad.true))
 
 pub overflow_add-taken : goal.overflow_add-taken
@@ -37,10 +37,10 @@ after-left-requires c = (found (goal.at.after-left-requires c).In-Some).fits
 pub loop-extent-preserved : goal.loop-extent-preserved
 loop-extent-preserved c =
     let taken = c.in-Some.extent.skipped + c.in-Some.extent.span.len in
-    subst (λ (left : List ℕ). Cutting c.args.waiting.now.items c.push_back.new.self.items c.args.bytes.now left (c.loop-extent.used + taken)) (sym {A = List ℕ} c.after-left.ensures)
-    (subst (λ (items : List Item). Cutting c.args.waiting.now.items items c.args.bytes.now (drop taken c.loop-extent.left.now) (c.loop-extent.used + taken)) (sym {A = List Item} c.in_ok-push_back.ensures.items)
-    (cutting_more c.args.waiting.now.items c.loop-extent.waiting.items c.args.bytes.now c.loop-extent.left.now c.loop-extent.used
-    c.in-Some.extent c.in_ok-copy_item.field-0 c.loop-extent.invariant (sym c.in-Some.ensures) c.in_ok-copy_item.ensures
+    subst (λ (left : List ℕ). Cutting c.args.queue.now.waiting.items c.push_back.new.self.items c.args.bytes.now left (c.loop-extent.used + taken)) (sym {A = List ℕ} c.after-left.ensures)
+    (subst (λ (items : List Item). Cutting c.args.queue.now.waiting.items items c.args.bytes.now (drop taken c.loop-extent.left.now) (c.loop-extent.used + taken)) (sym {A = List Item} c.in_ok-push_back.ensures.items)
+    (cutting_more c.args.queue.now.waiting.items c.loop-extent.queue.waiting.items c.args.bytes.now c.loop-extent.left.now c.loop-extent.used
+    c.in-Some.extent c.in_ok-item.item c.loop-extent.invariant (sym c.in-Some.ensures) c.in_ok-item.ensures
     (sym c.is_bad.ensures ∙ c.if-is_bad.false)))
 
 pub overflow_add-result : goal.overflow_add-result
@@ -56,6 +56,6 @@ overflow_add-result c =
 
 pub returns-clause-ok : goal.returns-clause-ok
 returns-clause-ok c =
-    subst (λ (n : ℕ). Joined c.args.waiting.now.items c.loop-extent.waiting.items c.args.bytes.now (Some (c.loop-extent.used + n))) (sym c.blank_lines.ensures)
-    (cutting_ends c.args.waiting.now.items c.loop-extent.waiting.items c.args.bytes.now c.loop-extent.left.now c.loop-extent.used
+    subst (λ (n : ℕ). Joined c.args.queue.now.waiting.items c.loop-extent.queue.waiting.items c.args.bytes.now (Some (c.loop-extent.used + n))) (sym c.blank_lines.ensures)
+    (cutting_ends c.args.queue.now.waiting.items c.loop-extent.queue.waiting.items c.args.bytes.now c.loop-extent.left.now c.loop-extent.used
     c.loop-extent.invariant (sym c.in_default.ensures))

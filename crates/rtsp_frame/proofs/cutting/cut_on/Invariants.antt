@@ -3,7 +3,7 @@ use Rattle.rtsp_frame.proofs.CuttingLemmas.{Cutting}
 use Rattle.rtsp_frame.proofs.cutting.cut_on.Given as goal
 
 abbrev pub invariant-loop-extent : goal.invariant-loop-extent
-invariant-loop-extent l = Cutting l.fn.waiting.items l.waiting.items l.bytes l.left l.used
+invariant-loop-extent l = Cutting l.fn.queue.waiting.items l.queue.waiting.items l.bytes l.left l.used
 
 abbrev pub decreases-loop-extent : goal.decreases-loop-extent
 decreases-loop-extent l = length l.left

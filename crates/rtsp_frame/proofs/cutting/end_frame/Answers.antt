@@ -35,34 +35,34 @@ told (Ok goes_on) P h = tt
 told (Err fault) P h = h
 
 -- the items behind the frame joined the queue too
-joins_on : (c : In_ok-frame) (pushed now : List Item) (left : List ℕ) (used : Option ℕ) (goes_on : Bool) (item : Item) → pushed ≡ c.args.waiting.now.items ++ item ∷ []
+joins_on : (c : In_ok-frame) (pushed now : List Item) (left : List ℕ) (used : Option ℕ) (goes_on : Bool) (item : Item) → pushed ≡ c.args.queue.now.waiting.items ++ item ∷ []
     → shape_of item ≡ record { kind = kinds.Frame; bytes = c.in_ok-frame.frame; head = 0 }
     → Joined pushed now (drop c.args.missing c.args.piece.now) used
     → left_if goes_on left ≡ option_map (λ n. drop n (drop c.args.missing c.args.piece.now)) used
-    → Fed c.args.waiting.now.items now c.args.rest.now.items left c.args.piece.now goes_on
+    → Fed c.args.queue.now.waiting.items now c.args.rest.now.items left c.args.piece.now goes_on
 joins_on c pushed now left used goes_on item is same h rest =
-    ended_on c.args.waiting.now.items now c.args.rest.now.items left c.args.piece.now (drop c.args.missing c.args.piece.now) item _ used goes_on
+    ended_on c.args.queue.now.waiting.items now c.args.rest.now.items left c.args.piece.now (drop c.args.missing c.args.piece.now) item _ used goes_on
     (same ∙ ap (λ (bytes : List ℕ). record { kind = kinds.Frame; bytes = bytes; head = 0 }) (split c))
     (frame_first c.args.rest.now.items c.args.piece.now c.args.missing c.requires.front c.requires.come)
     (subst (λ (items : List Item). Joined items now (drop c.args.missing c.args.piece.now) used) is h) rest
 
 pub returns-in_default-clause-ok : goal.returns-in_default-clause-ok
 returns-in_default-clause-ok c =
-    joins_on (goal.at.returns-in_default-clause-ok c).In_ok-frame c.push_back.new.self.items c.cut.new.waiting.items c.args.rest.now.items None false _
+    joins_on (goal.at.returns-in_default-clause-ok c).In_ok-frame c.push_back.new.self.items c.cut.new.queue.waiting.items c.args.rest.now.items None false _
     c.in_ok-push_back.ensures.items refl
-    (subst (λ (more : List ℕ). Joined c.push_back.new.self.items c.cut.new.waiting.items more None) c.after-more.ensures
-    (subst (λ (used : Option ℕ). Joined c.push_back.new.self.items c.cut.new.waiting.items c.after-more.result.now used) c.in_default.is c.in_ok-used.ensures.ok))
+    (subst (λ (more : List ℕ). Joined c.push_back.new.self.items c.cut.new.queue.waiting.items more None) c.after-more.ensures
+    (subst (λ (used : Option ℕ). Joined c.push_back.new.self.items c.cut.new.queue.waiting.items c.after-more.result.now used) c.in_default.is c.in_ok-used.ensures.ok))
     refl
 
 pub returns-in_err-rest-clause-err : goal.returns-in_err-rest-clause-err
 returns-in_err-rest-clause-err c =
     told c.from_residual-in_err-rest.result _
-    (undone c.args.waiting.now.items c.push_back.new.self.items c.cut.new.waiting.items _ c.in_ok-push_back.ensures.items c.in_ok-used.ensures.ok.kept, refl)
+    (undone c.args.queue.now.waiting.items c.push_back.new.self.items c.cut.new.queue.waiting.items _ c.in_ok-push_back.ensures.items c.in_ok-used.ensures.ok.kept, refl)
 
 pub returns-clause-ok : goal.returns-clause-ok
 returns-clause-ok c =
-    joins_on (goal.at.returns-clause-ok c).In_ok-frame c.push_back.new.self.items c.cut.new.waiting.items c.in_ok-rest.field-0.items (Some c.in-Some.used) true _
+    joins_on (goal.at.returns-clause-ok c).In_ok-frame c.push_back.new.self.items c.cut.new.queue.waiting.items c.in_ok-rest.field-0.items (Some c.in-Some.used) true _
     c.in_ok-push_back.ensures.items refl
-    (subst (λ (more : List ℕ). Joined c.push_back.new.self.items c.cut.new.waiting.items more (Some c.in-Some.used)) c.after-more.ensures
-    (subst (λ (used : Option ℕ). Joined c.push_back.new.self.items c.cut.new.waiting.items c.after-more.result.now used) c.in-Some.is c.in_ok-used.ensures.ok))
+    (subst (λ (more : List ℕ). Joined c.push_back.new.self.items c.cut.new.queue.waiting.items more (Some c.in-Some.used)) c.after-more.ensures
+    (subst (λ (used : Option ℕ). Joined c.push_back.new.self.items c.cut.new.queue.waiting.items c.after-more.result.now used) c.in-Some.is c.in_ok-used.ensures.ok))
     (ap (λ (left : List ℕ). Some left) (c.in_ok-rest.ensures.items ∙ c.after.ensures ∙ ap (drop c.in-Some.used) c.after-more.ensures))

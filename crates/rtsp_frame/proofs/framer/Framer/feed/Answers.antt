@@ -14,7 +14,7 @@ returns-in_default-clause-ok c = λ stream given h.
     (subst (λ (held : Held). Framed held stream given) (sym c.self.view_is) h)
 
 -- what the fields say after the items joined the queue
-fed : (c : In_ok-feed) (new : Held) → new.waiting ≡ shapes c.feed.new.waiting.items → new.rest ≡ left_if c.in_ok-feed.field-0 c.feed.new.rest.items → (stream : List ℕ) (given : List Shape) → Framed c.args.self.now stream given → Framed new (stream ++ c.args.piece.now) given
+fed : (c : In_ok-feed) (new : Held) → new.waiting ≡ shapes c.feed.new.queue.waiting.items → new.rest ≡ left_if c.in_ok-feed.field-0 c.feed.new.rest.items → (stream : List ℕ) (given : List Shape) → Framed c.args.self.now stream given → Framed new (stream ++ c.args.piece.now) given
 fed c new waiting rest stream given h =
     framed_more c.args.self.now new stream c.args.piece.now c.in-Some.rest.items given
     (ap (λ (held : Held). held.rest) (sym c.self.view_is) ∙ ap (option_map (λ rest. rest.items)) c.in-Some.is)
@@ -28,7 +28,7 @@ returns-else-not-branch-clause-ok c = λ stream given h.
 
 pub returns-then-not-branch-clause-ok : goal.returns-then-not-branch-clause-ok
 returns-then-not-branch-clause-ok c = λ stream given h.
-    let bad : (new : Held) → new.waiting ≡ shapes c.feed.new.waiting.items → new.rest ≡ None → Framed new (stream ++ c.args.piece.now) given =
+    let bad : (new : Held) → new.waiting ≡ shapes c.feed.new.queue.waiting.items → new.rest ≡ None → Framed new (stream ++ c.args.piece.now) given =
     λ new waiting rest. fed (goal.at.returns-then-not-branch-clause-ok c).In_ok-feed new waiting
     (rest ∙ ap (λ goes_on. left_if goes_on c.feed.new.rest.items) (sym c.if-not-branch.true)) stream given h in
     elim c.match-self-2.branch [
