@@ -13,7 +13,7 @@ use std::sync::{Mutex, Wait};
 use text_pool::TextPool;
 
 /// How many bells the players' connections have. Each is shared by those whose numbers leave the same rest.
-const PLAYER_BELLS: usize = 16;
+const PLAYER_BELLS: usize = 64;
 
 /// The bells of a run. A worker waits at that of its connection, so that what comes for one player wakes few others.
 #[derive(Drop)]
