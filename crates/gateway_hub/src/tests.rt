@@ -1,7 +1,4 @@
 //! A hub over the multiplexer and a recorder in memory, called by one thread.
-ghost use Rattle.std.specs.Prelude.{[], IfOk};
-ghost use Rattle.gateway_mux.specs.Stands.{Stands};
-ghost use Rattle.gateway_hub.specs.Notes.{TellsNotes};
 
 mod again;
 mod full;

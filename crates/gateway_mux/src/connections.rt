@@ -1,5 +1,5 @@
 //! The connections of a gateway: those of its players, and the one to the server.
-ghost use Rattle.std.specs.Prelude.{◌≡◌, ◌<◌, [], true, false, None, IsOk, OnOk, OnErr};
+ghost use Rattle.std.specs.Prelude.{◌≡◌, ◌<◌, [], true, false, IsOk, OnOk};
 ghost use Rattle.gateway_mux.specs.Pictures.{picture, IsKept, IsPictureOf};
 ghost use Rattle.client_seats.specs.Seats.{is_ready};
 ghost use Rattle.gateway_mux.specs.Spare.{left};

@@ -1,10 +1,10 @@
 //! What the server grants to a SETUP.
-ghost use Rattle.std.specs.Prelude.{◌≡◌, ◌<◌, ℕ};
+ghost use Rattle.std.specs.Prelude.{◌≡◌, ◌<◌};
 ghost use Rattle.std.specs.Option.{option_copied, option_and_then};
 ghost use Rattle.up_books.specs.Ids.{holder_of};
 ghost use Rattle.mux_history.specs.Settling.{id_said};
 ghost use Rattle.gate_machine.specs.Spelled.{grant_said};
-ghost use Rattle.mux_history.specs.Follows.{is_session_for, is_granted};
+ghost use Rattle.mux_history.specs.Follows.{is_session_for};
 ghost use Rattle.gateway_mux.specs.Granting.{is_taken_by, grants_that, wrong_grant};
 
 use head_two::Reply2;

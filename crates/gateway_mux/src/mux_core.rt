@@ -1,5 +1,4 @@
 //! The multiplexer as a core.
-ghost use Rattle.std.specs.Prelude.{◌≡◌, ◌∷◌, OnOk};
 
 use crate::act::Act;
 use crate::mux::Mux;

@@ -1,8 +1,8 @@
 //! Requests of the server.
-ghost use Rattle.std.specs.Prelude.{◌≡◌, codes, option_map};
+ghost use Rattle.std.specs.Prelude.{◌≡◌, codes};
 ghost use Rattle.std.specs.Option.{option_copied};
 ghost use Rattle.up_books.specs.Ids.{holder_of};
-ghost use Rattle.mux_history.specs.Notices.{notice_field, session_named, notice_of, named_session, held_session, said_reason};
+ghost use Rattle.mux_history.specs.Notices.{notice_field, session_named, notice_of, said_reason};
 ghost use Rattle.gateway_mux.specs.NoticesSeen.{notice_seen};
 
 use head_two::Ask2;

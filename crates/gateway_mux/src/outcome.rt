@@ -2,7 +2,7 @@
 ghost use Rattle.std.specs.Prelude.{◌≡◌, ◌<◌, ◌^◌, length, None, Some, IfSome, option_map};
 ghost use Rattle.gate_machine.specs.Plans.{IsShortDone};
 ghost use Rattle.mux_history.specs.declared.event.Closed.TheVariants.{Nobody, All};
-ghost use Rattle.mux_history.specs.Happenings.{nothing_up, silent};
+ghost use Rattle.mux_history.specs.Happenings.{silent};
 ghost use Rattle.mux_history.specs.Next.{client_piece, one_closed};
 ghost use Rattle.mux_history.specs.declared.event.UpMessage.TheVariants.{Request};
 ghost use Rattle.gateway_mux.specs.Moves.{handed_by, answering, risen_by, fallen_by, ended_by};

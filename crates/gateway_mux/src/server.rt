@@ -40,7 +40,6 @@ impl Connections {
     ghost use Rattle.gateway_mux.specs.Free.{is_message};
     ghost use Rattle.gateway_mux.specs.Granting.{IsLowPurpose};
     ghost use Rattle.gateway_mux.specs.Pictures.{picture, books_in};
-    ghost use Rattle.gateway_mux.specs.Turn.{session_of_client};
 
     /// What an item of the server does.
     #[inline(always)]

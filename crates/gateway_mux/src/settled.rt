@@ -1,5 +1,5 @@
 //! What a final reply settles.
-ghost use Rattle.std.specs.Prelude.{◌≡◌, ℕ, ◌≤◌, IfOk, Some, None};
+ghost use Rattle.std.specs.Prelude.{◌≤◌, IfOk, Some, None};
 ghost use Rattle.std.specs.Option.{option_copied};
 ghost use Rattle.client_slot.specs.Purposes.{purpose_seen};
 ghost use Rattle.session_one.specs.Table.{is_success};

@@ -1,5 +1,5 @@
 //! What can be told of the connections.
-ghost use Rattle.std.specs.Prelude.{◌≡◌, ℕ, List};
+ghost use Rattle.std.specs.Prelude.{◌≡◌, List};
 ghost use Rattle.mux_history.specs.Happenings.{Entry, is_alive};
 ghost use Rattle.mux_history.specs.Tells.{IsFirstAlive, is_busy};
 

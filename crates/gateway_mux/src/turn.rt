@@ -1,5 +1,5 @@
 //! The turn of a connection.
-ghost use Rattle.std.specs.Prelude.{◌≡◌, ◌≢◌, ◌+◌, ◌<◌, ℕ, true, List, Option, Some, None, is_some, IsSome, IfSome, IfOk};
+ghost use Rattle.std.specs.Prelude.{◌≡◌, ◌≢◌, ◌+◌, ◌<◌, ℕ, true, List, Option, Some, None, is_some, IsSome, IfSome};
 ghost use Rattle.channel_map.specs.Pairs.{held_at};
 ghost use Rattle.client_slot.specs.Client.{Client};
 ghost use Rattle.up_books.specs.Ids.{holder_of};

@@ -1,5 +1,5 @@
 //! The one connection to the server.
-ghost use Rattle.std.specs.Prelude.{◌≡◌, ◌==◌, ◌+◌, ◌<◌, ◌≤◌, ℕ, List, true, None, Some, is_some, is_none, IsSome, IfSome, OnOk, OnErr, if◌then◌else◌};
+ghost use Rattle.std.specs.Prelude.{◌≡◌, ◌==◌, ◌+◌, ◌<◌, ◌≤◌, ℕ, List, None, Some, is_some, is_none, IsSome, IfSome, if◌then◌else◌};
 ghost use Rattle.std.specs.Option.{option_copied};
 ghost use Rattle.channel_map.specs.Pairs.{held_at, is_free, lowest_free};
 ghost use Rattle.up_books.specs.Ids.{holder_of};

@@ -12,7 +12,8 @@ use std::sync::atomic::{AtomicU64, Ordering};
 use std::sync::{Mutex, Wait};
 use text_pool::TextPool;
 
-/// How many bells the players' connections have. Each is shared by those whose numbers leave the same rest.
+/// How many bells the players' connections have: as many as there can be stations. Each is shared by the connections whose numbers
+/// leave the same rest; of those that are served at once mostly no two do.
 const PLAYER_BELLS: usize = 64;
 
 /// The bells of a run. A worker waits at that of its connection, so that what comes for one player wakes few others.

@@ -149,15 +149,13 @@ where
             let StationPost {
                 gate,
                 desks,
-                buffers,
+                mut buffers,
             } = post;
             let mut refused = !met;
-            let mut buffers = buffers;
             for desk in desks {
-                let Some(tools) = buffers.pop() else {
+                let Some(Buffers { mut read, gather }) = buffers.pop() else {
                     break;
                 };
-                let Buffers { read, gather } = tools;
                 if scope
                     .spawn(move || write_from(common, desk, gather))
                     .is_err()
@@ -165,7 +163,6 @@ where
                     refused = true;
                     desk.close(common.rt);
                 }
-                let mut read = read;
                 let at_station = move ||
                     requires { 0 < length read.items }
                 { station(common, gate, desk, read.as_mut_slice()) };
@@ -212,7 +209,7 @@ where
                 buffers,
                 upstream,
             } = post;
-            let Buffers { read, gather } = buffers;
+            let Buffers { mut read, gather } = buffers;
             let mut refused = !met;
             if scope
                 .spawn(move || write_from(common, desk, gather))
@@ -227,7 +224,6 @@ where
             if refused {
                 common.stop(StopWhy::Crew);
             }
-            let mut read = read;
             let back = run_upstream(common, desk, taking, upstream, read.as_mut_slice());
             desk.close(common.rt);
             taking.came.ring(common.rt);

@@ -1,5 +1,5 @@
 //! The loop that reads a player's link.
-ghost use Rattle.std.specs.Prelude.{◌≡◌, ◌≢◌, ℕ, ◌<◌, ◌≤◌, List, Option, Some, None, true, length};
+ghost use Rattle.std.specs.Prelude.{◌≡◌, ℕ, ◌<◌, ◌≤◌, List, Option, Some, None, true, length};
 ghost use Rattle.gate_outside.specs.Causes.{Rose};
 ghost use Rattle.link_reader.specs.Reading.{ReadsItems, ReadsFront, PutAll};
 ghost use Rattle.gateway_run.specs.declared.reading.ReadEnd.TheVariants as ends;

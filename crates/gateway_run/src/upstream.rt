@@ -1,5 +1,5 @@
 //! The server's connection, from its first byte to its end.
-ghost use Rattle.std.specs.Prelude.{◌≡◌, ◌≢◌, ℕ, ◌<◌, ◌≤◌, [], List, Option, Some, None, true, false, length, IfSome};
+ghost use Rattle.std.specs.Prelude.{◌≡◌, ℕ, ◌<◌, ◌≤◌, [], List, Option, Some, None, true, length};
 ghost use Rattle.gate_outside.specs.Causes.{Rose};
 ghost use Rattle.client_ports.specs.Ends.{put_of, taken_of};
 ghost use Rattle.link_reader.specs.Reading.{ReadsItems, ReadsFront, PutAll, PutAllSo};

@@ -1,5 +1,5 @@
 //! What comes in by one link.
-ghost use Rattle.std.specs.Prelude.{◌≡◌, ◌≢◌, ℕ, ◌<◌, ◌≤◌, List, [], ◌∷◌, ◌++◌, Option, None, true, false, length};
+ghost use Rattle.std.specs.Prelude.{◌≡◌, ◌≢◌, ℕ, ◌<◌, ◌≤◌, List, [], Option, None, true, false, length};
 ghost use Rattle.client_ports.specs.Ends.{put_of, fulls_of, KeepsPutter, WasFull};
 ghost use Rattle.gate_outside.specs.Causes.{Rose, counted_on};
 ghost use Rattle.link_reader.specs.Parcels.{PutsOne};

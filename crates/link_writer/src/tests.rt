@@ -53,28 +53,54 @@ fn shared_desk<O: Outlet + Drop>(desk: &Desk<O>) -> &Desk<O> {
     shared(desk)
 }
 
+// One turn of a writer: the parcels that wait by their sizes, and the numbers of the writes that fail; what the turn answers, how
+// many bytes are written, and how many texts are kept.
+struct Case<'a> {
+    sizes: &'a [usize],
+    fails: &'a [u64],
+    turn: Turn,
+    written: usize,
+    kept: usize,
+}
+
+// Such a turn.
+fn case<'a>(
+    sizes: &'a [usize],
+    fails: &'a [u64],
+    turn: Turn,
+    written: usize,
+    kept: usize,
+) -> Case<'a> {
+    Case {
+        sizes,
+        fails,
+        turn,
+        written,
+        kept,
+    }
+}
+
 #[test]
 fn parcels_are_written_in_turns(rt: HostRuntime) -> Result<(), Fail> {
     let alloc = rt.alloc();
     let mut gather = Gather::new(alloc)?;
-    // How many texts are kept of a turn, beside what is written.
-    let cases: [(&[usize], &[u64], Turn, usize, usize); 5] = [
-        (&[], &[], Turn::Idle, 0, 0),
-        (&[3, 65_534, 70_000, 2], &[], Turn::Wrote, 135_539, 0),
-        (&[600, 700], &[], Turn::Wrote, 1_300, 2),
-        (&[3, 65_534], &[0], Turn::Failed, 0, 0),
-        (&[3, 65_534], &[1], Turn::Failed, 3, 0),
+    let cases = [
+        case(&[], &[], Turn::Idle, 0, 0),
+        case(&[3, 65_534, 70_000, 2], &[], Turn::Wrote, 135_539, 0),
+        case(&[600, 700], &[], Turn::Wrote, 1_300, 2),
+        case(&[3, 65_534], &[0], Turn::Failed, 0, 0),
+        case(&[3, 65_534], &[1], Turn::Failed, 3, 0),
     ];
-    for (sizes, fails, turn, written, spent) in cases {
-        let (_, mut writer) = writer(alloc, &rt, sizes, fails)?;
+    for case in cases {
+        let (_, mut writer) = writer(alloc, &rt, case.sizes, case.fails)?;
         let mut pool = TextPool::new(alloc);
-        assert_eq!(rt; writer.turn(&rt, &mut gather, &mut pool), turn);
+        assert_eq!(rt; writer.turn(&rt, &mut gather, &mut pool), case.turn);
         writer.shut();
-        assert_eq!(rt; writer.has_failed(), turn == Turn::Failed);
+        assert_eq!(rt; writer.has_failed(), case.turn == Turn::Failed);
         let (outlet, _) = writer.into_ends();
-        assert_eq!(rt; outlet.as_bytes().len(), written);
+        assert_eq!(rt; outlet.as_bytes().len(), case.written);
         assert!(rt; outlet.is_shut());
-        assert_eq!(rt; pool.len(), spent);
+        assert_eq!(rt; pool.len(), case.kept);
     }
     Ok(())
 }

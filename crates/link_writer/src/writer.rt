@@ -1,5 +1,5 @@
 //! What goes out by one link.
-ghost use Rattle.std.specs.Prelude.{◌≡◌, ℕ, ◌<◌, ◌≤◌, true, false, [], IfSome};
+ghost use Rattle.std.specs.Prelude.{◌≡◌, ◌<◌, ◌≤◌, true, false, [], IfSome};
 ghost use Rattle.client_ports.specs.Ends.{takers_port, taken_of, told_of, WasEmpty};
 ghost use Rattle.gate_outside.specs.Causes.{Rose};
 ghost use Rattle.link_writer.specs.Parcels.{HasWritten};

@@ -1,5 +1,5 @@
 //! The calls of a hub. Each is lent what the lock guards.
-ghost use Rattle.std.specs.Prelude.{◌≡◌, ◌≢◌, List, [], Some, None, false, length, IfOk};
+ghost use Rattle.std.specs.Prelude.{◌≡◌, ◌≢◌, List, [], None, false, length, IfOk};
 ghost use Rattle.client_ports.specs.Ends.{OfOnePort, capacity_of, put_of, taken_of};
 ghost use Rattle.mux_history.specs.Happenings.{Entry};
 ghost use Rattle.hub_places.specs.declared.ending.StopWhy.TheVariants as stops;
