@@ -84,7 +84,9 @@ pub struct Due {
 
 impl Due {
     /// None of them.
-    pub fn new() -> Due {
+    pub fn new() -> Due
+        ensures { result.server ≡ false }
+    {
         Due {
             server: false,
             players: [false; PLAYER_BELLS],
@@ -92,7 +94,9 @@ impl Due {
     }
 
     /// That of the connection with this number too.
-    pub fn add(&mut self, conn: u32) {
+    pub fn add(&mut self, conn: u32)
+        ensures { self.new.server ≡ self.old.server }
+    {
         self.players[conn as usize % PLAYER_BELLS] = true;
     }
 }

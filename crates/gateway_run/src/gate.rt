@@ -65,6 +65,8 @@ impl<D: Door + Drop> Gate<D> {
         ensures last { result ≡ (self.new.stations == 0 && self.old.ended) }
         ensures stations { self.new.stations ≡ self.old.stations - 1 }
         ensures door { self.new.door ≡ self.old.door }
+        ensures failed { self.new.failed ≡ self.old.failed }
+        ensures ended { self.new.ended ≡ self.old.ended }
     {
         self.stations = self.stations.saturating_sub(1);
         self.stations == 0 && self.ended

@@ -1,4 +1,5 @@
 //! Whether a link is over, asked as seldom as that may change.
+ghost use Rattle.std.specs.Prelude.{◌≡◌, false};
 
 use crate::common::Common;
 use gateway_hub::Recorder;
@@ -15,7 +16,9 @@ pub struct Life {
 
 impl Life {
     /// The hub was not asked yet.
-    pub fn new() -> Life {
+    pub fn new() -> Life
+        ensures { result.over ≡ false }
+    {
         Life {
             over: false,
             asked: None,
@@ -27,7 +30,9 @@ impl Life {
         &mut self,
         common: &Common<'_, M, R, W>,
         conn: Option<u32>,
-    ) -> bool {
+    ) -> bool
+        ensures { result ≡ self.new.over }
+    {
         let overs = common.bells.overs();
         if self.asked != Some(overs) {
             self.asked = Some(overs);
