@@ -55,6 +55,7 @@ fn shared_desk<O: Outlet + Drop>(desk: &Desk<O>) -> &Desk<O> {
 
 // One turn of a writer: the parcels that wait by their sizes, and the numbers of the writes that fail; what the turn answers, how
 // many bytes are written, and how many texts are kept.
+#[derive(Clone, Copy)]
 struct Case<'a> {
     sizes: &'a [usize],
     fails: &'a [u64],
@@ -63,20 +64,21 @@ struct Case<'a> {
     kept: usize,
 }
 
-// Such a turn.
-fn case<'a>(
-    sizes: &'a [usize],
-    fails: &'a [u64],
-    turn: Turn,
-    written: usize,
-    kept: usize,
-) -> Case<'a> {
-    Case {
-        sizes,
-        fails,
-        turn,
-        written,
-        kept,
+impl<'a> Case<'a> {
+    fn new(
+        sizes: &'a [usize],
+        fails: &'a [u64],
+        turn: Turn,
+        written: usize,
+        kept: usize,
+    ) -> Case<'a> {
+        Case {
+            sizes,
+            fails,
+            turn,
+            written,
+            kept,
+        }
     }
 }
 
@@ -85,11 +87,11 @@ fn parcels_are_written_in_turns(rt: HostRuntime) -> Result<(), Fail> {
     let alloc = rt.alloc();
     let mut gather = Gather::new(alloc)?;
     let cases = [
-        case(&[], &[], Turn::Idle, 0, 0),
-        case(&[3, 65_534, 70_000, 2], &[], Turn::Wrote, 135_539, 0),
-        case(&[600, 700], &[], Turn::Wrote, 1_300, 2),
-        case(&[3, 65_534], &[0], Turn::Failed, 0, 0),
-        case(&[3, 65_534], &[1], Turn::Failed, 3, 0),
+        Case::new(&[], &[], Turn::Idle, 0, 0),
+        Case::new(&[3, 65_534, 70_000, 2], &[], Turn::Wrote, 135_539, 0),
+        Case::new(&[600, 700], &[], Turn::Wrote, 1_300, 2),
+        Case::new(&[3, 65_534], &[0], Turn::Failed, 0, 0),
+        Case::new(&[3, 65_534], &[1], Turn::Failed, 3, 0),
     ];
     for case in cases {
         let (_, mut writer) = writer(alloc, &rt, case.sizes, case.fails)?;
