@@ -1,6 +1,6 @@
 //! The texts that the drill's server writes.
-ghost use Rattle.std.specs.Prelude.{◌≡◌, ◌++◌, ◌∷◌, [], IfOk, OnOk, take, length};
-ghost use Rattle.drill_server.specs.Texts.{success_text, drill_session, frame_on, frames_of, status_told, end_request, end_notify, answer_field};
+ghost use Rattle.std.specs.Prelude.{◌≡◌, ◌++◌, ◌∷◌, [], IfOk, OnOk};
+ghost use Rattle.drill_server.specs.Texts.{success_text, drill_session, frames_of, status_told, end_request, end_notify, answer_field};
 
 use crate::track::{ID_BASE, Track};
 use gate_bytes::{Memory, Text, after, push_decimal};

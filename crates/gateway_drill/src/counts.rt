@@ -3,7 +3,7 @@ ghost use Rattle.std.specs.Prelude.{◌≡◌, ◌+◌, IfOk};
 ghost use Rattle.rtsp_head.specs.Shapes.{shapes};
 ghost use Rattle.mux_history.specs.Happenings.{happening_of};
 ghost use Rattle.mux_history.specs.Short.{piece_length, message_length, up_length};
-ghost use Rattle.gateway_drill.specs.Counting.{count_if, is_frame_kind, requests_told, replies_counted, frames_among, requests_up, frames_up, is_success_answer, successes_up, counts_with, counts_none, counts_sum};
+ghost use Rattle.gateway_drill.specs.Counting.{is_frame_kind, requests_told, replies_counted, frames_among, requests_up, frames_up, is_success_answer, successes_up, counts_with, counts_none, counts_sum};
 
 use crate::player::is_response;
 use gate_bytes::{Memory, Text};

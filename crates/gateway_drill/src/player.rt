@@ -1,5 +1,5 @@
 //! A player.
-ghost use Rattle.std.specs.Prelude.{◌≡◌, [], IfOk, OnOk, option_map};
+ghost use Rattle.std.specs.Prelude.{◌≡◌, IfOk, OnOk};
 ghost use Rattle.rtsp_head.specs.Shapes.{shape_of, shapes};
 ghost use Rattle.gateway_drill.specs.Players.{is_response_kind, session_in_head, session_replied};
 

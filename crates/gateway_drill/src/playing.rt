@@ -1,5 +1,5 @@
 //! A core, and the players and the server of a drill around it.
-ghost use Rattle.std.specs.Prelude.{◌≡◌, ◌∷◌, ℕ, List, [], IfOk, OnOk};
+ghost use Rattle.std.specs.Prelude.{◌≡◌, ◌∷◌, List, [], IfOk, OnOk};
 ghost use Rattle.rtsp_head.specs.Shapes.{shape_of, shapes};
 ghost use Rattle.rtsp_uri.specs.declared.base.Bases.{Bases};
 ghost use Rattle.mux_history.specs.Happenings.{Entry, entry_of, happening_of};

@@ -1,5 +1,5 @@
 //! The eight lines that a drill prints.
-ghost use Rattle.std.specs.Prelude.{◌≡◌, ◌++◌, IfOk, OnOk, codes};
+ghost use Rattle.std.specs.Prelude.{◌≡◌, ◌++◌, IfOk, OnOk};
 ghost use Rattle.gateway_drill.specs.Reports.{named_number, drill_lines};
 
 use crate::counts::Counts;

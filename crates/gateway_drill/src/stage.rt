@@ -1,6 +1,5 @@
 //! The players and the server of a drill, around the gateway.
-ghost use Rattle.std.specs.Prelude.{◌≡◌, ◌++◌, ◌+◌, ℕ, List, [], IfOk, OnOk, replicate, slice_set};
-ghost use Rattle.rtsp_head.specs.Items.{Shape};
+ghost use Rattle.std.specs.Prelude.{◌≡◌, ◌++◌, ◌+◌, IfOk, OnOk, replicate, slice_set};
 ghost use Rattle.rtsp_head.specs.Shapes.{shapes};
 ghost use Rattle.mux_history.specs.Happenings.{Happening};
 ghost use Rattle.drill_server.specs.Serving.{Serving, Serves};

@@ -1,5 +1,5 @@
 //! Scenes are run.
-ghost use Rattle.std.specs.Prelude.{◌≡◌, [], IfOk};
+ghost use Rattle.std.specs.Prelude.{[], IfOk};
 ghost use Rattle.gateway_mux.specs.Stands.{Stands, bases_of};
 ghost use Rattle.gateway_run.specs.Serving.{AreSameAddresses, IsSameAddress};
 

@@ -1,5 +1,5 @@
 //! Which errors of the system are no faults.
-ghost use Rattle.std.specs.Prelude.{◌≡◌, ◌↔◌, ◌⊎◌, IsTrue};
+ghost use Rattle.std.specs.Prelude.{◌↔◌, IsTrue};
 ghost use Rattle.std.specs.IoError.{error_kind};
 ghost use Rattle.tcp_world.specs.Edges.{MeansNotYet, MeansLinkGone};
 
