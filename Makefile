@@ -3,6 +3,9 @@
 PREFIX ?= /usr/local
 PROGRAM := crates/rtspgate/out/rtspgate
 REPLAY := replay rtsp://gate.example rtsp://media.example
+# How many crates are proved beside each other: one for each processor, where each has 5 GB of free memory. `make JOBS=1` needs
+# the least.
+JOBS ?= $(shell awk -v most=$$(nproc) '/^MemAvailable/ { n = int($$2 / 5000000); print n < 1 ? 1 : n < most ? n : most }' /proc/meminfo)
 SOURCES := crates.txt $(shell find crates -name out -prune -o \( -name '*.rt' -o -name '*.antt' \) -print)
 EXAMPLES := sessions players options describe
 
@@ -14,7 +17,7 @@ all: $(PROGRAM)
 # Independent crates are proved side by side first. `rt run` then links the program and runs it once,
 # here on a transcript without entries, which has no records.
 $(PROGRAM): $(SOURCES)
-	rt all check
+	rt all check --jobs $(JOBS)
 	cd crates/rtspgate && printf 'RTSPGW1\n' | rt run -- $(REPLAY)
 	touch $@
 

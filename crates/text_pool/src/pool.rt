@@ -12,8 +12,9 @@ pub const LEAST_KEPT: usize = 512;
 /// The most bytes of a text that is kept (this project's own): more than a frame over Ethernet mostly has.
 pub const MOST_KEPT: usize = 2_048;
 
-/// How many texts a pool keeps at most (this project's own).
-pub const MOST_TEXTS: usize = 1_024;
+/// How many texts a pool keeps at most (this project's own): more than one read of a server brings of frames over Ethernet. So
+/// a pool takes some half a megabyte at most.
+pub const MOST_TEXTS: usize = 256;
 
 /// Whether a text of so many bytes is kept, and made of one that was.
 fn is_kept(bytes: usize) -> bool {
@@ -24,7 +25,7 @@ fn is_kept(bytes: usize) -> bool {
 #[derive(Drop)]
 pub struct TextPool {
     texts: Vec<Text>,
-    ghost few: { length texts.items ≤ 1024 },
+    ghost few: { length texts.items ≤ 256 },
 }
 
 impl Model for TextPool {
