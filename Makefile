@@ -11,7 +11,7 @@ EXAMPLES := sessions players options describe
 
 .PHONY: all demo serve-demo chart try test check bench bench-hub bench-serve install examples clean
 
-# The proved program. Nothing is built that is not proved, so a first `make` takes some half an hour.
+# The proved program. Nothing is built that is not proved, so a first `make` takes some three quarters of an hour.
 all: $(PROGRAM)
 
 # Independent crates are proved side by side first. `rt run` then links the program and runs it once,
