@@ -12,8 +12,8 @@ pub const LEAST_KEPT: usize = 512;
 /// The most bytes of a text that is kept (this project's own): more than a frame over Ethernet mostly has.
 pub const MOST_KEPT: usize = 2_048;
 
-/// How many texts a pool keeps at most (this project's own): more than one read of a server brings of frames over Ethernet. So
-/// a pool takes some half a megabyte at most.
+/// How many texts a pool keeps at most (this project's own): more than one read of the server's link brings of frames
+/// of 1,400 bytes.
 pub const MOST_TEXTS: usize = 256;
 
 /// Whether a text of so many bytes is kept, and made of one that was.
