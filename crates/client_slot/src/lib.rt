@@ -13,8 +13,6 @@ mod limits;
 mod purpose;
 mod session;
 mod slot;
-#[cfg(test)]
-mod tests;
 mod waiting;
 
 pub use law::changes_keep_any_numbering;

@@ -11,6 +11,3 @@ pub use answer::Answer;
 pub use draw::{Draw, INCREMENT, LOW_BITS, MULTIPLIER};
 pub use server::DrillServer;
 pub use track::{ID_BASE, Track};
-
-#[cfg(test)]
-mod tests;

@@ -16,6 +16,3 @@ pub use memory::Memory;
 pub use place::{after, before, find, holds_either, split_once, up_to};
 pub use text::Text;
 pub use token::{eq_fold, is_token, trim};
-
-#[cfg(test)]
-mod tests;

@@ -18,8 +18,6 @@ mod planning;
 mod replies;
 mod requests;
 mod sight;
-#[cfg(test)]
-mod tests;
 mod told;
 mod treat;
 mod why;

@@ -33,6 +33,3 @@ pub use outlet::MemoryOutlet;
 pub use parts::{Part, Parts};
 pub use script::{Calls, Script};
 pub use streams::{Failed, Sink, Source, write_all};
-
-#[cfg(test)]
-mod tests;

@@ -33,6 +33,3 @@ pub use reader::{EntryReader, MAGIC, MAGIC_LENGTH};
 pub use recorder::{NoteFault, Recorder};
 pub use recording::TranscriptRecorder;
 pub use writing::{write_entry, written_entries_are_read};
-
-#[cfg(test)]
-mod tests;

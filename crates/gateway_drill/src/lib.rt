@@ -23,6 +23,3 @@ pub use script::{Said, said_at, step_text};
 pub use stage::Stage;
 pub use step::Step;
 pub use turn::Who;
-
-#[cfg(test)]
-mod tests;

@@ -16,11 +16,3 @@ pub struct Hub<M: Core, R: Recorder> {
     state: State<M, R>,
     ghost keeps: { ∥ KeepsSome (M.stands state.core) (R.entries state.recorder) (R.faults state.recorder) state.desk ∥₁ },
 }
-
-#[cfg(test)]
-impl<M: Core, R: Recorder> Hub<M, R> {
-    /// The recorder.
-    pub(crate) fn recorder(&self) -> &R {
-        &self.state.recorder
-    }
-}

@@ -29,6 +29,3 @@ pub use hub_places::{
 pub use laws::what_was_noted_tells_the_history;
 pub use receipts::Receipts;
 pub use seat::{Entered, Seat, Taken};
-
-#[cfg(test)]
-mod tests;

@@ -12,8 +12,6 @@ use mux_history::{Bases, Event, Outcome, UpCause};
 use rtsp_head::ItemKind;
 use std::alloc::Global;
 
-#[cfg(test)]
-mod tests;
 
 /// All connections of a gateway, and its connection to the server. It stands for the history of what
 /// happened to it.

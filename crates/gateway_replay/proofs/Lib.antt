@@ -10,4 +10,3 @@ pub mod EnteredLemmas
 pub mod ReplayLemmas
 pub mod SourceLemmas
 pub mod WatchLemmas
-pub mod RefusingLemmas

@@ -3,8 +3,6 @@ pub mod Framers
 pub mod Living
 pub mod OneTranscript
 pub mod Records
-pub mod Refusing
-pub mod RefusingLaws
 pub mod Replays
 pub mod Runs
 pub mod Stops

@@ -16,6 +16,3 @@ mod watched;
 pub use laws::a_transcript_of_one_player_is_its_own;
 pub use outcomes::close_byte;
 pub use replaying::{LONGEST_TRANSCRIPT, READ_SIZE, replay};
-
-#[cfg(test)]
-mod tests;

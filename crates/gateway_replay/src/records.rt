@@ -98,39 +98,3 @@ fn record_head(kind: RecordKind, conn: u32, size: u32) -> [u8; RECORD_HEAD_LENGT
     let [s0, s1, s2, s3] = size.to_be_bytes();
     [kind.byte(), c0, c1, c2, c3, s0, s1, s2, s3]
 }
-
-#[cfg(test)]
-mod tests {
-    use super::*;
-    use gate_outside::{MemorySink, Numbers, Script};
-
-    #[test]
-    fn records_are_spelled(rt: HostRuntime) {
-        let script = Script {
-            fails: Numbers::new(rt.alloc()),
-            waits: Numbers::new(rt.alloc()),
-            idle: None,
-            piece: 4,
-        };
-        let mut sink = MemorySink::new(rt.alloc(), script);
-        assert_eq!(rt;
-            write_record(&mut sink, RecordKind::Handed, 258, b"hello"),
-            Ok(())
-        );
-        assert_eq!(rt;
-            write_record(&mut sink, RecordKind::Closed, u32::MAX, b"E"),
-            Ok(())
-        );
-        assert_eq!(rt;
-            write_record(&mut sink, RecordKind::HandedUp, 0, b"up"),
-            Ok(())
-        );
-        assert_eq!(rt;
-            write_parted_record(&mut sink, RecordKind::Fault, 0, b"two ", b"parts"),
-            Ok(())
-        );
-        let wanted =
-            b"T\0\0\x01\x02\0\0\0\x05helloC\xff\xff\xff\xff\0\0\0\x01EY\0\0\0\0\0\0\0\x02upF\0\0\0\0\0\0\0\x09two parts";
-        assert_eq!(rt; sink.as_bytes(), wanted.as_slice());
-    }
-}

@@ -15,6 +15,3 @@ pub use kinds::WordsFault;
 pub use named::program;
 pub use options::{MOST_STATIONS, ServeOptions};
 pub use words::{Command, asks_to_serve, read_words};
-
-#[cfg(test)]
-mod tests;

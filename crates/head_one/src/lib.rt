@@ -12,6 +12,3 @@ pub use law::{replies_in_a_row, written_replies};
 pub use refusal::{Refusal, RequestFault};
 pub use reply::{Reply1, write_reply};
 pub use request::{Request1, read_request};
-
-#[cfg(test)]
-mod tests;

@@ -15,6 +15,3 @@ pub use fault::TwoFault;
 pub use law::{answers_in_a_row, requests_in_a_row, written_answers, written_requests};
 pub use reply::{Reply2, read_reply};
 pub use request::{Request2, write_request};
-
-#[cfg(test)]
-mod tests;

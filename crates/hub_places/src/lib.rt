@@ -19,6 +19,3 @@ pub use line::{Line, Place};
 pub use places::{count_arrival, hand_out, is_seated, next_of, note_close, put_first, room_of};
 pub use receipt::{Close, Receipt};
 pub use server::Server;
-
-#[cfg(test)]
-mod tests;

@@ -15,6 +15,3 @@ pub use laws::{
     what_was_put_begins_the_items_given,
 };
 pub use reader::Reader;
-
-#[cfg(test)]
-mod tests;

@@ -15,6 +15,3 @@ pub use desk::Desk;
 pub use gather::{BUFFER_SIZE, Gather};
 pub use turn::{MOST_PARCELS, Turn};
 pub use writer::Writer;
-
-#[cfg(test)]
-mod tests;

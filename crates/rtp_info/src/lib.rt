@@ -10,8 +10,6 @@ mod parameter;
 mod part;
 mod reading;
 mod spec;
-#[cfg(test)]
-mod tests;
 mod write;
 
 pub use entry::InfoEntry;

@@ -14,6 +14,3 @@ mod message;
 pub use framer::Framer;
 pub use law::{computed_items, longer_streams, one_reading, one_spelling, whole_items};
 pub use rtsp_head::{BadKind, Item, ItemKind};
-
-#[cfg(test)]
-mod tests;

@@ -14,8 +14,6 @@ mod message;
 mod reading;
 mod start;
 mod tally;
-#[cfg(test)]
-mod tests;
 mod write;
 
 pub use facts::{Facts, LENGTH_DIGITS, Length, check_head};

@@ -13,8 +13,6 @@ mod part;
 mod range;
 mod reading;
 mod smpte;
-#[cfg(test)]
-mod tests;
 mod unit;
 mod writing;
 

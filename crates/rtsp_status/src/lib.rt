@@ -6,6 +6,3 @@ mod text;
 
 pub use code::{FIRST_SUCCESS, LAST_SUCCESS, to_one, told_codes_have_reasons};
 pub use text::{LONGEST_REASON, reason, reasons_fit_a_status_line};
-
-#[cfg(test)]
-mod tests;

@@ -11,8 +11,6 @@ mod grant;
 mod parameters;
 mod split;
 mod ssrc;
-#[cfg(test)]
-mod tests;
 mod write;
 
 pub use alternative::{Wanted, pick};

@@ -22,6 +22,3 @@ pub use laws::{
 };
 pub use swap::{DEFAULT_PORT, swap_authority};
 pub use word::{BaseFault, LONGEST_BASE, LONGEST_BASE_TEXT, read_base};
-
-#[cfg(test)]
-mod tests;

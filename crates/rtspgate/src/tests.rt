@@ -1,19 +1,10 @@
-//! Replays of transcripts over a source and a sink in memory: a table of cases, faults of the outside, and what is large.
+//! What no program of the gate reaches: readers and writers of std that fail, and the words of `serve` over a world in memory.
 ghost use Rattle.std.specs.Prelude.{◌<◌};
 
 mod adapters;
-mod drills;
-mod large;
-mod notation;
-mod one_player;
-mod players;
 mod served;
 
-use crate::plain::plain;
-use gate_bytes::Text;
-use gate_outside::{MemorySink, MemorySource, Numbers, Script};
-use gateway_mux::Status;
-use notation::read_case;
+use gate_outside::{Numbers, Script};
 use std::alloc::Global;
 use std::test::Fail;
 
@@ -48,75 +39,4 @@ fn script(alloc: Global, fails: Option<u64>, piece: usize) -> Result<Script, Fai
         idle: None,
         piece,
     })
-}
-
-// How the replay of a transcript ends under these scripts, and the records that it writes.
-fn replayed(
-    alloc: Global,
-    transcript: Text,
-    reads: Script,
-    writes: Script,
-) -> Result<(Status, Text), Fail> {
-    let mut source = MemorySource::new(transcript, reads);
-    let mut sink = MemorySink::new(alloc, writes);
-    let status = plain(alloc, &words(alloc)?, &mut source, &mut sink);
-    Ok((status, Text::copy(alloc, sink.as_bytes())?))
-}
-
-#[test]
-fn transcripts_give_their_records(rt: HostRuntime) -> Result<(), Fail> {
-    let alloc = rt.alloc();
-    let tables = [
-        (one_player::CASES, one_player::COUNT),
-        (players::CASES, players::COUNT),
-    ];
-    for (cases, wanted) in tables {
-        let mut count = 0usize;
-        for text in cases.split("\n\n") {
-            let case = read_case(alloc, text)?;
-            let title = case.title;
-            for piece in [1, 7, 4096] {
-                let (status, records) = replayed(
-                    alloc,
-                    Text::copy(alloc, &case.transcript)?,
-                    script(alloc, None, piece)?,
-                    script(alloc, None, piece)?,
-                )?;
-                let fault = format!(in alloc; "{status}")?;
-                assert_eq!(rt; fault.as_str(), case.fault, "{title}");
-                assert_eq!(rt; records.as_bytes(), case.records.as_slice(), "{title}");
-            }
-            count = count.saturating_add(1);
-        }
-        assert_eq!(rt; count, wanted);
-    }
-    Ok(())
-}
-
-#[test]
-fn faults_of_the_outside_are_told(rt: HostRuntime) -> Result<(), Fail> {
-    let alloc = rt.alloc();
-    let rows = [
-        (Some(1), None, Status::SourceFault, b"".as_slice()),
-        (Some(4), None, Status::SourceFault, ANSWER),
-        (Some(5), None, Status::Done, ANSWER),
-        (None, Some(0), Status::SinkFault, b""),
-        (
-            None,
-            Some(1),
-            Status::SinkFault,
-            ANSWER.get(..9).unwrap_or(b""),
-        ),
-    ];
-    for (read, write, wanted, bytes) in rows {
-        let (status, records) = replayed(
-            alloc,
-            Text::copy(alloc, OPTIONS)?,
-            script(alloc, read, 17)?,
-            script(alloc, write, 64)?,
-        )?;
-        assert_eq!(rt; status, wanted);
-        assert_eq!(rt; records.as_bytes(), bytes);
-    }
-    Ok(())
 }

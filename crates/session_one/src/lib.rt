@@ -6,8 +6,5 @@
 
 mod parts;
 mod table;
-#[cfg(test)]
-mod tests;
-
 pub use parts::{Asked, MOST_TRACKS, Play, Track};
 pub use table::{State, after, allowed, is_success};

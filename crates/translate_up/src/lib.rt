@@ -23,12 +23,3 @@ pub use laws::{
 pub use queued::play_up;
 pub use transport::with_transport;
 pub use view::View;
-
-#[cfg(test)]
-mod kept_tests;
-#[cfg(test)]
-mod stages;
-#[cfg(test)]
-mod table;
-#[cfg(test)]
-mod tests;
