@@ -1,0 +1,18 @@
+//! The text of cases: what programs of the gate read, and print of what came.
+//!
+//! Bytes have the notation of `tools/transcript`: a bar is CR LF; `\n`, `\r`, `\t`, `\s`, `\p`, `\\` and `\xHH` are single
+//! bytes; `{N*c}` is a byte `N` times; and a text with `hex:` at its front is hexadecimal. Every other byte means itself.
+#![tactic(auto)]
+
+mod entry;
+mod fault;
+mod line;
+mod meaning;
+mod shown;
+mod sign;
+
+pub use entry::{push_entry, push_records};
+pub use fault::CaseFault;
+pub use line::{first_number, first_word, next_line};
+pub use meaning::{meant, push_meant};
+pub use shown::{push_hex, push_shown};
