@@ -12,7 +12,7 @@ mod shown;
 mod sign;
 
 pub use entry::{push_entry, push_records};
-pub use fault::CaseFault;
+pub use fault::{CaseFault, CasesFault};
 pub use line::{first_number, first_word, next_line};
 pub use meaning::{meant, push_meant};
 pub use shown::{push_hex, push_shown};
