@@ -1,0 +1,42 @@
+//! A gateway that two connections have entered.
+ghost use Rattle.std.specs.Prelude.{[], ◌∷◌, IfOk};
+ghost use Rattle.mux_history.specs.Happenings.{entering};
+ghost use Rattle.gateway_mux.specs.Stands.{Stands};
+
+use gate_bytes::Memory;
+use gateway_mux::{Base, Bases, Mux};
+use rtsp_uri::read_base;
+use std::alloc::Global;
+
+/// A gateway to which nothing has happened.
+fn gateway(alloc: Global) -> Result<Mux, Memory>
+    ensures { IfOk result (λ mux. Stands mux []) }
+{
+    let bases = Bases {
+        front: base(alloc, "rtsp://gate.example")?,
+        up: base(alloc, "rtsp://media.example")?,
+    };
+    Mux::new(alloc, bases)
+}
+
+/// The base that a word names.
+fn base(alloc: Global, word: &str) -> Result<Base, Memory> {
+    read_base(alloc, word).map_err(|_| Memory)
+}
+
+/// One that a connection entered.
+fn entered(alloc: Global, conn: u32) -> Result<Mux, Memory>
+    ensures { IfOk result (λ mux. Stands mux (entering conn ∷ [])) }
+{
+    let mut mux = gateway(alloc)?;
+    mux.enter(alloc, conn)?;
+    Ok(mux)
+}
+
+/// One that the connections 7 and 4 entered, in this order.
+pub fn with_two_players(alloc: Global) -> Result<Mux, Memory> {
+    let mut mux = entered(alloc, 7)?;
+    mux.prepare(alloc)?;
+    mux.enter(alloc, 4)?;
+    Ok(mux)
+}
