@@ -9,7 +9,7 @@ JOBS ?= $(shell awk -v most=$$(nproc) '/^MemAvailable/ { n = int($$2 / 5000000);
 SOURCES := crates.txt $(shell find crates -name out -prune -o \( -name '*.rt' -o -name '*.antt' \) -print)
 EXAMPLES := sessions players options describe
 
-.PHONY: all demo serve-demo chart try test check bench bench-hub bench-serve install examples clean
+.PHONY: all demo serve-demo chart try test gate-cost check bench bench-hub bench-serve install examples clean
 
 # The proved program. Nothing is built that is not proved, so a first `make` takes some three quarters of an hour.
 all: $(PROGRAM)
@@ -48,11 +48,17 @@ try:
 test:
 	rt ci
 
-# Runs the program over real files and pipes: cuts, the cases of its tests, bad words, faults of the source, the sink
+# What the gate costs, crate by crate: it proves all anew.
+gate-cost:
+	tools/gate_cost
+
+# Runs the program over real files and pipes: cuts, the gate's transcripts, bad words, faults of the source, the sink
 # and memory, and the longest transcript; and compares the records of drawn transcripts with a second reading of
 # docs/FORMATS.md. Then it serves players over sockets: ends of all kinds, bursts, a player that takes nothing, and what can't be
-# opened.
+# opened. Before that it looks whether the pictures of docs/ are as they would be drawn, and counts the must-fail edits.
 check: $(PROGRAM)
+	tools/pictures --check
+	tools/edits --count
 	tools/check_program $(PROGRAM)
 	tools/check_serve $(PROGRAM)
 	tools/compare $(PROGRAM)
