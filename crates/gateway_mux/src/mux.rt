@@ -12,7 +12,6 @@ use mux_history::{Bases, Event, Outcome, UpCause};
 use rtsp_head::ItemKind;
 use std::alloc::Global;
 
-
 /// All connections of a gateway, and its connection to the server. It stands for the history of what
 /// happened to it.
 #[derive(Drop)]

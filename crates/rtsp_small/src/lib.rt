@@ -10,6 +10,7 @@ mod method;
 mod notify;
 mod scale;
 mod session;
+
 pub use cseq::{CSEQ_ONE_DIGITS, CSEQ_TWO_DIGITS, LAST_CSEQ_TWO, read_cseq_one, read_cseq_two};
 pub use method::{METHODS, Method, push_methods, read_method};
 pub use notify::{NotifyReason, read_reason, read_request_status};

@@ -6,5 +6,6 @@
 
 mod parts;
 mod table;
+
 pub use parts::{Asked, MOST_TRACKS, Play, Track};
 pub use table::{State, after, allowed, is_success};
