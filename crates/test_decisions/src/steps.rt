@@ -13,7 +13,19 @@ use session_two::Names;
 use std::alloc::Global;
 use std::str;
 
-/// Takes the step of a line.
+/// Takes the step of a line:
+///
+/// - `METHOD URI`: the player's request goes up, and a SETUP with the stream that it sets up;
+/// - `reply NUMBER CODE ID`: the final reply to the open request comes, with the id of the session that the server made; no
+///   id is there where it made none;
+/// - `queue URI`: a PLAY waits;
+/// - `release`: the PLAY that is due goes up;
+/// - `end NUMBER`: the end of what plays is told, and names the request with this number; without one it names none;
+/// - `wait REQUEST`: a request waits;
+/// - `next`: the oldest request that waits is treated;
+/// - `close`: the connection closes;
+/// - `closing NUMBER`: its TEARDOWN goes up with this number;
+/// - `new`: another connection enters.
 pub fn step(alloc: Global, slot: &mut Slot, line: &[u8]) -> Result<(), CaseFault> {
     let (word, rest) = first_word(line);
     if let Some(method) = read_method(word) {
