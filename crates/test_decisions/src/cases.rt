@@ -2,17 +2,16 @@
 
 use crate::connection::Connection;
 use crate::decisions::{tell_decision, tell_kept};
-use crate::fault::Fault;
 use crate::replies::tell_reply;
 use crate::states::{tell_after, tell_allowed};
-use case_text::{CaseFault, first_word, next_line};
+use case_text::{CaseFault, CasesFault, first_word, next_line};
 use gate_bytes::{Memory, Text};
 use rtsp_uri::{Base, Bases, read_base};
 use std::alloc::Global;
 use std::str;
 
 /// Appends each line of a script, and behind each case what came of it.
-pub fn tell_all(alloc: Global, script: &[u8], text: &mut Text) -> Result<(), Fault> {
+pub fn tell_all(alloc: Global, script: &[u8], text: &mut Text) -> Result<(), CasesFault> {
     let bases = bases(alloc)?;
     let mut connection = Connection::new(alloc)?;
     let mut left = script;
@@ -21,11 +20,7 @@ pub fn tell_all(alloc: Global, script: &[u8], text: &mut Text) -> Result<(), Fau
             break;
         };
         left = rest;
-        match tell_line(alloc, &bases, &mut connection, line, text) {
-            Ok(()) => {}
-            Err(CaseFault::Memory) => return Err(Fault::Memory),
-            Err(CaseFault::Unreadable) => return Err(Fault::Line(number)),
-        }
+        tell_line(alloc, &bases, &mut connection, line, text).map_err(|fault| fault.at(number))?;
     }
     Ok(())
 }

@@ -24,7 +24,6 @@ mod cases;
 mod connection;
 mod decisions;
 mod events;
-mod fault;
 mod items;
 mod replies;
 mod slot_text;

@@ -2,16 +2,15 @@
 
 use crate::drawing::tell_draws;
 use crate::drilling::tell_drill;
-use crate::fault::Fault;
 use crate::serving::{feed, tell_pending, tell_turn};
-use case_text::{CaseFault, first_word, next_line};
+use case_text::{CaseFault, CasesFault, first_word, next_line};
 use drill_server::DrillServer;
 use gate_bytes::Text;
 use std::alloc::Global;
 use std::str;
 
 /// Appends each line of a script, and behind each case what came of it.
-pub fn tell_all(alloc: Global, script: &[u8], text: &mut Text) -> Result<(), Fault> {
+pub fn tell_all(alloc: Global, script: &[u8], text: &mut Text) -> Result<(), CasesFault> {
     let mut server = DrillServer::new(alloc);
     let mut left = script;
     for number in 1..u64::MAX {
@@ -19,11 +18,7 @@ pub fn tell_all(alloc: Global, script: &[u8], text: &mut Text) -> Result<(), Fau
             break;
         };
         left = rest;
-        match tell_line(alloc, &mut server, line, text) {
-            Ok(()) => {}
-            Err(CaseFault::Memory) => return Err(Fault::Memory),
-            Err(CaseFault::Unreadable) => return Err(Fault::Line(number)),
-        }
+        tell_line(alloc, &mut server, line, text).map_err(|fault| fault.at(number))?;
     }
     Ok(())
 }

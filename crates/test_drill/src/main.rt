@@ -14,7 +14,6 @@
 mod cases;
 mod drawing;
 mod drilling;
-mod fault;
 mod serving;
 
 use crate::cases::tell_all;
