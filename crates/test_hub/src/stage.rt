@@ -1,0 +1,79 @@
+//! A hub over a multiplexer and a recorder in memory, and who speaks to it.
+ghost use Rattle.std.specs.Prelude.{[], IfOk};
+ghost use Rattle.gateway_mux.specs.Stands.{Stands};
+
+use crate::over::Over;
+use case_text::CaseFault;
+use client_ports::{Putter, Taker};
+use gate_outside::{Numbers, Script};
+use gate_transcript::MemoryRecorder;
+use gateway_hub::{Entered, Hub};
+use gateway_mux::{Base, Bases, Mux};
+use rtsp_uri::read_base;
+use std::alloc::Global;
+
+/// The hub of all scenes.
+pub type SceneHub = Hub<Mux, MemoryRecorder>;
+
+/// A hub, and who speaks to it.
+#[derive(Drop)]
+pub struct Stage {
+    /// The hub.
+    pub hub: SceneHub,
+    /// The end that puts what the server says.
+    pub says: Putter,
+    /// The end that takes what the server is handed.
+    pub hears: Taker,
+    /// Those who entered, by their numbers, until they are retired.
+    pub players: Vec<Option<Entered>>,
+}
+
+impl Stage {
+    /// A hub to which nothing happened, whose recorder fails at these notes.
+    pub fn new(alloc: Global, fails: Numbers) -> Result<Stage, CaseFault> {
+        let mux = new_mux(alloc)?;
+        let recorder = MemoryRecorder::new(alloc, script(alloc, fails));
+        match Hub::new(alloc, mux, recorder) {
+            Ok((hub, says, hears)) => Ok(Stage {
+                hub,
+                says,
+                hears,
+                players: Vec::new(alloc),
+            }),
+            Err(_) => Err(CaseFault::Memory),
+        }
+    }
+
+    /// Closes the hub.
+    pub fn close(self) -> Over {
+        let (recorder, receipts) = self.hub.close();
+        Over { recorder, receipts }
+    }
+}
+
+/// A script by which these calls fail, and a call moves 100 bytes at most.
+pub fn script(alloc: Global, fails: Numbers) -> Script {
+    Script {
+        fails,
+        waits: Numbers::new(alloc),
+        idle: None,
+        piece: 100,
+    }
+}
+
+/// A multiplexer to which nothing happened, between the two addresses of all scenes.
+pub fn new_mux(alloc: Global) -> Result<Mux, CaseFault>
+    ensures { IfOk result (λ mux. Stands mux []) }
+{
+    let front = base(alloc, "rtsp://gate.example")?;
+    let up = base(alloc, "rtsp://media.example")?;
+    match Mux::new(alloc, Bases { front, up }) {
+        Ok(mux) => Ok(mux),
+        Err(_) => Err(CaseFault::Memory),
+    }
+}
+
+/// The base that a word names.
+fn base(alloc: Global, word: &str) -> Result<Base, CaseFault> {
+    read_base(alloc, word).map_err(|_| CaseFault::Memory)
+}
