@@ -1,0 +1,73 @@
+//! A program that plays scenes at the sources, sinks and links in memory, and at the readers and writers of links, on one
+//! thread, and prints what each call answers. The gate compares that with what it must print.
+//!
+//! A scene is lines, each of a word and what it is about. Each is printed with what came behind a colon, and so are lines
+//! that are empty or begin with `#`, which say nothing. Bytes have the notation of the crate `case_text`. A call that
+//! answers a value of a type of those crates is told as that type's `Debug` tells it.
+//!
+//! Lines that say how the next thing behaves, which is made by one of the lines further below:
+//!
+//! - `scene NAME` begins a scene, with nothing said and nothing made;
+//! - `piece BYTES` has a call move so many bytes at most, `fail CALL` and `pause CALL` have the call with this number fail
+//!   or have nothing for now, and `idle CALL` has nothing come from this call on, all counted from 0;
+//! - `wait OUTLET BODY` has what is said next wait until this outlet has taken so many bytes as the body means: more than
+//!   the line `wait` before it said, where that was of the same outlet;
+//! - `say BODY` has an inlet give these bytes;
+//! - `link` has a door give a link that says nothing and behaves so.
+//!
+//! What is made, and its calls:
+//!
+//! - `source BODY`: `read` tells what it answers, and then the buffer of 20 bytes;
+//! - `sink`: `write-all BODY`, and `written` tells all that was written;
+//! - `inlet TURNS`, which fails after so many waits for its outlets: `read` tells what it answers and the bytes that came;
+//!   `outlet NUMBER` makes an outlet and ties it, `write BODY` writes to it, `shut` shuts it, and `is-shut` and `written`
+//!   tell of it;
+//! - `numbers`: `is-empty`, `push NUMBER`, `count`, `at PLACE` and `holds NUMBER`, where `most` is the greatest number;
+//! - `door`: `accept`, `write BODY` to the link that came, `give-back`, `faults`, `ends`, and `returned`, which tells what
+//!   was written to each link that came back;
+//! - `read-all CAPACITY` has a reader read what was said into a port that holds so many items, until the end of it; the
+//!   bytes of the items are told, whether the port was ever full, and how many items were put;
+//! - `writer`: `put BODY` puts a parcel, `turn` has a writer write, `failed` tells whether its outlet failed, `shut` shuts
+//!   it, and `end` ends the writer, and tells how many bytes were written, whether its outlet is shut, and how many texts
+//!   are kept. Writers of one scene share the buffer;
+//! - `desk`: `hand CONNECTION` hands it a writer, `take` takes it and `give-back` gives it back, `is-back` tells whether it
+//!   came back, `collect` takes it then and tells its connection, and `close` closes the desk.
+#![tactic(auto)]
+
+mod desk;
+mod door;
+mod draft;
+mod fault;
+mod inlet;
+mod numbers;
+mod play;
+mod playing;
+mod reader;
+mod sink;
+mod source;
+mod telling;
+mod thing;
+mod writer;
+
+use crate::playing::play_all;
+use gate_bytes::Text;
+use std::io;
+use std::io::{Read, Write};
+use std::process::ExitCode;
+
+fn main(rt: HostRuntime) -> io::Result<ExitCode> {
+    let alloc = rt.alloc();
+    let mut script = Vec::new(alloc);
+    rt.reader().read_to_end(&mut script)?;
+    let mut text = Text::new(alloc);
+    match play_all(&rt, alloc, script.as_slice(), &mut text) {
+        Ok(()) => {
+            io::writer(&rt).write_all(text.as_bytes())?;
+            Ok(ExitCode::SUCCESS)
+        }
+        Err(fault) => {
+            eprintln!(rt; "test_links: {fault}")?;
+            Ok(ExitCode::FAILURE)
+        }
+    }
+}

@@ -1,0 +1,42 @@
+//! The calls of a source in memory.
+
+use crate::draft::Draft;
+use crate::telling::tell;
+use case_text::{CaseFault, meant, push_shown};
+use gate_bytes::Text;
+use gate_outside::{MemorySource, Source};
+use std::alloc::Global;
+
+/// A source, and the buffer into which it is read.
+#[derive(Drop)]
+pub struct SourcePlay {
+    source: MemorySource,
+    buffer: [u8; 20],
+}
+
+impl SourcePlay {
+    /// A source of the bytes that a body means.
+    pub fn new(alloc: Global, draft: Draft, body: &[u8]) -> Result<SourcePlay, CaseFault> {
+        Ok(SourcePlay {
+            source: MemorySource::new(meant(alloc, body)?, draft.script),
+            buffer: [0; 20],
+        })
+    }
+
+    /// Makes the call that a word is, and appends what came.
+    pub fn call(&mut self, alloc: Global, word: &[u8], answer: &mut Text) -> Result<(), CaseFault> {
+        match word {
+            b"read" => self.read(alloc, answer),
+            _ => Err(CaseFault::Unreadable),
+        }
+    }
+
+    /// Reads once. The answer and the whole buffer are told.
+    fn read(&mut self, alloc: Global, answer: &mut Text) -> Result<(), CaseFault> {
+        let got = self.source.read(&mut self.buffer);
+        tell(alloc, answer, &got)?;
+        answer.push_slice(b" ")?;
+        push_shown(answer, &self.buffer)?;
+        Ok(())
+    }
+}

@@ -1,0 +1,135 @@
+//! The calls of a writer.
+
+use crate::draft::Draft;
+use crate::telling::{tell, tell_word};
+use case_text::{CaseFault, meant};
+use client_ports::{Parcel, Putter, port};
+use gate_bytes::{Memory, Text};
+use gate_outside::{MemoryOutlet, Script};
+use link_writer::{Gather, Writer};
+use std::alloc::Global;
+use std::sync::Wait;
+use text_pool::TextPool;
+
+/// How many parcels a port holds.
+const CAPACITY: usize = 8;
+
+/// The writer of an outlet by this script, and the end that puts its parcels.
+pub fn new_writer(
+    alloc: Global,
+    conn: u32,
+    script: Script,
+) -> Result<(Putter, Writer<MemoryOutlet>), Memory> {
+    let (putter, taker) = port(alloc, CAPACITY)?;
+    let outlet = MemoryOutlet::new(alloc, script)?;
+    Ok((putter, Writer::new(Some(conn), outlet, taker)))
+}
+
+/// A writer until it is ended, what puts its parcels, and what it needs.
+#[derive(Drop)]
+pub struct WriterPlay {
+    putter: Putter,
+    writer: Option<Writer<MemoryOutlet>>,
+    gather: Gather,
+    spent: TextPool,
+}
+
+impl WriterPlay {
+    /// A writer of an outlet that behaves as the draft says.
+    pub fn new(alloc: Global, draft: Draft) -> Result<WriterPlay, CaseFault> {
+        let gather = Gather::new(alloc)?;
+        WriterPlay::with_gather(alloc, draft, gather)
+    }
+
+    /// Another such writer, with the same buffer.
+    pub fn next(self, alloc: Global, draft: Draft) -> Result<WriterPlay, CaseFault> {
+        WriterPlay::with_gather(alloc, draft, self.gather)
+    }
+
+    /// A writer with this buffer.
+    fn with_gather(alloc: Global, draft: Draft, gather: Gather) -> Result<WriterPlay, CaseFault> {
+        let (putter, writer) = new_writer(alloc, 3, draft.script)?;
+        Ok(WriterPlay {
+            putter,
+            writer: Some(writer),
+            gather,
+            spent: TextPool::new(alloc),
+        })
+    }
+
+    /// Makes the call that a word is, and appends what came.
+    pub fn call<W: Wait>(
+        &mut self,
+        rt: &W,
+        alloc: Global,
+        word: &[u8],
+        more: &[u8],
+        answer: &mut Text,
+    ) -> Result<(), CaseFault> {
+        match word {
+            b"put" => self.put(rt, alloc, more, answer),
+            b"turn" => self.turn(rt, alloc, answer),
+            b"failed" => self.tell_failed(alloc, answer),
+            b"shut" => self.shut(),
+            b"end" => self.end(alloc, answer),
+            _ => Err(CaseFault::Unreadable),
+        }
+    }
+
+    /// Puts a parcel.
+    fn put<W: Wait>(
+        &mut self,
+        rt: &W,
+        alloc: Global,
+        body: &[u8],
+        answer: &mut Text,
+    ) -> Result<(), CaseFault> {
+        let parcel = Parcel::Bytes(meant(alloc, body)?);
+        match self.putter.put(rt, parcel) {
+            Ok(()) => tell_word(answer, "put"),
+            Err(_) => tell_word(answer, "full"),
+        }
+    }
+
+    /// Has the writer write.
+    fn turn<W: Wait>(&mut self, rt: &W, alloc: Global, answer: &mut Text) -> Result<(), CaseFault> {
+        let Some(writer) = &mut self.writer else {
+            return Err(CaseFault::Unreadable);
+        };
+        let turn = writer.turn(rt, &mut self.gather, &mut self.spent);
+        tell(alloc, answer, &turn)
+    }
+
+    /// Whether the outlet has failed is told.
+    fn tell_failed(&self, alloc: Global, answer: &mut Text) -> Result<(), CaseFault> {
+        match &self.writer {
+            Some(writer) => tell(alloc, answer, &writer.has_failed()),
+            None => Err(CaseFault::Unreadable),
+        }
+    }
+
+    /// Shuts the outlet.
+    fn shut(&mut self) -> Result<(), CaseFault> {
+        match &mut self.writer {
+            Some(writer) => {
+                writer.shut();
+                Ok(())
+            }
+            None => Err(CaseFault::Unreadable),
+        }
+    }
+
+    /// Ends the writer. How many bytes were written is told, whether the outlet is shut, and how many texts are kept.
+    fn end(&mut self, alloc: Global, answer: &mut Text) -> Result<(), CaseFault> {
+        let Some(writer) = self.writer.take() else {
+            return Err(CaseFault::Unreadable);
+        };
+        let (outlet, _) = writer.into_ends();
+        answer.push_slice(b"written ")?;
+        tell(alloc, answer, &outlet.as_bytes().len())?;
+        answer.push_slice(b", shut ")?;
+        tell(alloc, answer, &outlet.is_shut())?;
+        answer.push_slice(b", kept ")?;
+        tell(alloc, answer, &self.spent.len())
+    }
+}
