@@ -1,16 +1,22 @@
 //! A program that rehearses `serve`: it reads scenes, runs each over a world in memory with real threads, and prints what
 //! everybody was handed. The gate compares that with what it must print.
 //!
-//! A scene is lines of words, each ended by a line feed:
+//! A scene is lines, each of a word and what it is about. Lines that are empty or begin with `#` say nothing. Bytes have the
+//! notation of the crate `case_text`.
 //!
 //! - `run NAME` begins a scene, of one station and with nothing said;
 //! - `stations COUNT` gives it so many;
 //! - `link` begins what comes by a link: first by the server's, then by each player's;
-//! - `say OUTLET AFTER LENGTH` says the so many bytes that follow, and a line feed behind them, once an outlet was handed
-//!   so many bytes: outlet 0 is the server's, and `n` that of the `n`th player, counted from 1;
-//! - `idle CALL` has nothing more come from this call on, and `fail CALL` has this call fail: of the link that was begun
-//!   last, or of the door where none was;
+//! - `wait OUTLET BODY` has what is said next wait until this outlet was handed so many bytes as the body means: more than
+//!   the line `wait` before it said, where that was of the same outlet. Outlet 0 is the server's, and `n` that of the `n`th
+//!   player, counted from 1;
+//! - `say BODY` says these bytes;
+//! - `end` has the end wait too, which else comes behind what is said last, and `end never` has none come;
+//! - `idle CALL` has nothing more come from this call on, and `fail CALL` has this call fail, counted from 0: of the link
+//!   that was begun last, or of the door where none was;
 //! - `replay` has what was recorded replayed, and its records printed.
+//!
+//! What is printed has a line for each message and each frame that one was handed, and for each record.
 #![tactic(auto)]
 
 mod fault;

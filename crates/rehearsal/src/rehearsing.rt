@@ -27,6 +27,7 @@ pub fn rehearse_all<R: Threads + Wait + Clock + Sync>(
 ) -> Result<(), Fault> {
     for scene in read_scenes(alloc, script)? {
         rehearse(rt, alloc, scene, text)?;
+        text.push_slice(b"\n")?;
     }
     Ok(())
 }

@@ -30,6 +30,10 @@ pub struct Role {
     pub parts: Parts,
     /// How the link's inlet behaves.
     pub script: Script,
+    /// The outlet for which what is said next waits.
+    outlet: u32,
+    /// How many bytes it has to have been handed.
+    after: u64,
 }
 
 impl Role {
@@ -38,11 +42,33 @@ impl Role {
         Role {
             parts: Parts::new(alloc),
             script: calm(alloc),
+            outlet: 0,
+            after: 0,
         }
     }
 
+    /// What is said next waits until this outlet was handed so many bytes: more than before, where the same outlet was
+    /// waited for.
+    pub fn wait_for(&mut self, outlet: u32, bytes: u64) {
+        if outlet != self.outlet {
+            self.outlet = outlet;
+            self.after = 0;
+        }
+        self.after = self.after.saturating_add(bytes);
+    }
+
+    /// What is said next never comes.
+    pub fn wait_for_ever(&mut self) {
+        self.after = u64::MAX;
+    }
+
     /// Something more is said.
-    pub fn say(&mut self, part: Part) -> Result<(), Memory> {
+    pub fn say(&mut self, bytes: Text) -> Result<(), Memory> {
+        let part = Part {
+            bytes,
+            outlet: self.outlet,
+            after: self.after,
+        };
         match self.parts.push(part) {
             Ok(()) => Ok(()),
             Err((_, memory)) => Err(memory),

@@ -3,12 +3,14 @@ ghost use Rattle.std.specs.Prelude.{[]};
 ghost use Rattle.gateway_mux.specs.Stands.{Stands};
 
 use crate::scene::calm;
+use case_text::{push_records, push_shown};
 use gate_bytes::{Memory, Text, push_decimal};
 use gate_outside::{MemorySink, MemorySource};
 use gate_transcript::{Entry, LONGEST_BODY, write_entry};
 use gate_world::MemoryWorld;
 use gateway_mux::{Mux, Status};
 use gateway_replay::replay;
+use rtsp_frame::Framer;
 use std::alloc::Global;
 
 /// Tells the name of a run.
@@ -31,24 +33,44 @@ pub fn tell_run(
     text.push_slice(line.as_bytes())?;
     text.push_slice(report)?;
     if let Some(link) = world.upstream() {
-        tell_handed(b"server", link.outlet.as_bytes(), text)?;
+        tell_handed(alloc, b"server", link.outlet.as_bytes(), text)?;
     }
     if let Some(door) = world.door() {
         for link in door.returned() {
-            tell_handed(b"player", link.outlet.as_bytes(), text)?;
+            tell_handed(alloc, b"player", link.outlet.as_bytes(), text)?;
         }
     }
     Ok(())
 }
 
-/// Tells what one was handed.
-fn tell_handed(who: &[u8], handed: &[u8], text: &mut Text) -> Result<(), Memory> {
+/// Tells how much one was handed, and each message and frame of it.
+fn tell_handed(alloc: Global, who: &[u8], handed: &[u8], text: &mut Text) -> Result<(), Memory> {
     text.push_slice(who)?;
     text.push_slice(b" was handed ")?;
     push_decimal(text, handed.len() as u64)?;
     text.push_slice(b"\n")?;
-    text.push_slice(handed)?;
-    text.push_slice(b"\n")
+    tell_messages(alloc, handed, text)
+}
+
+/// Tells each message and frame in its line, and what is left behind them, if anything is.
+fn tell_messages(alloc: Global, handed: &[u8], text: &mut Text) -> Result<(), Memory> {
+    let mut framer = Framer::new(alloc);
+    framer.feed(alloc, handed)?;
+    let mut told: usize = 0;
+    for _ in 0..handed.len() {
+        let Some(item) = framer.next() else { break };
+        push_shown(text, item.bytes.as_bytes())?;
+        text.push_slice(b"\n")?;
+        told = told.saturating_add(item.bytes.len());
+    }
+    match handed.get(told..) {
+        Some(left) if !left.is_empty() => {
+            text.push_slice(b"left ")?;
+            push_shown(text, left)?;
+            text.push_slice(b"\n")
+        }
+        _ => Ok(()),
+    }
 }
 
 /// Replays what was recorded, and tells how that ends and its records.
@@ -68,8 +90,7 @@ pub fn tell_replay(
     let status = replay(alloc, core, &mut source, &mut sink);
     let line = format!(in alloc; "replayed with {}\n", status.exit_code())?;
     text.push_slice(line.as_bytes())?;
-    text.push_slice(sink.as_bytes())?;
-    text.push_slice(b"\n")
+    push_records(text, sink.as_bytes())
 }
 
 /// Entries as a transcript.

@@ -1,6 +1,6 @@
 //! The words of a line.
 
-use gate_bytes::{MOST_DIGITS, read_decimal, split_once};
+use case_text::first_word;
 use std::str;
 
 /// What a line is about.
@@ -12,8 +12,12 @@ pub enum Word {
     Stations,
     /// What comes by one link more begins.
     Link,
-    /// Bytes follow that are said.
+    /// What is waited for.
+    Wait,
+    /// What is said.
     Say,
+    /// Whether the end waits, or never comes.
+    End,
     /// From which call on nothing comes.
     Idle,
     /// Which call fails.
@@ -29,22 +33,13 @@ pub fn read_line(line: &[u8]) -> Option<(Word, &[u8])> {
         "run" => Word::Run,
         "stations" => Word::Stations,
         "link" => Word::Link,
+        "wait" => Word::Wait,
         "say" => Word::Say,
+        "end" => Word::End,
         "idle" => Word::Idle,
         "fail" => Word::Fail,
         "replay" => Word::Replay,
         _ => return None,
     };
     Some((word, more))
-}
-
-/// The first word of a line, and what follows it.
-fn first_word(line: &[u8]) -> (&[u8], &[u8]) {
-    split_once(b' ', line).unwrap_or((line, b""))
-}
-
-/// The number that the first word of a line is, and what follows it.
-pub fn first_number(line: &[u8]) -> Option<(u64, &[u8])> {
-    let (word, more) = first_word(line);
-    Some((read_decimal(word, MOST_DIGITS)?, more))
 }
