@@ -19,7 +19,6 @@
 //! What is printed has a line for each message and each frame that one was handed, and for each record.
 #![tactic(auto)]
 
-mod fault;
 mod reading;
 mod rehearsing;
 mod scene;

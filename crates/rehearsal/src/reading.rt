@@ -1,15 +1,14 @@
 //! Scenes are read.
 
-use crate::fault::Fault;
 use crate::scene::{Role, Scene};
 use crate::words::{Word, read_line};
-use case_text::{CaseFault, first_number, meant, next_line};
+use case_text::{CaseFault, CasesFault, first_number, meant, next_line};
 use gate_bytes::Text;
 use gateway_words::MOST_STATIONS;
 use std::alloc::Global;
 
 /// Reads scenes.
-pub fn read_scenes(alloc: Global, script: &[u8]) -> Result<Vec<Scene>, Fault> {
+pub fn read_scenes(alloc: Global, script: &[u8]) -> Result<Vec<Scene>, CasesFault> {
     let mut scenes = Vec::new(alloc);
     let mut left = script;
     for number in 1..u64::MAX {
@@ -17,11 +16,7 @@ pub fn read_scenes(alloc: Global, script: &[u8]) -> Result<Vec<Scene>, Fault> {
             break;
         };
         left = rest;
-        match obey(alloc, &mut scenes, line) {
-            Ok(()) => {}
-            Err(CaseFault::Memory) => return Err(Fault::Memory),
-            Err(CaseFault::Unreadable) => return Err(Fault::Line(number)),
-        }
+        obey(alloc, &mut scenes, line).map_err(|fault| fault.at(number))?;
     }
     Ok(scenes)
 }

@@ -3,10 +3,10 @@ ghost use Rattle.std.specs.Prelude.{[], IfOk};
 ghost use Rattle.gateway_mux.specs.Stands.{Stands, bases_of};
 ghost use Rattle.gateway_run.specs.Serving.{AreSameAddresses, IsSameAddress};
 
-use crate::fault::Fault;
 use crate::reading::read_scenes;
 use crate::scene::{Scene, calm, world_of};
 use crate::telling::{tell_name, tell_replay, tell_run};
+use case_text::CasesFault;
 use gate_bytes::{Memory, Text};
 use gate_outside::MemorySink;
 use gateway_mux::{Base, Bases, Mux};
@@ -24,7 +24,7 @@ pub fn rehearse_all<R: Threads + Wait + Clock + Sync>(
     alloc: Global,
     script: &[u8],
     text: &mut Text,
-) -> Result<(), Fault> {
+) -> Result<(), CasesFault> {
     for scene in read_scenes(alloc, script)? {
         rehearse(rt, alloc, scene, text)?;
         text.push_slice(b"\n")?;

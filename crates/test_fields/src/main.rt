@@ -9,7 +9,6 @@
 mod answer;
 mod bytes;
 mod cases;
-mod fault;
 mod info;
 mod range;
 mod small;

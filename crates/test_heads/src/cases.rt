@@ -1,27 +1,22 @@
 //! Cases, one after another.
 
-use crate::fault::Fault;
 use crate::words::Words;
 use crate::{head, one, stream, two};
-use case_text::{CaseFault, first_word, next_line};
+use case_text::{CaseFault, CasesFault, first_word, next_line};
 use gate_bytes::Text;
 use rtsp_frame::Framer;
 use std::alloc::Global;
 use std::str;
 
 /// Tells the answer of each case.
-pub fn tell_cases(alloc: Global, cases: &[u8], text: &mut Text) -> Result<(), Fault> {
+pub fn tell_cases(alloc: Global, cases: &[u8], text: &mut Text) -> Result<(), CasesFault> {
     let mut framer = Framer::new(alloc);
     let mut left = cases;
     for number in 1..u64::MAX {
         let Some((line, rest)) = next_line(left) else {
             break;
         };
-        match tell_line(alloc, &mut framer, line, text) {
-            Ok(()) => {}
-            Err(CaseFault::Memory) => return Err(Fault::Memory),
-            Err(CaseFault::Unreadable) => return Err(Fault::Line(number)),
-        }
+        tell_line(alloc, &mut framer, line, text).map_err(|fault| fault.at(number))?;
         left = rest;
     }
     Ok(())

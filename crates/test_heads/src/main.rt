@@ -10,7 +10,6 @@ mod answer;
 mod cases;
 mod code;
 mod cuts;
-mod fault;
 mod head;
 mod message;
 mod one;

@@ -22,7 +22,6 @@
 #![tactic(auto)]
 
 mod entries;
-mod fault;
 mod looking;
 mod over;
 mod parcels;

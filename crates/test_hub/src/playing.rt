@@ -1,8 +1,7 @@
 //! Lines are played one after another, and printed with what came.
 
-use crate::fault::Fault;
 use crate::play::Play;
-use case_text::{CaseFault, next_line};
+use case_text::{CaseFault, CasesFault, next_line};
 use gate_bytes::{Memory, Text};
 use std::alloc::Global;
 use std::sync::Wait;
@@ -13,7 +12,7 @@ pub fn play_all<W: Wait>(
     alloc: Global,
     script: &[u8],
     text: &mut Text,
-) -> Result<(), Fault> {
+) -> Result<(), CasesFault> {
     let mut play = Play::Waiting;
     let mut left = script;
     for number in 1..u64::MAX {
@@ -23,7 +22,7 @@ pub fn play_all<W: Wait>(
         left = rest;
         match play_line(rt, alloc, &mut play, line) {
             Ok(answer) => tell_line(line, answer.as_bytes(), text)?,
-            Err(fault) => return Err(Fault::at(number, fault)),
+            Err(fault) => return Err(fault.at(number)),
         }
     }
     Ok(())

@@ -37,7 +37,6 @@
 mod desk;
 mod door;
 mod draft;
-mod fault;
 mod inlet;
 mod numbers;
 mod play;

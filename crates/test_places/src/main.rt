@@ -17,7 +17,6 @@
 //!   say what it is handed next, and `hand-up` hands it and tells whether its port was full.
 #![tactic(auto)]
 
-mod fault;
 mod parcels;
 mod places;
 mod play;

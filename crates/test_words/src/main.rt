@@ -8,7 +8,6 @@
 
 mod cases;
 mod command;
-mod fault;
 
 use crate::cases::tell_cases;
 use gate_bytes::Text;
