@@ -1,7 +1,12 @@
 //! How answers are written.
 
-use case_text::push_shown;
+use case_text::{CaseFault, push_shown};
 use gate_bytes::{Memory, Text, push_decimal};
+
+/// What appending an answer came to.
+pub fn told(answer: Result<(), Memory>) -> Result<(), CaseFault> {
+    Ok(answer?)
+}
 
 /// Appends bytes as they are where that can be read, else in the notation of cases; and `empty` for none.
 pub fn push_bytes(text: &mut Text, bytes: &[u8]) -> Result<(), Memory> {

@@ -1,6 +1,6 @@
 //! Bytes, texts and numbers.
 
-use crate::answer::{push_bytes, push_number, push_truth};
+use crate::answer::{push_bytes, push_number, push_truth, told};
 use crate::words::Words;
 use case_text::CaseFault;
 use gate_bytes::{
@@ -16,21 +16,22 @@ pub fn tell(
     words: Words<'_>,
     text: &mut Text,
 ) -> Result<bool, CaseFault> {
-    match name {
-        "token" => push_truth(text, is_token(words.all(alloc)?.as_bytes()))?,
-        "trim" => push_bytes(text, trim(words.all(alloc)?.as_bytes()))?,
-        "decimal" => tell_decimal(alloc, words, text)?,
-        "same-fold" => tell_same(alloc, words, text)?,
-        "append-decimal" => tell_appended(alloc, words, text)?,
-        "find" => tell_place(alloc, words, text)?,
-        "up-to" => tell_front(alloc, words, text)?,
-        "split" => tell_parts(alloc, words, text)?,
-        "text" => tell_pushed(alloc, words, text)?,
-        "set" => tell_set(alloc, words, text)?,
-        "room" => tell_room(alloc, words, text)?,
-        "copied" => tell_copied(alloc, words, text)?,
+    let answer = match name {
+        "token" => told(push_truth(text, is_token(words.whole()))),
+        "trim" => told(push_bytes(text, trim(words.whole()))),
+        "decimal" => tell_decimal(alloc, words, text),
+        "same-fold" => tell_same(alloc, words, text),
+        "append-decimal" => tell_appended(alloc, words, text),
+        "find" => tell_place(alloc, words, text),
+        "up-to" => tell_front(alloc, words, text),
+        "split" => tell_parts(alloc, words, text),
+        "text" => tell_pushed(alloc, words, text),
+        "set" => tell_set(alloc, words, text),
+        "room" => tell_room(alloc, words, text),
+        "copied" => tell_copied(alloc, words, text),
         _ => return Ok(false),
-    }
+    };
+    answer?;
     Ok(true)
 }
 
@@ -141,11 +142,10 @@ fn tell_room(alloc: Global, mut words: Words<'_>, text: &mut Text) -> Result<(),
 
 /// A copy of a text, or of none where the case has no word.
 fn tell_copied(alloc: Global, words: Words<'_>, text: &mut Text) -> Result<(), CaseFault> {
-    let all = words.all(alloc)?;
     let given = if words.is_empty() {
         None
     } else {
-        Some(all.as_bytes())
+        Some(words.whole())
     };
     match Text::copied(alloc, given)? {
         Some(copy) => push_bytes(text, copy.as_bytes())?,

@@ -2,7 +2,7 @@
 
 use crate::words::Words;
 use crate::{bytes, info, range, small, status, transport, uri};
-use case_text::{CaseFault, CasesFault, first_word, next_line};
+use case_text::{CaseFault, CasesFault, first_word, meant, next_line};
 use gate_bytes::Text;
 use std::alloc::Global;
 use std::str;
@@ -37,7 +37,8 @@ fn tell_answer(alloc: Global, line: &[u8], text: &mut Text) -> Result<(), CaseFa
     let Ok(name) = str::from_utf8(name) else {
         return Err(CaseFault::Unreadable);
     };
-    let words = Words::new(left);
+    let whole = meant(alloc, left)?;
+    let words = Words::new(left, whole.as_bytes());
     let is_told = bytes::tell(alloc, name, words, text)?
         || small::tell(alloc, name, words, text)?
         || range::tell(alloc, name, words, text)?

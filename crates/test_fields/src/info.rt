@@ -14,17 +14,18 @@ pub fn tell(
     words: Words<'_>,
     text: &mut Text,
 ) -> Result<bool, CaseFault> {
-    match name {
-        "rtp-info" => tell_read(alloc, words, text)?,
-        "rtp-info-of" => tell_made(alloc, words, text)?,
+    let answer = match name {
+        "rtp-info" => tell_read(alloc, words, text),
+        "rtp-info-of" => tell_made(alloc, words, text),
         _ => return Ok(false),
-    }
+    };
+    answer?;
     Ok(true)
 }
 
 /// What a field says, or its fault.
 fn tell_read(alloc: Global, words: Words<'_>, text: &mut Text) -> Result<(), CaseFault> {
-    match read_two(alloc, words.all(alloc)?.as_bytes()) {
+    match read_two(alloc, words.whole()) {
         Ok(info) => tell_info(alloc, &info, text),
         Err(InfoFault::Memory) => Err(CaseFault::Memory),
         Err(InfoFault::Grammar) => {
@@ -55,18 +56,30 @@ fn tell_made(alloc: Global, mut words: Words<'_>, text: &mut Text) -> Result<(),
 /// The entry of the next word: a URL, and behind `=` a sequence number.
 fn entry_of(alloc: Global, words: &mut Words<'_>) -> Result<InfoEntry, CaseFault> {
     let word = words.next(alloc)?;
-    let (url, seq) = match split_once(b'=', word.as_bytes()) {
-        Some((url, digits)) => match read_decimal(digits, SEQ_DIGITS) {
-            Some(seq) => (url, u16::try_from(seq).ok()),
-            None => return Err(CaseFault::Unreadable),
-        },
-        None => (word.as_bytes(), None),
-    };
+    match split_once(b'=', word.as_bytes()) {
+        Some((url, digits)) => entry_with(alloc, url, Some(seq_in(digits)?)),
+        None => entry_with(alloc, word.as_bytes(), None),
+    }
+}
+
+/// An entry without a time.
+fn entry_with(alloc: Global, url: &[u8], seq: Option<u16>) -> Result<InfoEntry, CaseFault> {
     Ok(InfoEntry {
         url: Text::copy(alloc, url)?,
         seq,
         rtptime: None,
     })
+}
+
+/// The sequence number that digits write.
+fn seq_in(digits: &[u8]) -> Result<u16, CaseFault> {
+    let Some(number) = read_decimal(digits, SEQ_DIGITS) else {
+        return Err(CaseFault::Unreadable);
+    };
+    match u16::try_from(number) {
+        Ok(seq) => Ok(seq),
+        Err(_) => Err(CaseFault::Unreadable),
+    }
 }
 
 /// The entries of a list in their order, and how it is written.

@@ -14,11 +14,12 @@ pub fn tell(
     words: Words<'_>,
     text: &mut Text,
 ) -> Result<bool, CaseFault> {
-    match name {
-        "range-one" => tell_range(alloc, read_one(words.all(alloc)?.as_bytes()), text)?,
-        "range-two" => tell_range(alloc, read_two(words.all(alloc)?.as_bytes()), text)?,
+    let answer = match name {
+        "range-one" => tell_range(alloc, read_one(words.whole()), text),
+        "range-two" => tell_range(alloc, read_two(words.whole()), text),
         _ => return Ok(false),
-    }
+    };
+    answer?;
     Ok(true)
 }
 

@@ -2,10 +2,10 @@
 ghost use Rattle.std.specs.Prelude.{◌≡◌, true, IfSome};
 ghost use Rattle.rtsp_small.specs.Sessions.{is_session_id};
 
-use crate::answer::{push_bytes, push_named, push_number, push_truth};
+use crate::answer::{push_bytes, push_named, push_number, push_truth, told};
 use crate::words::Words;
 use case_text::CaseFault;
-use gate_bytes::Text;
+use gate_bytes::{Memory, Text};
 use rtsp_small::{
     SessionField, is_scale, push_methods, read_cseq_one, read_cseq_two, read_method, read_reason,
     read_request_status, read_session, write_session,
@@ -19,24 +19,25 @@ pub fn tell(
     words: Words<'_>,
     text: &mut Text,
 ) -> Result<bool, CaseFault> {
-    match name {
-        "method" => tell_method(alloc, words, text)?,
-        "append-methods" => tell_methods(alloc, words, text)?,
-        "cseq-one" => push_number(text, read_cseq_one(words.all(alloc)?.as_bytes()))?,
-        "cseq-two" => tell_cseq(text, read_cseq_two(words.all(alloc)?.as_bytes()))?,
-        "session" => tell_session(alloc, words, text)?,
-        "write-session" => tell_written(alloc, words, text)?,
-        "notify-reason" => tell_reason(alloc, words, text)?,
-        "request-status" => tell_cseq(text, read_request_status(words.all(alloc)?.as_bytes()))?,
-        "scale" => push_truth(text, is_scale(words.all(alloc)?.as_bytes()))?,
+    let answer = match name {
+        "method" => tell_method(alloc, words, text),
+        "append-methods" => tell_methods(alloc, words, text),
+        "cseq-one" => told(push_number(text, read_cseq_one(words.whole()))),
+        "cseq-two" => told(push_cseq(text, read_cseq_two(words.whole()))),
+        "session" => tell_session(alloc, words, text),
+        "write-session" => tell_written(alloc, words, text),
+        "notify-reason" => tell_reason(alloc, words, text),
+        "request-status" => told(push_cseq(text, read_request_status(words.whole()))),
+        "scale" => told(push_truth(text, is_scale(words.whole()))),
         _ => return Ok(false),
-    }
+    };
+    answer?;
     Ok(true)
 }
 
 /// The method with a name, and its name again.
 fn tell_method(alloc: Global, words: Words<'_>, text: &mut Text) -> Result<(), CaseFault> {
-    match read_method(words.all(alloc)?.as_bytes()) {
+    match read_method(words.whole()) {
         Some(method) => {
             text.push_slice(format!(in alloc; "{method:?}, written ")?.as_bytes())?;
             push_bytes(text, method.name())?;
@@ -54,10 +55,9 @@ fn tell_methods(alloc: Global, words: Words<'_>, text: &mut Text) -> Result<(), 
     Ok(())
 }
 
-/// The number of a request to or from the server.
-fn tell_cseq(text: &mut Text, number: Option<u32>) -> Result<(), CaseFault> {
-    push_number(text, number.map(u64::from))?;
-    Ok(())
+/// Appends the number of a request to or from the server.
+fn push_cseq(text: &mut Text, number: Option<u32>) -> Result<(), Memory> {
+    push_number(text, number.map(u64::from))
 }
 
 /// What a Session field says. Its id is one.
@@ -69,8 +69,7 @@ fn session_in(value: &[u8]) -> Option<SessionField<'_>>
 
 /// The id and the timeout of a Session field, and how they are written again.
 fn tell_session(alloc: Global, words: Words<'_>, text: &mut Text) -> Result<(), CaseFault> {
-    let value = words.all(alloc)?;
-    let Some(field) = session_in(value.as_bytes()) else {
+    let Some(field) = session_in(words.whole()) else {
         text.push_slice(b"none")?;
         return Ok(());
     };
@@ -110,7 +109,7 @@ fn push_session(alloc: Global, text: &mut Text, field: &SessionField<'_>) -> Res
 
 /// The reason that a Notify-Reason field names.
 fn tell_reason(alloc: Global, words: Words<'_>, text: &mut Text) -> Result<(), CaseFault> {
-    match read_reason(words.all(alloc)?.as_bytes()) {
+    match read_reason(words.whole()) {
         Some(reason) => text.push_slice(format!(in alloc; "{reason:?}")?.as_bytes())?,
         None => text.push_slice(b"none")?,
     }

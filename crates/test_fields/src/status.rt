@@ -10,11 +10,12 @@ const UNKNOWN_REASON: u64 = 465;
 
 /// Tells the answer of a case with one of these names; whether it has one.
 pub fn tell(name: &str, words: Words<'_>, text: &mut Text) -> Result<bool, CaseFault> {
-    match name {
-        "status" => tell_status(words, text)?,
-        "reason" => tell_reason(words, text)?,
+    let answer = match name {
+        "status" => tell_status(words, text),
+        "reason" => tell_reason(words, text),
         _ => return Ok(false),
-    }
+    };
+    answer?;
     Ok(true)
 }
 

@@ -17,11 +17,12 @@ pub fn tell(
     words: Words<'_>,
     text: &mut Text,
 ) -> Result<bool, CaseFault> {
-    match name {
-        "pick" => tell_wanted(alloc, pick(words.all(alloc)?.as_bytes()), text)?,
-        "grant" => tell_grant(alloc, read_grant(words.all(alloc)?.as_bytes()), text)?,
+    let answer = match name {
+        "pick" => tell_wanted(alloc, pick(words.whole()), text),
+        "grant" => tell_grant(alloc, read_grant(words.whole()), text),
         _ => return Ok(false),
-    }
+    };
+    answer?;
     Ok(true)
 }
 

@@ -15,25 +15,26 @@ pub fn tell(
     words: Words<'_>,
     text: &mut Text,
 ) -> Result<bool, CaseFault> {
-    match name {
-        "uri" => tell_uri(alloc, words, text)?,
-        "base" => tell_base(alloc, words, text)?,
-        "swap" => tell_swapped(alloc, words, text)?,
-        "description" => tell_description(alloc, words, text)?,
+    let answer = match name {
+        "uri" => tell_uri(alloc, words, text),
+        "base" => tell_base(alloc, words, text),
+        "swap" => tell_swapped(alloc, words, text),
+        "description" => tell_description(alloc, words, text),
         _ => return Ok(false),
-    }
+    };
+    answer?;
     Ok(true)
 }
 
 /// A URI up to the end of its host, its port, and its rest.
 fn tell_uri(alloc: Global, words: Words<'_>, text: &mut Text) -> Result<(), CaseFault> {
-    let uri = words.all(alloc)?;
-    match cut(uri.as_bytes()) {
+    let uri = words.whole();
+    match cut(uri) {
         Some(places) => {
-            push_bytes(text, before(uri.as_bytes(), places.host_end))?;
+            push_bytes(text, before(uri, places.host_end))?;
             push_named(text, b" port ", places.port.map(u64::from))?;
             text.push_slice(b" rest ")?;
-            push_bytes(text, after(uri.as_bytes(), places.rest))?;
+            push_bytes(text, after(uri, places.rest))?;
         }
         None => text.push_slice(b"none")?,
     }
@@ -42,7 +43,7 @@ fn tell_uri(alloc: Global, words: Words<'_>, text: &mut Text) -> Result<(), Case
 
 /// The text of the base that a word names, its host and its port.
 fn tell_base(alloc: Global, words: Words<'_>, text: &mut Text) -> Result<(), CaseFault> {
-    match base_in(alloc, &words.all(alloc)?)? {
+    match base_in(alloc, words.whole())? {
         Some(base) => {
             push_bytes(text, base.text.as_bytes())?;
             text.push_slice(b" host ")?;
@@ -55,8 +56,8 @@ fn tell_base(alloc: Global, words: Words<'_>, text: &mut Text) -> Result<(), Cas
 }
 
 /// The base that a word names, where it names one.
-fn base_in(alloc: Global, word: &Text) -> Result<Option<Base>, CaseFault> {
-    let Ok(word) = str::from_utf8(word.as_bytes()) else {
+fn base_in(alloc: Global, word: &[u8]) -> Result<Option<Base>, CaseFault> {
+    let Ok(word) = str::from_utf8(word) else {
         return Err(CaseFault::Unreadable);
     };
     match read_base(alloc, word) {
@@ -68,7 +69,7 @@ fn base_in(alloc: Global, word: &Text) -> Result<Option<Base>, CaseFault> {
 
 /// The base that the next word names.
 fn next_base(alloc: Global, words: &mut Words<'_>) -> Result<Base, CaseFault> {
-    base_in(alloc, &words.next(alloc)?)?.ok_or(CaseFault::Unreadable)
+    base_in(alloc, words.next(alloc)?.as_bytes())?.ok_or(CaseFault::Unreadable)
 }
 
 /// A text with the authority of another base in the place of that of a base.

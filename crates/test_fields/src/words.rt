@@ -9,12 +9,18 @@ use std::str;
 #[derive(Clone, Copy)]
 pub struct Words<'a> {
     left: &'a [u8],
+    whole: &'a [u8],
 }
 
 impl<'a> Words<'a> {
-    /// The words of a text.
-    pub fn new(left: &'a [u8]) -> Words<'a> {
-        Words { left }
+    /// The words of a text, which means these bytes as a whole.
+    pub fn new(left: &'a [u8], whole: &'a [u8]) -> Words<'a> {
+        Words { left, whole }
+    }
+
+    /// The bytes that the whole text means.
+    pub fn whole(&self) -> &'a [u8] {
+        self.whole
     }
 
     /// Whether nothing is left.
