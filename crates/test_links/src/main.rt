@@ -29,7 +29,7 @@
 //!   bytes of the items are told, whether the port was ever full, and how many items were put;
 //! - `writer`: `put BODY` puts a parcel, `turn` has a writer write, `failed` tells whether its outlet failed, `shut` shuts
 //!   it, and `end` ends the writer, and tells how many bytes were written, whether its outlet is shut, and how many texts
-//!   are kept. Writers of one scene share the buffer;
+//!   are kept; `next-writer` begins another one with the same buffer;
 //! - `desk`: `hand CONNECTION` hands it a writer, `take` takes it and `give-back` gives it back, `is-back` tells whether it
 //!   came back, `collect` takes it then and tells its connection, and `close` closes the desk.
 #![tactic(auto)]

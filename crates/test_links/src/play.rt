@@ -55,6 +55,7 @@ impl Play {
     /// Makes a thing that behaves as the draft says.
     fn make(&mut self, alloc: Global, maker: Maker, more: &[u8]) -> Result<(), CaseFault> {
         let draft = self.draft.taken(alloc);
-        self.thing.become_new(alloc, maker, draft, more)
+        self.thing = Thing::new(alloc, maker, draft, more)?;
+        Ok(())
     }
 }

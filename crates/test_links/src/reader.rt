@@ -1,7 +1,8 @@
 //! A reader that reads an inlet to its end.
+ghost use Rattle.std.specs.Prelude.{◌<◌};
 
 use crate::draft::Draft;
-use crate::telling::{number_in, tell};
+use crate::telling::number_in;
 use case_text::{CaseFault, push_shown};
 use client_ports::{Parcel, Taker, port};
 use gate_bytes::{Memory, Text};
@@ -38,19 +39,43 @@ pub fn read_all<W: Wait>(
     if capacity == 0 {
         return Err(CaseFault::Unreadable);
     }
-    let (putter, mut taker) = port(alloc, capacity)?;
-    let inlet = MemoryInlet::new(alloc, draft.parts, draft.script, 0)?;
-    let mut reader = Reader::new(alloc, inlet, putter);
-    let mut spent = TextPool::new(alloc);
-    spent.keep(Text::copy(alloc, &[0; 600])?);
-    reader.refill(&mut spent);
+    let (mut reader, mut taker) = new_reader(alloc, draft, capacity)?;
     let came = read_to_end(rt, alloc, &mut reader, &mut taker)?;
     let (_, putter) = reader.into_ends();
+    tell_came(alloc, &came, putter.count(), answer)
+}
+
+/// A reader of what the draft says, and the end that takes its items, of which the port holds so many.
+fn new_reader(
+    alloc: Global,
+    draft: Draft,
+    capacity: usize,
+) -> Result<(Reader<MemoryInlet>, Taker), Memory>
+    requires { 0 < capacity }
+{
+    let mut spent = spent_texts(alloc)?;
+    let inlet = MemoryInlet::new(alloc, draft.parts, draft.script, 0)?;
+    let (putter, taker) = port(alloc, capacity)?;
+    let mut reader = Reader::new(alloc, inlet, putter);
+    reader.refill(&mut spent);
+    Ok((reader, taker))
+}
+
+/// One text that is done with, in whose memory a reader makes one of its own.
+fn spent_texts(alloc: Global) -> Result<TextPool, Memory> {
+    let text = Text::copy(alloc, &[0; 600])?;
+    let mut spent = TextPool::new(alloc);
+    spent.keep(text);
+    Ok(spent)
+}
+
+/// What came is told, and how many items were put.
+fn tell_came(alloc: Global, came: &Came, put: u64, answer: &mut Text) -> Result<(), CaseFault> {
     push_shown(answer, came.bytes.as_bytes())?;
-    answer.push_slice(b", full ")?;
-    tell(alloc, answer, &came.was_full)?;
-    answer.push_slice(b", put ")?;
-    tell(alloc, answer, &putter.count())
+    let full = came.was_full;
+    let line = format!(in alloc; ", full {full}, put {put}")?;
+    answer.push_slice(line.as_bytes())?;
+    Ok(())
 }
 
 /// Reads, puts and takes until the end.

@@ -70,25 +70,17 @@ pub enum Thing {
 }
 
 impl Thing {
-    /// Makes a new thing in the place of the one that is there. A writer takes the buffer of the one before it.
-    pub fn become_new(
-        &mut self,
-        alloc: Global,
-        maker: Maker,
-        draft: Draft,
-        more: &[u8],
-    ) -> Result<(), CaseFault> {
-        let before = mem::replace(self, Thing::Nothing);
-        *self = match maker {
-            Maker::Source => Thing::Source(SourcePlay::new(alloc, draft, more)?),
-            Maker::Sink => Thing::Sink(SinkPlay::new(alloc, draft)),
-            Maker::Inlet => Thing::Inlet(InletPlay::new(alloc, draft, more)?),
-            Maker::Numbers => Thing::Numbers(NumbersPlay::new(alloc)),
-            Maker::Door => Thing::Door(DoorPlay::new(alloc, draft)?),
-            Maker::Writer => Thing::Writer(next_writer(alloc, before, draft)?),
-            Maker::Desk => Thing::Desk(DeskPlay::new()),
-        };
-        Ok(())
+    /// What a word makes, which behaves as the draft says.
+    pub fn new(alloc: Global, maker: Maker, draft: Draft, more: &[u8]) -> Result<Thing, CaseFault> {
+        match maker {
+            Maker::Source => SourcePlay::new(alloc, draft, more).map(Thing::Source),
+            Maker::Sink => Ok(Thing::Sink(SinkPlay::new(alloc, draft))),
+            Maker::Inlet => InletPlay::new(alloc, draft, more).map(Thing::Inlet),
+            Maker::Numbers => Ok(Thing::Numbers(NumbersPlay::new(alloc))),
+            Maker::Door => DoorPlay::new(alloc, draft).map(Thing::Door),
+            Maker::Writer => WriterPlay::new(alloc, draft).map(Thing::Writer),
+            Maker::Desk => Ok(Thing::Desk(DeskPlay::new())),
+        }
     }
 
     /// Makes a call at the thing, and appends what came.
@@ -108,16 +100,8 @@ impl Thing {
             Thing::Inlet(play) => play.call(alloc, draft, word, more, answer),
             Thing::Numbers(play) => play.call(alloc, word, more, answer),
             Thing::Door(play) => play.call(alloc, word, more, answer),
-            Thing::Writer(play) => play.call(rt, alloc, word, more, answer),
+            Thing::Writer(play) => play.call(rt, alloc, draft, word, more, answer),
             Thing::Desk(play) => play.call(rt, alloc, word, more, answer),
         }
-    }
-}
-
-/// A writer, with the buffer of the one before it.
-fn next_writer(alloc: Global, before: Thing, draft: Draft) -> Result<WriterPlay, CaseFault> {
-    match before {
-        Thing::Writer(play) => play.next(alloc, draft),
-        _ => WriterPlay::new(alloc, draft),
     }
 }

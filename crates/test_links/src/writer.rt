@@ -38,16 +38,6 @@ impl WriterPlay {
     /// A writer of an outlet that behaves as the draft says.
     pub fn new(alloc: Global, draft: Draft) -> Result<WriterPlay, CaseFault> {
         let gather = Gather::new(alloc)?;
-        WriterPlay::with_gather(alloc, draft, gather)
-    }
-
-    /// Another such writer, with the same buffer.
-    pub fn next(self, alloc: Global, draft: Draft) -> Result<WriterPlay, CaseFault> {
-        WriterPlay::with_gather(alloc, draft, self.gather)
-    }
-
-    /// A writer with this buffer.
-    fn with_gather(alloc: Global, draft: Draft, gather: Gather) -> Result<WriterPlay, CaseFault> {
         let (putter, writer) = new_writer(alloc, 3, draft.script)?;
         Ok(WriterPlay {
             putter,
@@ -57,16 +47,27 @@ impl WriterPlay {
         })
     }
 
+    /// Begins another such writer, with the same buffer.
+    fn begin(&mut self, alloc: Global, draft: Draft) -> Result<(), CaseFault> {
+        let (putter, writer) = new_writer(alloc, 3, draft.script)?;
+        self.putter = putter;
+        self.writer = Some(writer);
+        self.spent = TextPool::new(alloc);
+        Ok(())
+    }
+
     /// Makes the call that a word is, and appends what came.
     pub fn call<W: Wait>(
         &mut self,
         rt: &W,
         alloc: Global,
+        draft: &mut Draft,
         word: &[u8],
         more: &[u8],
         answer: &mut Text,
     ) -> Result<(), CaseFault> {
         match word {
+            b"next-writer" => self.begin(alloc, draft.taken(alloc)),
             b"put" => self.put(rt, alloc, more, answer),
             b"turn" => self.turn(rt, alloc, answer),
             b"failed" => self.tell_failed(alloc, answer),
@@ -125,11 +126,20 @@ impl WriterPlay {
             return Err(CaseFault::Unreadable);
         };
         let (outlet, _) = writer.into_ends();
-        answer.push_slice(b"written ")?;
-        tell(alloc, answer, &outlet.as_bytes().len())?;
-        answer.push_slice(b", shut ")?;
-        tell(alloc, answer, &outlet.is_shut())?;
-        answer.push_slice(b", kept ")?;
-        tell(alloc, answer, &self.spent.len())
+        tell_outlet(alloc, &outlet, self.spent.len(), answer)
     }
+}
+
+/// How many bytes were written to an outlet is told, whether it is shut, and how many texts are kept.
+fn tell_outlet(
+    alloc: Global,
+    outlet: &MemoryOutlet,
+    kept: usize,
+    answer: &mut Text,
+) -> Result<(), CaseFault> {
+    let written = outlet.as_bytes().len();
+    let shut = outlet.is_shut();
+    let line = format!(in alloc; "written {written}, shut {shut}, kept {kept}")?;
+    answer.push_slice(line.as_bytes())?;
+    Ok(())
 }
