@@ -17,11 +17,10 @@ pub struct DoorPlay {
 
 impl DoorPlay {
     /// A door that gives the links of the draft.
-    pub fn new(alloc: Global, draft: Draft) -> Result<DoorPlay, CaseFault> {
-        Ok(DoorPlay {
-            door: MemoryDoor::new(alloc, draft.links, draft.script)?,
-            link: None,
-        })
+    pub fn new(alloc: Global, draft: &mut Draft) -> Result<DoorPlay, CaseFault> {
+        let links = draft.take_links(alloc);
+        let door = MemoryDoor::new(alloc, links, draft.take_script(alloc))?;
+        Ok(DoorPlay { door, link: None })
     }
 
     /// Makes the call that a word is, and appends what came.

@@ -2,7 +2,7 @@
 
 use crate::telling::number_in;
 use case_text::{CaseFault, first_number, meant};
-use gate_bytes::Text;
+use gate_bytes::Memory;
 use gate_outside::{Links, MemoryInlet, MemoryOutlet, NewLink, Numbers, Part, Parts, Script};
 use std::alloc::Global;
 use std::{mem, str};
@@ -24,11 +24,11 @@ pub fn calm(alloc: Global) -> Script {
 #[derive(Drop)]
 pub struct Draft {
     /// Which of its calls fail.
-    pub script: Script,
+    script: Script,
     /// What it says.
-    pub parts: Parts,
+    parts: Parts,
     /// The links that it gives.
-    pub links: Links,
+    links: Links,
     /// The outlet for which what is said next waits.
     outlet: u32,
     /// How many bytes it has to have taken.
@@ -81,9 +81,21 @@ impl Draft {
         }
     }
 
-    /// What the draft says, which begins anew.
-    pub fn taken(&mut self, alloc: Global) -> Draft {
-        mem::replace(self, Draft::new(alloc))
+    /// How the next thing behaves. The one behind it is calm again.
+    pub fn take_script(&mut self, alloc: Global) -> Script {
+        mem::replace(&mut self.script, calm(alloc))
+    }
+
+    /// What the next thing says. The one behind it says nothing again.
+    pub fn take_parts(&mut self, alloc: Global) -> Parts {
+        self.outlet = 0;
+        self.after = 0;
+        mem::replace(&mut self.parts, Parts::new(alloc))
+    }
+
+    /// The links that the next thing gives. The one behind it gives none again.
+    pub fn take_links(&mut self, alloc: Global) -> Links {
+        mem::replace(&mut self.links, Links::new(alloc))
     }
 
     /// Does what a line says.
@@ -145,14 +157,19 @@ impl Draft {
 
     /// A link is given that says nothing, and whose outlet behaves as the draft says.
     fn give_link(&mut self, alloc: Global) -> Result<(), CaseFault> {
-        let script = mem::replace(&mut self.script, calm(alloc));
-        let inlet = MemoryInlet::new(alloc, Parts::new(alloc), calm(alloc), 0)?;
-        let outlet = MemoryOutlet::new(alloc, script)?;
-        match self.links.push(NewLink::new(inlet, outlet)) {
+        let link = quiet_link(alloc, self.take_script(alloc))?;
+        match self.links.push(link) {
             Ok(()) => Ok(()),
             Err(_) => Err(CaseFault::Memory),
         }
     }
+}
+
+/// A link that says nothing, and whose outlet behaves so.
+fn quiet_link(alloc: Global, script: Script) -> Result<NewLink, Memory> {
+    let outlet = MemoryOutlet::new(alloc, script)?;
+    let inlet = MemoryInlet::new(alloc, Parts::new(alloc), calm(alloc), 0)?;
+    Ok(NewLink::new(inlet, outlet))
 }
 
 /// Appends a number.

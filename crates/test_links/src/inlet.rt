@@ -17,10 +17,12 @@ pub struct InletPlay {
 
 impl InletPlay {
     /// An inlet that gives what the draft says, and fails after so many waits.
-    pub fn new(alloc: Global, draft: Draft, more: &[u8]) -> Result<InletPlay, CaseFault> {
+    pub fn new(alloc: Global, draft: &mut Draft, more: &[u8]) -> Result<InletPlay, CaseFault> {
         let turns = number_in(more)?;
+        let parts = draft.take_parts(alloc);
+        let inlet = MemoryInlet::new(alloc, parts, draft.take_script(alloc), turns)?;
         Ok(InletPlay {
-            inlet: MemoryInlet::new(alloc, draft.parts, draft.script, turns)?,
+            inlet,
             buffer: [0; 20],
             outlet: None,
         })
@@ -37,7 +39,7 @@ impl InletPlay {
     ) -> Result<(), CaseFault> {
         match word {
             b"read" => self.read(alloc, answer),
-            b"outlet" => self.tie(alloc, draft.taken(alloc), more),
+            b"outlet" => self.tie(alloc, draft, short_number_in(more)?),
             _ => match &mut self.outlet {
                 Some(outlet) => call_outlet(alloc, outlet, word, more, answer),
                 None => Err(CaseFault::Unreadable),
@@ -58,9 +60,8 @@ impl InletPlay {
     }
 
     /// Ties an outlet under a number.
-    fn tie(&mut self, alloc: Global, draft: Draft, more: &[u8]) -> Result<(), CaseFault> {
-        let number = short_number_in(more)?;
-        let outlet = MemoryOutlet::new(alloc, draft.script)?;
+    fn tie(&mut self, alloc: Global, draft: &mut Draft, number: u32) -> Result<(), CaseFault> {
+        let outlet = MemoryOutlet::new(alloc, draft.take_script(alloc))?;
         self.inlet.tie(number, &outlet)?;
         self.outlet = Some(outlet);
         Ok(())

@@ -1,6 +1,6 @@
 //! A scene: how the next thing behaves, and the thing that is there.
 
-use crate::draft::{Draft, draft_word};
+use crate::draft::{Draft, DraftWord, draft_word};
 use crate::reader::read_all;
 use crate::thing::{Maker, Thing, maker_word};
 use case_text::{CaseFault, first_word};
@@ -35,27 +35,58 @@ impl Play {
         answer: &mut Text,
     ) -> Result<(), CaseFault> {
         let (word, more) = first_word(line);
-        if word == b"scene".as_slice() {
-            *self = Play::new(alloc);
-            return Ok(());
+        match kind_of(word) {
+            Kind::Scene => self.begin(alloc),
+            Kind::Draft(word) => self.draft.obey(alloc, word, more),
+            Kind::Make(maker) => self.make(alloc, maker, more),
+            Kind::ReadAll => read_all(rt, alloc, &mut self.draft, more, answer),
+            Kind::Call => {
+                let draft = &mut self.draft;
+                self.thing.call(rt, alloc, draft, word, more, answer)
+            }
         }
-        if let Some(word) = draft_word(word) {
-            return self.draft.obey(alloc, word, more);
-        }
-        if let Some(maker) = maker_word(word) {
-            return self.make(alloc, maker, more);
-        }
-        if word == b"read-all".as_slice() {
-            return read_all(rt, alloc, self.draft.taken(alloc), more, answer);
-        }
-        self.thing
-            .call(rt, alloc, &mut self.draft, word, more, answer)
+    }
+
+    /// Begins a scene.
+    fn begin(&mut self, alloc: Global) -> Result<(), CaseFault> {
+        self.draft = Draft::new(alloc);
+        self.thing = Thing::Nothing;
+        Ok(())
     }
 
     /// Makes a thing that behaves as the draft says.
     fn make(&mut self, alloc: Global, maker: Maker, more: &[u8]) -> Result<(), CaseFault> {
-        let draft = self.draft.taken(alloc);
-        self.thing = Thing::new(alloc, maker, draft, more)?;
+        self.thing = Thing::new(alloc, maker, &mut self.draft, more)?;
         Ok(())
+    }
+}
+
+/// What a line is.
+#[derive(Clone, Copy, Debug, PartialEq, Eq)]
+enum Kind {
+    /// A scene begins.
+    Scene,
+    /// It says how the next thing behaves.
+    Draft(DraftWord),
+    /// It makes a thing.
+    Make(Maker),
+    /// A reader reads all that the draft says.
+    ReadAll,
+    /// It is a call at the thing that is there.
+    Call,
+}
+
+/// What a line is, by its first word.
+fn kind_of(word: &[u8]) -> Kind {
+    if let Some(word) = draft_word(word) {
+        return Kind::Draft(word);
+    }
+    if let Some(maker) = maker_word(word) {
+        return Kind::Make(maker);
+    }
+    match word {
+        b"scene" => Kind::Scene,
+        b"read-all" => Kind::ReadAll,
+        _ => Kind::Call,
     }
 }

@@ -31,7 +31,7 @@ struct Came {
 pub fn read_all<W: Wait>(
     rt: &W,
     alloc: Global,
-    draft: Draft,
+    draft: &mut Draft,
     more: &[u8],
     answer: &mut Text,
 ) -> Result<(), CaseFault> {
@@ -48,13 +48,14 @@ pub fn read_all<W: Wait>(
 /// A reader of what the draft says, and the end that takes its items, of which the port holds so many.
 fn new_reader(
     alloc: Global,
-    draft: Draft,
+    draft: &mut Draft,
     capacity: usize,
 ) -> Result<(Reader<MemoryInlet>, Taker), Memory>
     requires { 0 < capacity }
 {
     let mut spent = spent_texts(alloc)?;
-    let inlet = MemoryInlet::new(alloc, draft.parts, draft.script, 0)?;
+    let parts = draft.take_parts(alloc);
+    let inlet = MemoryInlet::new(alloc, parts, draft.take_script(alloc), 0)?;
     let (putter, taker) = port(alloc, capacity)?;
     let mut reader = Reader::new(alloc, inlet, putter);
     reader.refill(&mut spent);

@@ -15,9 +15,9 @@ pub struct SinkPlay {
 
 impl SinkPlay {
     /// A sink to which nothing was written.
-    pub fn new(alloc: Global, draft: Draft) -> SinkPlay {
+    pub fn new(alloc: Global, draft: &mut Draft) -> SinkPlay {
         SinkPlay {
-            sink: MemorySink::new(alloc, draft.script),
+            sink: MemorySink::new(alloc, draft.take_script(alloc)),
         }
     }
 

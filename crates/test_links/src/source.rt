@@ -16,9 +16,10 @@ pub struct SourcePlay {
 
 impl SourcePlay {
     /// A source of the bytes that a body means.
-    pub fn new(alloc: Global, draft: Draft, body: &[u8]) -> Result<SourcePlay, CaseFault> {
+    pub fn new(alloc: Global, draft: &mut Draft, body: &[u8]) -> Result<SourcePlay, CaseFault> {
+        let bytes = meant(alloc, body)?;
         Ok(SourcePlay {
-            source: MemorySource::new(meant(alloc, body)?, draft.script),
+            source: MemorySource::new(bytes, draft.take_script(alloc)),
             buffer: [0; 20],
         })
     }

@@ -71,7 +71,12 @@ pub enum Thing {
 
 impl Thing {
     /// What a word makes, which behaves as the draft says.
-    pub fn new(alloc: Global, maker: Maker, draft: Draft, more: &[u8]) -> Result<Thing, CaseFault> {
+    pub fn new(
+        alloc: Global,
+        maker: Maker,
+        draft: &mut Draft,
+        more: &[u8],
+    ) -> Result<Thing, CaseFault> {
         match maker {
             Maker::Source => SourcePlay::new(alloc, draft, more).map(Thing::Source),
             Maker::Sink => Ok(Thing::Sink(SinkPlay::new(alloc, draft))),

@@ -36,9 +36,9 @@ pub struct WriterPlay {
 
 impl WriterPlay {
     /// A writer of an outlet that behaves as the draft says.
-    pub fn new(alloc: Global, draft: Draft) -> Result<WriterPlay, CaseFault> {
+    pub fn new(alloc: Global, draft: &mut Draft) -> Result<WriterPlay, CaseFault> {
         let gather = Gather::new(alloc)?;
-        let (putter, writer) = new_writer(alloc, 3, draft.script)?;
+        let (putter, writer) = new_writer(alloc, 3, draft.take_script(alloc))?;
         Ok(WriterPlay {
             putter,
             writer: Some(writer),
@@ -48,8 +48,8 @@ impl WriterPlay {
     }
 
     /// Begins another such writer, with the same buffer.
-    fn begin(&mut self, alloc: Global, draft: Draft) -> Result<(), CaseFault> {
-        let (putter, writer) = new_writer(alloc, 3, draft.script)?;
+    fn begin(&mut self, alloc: Global, draft: &mut Draft) -> Result<(), CaseFault> {
+        let (putter, writer) = new_writer(alloc, 3, draft.take_script(alloc))?;
         self.putter = putter;
         self.writer = Some(writer);
         self.spent = TextPool::new(alloc);
@@ -67,7 +67,7 @@ impl WriterPlay {
         answer: &mut Text,
     ) -> Result<(), CaseFault> {
         match word {
-            b"next-writer" => self.begin(alloc, draft.taken(alloc)),
+            b"next-writer" => self.begin(alloc, draft),
             b"put" => self.put(rt, alloc, more, answer),
             b"turn" => self.turn(rt, alloc, answer),
             b"failed" => self.tell_failed(alloc, answer),
