@@ -6,6 +6,7 @@ use case_text::{CaseFault, push_records};
 use gate_bytes::{Text, push_decimal};
 use gate_outside::{MemorySink, MemorySource, Numbers};
 use gate_transcript::{Entry, LONGEST_BODY, MAGIC, write_entry};
+use gateway_mux::Status;
 use gateway_replay::replay;
 use std::alloc::Global;
 
@@ -49,11 +50,27 @@ pub fn push_last(
 pub fn push_replayed(alloc: Global, entries: &[Entry], answer: &mut Text) -> Result<(), CaseFault> {
     let mut bytes = Text::copy(alloc, &MAGIC)?;
     push_entries(alloc, entries, &mut bytes)?;
-    let mut source = MemorySource::new(bytes, script(alloc, Numbers::new(alloc)));
     let mut sink = MemorySink::new(alloc, script(alloc, Numbers::new(alloc)));
-    let status = replay(alloc, new_mux(alloc)?, &mut source, &mut sink);
+    let status = replay_to(alloc, bytes, &mut sink)?;
+    push_records_of(alloc, status, sink.as_bytes(), answer)
+}
+
+/// How the replay of a transcript by a new multiplexer ends, whose records go into a sink.
+fn replay_to(alloc: Global, bytes: Text, sink: &mut MemorySink) -> Result<Status, CaseFault> {
+    let mux = new_mux(alloc)?;
+    let mut source = MemorySource::new(bytes, script(alloc, Numbers::new(alloc)));
+    Ok(replay(alloc, mux, &mut source, sink))
+}
+
+/// Appends how a replay ended, and its records, each in a line below.
+fn push_records_of(
+    alloc: Global,
+    status: Status,
+    records: &[u8],
+    answer: &mut Text,
+) -> Result<(), CaseFault> {
     tell(alloc, answer, &status)?;
     answer.push_slice(b"\n")?;
-    push_records(answer, sink.as_bytes())?;
+    push_records(answer, records)?;
     Ok(())
 }

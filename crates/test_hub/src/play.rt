@@ -34,22 +34,26 @@ impl Play {
         answer: &mut Text,
     ) -> Result<(), CaseFault> {
         let (word, more) = first_word(line);
-        if word == b"scene".as_slice() {
-            return self.begin(alloc, Numbers::new(alloc));
+        match word {
+            b"scene" => self.begin(alloc, Numbers::new(alloc)),
+            b"fail-note" => self.begin_failing(alloc, number_in(more)?),
+            b"close" => self.close(),
+            _ => self.call(rt, alloc, line, answer),
         }
-        if word == b"fail-note".as_slice() {
-            return self.begin_failing(alloc, number_in(more)?);
-        }
-        if word == b"close".as_slice() {
-            return self.close();
-        }
+    }
+
+    /// Makes the call of a line, and appends what came.
+    fn call<W: Wait>(
+        &mut self,
+        rt: &W,
+        alloc: Global,
+        line: &[u8],
+        answer: &mut Text,
+    ) -> Result<(), CaseFault> {
         match self {
             Play::Waiting => Err(CaseFault::Unreadable),
             Play::Open(stage) => call_open(rt, alloc, stage, line, answer),
-            Play::Closed(over) => match over_call(word) {
-                Some(call) => over.call(alloc, call, more, answer),
-                None => Err(CaseFault::Unreadable),
-            },
+            Play::Closed(over) => call_closed(alloc, over, line, answer),
         }
     }
 
@@ -133,6 +137,20 @@ fn call_once<W: Wait>(
     }
     match hub_call(word) {
         Some(call) => look(rt, alloc, &mut stage.hub, call, more, answer),
+        None => Err(CaseFault::Unreadable),
+    }
+}
+
+/// Makes the call of a line at a hub that is closed, and appends what came.
+fn call_closed(
+    alloc: Global,
+    over: &Over,
+    line: &[u8],
+    answer: &mut Text,
+) -> Result<(), CaseFault> {
+    let (word, more) = first_word(line);
+    match over_call(word) {
+        Some(call) => over.call(alloc, call, more, answer),
         None => Err(CaseFault::Unreadable),
     }
 }
