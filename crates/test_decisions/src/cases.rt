@@ -14,13 +14,24 @@ use std::str;
 pub fn tell_all(alloc: Global, script: &[u8], text: &mut Text) -> Result<(), CasesFault> {
     let bases = bases(alloc)?;
     let mut connection = Connection::new(alloc)?;
+    tell_lines(alloc, &bases, &mut connection, script, text)
+}
+
+/// Appends each line of a script, and behind each case what came of it, between these addresses and for this connection.
+fn tell_lines(
+    alloc: Global,
+    bases: &Bases,
+    connection: &mut Connection,
+    script: &[u8],
+    text: &mut Text,
+) -> Result<(), CasesFault> {
     let mut left = script;
     for number in 1..u64::MAX {
         let Some((line, rest)) = next_line(left) else {
             break;
         };
         left = rest;
-        tell_line(alloc, &bases, &mut connection, line, text).map_err(|fault| fault.at(number))?;
+        tell_line(alloc, bases, connection, line, text).map_err(|fault| fault.at(number))?;
     }
     Ok(())
 }

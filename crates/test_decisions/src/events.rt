@@ -37,12 +37,16 @@ pub fn happen(
     text: &mut Text,
 ) -> Result<(), CaseFault> {
     let done = done_by(alloc, bases, slot, number, line)?;
+    Ok(push_happened(text, &done, slot)?)
+}
+
+/// Appends what was done to a connection, and whether its channels agree then.
+fn push_happened(text: &mut Text, done: &Done, slot: &Slot) -> Result<(), Memory> {
     push_came(text)?;
-    push_done(text, &done)?;
+    push_done(text, done)?;
     push_came(text)?;
     push_word(text, b"channels")?;
-    push_word(text, if agrees(slot) { b"agree" } else { b"differ" })?;
-    Ok(())
+    push_word(text, if agrees(slot) { b"agree" } else { b"differ" })
 }
 
 /// What the event of a line does to a connection.
@@ -55,16 +59,10 @@ fn done_by(
 ) -> Result<Done, CaseFault> {
     let (word, rest) = first_word(line);
     match str::from_utf8(word).unwrap_or("") {
-        "new" => {
-            *slot = Slot::new(alloc)?;
-            Ok(nothing(alloc))
-        }
+        "new" => enter(alloc, slot),
         "ask" => ask(alloc, bases, slot, number, rest),
         "tell" => tell(alloc, bases, slot, number, rest),
-        "end" => {
-            let end = Incoming::Notice(NotifyReason::EndOfStream, Names::Unsaid);
-            Ok(come(alloc, bases, slot, number, &end)?)
-        }
+        "end" => end(alloc, bases, slot, number),
         "close" => {
             let plan = plan_close(alloc, slot, CloseWhy::Ended);
             Ok(carry_out(slot, number, plan))
@@ -73,13 +71,20 @@ fn done_by(
     }
 }
 
-/// Nothing was done.
-fn nothing(alloc: Global) -> Done {
-    Done {
+/// Another connection enters, and nothing is done.
+fn enter(alloc: Global, slot: &mut Slot) -> Result<Done, CaseFault> {
+    *slot = Slot::new(alloc)?;
+    Ok(Done {
         hand: Text::new(alloc),
         request: None,
         close: None,
-    }
+    })
+}
+
+/// The server tells the end of what plays.
+fn end(alloc: Global, bases: &Bases, slot: &mut Slot, number: &mut u32) -> Result<Done, CaseFault> {
+    let end = Incoming::Notice(NotifyReason::EndOfStream, Names::Unsaid);
+    Ok(come(alloc, bases, slot, number, &end)?)
 }
 
 /// The player asks the request that a text means.
@@ -106,15 +111,23 @@ fn tell(
     text: &[u8],
 ) -> Result<Done, CaseFault> {
     let reply = meant_reply(alloc, text)?;
-    let source = match grant_said(&reply) {
+    Ok(hear(alloc, bases, slot, number, &reply)?)
+}
+
+/// The server tells a reply.
+fn hear(
+    alloc: Global,
+    bases: &Bases,
+    slot: &mut Slot,
+    number: &mut u32,
+    reply: &Reply2,
+) -> Result<Done, Memory> {
+    let source = match grant_said(reply) {
         Some(grant) => grant.ssrc,
         None => None,
     };
-    let answer = Answer {
-        reply: &reply,
-        source,
-    };
-    Ok(come(alloc, bases, slot, number, &Incoming::Reply(answer))?)
+    let answer = Answer { reply, source };
+    come(alloc, bases, slot, number, &Incoming::Reply(answer))
 }
 
 /// The reply that a text means.

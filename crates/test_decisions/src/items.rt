@@ -6,14 +6,17 @@ use std::alloc::Global;
 
 /// The one item of the stream that a text means.
 pub fn only_item(alloc: Global, text: &[u8]) -> Result<Item, CaseFault> {
-    let bytes = meant(alloc, text)?;
     let mut framer = Framer::new(alloc);
-    framer.feed(alloc, bytes.as_bytes())?;
-    let Some(item) = framer.next() else {
-        return Err(CaseFault::Unreadable);
-    };
-    match framer.next() {
-        None => Ok(item),
-        Some(_) => Err(CaseFault::Unreadable),
+    feed(alloc, &mut framer, text)?;
+    match (framer.next(), framer.next()) {
+        (Some(item), None) => Ok(item),
+        _ => Err(CaseFault::Unreadable),
     }
+}
+
+/// Feeds a framer the bytes that a text means.
+fn feed(alloc: Global, framer: &mut Framer, text: &[u8]) -> Result<(), CaseFault> {
+    let bytes = meant(alloc, text)?;
+    framer.feed(alloc, bytes.as_bytes())?;
+    Ok(())
 }

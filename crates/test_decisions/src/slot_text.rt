@@ -59,19 +59,23 @@ fn purpose(slot: &Slot) -> &'static [u8] {
 pub fn push_part(text: &mut Text, slot: &mut Slot, line: &[u8]) -> Result<(), CaseFault> {
     let (word, line) = first_word(line);
     match str::from_utf8(word).unwrap_or("") {
-        "plays" => push_plays(text, slot)?,
-        "requests" => push_requests(text, slot)?,
+        "plays" => Ok(push_plays(text, slot)?),
+        "requests" => Ok(push_requests(text, slot)?),
         "closing" => {
             let closing = slot.closing(read_number(line)?);
-            push_came(text)?;
-            match &closing {
-                Some(closing) => push_bytes(text, closing.as_bytes())?,
-                None => push_word(text, b"-")?,
-            }
+            Ok(push_closing(text, &closing)?)
         }
-        _ => return Err(CaseFault::Unreadable),
+        _ => Err(CaseFault::Unreadable),
     }
-    Ok(())
+}
+
+/// Appends the closing TEARDOWN, where it goes up.
+fn push_closing(text: &mut Text, closing: &Option<Text>) -> Result<(), Memory> {
+    push_came(text)?;
+    match closing {
+        Some(closing) => push_bytes(text, closing.as_bytes()),
+        None => push_word(text, b"-"),
+    }
 }
 
 /// Appends the URI of the first PLAY that waits, and of the PLAY that is due.

@@ -1,4 +1,5 @@
 //! The entries of a transcript.
+ghost use Rattle.std.specs.Prelude.{◌<◌};
 
 use case_text::push_records;
 use gate_bytes::{Memory, Text};
@@ -21,14 +22,28 @@ pub struct Reading {
 pub fn read(alloc: Global, transcript: &[u8], size: usize) -> Result<Reading, Memory> {
     let mut reader = EntryReader::new(alloc);
     let mut entries = Vec::new(alloc);
-    for piece in transcript.chunks(size.max(1)) {
-        reader.feed(piece)?;
-        read_on(alloc, &mut reader, &mut entries, piece.len())?;
-    }
+    feed(alloc, &mut reader, &mut entries, transcript, size.max(1))?;
     Ok(Reading {
         entries,
         end: reader.finish(),
     })
+}
+
+/// Feeds a reader a transcript in pieces of a size, and takes the entries that it gives.
+fn feed(
+    alloc: Global,
+    reader: &mut EntryReader,
+    entries: &mut Vec<Entry>,
+    transcript: &[u8],
+    size: usize,
+) -> Result<(), Memory>
+    requires { 0 < size }
+{
+    for piece in transcript.chunks(size) {
+        reader.feed(piece)?;
+        read_on(alloc, reader, entries, piece.len())?;
+    }
+    Ok(())
 }
 
 /// Takes the entries that a reader can give: as many as bytes were fed last, at most.
@@ -52,27 +67,55 @@ fn read_on(
 pub fn tell_entries(alloc: Global, transcript: &[u8], text: &mut Text) -> Result<(), Memory> {
     let whole = told(alloc, transcript, transcript.len())?;
     text.push_slice(whole.as_bytes())?;
+    tell_differences(alloc, transcript, whole.as_bytes(), text)
+}
+
+/// Tells where pieces of some size make a difference.
+fn tell_differences(
+    alloc: Global,
+    transcript: &[u8],
+    whole: &[u8],
+    text: &mut Text,
+) -> Result<(), Memory> {
     for size in PIECES {
         let other = told(alloc, transcript, size)?;
-        if other.as_bytes() != whole.as_bytes() {
-            let line = format!(in alloc; "# in pieces of {size}:\n")?;
-            text.push_slice(line.as_bytes())?;
-            text.push_slice(other.as_bytes())?;
+        if other.as_bytes() != whole {
+            tell_difference(alloc, size, other.as_bytes(), text)?;
         }
     }
     Ok(())
 }
 
+/// Tells what pieces of a size give.
+fn tell_difference(
+    alloc: Global,
+    size: usize,
+    other: &[u8],
+    text: &mut Text,
+) -> Result<(), Memory> {
+    let line = format!(in alloc; "# in pieces of {size}:\n")?;
+    text.push_slice(line.as_bytes())?;
+    text.push_slice(other)
+}
+
 /// The entries and the fault of a transcript that is read in pieces of a size.
 fn told(alloc: Global, transcript: &[u8], size: usize) -> Result<Text, Memory> {
-    let mut text = Text::new(alloc);
     let reading = read(alloc, transcript, size)?;
-    push_records(&mut text, spelled(alloc, &reading.entries)?.as_bytes())?;
-    if let Err(bad) = reading.end {
-        let line = format!(in alloc; "# bad at {}: {:?}\n", bad.place, bad.kind)?;
-        text.push_slice(line.as_bytes())?;
-    }
+    let mut text = Text::new(alloc);
+    tell_reading(alloc, &reading, &mut text)?;
     Ok(text)
+}
+
+/// Tells entries and the fault behind them.
+fn tell_reading(alloc: Global, reading: &Reading, text: &mut Text) -> Result<(), Memory> {
+    push_records(text, spelled(alloc, &reading.entries)?.as_bytes())?;
+    match reading.end {
+        Ok(()) => Ok(()),
+        Err(bad) => {
+            let line = format!(in alloc; "# bad at {}: {:?}\n", bad.place, bad.kind)?;
+            text.push_slice(line.as_bytes())
+        }
+    }
 }
 
 /// The bytes of entries, one behind another.

@@ -29,6 +29,12 @@ impl Case {
         })
     }
 
+    /// The next case begins.
+    fn renew(&mut self, alloc: Global) -> Result<(), Memory> {
+        *self = Case::new(alloc)?;
+        Ok(())
+    }
+
     /// The case ends.
     fn end(&self, alloc: Global, text: &mut Text) -> Result<(), Memory> {
         if self.is_read {
@@ -40,25 +46,36 @@ impl Case {
 
 /// Does all that cases say, and tells what came.
 pub fn tell_all(alloc: Global, cases: &[u8], text: &mut Text) -> Result<(), CasesFault> {
-    let mut left = cases;
     let mut case = Case::new(alloc)?;
+    tell_lines(alloc, &mut case, cases, text)?;
+    case.end(alloc, text)?;
+    Ok(())
+}
+
+/// Does what each line says, for a case that begins anew behind each empty line.
+fn tell_lines(
+    alloc: Global,
+    case: &mut Case,
+    cases: &[u8],
+    text: &mut Text,
+) -> Result<(), CasesFault> {
+    let mut left = cases;
     for number in 1..u64::MAX {
         let Some((line, rest)) = next_line(left) else {
             break;
         };
         if line.is_empty() {
             case.end(alloc, text)?;
-            case = Case::new(alloc)?;
+            case.renew(alloc)?;
         }
         if line.is_empty() || line.starts_with(b"#") {
             text.push_slice(line)?;
             text.push_slice(b"\n")?;
         } else {
-            read_line(alloc, &mut case, line, text).map_err(|fault| fault.at(number))?;
+            read_line(alloc, case, line, text).map_err(|fault| fault.at(number))?;
         }
         left = rest;
     }
-    case.end(alloc, text)?;
     Ok(())
 }
 

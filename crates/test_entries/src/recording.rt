@@ -60,19 +60,25 @@ pub fn tell_recorded(
     match TranscriptRecorder::start(sink) {
         Ok(mut recorder) => {
             let noted = note_all(&mut recorder, &reading.entries);
-            text.push_slice(b"# noted: ")?;
-            push_decimal(text, noted)?;
-            text.push_slice(b"\n")?;
-            let sink = recorder.into_sink();
-            let written = sink.as_bytes();
-            push_records(text, after(written, MAGIC_LENGTH.min(written.len())))
+            tell_noted(noted, recorder.into_sink().as_bytes(), text)
         }
-        Err((sink, _)) => {
-            text.push_slice(b"# not begun: ")?;
-            push_shown(text, sink.as_bytes())?;
-            text.push_slice(b"\n")
-        }
+        Err((sink, _)) => tell_not_begun(sink.as_bytes(), text),
     }
+}
+
+/// Tells how many entries were noted, and what was written.
+fn tell_noted(noted: u64, written: &[u8], text: &mut Text) -> Result<(), Memory> {
+    text.push_slice(b"# noted: ")?;
+    push_decimal(text, noted)?;
+    text.push_slice(b"\n")?;
+    push_records(text, after(written, MAGIC_LENGTH.min(written.len())))
+}
+
+/// Tells what was written of a magic that was not written whole.
+fn tell_not_begun(written: &[u8], text: &mut Text) -> Result<(), Memory> {
+    text.push_slice(b"# not begun: ")?;
+    push_shown(text, written)?;
+    text.push_slice(b"\n")
 }
 
 /// Notes the entries of a transcript into a recorder in memory whose note with a number fails, and tells each answer and what was
@@ -85,13 +91,23 @@ pub fn tell_kept(
 ) -> Result<(), Memory> {
     let reading = read(alloc, transcript, transcript.len())?;
     let mut recorder = MemoryRecorder::new(alloc, failing(alloc, call)?);
-    for entry in &reading.entries {
-        let answer = match note(&mut recorder, entry) {
+    note_each(&mut recorder, &reading.entries, text)?;
+    push_records(text, spelled(alloc, recorder.as_slice())?.as_bytes())
+}
+
+/// Notes each of some entries, and tells each answer.
+fn note_each<R: Recorder>(
+    recorder: &mut R,
+    entries: &[Entry],
+    text: &mut Text,
+) -> Result<(), Memory> {
+    for entry in entries {
+        let answer = match note(recorder, entry) {
             Ok(()) => b"# noted\n".as_slice(),
             Err(NoteFault::Failed) => b"# failed\n".as_slice(),
             Err(NoteFault::Memory) => return Err(Memory),
         };
         text.push_slice(answer)?;
     }
-    push_records(text, spelled(alloc, recorder.as_slice())?.as_bytes())
+    Ok(())
 }

@@ -1,6 +1,6 @@
 //! Single calls.
 
-use crate::entries::{read, spelled};
+use crate::entries::{Reading, read, spelled};
 use case_text::{CaseFault, meant, push_entry, push_records, push_shown};
 use gate_bytes::{Memory, Text};
 use gate_transcript::{BadEntry, Entry, EntryFault, EntryReader, MAGIC, end_reason_in};
@@ -55,17 +55,27 @@ pub fn tell_reason(alloc: Global, line: &[u8], text: &mut Text) -> Result<(), Ca
 /// Writes the entry that a line is, and tells its bytes. Connections enter by lines of their own, so an entry of a connection that
 /// never did is written too: it is read behind one that has it enter.
 pub fn tell_written(alloc: Global, line: &[u8], text: &mut Text) -> Result<(), CaseFault> {
-    let mut transcript = Text::copy(alloc, &MAGIC)?;
-    push_entry(alloc, &mut transcript, b"O 7")?;
-    push_entry(alloc, &mut transcript, line)?;
-    let reading = read(alloc, transcript.as_bytes(), transcript.len())?;
+    let reading = read_behind_entering(alloc, line)?;
     text.push_slice(b"write ")?;
     text.push_slice(line)?;
     text.push_slice(b": ")?;
     if let [_, entry] = reading.entries.as_slice() {
-        let written = spelled(alloc, std::slice::from_ref(entry))?;
-        push_shown(text, written.as_bytes())?;
+        push_written(alloc, entry, text)?;
     }
     text.push_slice(b"\n")?;
     Ok(())
+}
+
+/// The entry that a line is, read behind one by which the connection 7 enters.
+fn read_behind_entering(alloc: Global, line: &[u8]) -> Result<Reading, CaseFault> {
+    let mut transcript = Text::copy(alloc, &MAGIC)?;
+    push_entry(alloc, &mut transcript, b"O 7")?;
+    push_entry(alloc, &mut transcript, line)?;
+    Ok(read(alloc, transcript.as_bytes(), transcript.len())?)
+}
+
+/// Appends the bytes of an entry as it is written.
+fn push_written(alloc: Global, entry: &Entry, text: &mut Text) -> Result<(), Memory> {
+    let written = spelled(alloc, std::slice::from_ref(entry))?;
+    push_shown(text, written.as_bytes())
 }

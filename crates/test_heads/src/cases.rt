@@ -11,12 +11,22 @@ use std::str;
 /// Tells the answer of each case.
 pub fn tell_cases(alloc: Global, cases: &[u8], text: &mut Text) -> Result<(), CasesFault> {
     let mut framer = Framer::new(alloc);
+    tell_lines(alloc, &mut framer, cases, text)
+}
+
+/// Tells each line, with this framer for what comes bit by bit.
+fn tell_lines(
+    alloc: Global,
+    framer: &mut Framer,
+    cases: &[u8],
+    text: &mut Text,
+) -> Result<(), CasesFault> {
     let mut left = cases;
     for number in 1..u64::MAX {
         let Some((line, rest)) = next_line(left) else {
             break;
         };
-        tell_line(alloc, &mut framer, line, text).map_err(|fault| fault.at(number))?;
+        tell_line(alloc, framer, line, text).map_err(|fault| fault.at(number))?;
         left = rest;
     }
     Ok(())

@@ -1,4 +1,5 @@
 //! Streams that come in pieces.
+ghost use Rattle.std.specs.Prelude.{◌<◌};
 
 use case_text::CaseFault;
 use gate_bytes::{Memory, Text, after, before, push_decimal};
@@ -53,11 +54,25 @@ fn push_difference(text: &mut Text, name: &[u8], number: usize) -> Result<(), Me
 pub fn items_in_pieces(alloc: Global, stream: &[u8], size: usize) -> Result<Vec<Item>, CaseFault> {
     let mut framer = Framer::new(alloc);
     let mut items = Vec::new(alloc);
-    for piece in stream.chunks(size.max(1)) {
-        framer.feed(alloc, piece)?;
-        take_items(&mut framer, &mut items)?;
-    }
+    feed_pieces(alloc, &mut framer, &mut items, stream, size.max(1))?;
     Ok(items)
+}
+
+/// Feeds a framer a stream in pieces of so many bytes, and takes the items.
+fn feed_pieces(
+    alloc: Global,
+    framer: &mut Framer,
+    items: &mut Vec<Item>,
+    stream: &[u8],
+    size: usize,
+) -> Result<(), CaseFault>
+    requires { 0 < size }
+{
+    for piece in stream.chunks(size) {
+        framer.feed(alloc, piece)?;
+        take_items(framer, items)?;
+    }
+    Ok(())
 }
 
 /// The items of a stream that comes in two pieces, the first of so many bytes at most.

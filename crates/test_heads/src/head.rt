@@ -17,14 +17,15 @@ pub fn tell(
     words: Words<'_>,
     text: &mut Text,
 ) -> Result<bool, CaseFault> {
-    match name {
-        "check" => tell_checked(alloc, words.all(alloc)?.as_bytes(), text)?,
-        "head" => tell_read(alloc, words, text)?,
-        "field" => tell_field(alloc, words, text)?,
-        "many-headers" => tell_many(alloc, words, text)?,
-        "message" => tell_message(alloc, words, text)?,
+    let answer = match name {
+        "check" => tell_checked(alloc, words.all(alloc)?.as_bytes(), text),
+        "head" => tell_read(alloc, words, text),
+        "field" => tell_field(alloc, words, text),
+        "many-headers" => tell_many(alloc, words, text),
+        "message" => tell_message(alloc, words, text),
         _ => return Ok(false),
-    }
+    };
+    answer?;
     Ok(true)
 }
 
@@ -66,16 +67,18 @@ fn push_fault(alloc: Global, text: &mut Text, fault: HeadFault) -> Result<(), Ca
 /// The first line of a head, how many headers it has, and how it is written again; or its first fault.
 fn tell_read(alloc: Global, words: Words<'_>, text: &mut Text) -> Result<(), CaseFault> {
     match read_head(alloc, words.all(alloc)?.as_bytes()) {
-        Ok(head) => {
-            push_start(text, &head.start)?;
-            push_count(text, &head)?;
-            text.push_slice(b", written ")?;
-            let written = write_head(alloc, &head.start, &head.headers)?;
-            push_bytes(text, written.as_bytes())?;
-        }
-        Err(fault) => push_fault(alloc, text, fault)?,
+        Ok(head) => Ok(push_head(alloc, text, &head)?),
+        Err(fault) => push_fault(alloc, text, fault),
     }
-    Ok(())
+}
+
+/// Appends the first line of a head, how many headers it has, and how it is written again.
+fn push_head(alloc: Global, text: &mut Text, head: &Head) -> Result<(), Memory> {
+    push_start(text, &head.start)?;
+    push_count(text, head)?;
+    text.push_slice(b", written ")?;
+    let written = write_head(alloc, &head.start, &head.headers)?;
+    push_bytes(text, written.as_bytes())
 }
 
 /// Appends what a first line says.
@@ -115,13 +118,17 @@ fn push_count(text: &mut Text, head: &Head) -> Result<(), Memory> {
 fn tell_field(alloc: Global, mut words: Words<'_>, text: &mut Text) -> Result<(), CaseFault> {
     let name = words.next(alloc)?;
     match read_head(alloc, words.all(alloc)?.as_bytes()) {
-        Ok(head) => match head.field(name.as_bytes()) {
-            Some(value) => push_bytes(text, value)?,
-            None => text.push_slice(b"none")?,
-        },
-        Err(fault) => push_fault(alloc, text, fault)?,
+        Ok(head) => Ok(push_field(text, &head, name.as_bytes())?),
+        Err(fault) => push_fault(alloc, text, fault),
     }
-    Ok(())
+}
+
+/// Appends the value of a head's field.
+fn push_field(text: &mut Text, head: &Head, name: &[u8]) -> Result<(), Memory> {
+    match head.field(name) {
+        Some(value) => push_bytes(text, value),
+        None => text.push_slice(b"none"),
+    }
 }
 
 /// What is said of a head that has a header so many times: by a check, and by reading it.
@@ -129,20 +136,32 @@ fn tell_many(alloc: Global, mut words: Words<'_>, text: &mut Text) -> Result<(),
     let count = words.number()?;
     let header = words.next(alloc)?;
     let mut bytes = words.all(alloc)?;
-    for _ in 0..count {
-        bytes.push_slice(header.as_bytes())?;
-    }
-    bytes.push_slice(b"\r\n")?;
+    push_times(&mut bytes, count, header.as_bytes())?;
     tell_checked(alloc, bytes.as_bytes(), text)?;
-    text.push_slice(b"; read ")?;
-    match read_head(alloc, bytes.as_bytes()) {
-        Ok(head) => {
-            push_start(text, &head.start)?;
-            push_count(text, &head)?;
-        }
-        Err(fault) => push_fault(alloc, text, fault)?,
+    tell_start(alloc, bytes.as_bytes(), text)
+}
+
+/// Appends a header so many times, and the end of a head.
+fn push_times(bytes: &mut Text, count: u64, header: &[u8]) -> Result<(), Memory> {
+    for _ in 0..count {
+        bytes.push_slice(header)?;
     }
-    Ok(())
+    bytes.push_slice(b"\r\n")
+}
+
+/// The first line of a head that is read, and how many headers it has; or its first fault.
+fn tell_start(alloc: Global, bytes: &[u8], text: &mut Text) -> Result<(), CaseFault> {
+    text.push_slice(b"; read ")?;
+    match read_head(alloc, bytes) {
+        Ok(head) => Ok(push_counted(text, &head)?),
+        Err(fault) => push_fault(alloc, text, fault),
+    }
+}
+
+/// Appends the first line of a head, and how many headers it has.
+fn push_counted(text: &mut Text, head: &Head) -> Result<(), Memory> {
+    push_start(text, &head.start)?;
+    push_count(text, head)
 }
 
 /// What follows the first line of a message with this number and content.

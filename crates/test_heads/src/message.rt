@@ -20,17 +20,27 @@ pub struct Content {
 pub fn content_of(alloc: Global, words: Words<'_>) -> Result<Content, CaseFault> {
     let all = words.all(alloc)?;
     let mut headers = Headers::new(alloc);
-    let mut left = all.as_bytes();
-    for _ in 0..all.len() {
+    let body = push_headers(alloc, &mut headers, all.as_bytes())?;
+    Ok(Content {
+        headers,
+        body: Text::copy(alloc, body)?,
+    })
+}
+
+/// Appends the headers that lines are, up to one without a colon. What is left behind that one.
+fn push_headers<'a>(
+    alloc: Global,
+    headers: &mut Headers,
+    lines: &'a [u8],
+) -> Result<&'a [u8], CaseFault> {
+    let mut left = lines;
+    for _ in 0..lines.len() {
         let Some((line, rest)) = split_once(b'\n', left) else {
             break;
         };
         left = rest;
         let Some((name, value)) = split_once(b':', line) else {
-            return Ok(Content {
-                headers,
-                body: Text::copy(alloc, left)?,
-            });
+            return Ok(left);
         };
         headers.push_copy(alloc, name, Some(trim(up_to(b'\r', value))))?;
     }

@@ -22,32 +22,46 @@ pub fn tell(
             *framer = Framer::new(alloc);
             text.push_slice(b"begun")?;
         }
-        "take" => {
-            let item = framer.take(alloc, words.all(alloc)?)?;
-            push_item(alloc, text, &item)?;
-        }
+        "take" => tell_taken(alloc, framer, words, text)?,
         "next" => push_item(alloc, text, &framer.next())?,
         _ => return Ok(false),
     }
     Ok(true)
 }
 
+/// The item that a piece is which is moved in, or the first that it gives.
+fn tell_taken(
+    alloc: Global,
+    framer: &mut Framer,
+    words: Words<'_>,
+    text: &mut Text,
+) -> Result<(), CaseFault> {
+    let item = framer.take(alloc, words.all(alloc)?)?;
+    push_item(alloc, text, &item)
+}
+
 /// The items of a stream, and the cuts that give others.
 fn tell_items(alloc: Global, words: Words<'_>, text: &mut Text) -> Result<(), CaseFault> {
     let stream = words.all(alloc)?;
     let items = items_in_pieces(alloc, stream.as_bytes(), stream.len())?;
+    push_items(alloc, text, items.as_slice())?;
+    push_differences(alloc, text, stream.as_bytes(), items.as_slice())
+}
+
+/// Appends items, and `nothing` where there are none.
+fn push_items(alloc: Global, text: &mut Text, items: &[Item]) -> Result<(), CaseFault> {
     if items.is_empty() {
         text.push_slice(b"nothing")?;
     }
     let mut is_first = true;
-    for item in &items {
+    for item in items {
         if !is_first {
             text.push_slice(b", then ")?;
         }
         is_first = false;
         push_whole(alloc, text, item)?;
     }
-    push_differences(alloc, text, stream.as_bytes(), items.as_slice())
+    Ok(())
 }
 
 /// Appends an item, and `nothing` where there is none.

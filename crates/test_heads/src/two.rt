@@ -6,7 +6,9 @@ use crate::message::{content_of, item_of};
 use crate::words::Words;
 use case_text::CaseFault;
 use gate_bytes::{Memory, Text, push_decimal};
-use head_two::{Reply2, Request2, TwoFault, read_ask, read_reply, write_answer, write_request};
+use head_two::{
+    Ask2, Reply2, Request2, TwoFault, read_ask, read_reply, write_answer, write_request,
+};
 use std::alloc::Global;
 
 /// Tells the answer of a case with one of these names; whether it has one.
@@ -56,13 +58,15 @@ fn push_fault(alloc: Global, text: &mut Text, fault: TwoFault) -> Result<(), Cas
 /// The request of the server that an item is, or its fault.
 fn tell_ask(alloc: Global, words: Words<'_>, text: &mut Text) -> Result<(), CaseFault> {
     match read_ask(alloc, &item_of(alloc, words)?) {
-        Ok(ask) => {
-            push_bytes(text, ask.method.as_bytes())?;
-            push_named(text, b" cseq ", Some(u64::from(ask.cseq)))?;
-            Ok(())
-        }
+        Ok(ask) => Ok(push_ask(text, &ask)?),
         Err(fault) => push_fault(alloc, text, fault),
     }
+}
+
+/// Appends the method and the number of a request.
+fn push_ask(text: &mut Text, ask: &Ask2) -> Result<(), Memory> {
+    push_bytes(text, ask.method.as_bytes())?;
+    push_named(text, b" cseq ", Some(u64::from(ask.cseq)))
 }
 
 /// How a request to the server is written.

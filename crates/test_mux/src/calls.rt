@@ -114,9 +114,27 @@ fn tell_said(
     text: &mut Text,
 ) -> Result<(), CaseFault> {
     let mut framer = Framer::new(alloc);
+    let most = feed(alloc, &mut framer, body)?;
+    tell_items(alloc, mux, speaker, &mut framer, most, text)
+}
+
+/// Feeds a framer the bytes that a text means, and answers how many they are.
+fn feed(alloc: Global, framer: &mut Framer, body: &[u8]) -> Result<usize, CaseFault> {
     let bytes = meant(alloc, body)?;
     framer.feed(alloc, bytes.as_bytes())?;
-    for _ in 0..bytes.len() {
+    Ok(bytes.len())
+}
+
+/// Has somebody say the items of a framer, so many at most, and tells what each hands out.
+fn tell_items(
+    alloc: Global,
+    mux: &mut Mux,
+    speaker: Speaker,
+    framer: &mut Framer,
+    most: usize,
+    text: &mut Text,
+) -> Result<(), CaseFault> {
+    for _ in 0..most {
         let Some(item) = framer.next() else {
             break;
         };
@@ -143,17 +161,30 @@ pub fn tell_plan(
 ) -> Result<(), CaseFault> {
     let (conn, body) = first_number(line).ok_or(CaseFault::Unreadable)?;
     let conn = u32::try_from(conn).map_err(|_| CaseFault::Unreadable)?;
-    let mut framer = Framer::new(alloc);
-    framer.feed(alloc, meant(alloc, body)?.as_bytes())?;
-    let item = framer.next().ok_or(CaseFault::Unreadable)?;
-    let event = Event::Client(conn, item);
-    let plan = mux.plan(alloc, &event)?;
+    let item = first_item(alloc, body)?;
     let before = mux.busy(conn);
+    tell_planned(alloc, mux, Event::Client(conn, item), text)?;
+    Ok(tell_busy(before, mux.busy(conn), text)?)
+}
+
+/// The first item of the stream that a text means.
+fn first_item(alloc: Global, body: &[u8]) -> Result<Item, CaseFault> {
+    let mut framer = Framer::new(alloc);
+    feed(alloc, &mut framer, body)?;
+    framer.next().ok_or(CaseFault::Unreadable)
+}
+
+/// Has an event planned and carried out, and tells what it hands out.
+fn tell_planned(alloc: Global, mux: &mut Mux, event: Event, text: &mut Text) -> Result<(), Memory> {
+    let plan = mux.plan(alloc, &event)?;
     let outcome = mux.commit(event, plan);
-    tell_outcome(alloc, &outcome, text)?;
+    tell_outcome(alloc, &outcome, text)
+}
+
+/// Tells whether a player was busy before, and is busy then.
+fn tell_busy(before: bool, then: bool, text: &mut Text) -> Result<(), Memory> {
     text.push_slice(b" busy ")?;
     tell_bool(before, text)?;
     text.push_slice(b" ")?;
-    tell_bool(mux.busy(conn), text)?;
-    Ok(())
+    tell_bool(then, text)
 }

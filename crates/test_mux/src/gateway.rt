@@ -33,6 +33,12 @@ fn entered(alloc: Global, conn: u32) -> Result<Mux, Memory>
     Ok(mux)
 }
 
+/// Begins anew with one that two connections entered.
+pub fn renew(alloc: Global, mux: &mut Mux) -> Result<(), Memory> {
+    *mux = with_two_players(alloc)?;
+    Ok(())
+}
+
 /// One that the connections 7 and 4 entered, in this order.
 pub fn with_two_players(alloc: Global) -> Result<Mux, Memory> {
     let mut mux = entered(alloc, 7)?;

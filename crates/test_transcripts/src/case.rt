@@ -5,9 +5,6 @@ use gate_bytes::{Memory, Text, push_decimal, split_once};
 use gate_transcript::MAGIC;
 use std::alloc::Global;
 
-/// The bytes of an entry before its body.
-const HEAD: usize = 9;
-
 /// The core that a case is replayed through.
 #[derive(Clone, Copy, Debug, PartialEq, Eq)]
 pub enum CoreKind {
@@ -63,13 +60,23 @@ impl Case {
         })
     }
 
+    /// The next case begins.
+    pub fn renew(&mut self, alloc: Global) -> Result<(), Memory> {
+        *self = Case::new(alloc)?;
+        Ok(())
+    }
+
     /// Appends an entry, so many times.
     pub fn push_times(&mut self, alloc: Global, line: &[u8]) -> Result<(), CaseFault> {
         let (count, line) = first_number(line).ok_or(CaseFault::Unreadable)?;
-        let mut entry = Text::new(alloc);
-        push_entry(alloc, &mut entry, line)?;
+        let entry = entry_in(alloc, line)?;
+        Ok(self.push_copies(count, entry.as_bytes())?)
+    }
+
+    /// Appends the same bytes so many times.
+    fn push_copies(&mut self, count: u64, entry: &[u8]) -> Result<(), Memory> {
         for _ in 0..count {
-            self.transcript.push_slice(entry.as_bytes())?;
+            self.transcript.push_slice(entry)?;
         }
         Ok(())
     }
@@ -80,10 +87,8 @@ impl Case {
         let (last, line) = first_number(line).ok_or(CaseFault::Unreadable)?;
         let (before, behind) = split_once(b'@', line).ok_or(CaseFault::Unreadable)?;
         for number in first..=last {
-            let mut entry = Text::copy(alloc, before)?;
-            push_decimal(&mut entry, number)?;
-            entry.push_slice(behind)?;
-            push_entry(alloc, &mut self.transcript, entry.as_bytes())?;
+            let line = numbered(alloc, before, number, behind)?;
+            push_entry(alloc, &mut self.transcript, line.as_bytes())?;
         }
         Ok(())
     }
@@ -91,32 +96,39 @@ impl Case {
     /// Appends an entry with line feeds before its body, so many that the transcript has so many bytes with it.
     pub fn push_padded(&mut self, alloc: Global, line: &[u8]) -> Result<(), CaseFault> {
         let (length, line) = first_number(line).ok_or(CaseFault::Unreadable)?;
-        let mut entry = Text::new(alloc);
-        push_entry(alloc, &mut entry, line)?;
-        if entry.len() < HEAD {
+        let entry = entry_in(alloc, line)?;
+        self.push_longer(length, entry.as_bytes())
+    }
+
+    /// Appends an entry that is made longer by line feeds before its body, so that the transcript has so many bytes.
+    fn push_longer(&mut self, length: u64, entry: &[u8]) -> Result<(), CaseFault> {
+        let [kind, a, b, c, d, _, _, _, _, body @ ..] = entry else {
             return Err(CaseFault::Unreadable);
-        }
-        let length = usize::try_from(length).map_err(|_| CaseFault::Unreadable)?;
-        let lacking = length
-            .checked_sub(self.transcript.len())
-            .and_then(|room| room.checked_sub(entry.len()))
-            .ok_or(CaseFault::Unreadable)?;
-        let (head, body) = entry.as_bytes().split_at(HEAD);
-        let whole = u32::try_from(body.len().saturating_add(lacking)).map_err(
-            |_| CaseFault::Unreadable,
-        )?;
-        self.transcript.push_slice(head.split_at(HEAD - 4).0)?;
+        };
+        let there = self.transcript.len().saturating_add(entry.len()) as u64;
+        let lacking = length.checked_sub(there).ok_or(CaseFault::Unreadable)?;
+        let Ok(whole) = u32::try_from(lacking.saturating_add(body.len() as u64)) else {
+            return Err(CaseFault::Unreadable);
+        };
+        self.transcript.push_slice(&[*kind, *a, *b, *c, *d])?;
         self.transcript.push_slice(&whole.to_be_bytes())?;
-        self.push_line_feeds(lacking)?;
+        self.push_copies(lacking, b"\n")?;
         self.transcript.push_slice(body)?;
         Ok(())
     }
+}
 
-    /// Appends so many line feeds.
-    fn push_line_feeds(&mut self, count: usize) -> Result<(), Memory> {
-        for _ in 0..count {
-            self.transcript.push_slice(b"\n")?;
-        }
-        Ok(())
-    }
+/// The bytes of the entry that a line is.
+fn entry_in(alloc: Global, line: &[u8]) -> Result<Text, CaseFault> {
+    let mut entry = Text::new(alloc);
+    push_entry(alloc, &mut entry, line)?;
+    Ok(entry)
+}
+
+/// A line with a number between its parts.
+fn numbered(alloc: Global, before: &[u8], number: u64, behind: &[u8]) -> Result<Text, Memory> {
+    let mut line = Text::copy(alloc, before)?;
+    push_decimal(&mut line, number)?;
+    line.push_slice(behind)?;
+    Ok(line)
 }

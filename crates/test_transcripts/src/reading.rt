@@ -11,25 +11,36 @@ use std::alloc::Global;
 
 /// Replays all cases, and tells of each its title, its records and its fault line.
 pub fn tell_all(alloc: Global, cases: &[u8], text: &mut Text) -> Result<(), CasesFault> {
-    let mut left = cases;
     let mut case = Case::new(alloc)?;
+    tell_lines(alloc, &mut case, cases, text)?;
+    tell_case(alloc, &case, text)?;
+    Ok(())
+}
+
+/// Does what each line says, for a case that is replayed at an empty line, and begins anew behind it.
+fn tell_lines(
+    alloc: Global,
+    case: &mut Case,
+    cases: &[u8],
+    text: &mut Text,
+) -> Result<(), CasesFault> {
+    let mut left = cases;
     for number in 1..u64::MAX {
         let Some((line, rest)) = next_line(left) else {
             break;
         };
         if line.is_empty() {
-            tell_case(alloc, &case, text)?;
+            tell_case(alloc, case, text)?;
             text.push_slice(b"\n")?;
-            case = Case::new(alloc)?;
+            case.renew(alloc)?;
         } else if line.starts_with(b"#") {
             text.push_slice(line)?;
             text.push_slice(b"\n")?;
         } else {
-            read_line(alloc, &mut case, line).map_err(|fault| fault.at(number))?;
+            read_line(alloc, case, line).map_err(|fault| fault.at(number))?;
         }
         left = rest;
     }
-    tell_case(alloc, &case, text)?;
     Ok(())
 }
 

@@ -27,11 +27,21 @@ pub struct Replayed {
 
 /// Replays a case, and tells its records and its fault line.
 pub fn tell_case(alloc: Global, case: &Case, text: &mut Text) -> Result<(), Memory> {
-    if let Some(pieces) = case.pieces {
-        return tell_replayed(alloc, &replay_case(alloc, case, pieces)?, text);
-    }
-    let first = replay_case(alloc, case, Pieces::of(LARGE_PIECE))?;
+    let first = replay_case(alloc, case, case.pieces.unwrap_or(Pieces::of(LARGE_PIECE)))?;
     tell_replayed(alloc, &first, text)?;
+    if case.pieces.is_some() {
+        return Ok(());
+    }
+    tell_differences(alloc, case, &first, text)
+}
+
+/// Tells where small pieces make a difference.
+fn tell_differences(
+    alloc: Global,
+    case: &Case,
+    first: &Replayed,
+    text: &mut Text,
+) -> Result<(), Memory> {
     for piece in SMALL_PIECES {
         let other = replay_case(alloc, case, Pieces::of(piece))?;
         if other.status != first.status || other.records.as_bytes() != first.records.as_bytes() {
@@ -43,29 +53,48 @@ pub fn tell_case(alloc: Global, case: &Case, text: &mut Text) -> Result<(), Memo
 
 /// Replays a case in pieces of at most these sizes, or of one byte where one is 0.
 fn replay_case(alloc: Global, case: &Case, pieces: Pieces) -> Result<Replayed, Memory> {
-    let transcript = Text::copy(alloc, case.transcript.as_bytes())?;
-    let mut source = MemorySource::new(transcript, script(alloc, case.failing_read, pieces.read)?);
     let mut sink = MemorySink::new(alloc, script(alloc, case.failing_write, pieces.write)?);
-    let status = match case.core {
-        CoreKind::Mux => replay(
-            alloc,
-            Mux::new(alloc, bases(alloc)?)?,
-            &mut source,
-            &mut sink,
-        ),
-        CoreKind::Refuser => {
-            replay(
-                alloc,
-                Refuser::new(alloc, bases(alloc)?),
-                &mut source,
-                &mut sink,
-            )
-        }
-    };
+    let status = replay_to(alloc, case, pieces.read, &mut sink)?;
     Ok(Replayed {
         status,
         records: Text::copy(alloc, sink.as_bytes())?,
     })
+}
+
+/// How the replay of a case ends whose source gives pieces of at most this size, and whose records go into a sink.
+fn replay_to(
+    alloc: Global,
+    case: &Case,
+    piece: usize,
+    sink: &mut MemorySink,
+) -> Result<Status, Memory> {
+    let script = script(alloc, case.failing_read, piece)?;
+    let transcript = Text::copy(alloc, case.transcript.as_bytes())?;
+    let mut source = MemorySource::new(transcript, script);
+    match case.core {
+        CoreKind::Mux => replay_by_mux(alloc, &mut source, sink),
+        CoreKind::Refuser => replay_by_refuser(alloc, &mut source, sink),
+    }
+}
+
+/// How a replay through a multiplexer ends.
+fn replay_by_mux(
+    alloc: Global,
+    source: &mut MemorySource,
+    sink: &mut MemorySink,
+) -> Result<Status, Memory> {
+    let mux = Mux::new(alloc, bases(alloc)?)?;
+    Ok(replay(alloc, mux, source, sink))
+}
+
+/// How a replay through a core ends that refuses all requests.
+fn replay_by_refuser(
+    alloc: Global,
+    source: &mut MemorySource,
+    sink: &mut MemorySink,
+) -> Result<Status, Memory> {
+    let core = Refuser::new(alloc, bases(alloc)?);
+    Ok(replay(alloc, core, source, sink))
 }
 
 /// A script of pieces of at most this size, or of one byte where it is 0, in which a call fails.
