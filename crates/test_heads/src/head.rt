@@ -1,4 +1,5 @@
 //! Heads.
+ghost use Rattle.rtsp_head.specs.Written.{CanBeWritten};
 
 use crate::answer::{push_bytes, push_named, push_part};
 use crate::message::content_of;
@@ -73,7 +74,9 @@ fn tell_read(alloc: Global, words: Words<'_>, text: &mut Text) -> Result<(), Cas
 }
 
 /// Appends the first line of a head, how many headers it has, and how it is written again.
-fn push_head(alloc: Global, text: &mut Text, head: &Head) -> Result<(), Memory> {
+fn push_head(alloc: Global, text: &mut Text, head: &Head) -> Result<(), Memory>
+    requires { CanBeWritten head.now.start head.now.headers }
+{
     push_start(text, &head.start)?;
     push_count(text, head)?;
     text.push_slice(b", written ")?;
