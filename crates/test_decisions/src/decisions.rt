@@ -5,7 +5,7 @@ use crate::states::state_named;
 use crate::telling::{push_bytes, push_came, push_optional, push_word};
 use case_text::{CaseFault, first_number, first_word};
 use gate_bytes::{Memory, Text, push_decimal};
-use head_two::write_request;
+use head_two::{Request2, write_request};
 use rtsp_transport::Pair;
 use rtsp_uri::Bases;
 use session_one::{Asked, MOST_TRACKS, Play, State, Track};
@@ -108,10 +108,16 @@ pub fn tell_decision(
     text: &mut Text,
 ) -> Result<(), CaseFault> {
     let decision = decided(alloc, bases, line)?;
+    let fate = fate(&decision);
+    let spelled = spelled(alloc, decision)?;
+    Ok(push_fate(text, fate, spelled.as_bytes())?)
+}
+
+/// Appends what becomes of a request, and its text.
+fn push_fate(text: &mut Text, fate: &[u8], spelled: &[u8]) -> Result<(), Memory> {
     push_came(text)?;
-    push_word(text, fate(&decision))?;
-    push_bytes(text, spelled(alloc, decision)?.as_bytes())?;
-    Ok(())
+    push_word(text, fate)?;
+    push_bytes(text, spelled)
 }
 
 /// A word for what becomes of a request.
@@ -127,13 +133,17 @@ fn fate(decision: &Decision) -> &'static [u8] {
 /// The text that the player is told, or that goes up.
 fn spelled(alloc: Global, decision: Decision) -> Result<Text, Memory> {
     match decision {
-        Decision::Answer(text) | Decision::Queue(_, text) => Ok(text),
-        Decision::Forward(up, _) => write_request(alloc, &up, NUMBER),
-        Decision::Setup(up, _, _) => {
-            let up = with_transport(alloc, up, &Pair { rtp: 6, rtcp: 7 })?;
-            write_request(alloc, &up, NUMBER)
-        }
+        Decision::Answer(text) => Ok(text),
+        Decision::Forward(up, _asked) => write_request(alloc, &up, NUMBER),
+        Decision::Queue(_play, text) => Ok(text),
+        Decision::Setup(up, _asked, _pair) => spelled_setup(alloc, up),
     }
+}
+
+/// The text of a SETUP that goes up, on the channels 6 and 7.
+fn spelled_setup(alloc: Global, up: Request2) -> Result<Text, Memory> {
+    let up = with_transport(alloc, up, &Pair { rtp: 6, rtcp: 7 })?;
+    write_request(alloc, &up, NUMBER)
 }
 
 /// Tells what is kept of the request of a line.
@@ -144,18 +154,22 @@ pub fn tell_kept(
     text: &mut Text,
 ) -> Result<(), CaseFault> {
     let decision = decided(alloc, bases, line)?;
+    Ok(push_kept(text, &decision)?)
+}
+
+/// Appends what becomes of a request, and what is kept of it.
+fn push_kept(text: &mut Text, decision: &Decision) -> Result<(), Memory> {
     push_came(text)?;
-    push_word(text, fate(&decision))?;
-    match &decision {
-        Decision::Answer(_) => {}
-        Decision::Forward(_, asked) => push_asked(text, asked)?,
-        Decision::Queue(play, _) => push_play(text, play)?,
+    push_word(text, fate(decision))?;
+    match decision {
+        Decision::Answer(_) => Ok(()),
+        Decision::Forward(_, asked) => push_asked(text, asked),
+        Decision::Queue(play, _) => push_play(text, play),
         Decision::Setup(_, asked, pair) => {
             push_asked(text, asked)?;
-            push_channels(text, pair)?;
+            push_channels(text, pair)
         }
     }
-    Ok(())
 }
 
 /// Appends what is kept until the reply: the number, whether the session was named, and the URI.

@@ -32,12 +32,17 @@ pub fn step(alloc: Global, slot: &mut Slot, line: &[u8]) -> Result<(), CaseFault
         return ask(alloc, slot, method, rest);
     }
     match str::from_utf8(word).unwrap_or("") {
-        "new" => *slot = Slot::new(alloc)?,
-        "reply" => reply(alloc, slot, rest)?,
-        "queue" => queue(alloc, slot, rest)?,
-        "wait" => wait(alloc, slot, rest)?,
-        _ => change(slot, word, rest)?,
+        "new" => enter(alloc, slot),
+        "reply" => reply(alloc, slot, rest),
+        "queue" => queue(alloc, slot, rest),
+        "wait" => wait(alloc, slot, rest),
+        _ => change(slot, word, rest),
     }
+}
+
+/// Another connection enters.
+fn enter(alloc: Global, slot: &mut Slot) -> Result<(), CaseFault> {
+    *slot = Slot::new(alloc)?;
     Ok(())
 }
 

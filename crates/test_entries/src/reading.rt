@@ -107,23 +107,44 @@ fn obey(
     text: &mut Text,
 ) -> Result<(), CaseFault> {
     match str::from_utf8(word) {
-        Ok("feed") => case.reader.feed(meant(alloc, rest)?.as_bytes())?,
-        Ok("next") => tell_next(alloc, &mut case.reader, text)?,
-        Ok("finish") => tell_finish(alloc, &case.reader, text)?,
-        Ok("reason") => tell_reason(alloc, rest, text)?,
-        Ok("write") => tell_written(alloc, rest, text)?,
-        Ok("magic") => case.transcript.truncate(0),
+        Ok("feed") => feed(alloc, &mut case.reader, rest),
+        Ok("next") => Ok(tell_next(alloc, &mut case.reader, text)?),
+        Ok("finish") => Ok(tell_finish(alloc, &case.reader, text)?),
+        Ok("reason") => tell_reason(alloc, rest, text),
+        Ok("write") => tell_written(alloc, rest, text),
+        Ok("magic") => {
+            case.transcript.truncate(0);
+            Ok(())
+        }
         Ok("record") => {
             case.is_read = false;
-            tell_recorded(alloc, case.transcript.as_bytes(), call_in(rest)?, text)?;
+            record(alloc, case.transcript.as_bytes(), rest, text)
         }
         Ok("keep") => {
             case.is_read = false;
-            tell_kept(alloc, case.transcript.as_bytes(), call_in(rest)?, text)?;
+            keep(alloc, case.transcript.as_bytes(), rest, text)
         }
-        _ => return Err(CaseFault::Unreadable),
+        _ => Err(CaseFault::Unreadable),
     }
+}
+
+/// Feeds a reader the bytes that a text means.
+fn feed(alloc: Global, reader: &mut EntryReader, line: &[u8]) -> Result<(), CaseFault> {
+    let bytes = meant(alloc, line)?;
+    reader.feed(bytes.as_bytes())?;
     Ok(())
+}
+
+/// Notes the entries of a transcript into a sink whose call with the number of a line fails.
+fn record(alloc: Global, transcript: &[u8], line: &[u8], text: &mut Text) -> Result<(), CaseFault> {
+    let call = call_in(line)?;
+    Ok(tell_recorded(alloc, transcript, call, text)?)
+}
+
+/// Notes them into a recorder in memory whose call with the number of a line fails.
+fn keep(alloc: Global, transcript: &[u8], line: &[u8], text: &mut Text) -> Result<(), CaseFault> {
+    let call = call_in(line)?;
+    Ok(tell_kept(alloc, transcript, call, text)?)
 }
 
 /// The number of the call that a line names.
