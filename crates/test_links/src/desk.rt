@@ -1,8 +1,9 @@
 //! The calls of a desk.
 ghost use Rattle.std.specs.Prelude.{◌≡◌};
 
-use crate::draft::calm;
+use crate::draft::{Draft, calm};
 use crate::telling::{short_number_in, tell, tell_word};
+use crate::thing::Thing;
 use crate::writer::new_writer;
 use case_text::CaseFault;
 use gate_bytes::Text;
@@ -36,29 +37,6 @@ impl DeskPlay {
         DeskPlay {
             desk: Desk::new(),
             taken: None,
-        }
-    }
-
-    /// Makes the call that a word is, and appends what came.
-    pub fn call<W: Wait>(
-        &mut self,
-        rt: &W,
-        alloc: Global,
-        word: &[u8],
-        more: &[u8],
-        answer: &mut Text,
-    ) -> Result<(), CaseFault> {
-        match word {
-            b"hand" => self.hand(rt, alloc, short_number_in(more)?, answer),
-            b"take" => self.take(rt, answer),
-            b"give-back" => self.give_back(rt),
-            b"is-back" => tell(alloc, answer, &shared_desk(&self.desk).is_back(rt)),
-            b"collect" => self.collect(rt, alloc, answer),
-            b"close" => {
-                shared_desk(&self.desk).close(rt);
-                Ok(())
-            }
-            _ => Err(CaseFault::Unreadable),
         }
     }
 
@@ -108,5 +86,30 @@ impl DeskPlay {
     ) -> Result<(), CaseFault> {
         let writer = shared_desk(&self.desk).collect(rt);
         tell(alloc, answer, &writer.conn())
+    }
+}
+
+impl Thing for DeskPlay {
+    fn call<W: Wait>(
+        &mut self,
+        rt: &W,
+        alloc: Global,
+        draft: &mut Draft,
+        word: &[u8],
+        more: &[u8],
+        answer: &mut Text,
+    ) -> Result<(), CaseFault> {
+        match word {
+            b"hand" => self.hand(rt, alloc, short_number_in(more)?, answer),
+            b"take" => self.take(rt, answer),
+            b"give-back" => self.give_back(rt),
+            b"is-back" => tell(alloc, answer, &shared_desk(&self.desk).is_back(rt)),
+            b"collect" => self.collect(rt, alloc, answer),
+            b"close" => {
+                shared_desk(&self.desk).close(rt);
+                Ok(())
+            }
+            _ => Err(CaseFault::Unreadable),
+        }
     }
 }

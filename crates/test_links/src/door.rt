@@ -3,10 +3,12 @@
 use crate::draft::Draft;
 use crate::inlet::write;
 use crate::telling::{tell, tell_word};
+use crate::thing::Thing;
 use case_text::{CaseFault, push_shown};
 use gate_bytes::Text;
 use gate_outside::{Arrived, Door, Failed, MemoryDoor, MemoryLink};
 use std::alloc::Global;
+use std::sync::Wait;
 
 /// A door, and the link that came last and was not given back.
 #[derive(Drop)]
@@ -21,28 +23,6 @@ impl DoorPlay {
         let links = draft.take_links(alloc);
         let door = MemoryDoor::new(alloc, links, draft.take_script(alloc))?;
         Ok(DoorPlay { door, link: None })
-    }
-
-    /// Makes the call that a word is, and appends what came.
-    pub fn call(
-        &mut self,
-        alloc: Global,
-        word: &[u8],
-        more: &[u8],
-        answer: &mut Text,
-    ) -> Result<(), CaseFault> {
-        match word {
-            b"accept" => self.accept(answer),
-            b"write" => match &mut self.link {
-                Some(link) => write(alloc, &mut link.outlet, more, answer),
-                None => Err(CaseFault::Unreadable),
-            },
-            b"give-back" => self.give_back(),
-            b"faults" => tell(alloc, answer, &self.door.faults()),
-            b"ends" => tell(alloc, answer, &self.door.ends()),
-            b"returned" => tell_returned(self.door.returned(), answer),
-            _ => Err(CaseFault::Unreadable),
-        }
     }
 
     /// Asks for a link.
@@ -66,6 +46,31 @@ impl DoorPlay {
                 Ok(())
             }
             None => Err(CaseFault::Unreadable),
+        }
+    }
+}
+
+impl Thing for DoorPlay {
+    fn call<W: Wait>(
+        &mut self,
+        rt: &W,
+        alloc: Global,
+        draft: &mut Draft,
+        word: &[u8],
+        more: &[u8],
+        answer: &mut Text,
+    ) -> Result<(), CaseFault> {
+        match word {
+            b"accept" => self.accept(answer),
+            b"write" => match &mut self.link {
+                Some(link) => write(alloc, &mut link.outlet, more, answer),
+                None => Err(CaseFault::Unreadable),
+            },
+            b"give-back" => self.give_back(),
+            b"faults" => tell(alloc, answer, &self.door.faults()),
+            b"ends" => tell(alloc, answer, &self.door.ends()),
+            b"returned" => tell_returned(self.door.returned(), answer),
+            _ => Err(CaseFault::Unreadable),
         }
     }
 }

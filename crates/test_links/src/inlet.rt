@@ -2,10 +2,12 @@
 
 use crate::draft::Draft;
 use crate::telling::{number_in, short_number_in, tell};
+use crate::thing::Thing;
 use case_text::{CaseFault, meant, push_shown};
 use gate_bytes::Text;
 use gate_outside::{Got, Inlet, MemoryInlet, MemoryOutlet, Outlet, Sink};
 use std::alloc::Global;
+use std::sync::Wait;
 
 /// An inlet, the buffer into which it is read, and the outlet that was tied to it last.
 #[derive(Drop)]
@@ -28,25 +30,6 @@ impl InletPlay {
         })
     }
 
-    /// Makes the call that a word is, and appends what came.
-    pub fn call(
-        &mut self,
-        alloc: Global,
-        draft: &mut Draft,
-        word: &[u8],
-        more: &[u8],
-        answer: &mut Text,
-    ) -> Result<(), CaseFault> {
-        match word {
-            b"read" => self.read(alloc, answer),
-            b"outlet" => self.tie(alloc, draft, short_number_in(more)?),
-            _ => match &mut self.outlet {
-                Some(outlet) => call_outlet(alloc, outlet, word, more, answer),
-                None => Err(CaseFault::Unreadable),
-            },
-        }
-    }
-
     /// Reads once. The answer and the bytes that came are told.
     fn read(&mut self, alloc: Global, answer: &mut Text) -> Result<(), CaseFault> {
         let got = self.inlet.read(&mut self.buffer);
@@ -65,6 +48,27 @@ impl InletPlay {
         self.inlet.tie(number, &outlet)?;
         self.outlet = Some(outlet);
         Ok(())
+    }
+}
+
+impl Thing for InletPlay {
+    fn call<W: Wait>(
+        &mut self,
+        rt: &W,
+        alloc: Global,
+        draft: &mut Draft,
+        word: &[u8],
+        more: &[u8],
+        answer: &mut Text,
+    ) -> Result<(), CaseFault> {
+        match word {
+            b"read" => self.read(alloc, answer),
+            b"outlet" => self.tie(alloc, draft, short_number_in(more)?),
+            _ => match &mut self.outlet {
+                Some(outlet) => call_outlet(alloc, outlet, word, more, answer),
+                None => Err(CaseFault::Unreadable),
+            },
+        }
     }
 }
 

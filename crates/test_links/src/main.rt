@@ -7,7 +7,7 @@
 //!
 //! Lines that say how the next thing behaves, which is made by one of the lines further below:
 //!
-//! - `scene NAME` begins a scene, with nothing said and nothing made;
+//! - `scene NAME` begins a scene, with nothing said and nothing made; an empty line ends it;
 //! - `piece BYTES` has a call move so many bytes at most, `fail CALL` and `pause CALL` have the call with this number fail
 //!   or have nothing for now, and `idle CALL` has nothing come from this call on, all counted from 0;
 //! - `wait OUTLET BODY` has what is said next wait until this outlet has taken so many bytes as the body means: more than
@@ -39,7 +39,6 @@ mod door;
 mod draft;
 mod inlet;
 mod numbers;
-mod play;
 mod playing;
 mod reader;
 mod sink;

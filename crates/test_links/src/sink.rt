@@ -2,10 +2,12 @@
 
 use crate::draft::Draft;
 use crate::telling::tell;
+use crate::thing::Thing;
 use case_text::{CaseFault, meant, push_shown};
 use gate_bytes::Text;
 use gate_outside::{MemorySink, write_all};
 use std::alloc::Global;
+use std::sync::Wait;
 
 /// A sink.
 #[derive(Drop)]
@@ -21,10 +23,20 @@ impl SinkPlay {
         }
     }
 
-    /// Makes the call that a word is, and appends what came.
-    pub fn call(
+    /// Writes the bytes that a body means.
+    fn write(&mut self, alloc: Global, body: &[u8], answer: &mut Text) -> Result<(), CaseFault> {
+        let bytes = meant(alloc, body)?;
+        let written = write_all(&mut self.sink, bytes.as_bytes());
+        tell(alloc, answer, &written)
+    }
+}
+
+impl Thing for SinkPlay {
+    fn call<W: Wait>(
         &mut self,
+        rt: &W,
         alloc: Global,
+        draft: &mut Draft,
         word: &[u8],
         more: &[u8],
         answer: &mut Text,
@@ -37,12 +49,5 @@ impl SinkPlay {
             }
             _ => Err(CaseFault::Unreadable),
         }
-    }
-
-    /// Writes the bytes that a body means.
-    fn write(&mut self, alloc: Global, body: &[u8], answer: &mut Text) -> Result<(), CaseFault> {
-        let bytes = meant(alloc, body)?;
-        let written = write_all(&mut self.sink, bytes.as_bytes());
-        tell(alloc, answer, &written)
     }
 }

@@ -2,10 +2,12 @@
 
 use crate::draft::Draft;
 use crate::telling::tell;
+use crate::thing::Thing;
 use case_text::{CaseFault, meant, push_shown};
 use gate_bytes::Text;
 use gate_outside::{MemorySource, Source};
 use std::alloc::Global;
+use std::sync::Wait;
 
 /// A source, and the buffer into which it is read.
 #[derive(Drop)]
@@ -24,14 +26,6 @@ impl SourcePlay {
         })
     }
 
-    /// Makes the call that a word is, and appends what came.
-    pub fn call(&mut self, alloc: Global, word: &[u8], answer: &mut Text) -> Result<(), CaseFault> {
-        match word {
-            b"read" => self.read(alloc, answer),
-            _ => Err(CaseFault::Unreadable),
-        }
-    }
-
     /// Reads once. The answer and the whole buffer are told.
     fn read(&mut self, alloc: Global, answer: &mut Text) -> Result<(), CaseFault> {
         let got = self.source.read(&mut self.buffer);
@@ -39,5 +33,22 @@ impl SourcePlay {
         answer.push_slice(b" ")?;
         push_shown(answer, &self.buffer)?;
         Ok(())
+    }
+}
+
+impl Thing for SourcePlay {
+    fn call<W: Wait>(
+        &mut self,
+        rt: &W,
+        alloc: Global,
+        draft: &mut Draft,
+        word: &[u8],
+        more: &[u8],
+        answer: &mut Text,
+    ) -> Result<(), CaseFault> {
+        match word {
+            b"read" => self.read(alloc, answer),
+            _ => Err(CaseFault::Unreadable),
+        }
     }
 }

@@ -1,18 +1,33 @@
-//! The thing of a scene, at which calls are made.
+//! The things of scenes, at which calls are made.
 
 use crate::desk::DeskPlay;
 use crate::door::DoorPlay;
 use crate::draft::Draft;
 use crate::inlet::InletPlay;
 use crate::numbers::NumbersPlay;
+use crate::playing::{Lines, play_calls};
 use crate::sink::SinkPlay;
 use crate::source::SourcePlay;
 use crate::writer::WriterPlay;
 use case_text::CaseFault;
 use gate_bytes::Text;
 use std::alloc::Global;
+use std::str;
 use std::sync::Wait;
-use std::{mem, str};
+
+/// A thing at which calls are made.
+pub trait Thing {
+    /// Makes the call that a word is, and appends what came.
+    fn call<W: Wait>(
+        &mut self,
+        rt: &W,
+        alloc: Global,
+        draft: &mut Draft,
+        word: &[u8],
+        more: &[u8],
+        answer: &mut Text,
+    ) -> Result<(), CaseFault>;
+}
 
 /// What is made.
 #[derive(Clone, Copy, Debug, PartialEq, Eq)]
@@ -48,65 +63,58 @@ pub fn maker_word(word: &[u8]) -> Option<Maker> {
     Some(maker)
 }
 
-/// The thing of a scene.
-#[derive(Drop)]
-pub enum Thing {
-    /// There is none.
-    Nothing,
-    /// A source.
-    Source(SourcePlay),
-    /// A sink.
-    Sink(SinkPlay),
-    /// An inlet.
-    Inlet(InletPlay),
-    /// A list of numbers.
-    Numbers(NumbersPlay),
-    /// A door.
-    Door(DoorPlay),
-    /// A writer.
-    Writer(WriterPlay),
-    /// A desk.
-    Desk(DeskPlay),
+/// Makes a thing that behaves as the draft says, and the calls of the lines that follow.
+pub fn play_thing<W: Wait>(
+    rt: &W,
+    alloc: Global,
+    maker: Maker,
+    draft: &mut Draft,
+    more: &[u8],
+    lines: &mut Lines<'_>,
+    text: &mut Text,
+) -> Result<(), CaseFault> {
+    match maker {
+        Maker::Source => {
+            let mut source = SourcePlay::new(alloc, draft, more)?;
+            play_calls(rt, alloc, draft, &mut source, lines, text)
+        }
+        Maker::Sink => {
+            let mut sink = SinkPlay::new(alloc, draft);
+            play_calls(rt, alloc, draft, &mut sink, lines, text)
+        }
+        Maker::Inlet => {
+            let mut inlet = InletPlay::new(alloc, draft, more)?;
+            play_calls(rt, alloc, draft, &mut inlet, lines, text)
+        }
+        Maker::Numbers => {
+            let mut numbers = NumbersPlay::new(alloc);
+            play_calls(rt, alloc, draft, &mut numbers, lines, text)
+        }
+        _ => play_busy_thing(rt, alloc, maker, draft, lines, text),
+    }
 }
 
-impl Thing {
-    /// What a word makes, which behaves as the draft says.
-    pub fn new(
-        alloc: Global,
-        maker: Maker,
-        draft: &mut Draft,
-        more: &[u8],
-    ) -> Result<Thing, CaseFault> {
-        match maker {
-            Maker::Source => SourcePlay::new(alloc, draft, more).map(Thing::Source),
-            Maker::Sink => Ok(Thing::Sink(SinkPlay::new(alloc, draft))),
-            Maker::Inlet => InletPlay::new(alloc, draft, more).map(Thing::Inlet),
-            Maker::Numbers => Ok(Thing::Numbers(NumbersPlay::new(alloc))),
-            Maker::Door => DoorPlay::new(alloc, draft).map(Thing::Door),
-            Maker::Writer => WriterPlay::new(alloc, draft).map(Thing::Writer),
-            Maker::Desk => Ok(Thing::Desk(DeskPlay::new())),
+/// The same of a door, a writer or a desk.
+fn play_busy_thing<W: Wait>(
+    rt: &W,
+    alloc: Global,
+    maker: Maker,
+    draft: &mut Draft,
+    lines: &mut Lines<'_>,
+    text: &mut Text,
+) -> Result<(), CaseFault> {
+    match maker {
+        Maker::Door => {
+            let mut door = DoorPlay::new(alloc, draft)?;
+            play_calls(rt, alloc, draft, &mut door, lines, text)
         }
-    }
-
-    /// Makes a call at the thing, and appends what came.
-    pub fn call<W: Wait>(
-        &mut self,
-        rt: &W,
-        alloc: Global,
-        draft: &mut Draft,
-        word: &[u8],
-        more: &[u8],
-        answer: &mut Text,
-    ) -> Result<(), CaseFault> {
-        match self {
-            Thing::Nothing => Err(CaseFault::Unreadable),
-            Thing::Source(play) => play.call(alloc, word, answer),
-            Thing::Sink(play) => play.call(alloc, word, more, answer),
-            Thing::Inlet(play) => play.call(alloc, draft, word, more, answer),
-            Thing::Numbers(play) => play.call(alloc, word, more, answer),
-            Thing::Door(play) => play.call(alloc, word, more, answer),
-            Thing::Writer(play) => play.call(rt, alloc, draft, word, more, answer),
-            Thing::Desk(play) => play.call(rt, alloc, word, more, answer),
+        Maker::Writer => {
+            let mut writer = WriterPlay::new(alloc, draft)?;
+            play_calls(rt, alloc, draft, &mut writer, lines, text)
+        }
+        _ => {
+            let mut desk = DeskPlay::new();
+            play_calls(rt, alloc, draft, &mut desk, lines, text)
         }
     }
 }

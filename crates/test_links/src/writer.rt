@@ -2,6 +2,7 @@
 
 use crate::draft::Draft;
 use crate::telling::{tell, tell_word};
+use crate::thing::Thing;
 use case_text::{CaseFault, meant};
 use client_ports::{Parcel, Putter, port};
 use gate_bytes::{Memory, Text};
@@ -56,27 +57,6 @@ impl WriterPlay {
         Ok(())
     }
 
-    /// Makes the call that a word is, and appends what came.
-    pub fn call<W: Wait>(
-        &mut self,
-        rt: &W,
-        alloc: Global,
-        draft: &mut Draft,
-        word: &[u8],
-        more: &[u8],
-        answer: &mut Text,
-    ) -> Result<(), CaseFault> {
-        match word {
-            b"next-writer" => self.begin(alloc, draft),
-            b"put" => self.put(rt, alloc, more, answer),
-            b"turn" => self.turn(rt, alloc, answer),
-            b"failed" => self.tell_failed(alloc, answer),
-            b"shut" => self.shut(),
-            b"end" => self.end(alloc, answer),
-            _ => Err(CaseFault::Unreadable),
-        }
-    }
-
     /// Puts a parcel.
     fn put<W: Wait>(
         &mut self,
@@ -127,6 +107,28 @@ impl WriterPlay {
         };
         let (outlet, _) = writer.into_ends();
         tell_outlet(alloc, &outlet, self.spent.len(), answer)
+    }
+}
+
+impl Thing for WriterPlay {
+    fn call<W: Wait>(
+        &mut self,
+        rt: &W,
+        alloc: Global,
+        draft: &mut Draft,
+        word: &[u8],
+        more: &[u8],
+        answer: &mut Text,
+    ) -> Result<(), CaseFault> {
+        match word {
+            b"next-writer" => self.begin(alloc, draft),
+            b"put" => self.put(rt, alloc, more, answer),
+            b"turn" => self.turn(rt, alloc, answer),
+            b"failed" => self.tell_failed(alloc, answer),
+            b"shut" => self.shut(),
+            b"end" => self.end(alloc, answer),
+            _ => Err(CaseFault::Unreadable),
+        }
     }
 }
 

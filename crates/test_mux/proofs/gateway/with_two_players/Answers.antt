@@ -4,4 +4,4 @@ use Rattle.gateway_mux.proofs.StandLemmas.{never_fresh}
 use Rattle.test_mux.proofs.gateway.with_two_players.Goals as goal
 
 pub enter-requires : goal.enter-requires
-enter-requires g c = c.prepare.ensures.fresh 4 (never_fresh c.in_ok-mux.mux (entering 7 ∷ []) 4 c.in_ok-mux.ensures refl)
+enter-requires c = c.prepare.ensures.fresh 4 (never_fresh c.in_ok-mux.mux (entering 7 ∷ []) 4 c.in_ok-mux.ensures refl)
