@@ -5,7 +5,5 @@
 #![tactic(auto)]
 
 mod map;
-#[cfg(test)]
-mod tests;
 
 pub use map::{ChannelMap, Freed, Held, PAIRS};

@@ -19,6 +19,3 @@ pub use parcel::{Full, Parcel};
 pub use ports::{Met, meet, port};
 pub use putter::Putter;
 pub use taker::Taker;
-
-#[cfg(test)]
-mod tests;

@@ -7,6 +7,3 @@
 mod seats;
 
 pub use seats::{Seat, Seats};
-
-#[cfg(test)]
-mod tests;

@@ -7,6 +7,3 @@
 mod directory;
 
 pub use directory::Directory;
-
-#[cfg(test)]
-mod tests;

@@ -11,6 +11,3 @@ mod world;
 pub use memory_world::MemoryWorld;
 pub use tally::Tally;
 pub use world::World;
-
-#[cfg(test)]
-mod tests;

@@ -4,7 +4,5 @@
 #![tactic(auto)]
 
 mod queue;
-#[cfg(test)]
-mod tests;
 
 pub use queue::{MOST_PLAYS, PlayQueue};

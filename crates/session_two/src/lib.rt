@@ -5,8 +5,6 @@
 
 mod names;
 mod running;
-#[cfg(test)]
-mod tests;
 
 pub use names::Names;
 pub use running::Running;

@@ -14,6 +14,3 @@ pub use door::{ACCEPT_MILLISECONDS, TcpDoor};
 pub use file_sink::{FILE_BUFFER, FileSink};
 pub use link::{READ_MILLISECONDS, TcpInlet, TcpOutlet, WRITE_SECONDS, halves};
 pub use world::TcpWorld;
-
-#[cfg(test)]
-mod tests;

@@ -7,6 +7,3 @@
 mod pool;
 
 pub use pool::{LEAST_KEPT, MOST_KEPT, MOST_TEXTS, TextPool};
-
-#[cfg(test)]
-mod tests;

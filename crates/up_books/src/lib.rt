@@ -8,8 +8,6 @@
 mod cseq;
 mod entry;
 mod session;
-#[cfg(test)]
-mod tests;
 
 pub use cseq::{CseqBook, LAST_NUMBER, Spent};
 pub use session::{SessionBook, Taken};
