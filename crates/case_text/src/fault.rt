@@ -5,7 +5,7 @@ use std::alloc::{AllocError, AllocFailed};
 use std::fmt;
 
 /// Why a line of a case is not read.
-#[derive(Clone, Copy, Debug, PartialEq, Eq)]
+#[derive(Clone, Copy)]
 pub enum CaseFault {
     /// Memory was wanting.
     Memory,
@@ -42,7 +42,7 @@ impl<T: Drop> From<AllocFailed<T>> for CaseFault {
 }
 
 /// Why the cases of a text are not read.
-#[derive(Clone, Copy, Debug, PartialEq, Eq)]
+#[derive(Clone, Copy)]
 pub enum CasesFault {
     /// Memory was wanting.
     Memory,

@@ -4,15 +4,19 @@
 //! bytes; `{N*c}` is a byte `N` times; and a text with `hex:` at its front is hexadecimal. Every other byte means itself.
 #![tactic(auto)]
 
+mod answer;
 mod entry;
 mod fault;
 mod line;
 mod meaning;
+mod play;
 mod shown;
 mod sign;
 
+pub use answer::Answer;
 pub use entry::{push_entry, push_records};
 pub use fault::{CaseFault, CasesFault};
 pub use line::{first_number, first_word, next_line};
 pub use meaning::{meant, push_meant};
+pub use play::{Play, play_all};
 pub use shown::{push_hex, push_shown};

@@ -3,7 +3,7 @@
 use gate_bytes::{MOST_DIGITS, read_decimal, split_once};
 
 /// What one sign of a text means.
-#[derive(Clone, Copy, Debug, PartialEq, Eq)]
+#[derive(Clone, Copy)]
 pub enum Sign {
     /// CR LF.
     LineEnd,
