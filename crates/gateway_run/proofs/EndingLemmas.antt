@@ -22,9 +22,10 @@ use Rattle.hub_places.specs.declared.ending.StopWhy.TheVariants as stops
 use Rattle.gateway_hub.specs.Closing.{TellsOver}
 use Rattle.gateway_hub.specs.Kept.{Keeps, KeepsSome, EndsRightly}
 use Rattle.gateway_hub.specs.Receipts.{ClosesWith}
-use Rattle.gateway_run.specs.declared.told.Told.{Told}
-use Rattle.gateway_run.specs.Report.{report_text}
-use Rattle.gateway_run.specs.Serving.{GoesWith, EndsHistory, HasShown, HasLeftNone, NoneIsLeft, LinkShows, RanTo, WroteReport, TakesBack, AreSameAddresses, unrecorded, unreported, met_by}
+use Rattle.run_report.specs.declared.told.Told.{Told}
+use Rattle.run_report.specs.Report.{report_text}
+use Rattle.run_report.specs.Endings.{GoesWith, unrecorded, unreported, met_by}
+use Rattle.gateway_run.specs.Serving.{EndsHistory, HasShown, HasLeftNone, NoneIsLeft, LinkShows, RanTo, WroteReport, TakesBack, AreSameAddresses}
 
 -- the history ends as the status says, before what is written last is looked at
 ends_so : (status : Status) (told : Told) (faults : ℕ) (desk : Desk) (history : List Entry) → GoesWith status told → told.ending ≡ desk.ending

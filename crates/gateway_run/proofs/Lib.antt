@@ -1,4 +1,3 @@
-pub mod ReportLemmas
 pub mod EndingLemmas
 pub mod LinkLemmas
 pub mod ReceiptLemmas

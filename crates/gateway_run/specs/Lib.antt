@@ -1,4 +1,3 @@
-pub mod Report
 pub mod Clients
 pub mod Gates
 pub mod Serving

@@ -20,6 +20,7 @@ use gateway_hub::{Recorder, StopWhy};
 use gateway_mux::{Core, UpWhy};
 use link_reader::{Read, Reader};
 use link_writer::{Desk, Writer};
+use run_report::UpRun;
 use std::sync::Wait;
 use std::thread;
 use std::time::{Clock, Duration};
@@ -65,17 +66,6 @@ pub struct UpBack<I: Inlet, O: Outlet> {
     ghost read: { run.read_failed ≡ true → 0 < I.faults inlet },
     ghost write: { run.write_failed ≡ true → 0 < O.faults outlet },
     ghost end: { run.ended ≡ true → 0 < I.ends inlet },
-}
-
-/// What the reader and the writer of the server's link met.
-#[derive(Clone, Copy, Debug, PartialEq, Eq)]
-pub struct UpRun {
-    /// Reading failed.
-    pub read_failed: bool,
-    /// Writing failed.
-    pub write_failed: bool,
-    /// The server told its end, and all that it sent was put.
-    pub ended: bool,
 }
 
 /// Why the server's link is read no more.

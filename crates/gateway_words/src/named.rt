@@ -82,7 +82,14 @@ fn serve_command<'a>(alloc: Global) -> Result<Command<'a>, AllocError>
 ///
 /// An [`AllocError`] where memory ran out.
 pub fn program<'a>(alloc: Global, texts: &'a Texts) -> Result<Command<'a>, AllocError> {
-    let program = Command::new(alloc, "rtspgate")
+    let program = with_command(bare_program(alloc, texts), replay_command(alloc))?;
+    let program = with_command(program, drill_command(alloc))?;
+    with_command(program, serve_command(alloc))
+}
+
+/// The program without its commands.
+fn bare_program<'a>(alloc: Global, texts: &'a Texts) -> Command<'a> {
+    Command::new(alloc, "rtspgate")
         .version("0.1.0")
         .about("A gateway between players of RTSP 1.0 and a server of RTSP 2.0.")
         .override_usage(texts.usage.as_str())
@@ -90,9 +97,17 @@ pub fn program<'a>(alloc: Global, texts: &'a Texts) -> Result<Command<'a>, Alloc
         .disable_help_flag(true)
         .disable_version_flag(true)
         .disable_help_subcommand(true)
-        .subcommand(replay_command(alloc)?)?
-        .subcommand(drill_command(alloc)?)?;
-    program.subcommand(serve_command(alloc)?)
+}
+
+/// The program with a command more, where there was memory for that.
+fn with_command<'a>(
+    program: Command<'a>,
+    command: Result<Command<'a>, AllocError>,
+) -> Result<Command<'a>, AllocError> {
+    match command {
+        Ok(command) => program.subcommand(command),
+        Err(error) => Err(error),
+    }
 }
 
 /// What clap makes of a line that the command takes.

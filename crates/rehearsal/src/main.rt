@@ -23,10 +23,8 @@ mod reading;
 mod rehearsing;
 mod scene;
 mod telling;
-mod words;
 
 use crate::rehearsing::rehearse_all;
-use gate_bytes::Text;
 use std::io;
 use std::io::{Read, Write};
 use std::process::ExitCode;
@@ -35,9 +33,8 @@ fn main(rt: HostRuntime) -> io::Result<ExitCode> {
     let alloc = rt.alloc();
     let mut script = Vec::new(alloc);
     rt.reader().read_to_end(&mut script)?;
-    let mut text = Text::new(alloc);
-    match rehearse_all(&rt, alloc, script.as_slice(), &mut text) {
-        Ok(()) => {
+    match rehearse_all(&rt, alloc, script.as_slice()) {
+        Ok(text) => {
             io::writer(&rt).write_all(text.as_bytes())?;
             Ok(ExitCode::SUCCESS)
         }

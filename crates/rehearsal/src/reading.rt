@@ -1,8 +1,7 @@
 //! Scenes are read.
 
 use crate::scene::{Role, Scene};
-use crate::words::{Word, read_line};
-use case_text::{CaseFault, CasesFault, first_number, meant, next_line};
+use case_text::{CaseFault, CasesFault, first_number, first_word, meant, next_line};
 use gate_bytes::Text;
 use gateway_words::MOST_STATIONS;
 use std::alloc::Global;
@@ -16,7 +15,9 @@ pub fn read_scenes(alloc: Global, script: &[u8]) -> Result<Vec<Scene>, CasesFaul
             break;
         };
         left = rest;
-        obey(alloc, &mut scenes, line).map_err(|fault| fault.at(number))?;
+        if let Err(fault) = obey(alloc, &mut scenes, line) {
+            return Err(fault.at(number));
+        }
     }
     Ok(scenes)
 }
@@ -26,12 +27,9 @@ fn obey(alloc: Global, scenes: &mut Vec<Scene>, line: &[u8]) -> Result<(), CaseF
     if line.is_empty() || line.starts_with(b"#") {
         return Ok(());
     }
-    let Some((word, more)) = read_line(line) else {
-        return Err(CaseFault::Unreadable);
-    };
-    if word == Word::Run {
-        scenes.push(Scene::new(alloc, Text::copy(alloc, more)?))?;
-        return Ok(());
+    let (word, more) = first_word(line);
+    if word == b"run".as_slice() {
+        return begin(alloc, scenes, more);
     }
     match scenes.last_mut() {
         Some(scene) => set(alloc, scene, word, more),
@@ -39,46 +37,62 @@ fn obey(alloc: Global, scenes: &mut Vec<Scene>, line: &[u8]) -> Result<(), CaseF
     }
 }
 
+/// Begins a scene.
+fn begin(alloc: Global, scenes: &mut Vec<Scene>, name: &[u8]) -> Result<(), CaseFault> {
+    let name = Text::copy(alloc, name)?;
+    scenes.push(Scene::new(alloc, name))?;
+    Ok(())
+}
+
 /// Sets what a line says of a scene.
-fn set(alloc: Global, scene: &mut Scene, word: Word, more: &[u8]) -> Result<(), CaseFault> {
+fn set(alloc: Global, scene: &mut Scene, word: &[u8], more: &[u8]) -> Result<(), CaseFault> {
     match word {
-        Word::Link => scene.roles.push(Role::new(alloc))?,
-        Word::Replay => scene.is_replayed = true,
-        Word::Stations => set_stations(scene, number_in(more)?)?,
-        Word::Idle => scene.idle_from(number_in(more)?),
-        Word::Fail => scene.fail_at(number_in(more)?)?,
-        Word::Run | Word::Wait | Word::Say | Word::End => match scene.roles.last_mut() {
-            Some(role) => speak(alloc, role, word, more)?,
-            None => return Err(CaseFault::Unreadable),
+        b"link" => link(alloc, scene),
+        b"replay" => {
+            scene.is_replayed = true;
+            Ok(())
+        }
+        b"stations" => set_stations(scene, number_in(more)?),
+        b"idle" => {
+            scene.idle_from(number_in(more)?);
+            Ok(())
+        }
+        b"fail" => Ok(scene.fail_at(number_in(more)?)?),
+        _ => match scene.roles.last_mut() {
+            Some(role) => speak(alloc, role, word, more),
+            None => Err(CaseFault::Unreadable),
         },
     }
+}
+
+/// Begins a link.
+fn link(alloc: Global, scene: &mut Scene) -> Result<(), CaseFault> {
+    scene.roles.push(Role::new(alloc))?;
     Ok(())
 }
 
 /// Has a link say what a line says, or wait.
-fn speak(alloc: Global, role: &mut Role, word: Word, more: &[u8]) -> Result<(), CaseFault> {
+fn speak(alloc: Global, role: &mut Role, word: &[u8], more: &[u8]) -> Result<(), CaseFault> {
     match word {
-        Word::Wait => wait(alloc, role, more),
-        Word::Say => {
-            role.say(meant(alloc, more)?)?;
-            Ok(())
-        }
-        Word::End => end(alloc, role, more),
+        b"wait" => wait(alloc, role, more),
+        b"say" => Ok(role.say(meant(alloc, more)?)?),
+        b"end" => end(alloc, role, more),
         _ => Err(CaseFault::Unreadable),
     }
 }
 
 /// Has what a link says next wait until an outlet was handed the bytes of a line.
 fn wait(alloc: Global, role: &mut Role, line: &[u8]) -> Result<(), CaseFault> {
-    let Some((outlet, body)) = first_number(line) else {
-        return Err(CaseFault::Unreadable);
-    };
-    let Ok(outlet) = u32::try_from(outlet) else {
-        return Err(CaseFault::Unreadable);
-    };
+    let (outlet, body) = first_word(line);
+    let outlet = number_in(outlet)?;
     let bytes = meant(alloc, body)?;
-    role.wait_for(outlet, bytes.len() as u64);
-    Ok(())
+    match u32::try_from(outlet) {
+        Ok(outlet) => {
+            role.wait_for(outlet, bytes.len() as u64);
+            Ok(())
+        }
+        Err(_) => Err(CaseFault::Unreadable),
+    }
 }
 
 /// Has the end of a link wait, or never come.
@@ -88,8 +102,7 @@ fn end(alloc: Global, role: &mut Role, line: &[u8]) -> Result<(), CaseFault> {
         b"never" => role.wait_for_ever(),
         _ => return Err(CaseFault::Unreadable),
     }
-    role.say(Text::new(alloc))?;
-    Ok(())
+    Ok(role.say(Text::new(alloc))?)
 }
 
 /// The number of a line.

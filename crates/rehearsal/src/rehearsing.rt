@@ -1,14 +1,16 @@
 //! Scenes are run.
-ghost use Rattle.std.specs.Prelude.{[], IfOk};
+ghost use Rattle.std.specs.Prelude.{◌<◌, ◌≤◌, [], IfOk};
+ghost use Rattle.gateway_words.specs.declared.options.TheConstants.{MOST_STATIONS};
 ghost use Rattle.gateway_mux.specs.Stands.{Stands, bases_of};
 ghost use Rattle.gateway_run.specs.Serving.{AreSameAddresses, IsSameAddress};
 
 use crate::reading::read_scenes;
-use crate::scene::{Scene, calm, world_of};
-use crate::telling::{tell_name, tell_replay, tell_run};
-use case_text::CasesFault;
+use crate::scene::{Role, Scene, calm, world_of};
+use crate::telling::{tell_replay, tell_run};
+use case_text::{Answer, CaseFault, CasesFault};
 use gate_bytes::{Memory, Text};
-use gate_outside::MemorySink;
+use gate_outside::{MemorySink, Script};
+use gate_world::MemoryWorld;
 use gateway_mux::{Base, Bases, Mux};
 use gateway_run::serve;
 use gateway_words::ServeOptions;
@@ -23,13 +25,29 @@ pub fn rehearse_all<R: Threads + Wait + Clock + Sync>(
     rt: &R,
     alloc: Global,
     script: &[u8],
-    text: &mut Text,
-) -> Result<(), CasesFault> {
-    for scene in read_scenes(alloc, script)? {
-        rehearse(rt, alloc, scene, text)?;
-        text.push_slice(b"\n")?;
+) -> Result<Text, CasesFault> {
+    let scenes = read_scenes(alloc, script)?;
+    let mut answer = Answer::new(alloc);
+    for scene in scenes {
+        rehearse(rt, alloc, scene, &mut answer);
+        answer.push(b"\n");
     }
-    Ok(())
+    match answer.done() {
+        Ok(text) => Ok(text),
+        Err(_fault) => Err(CasesFault::Memory),
+    }
+}
+
+/// What a run has before it begins.
+#[derive(Drop)]
+struct Stage {
+    options: ServeOptions,
+    core: Mux,
+    again: Mux,
+    world: MemoryWorld,
+    ghost stands: { Stands core [] },
+    ghost between: { AreSameAddresses (bases_of core) options.bases },
+    ghost stands_again: { Stands again [] },
 }
 
 /// Runs a scene, and tells what everybody was handed.
@@ -37,8 +55,8 @@ fn rehearse<R: Threads + Wait + Clock + Sync>(
     rt: &R,
     alloc: Global,
     scene: Scene,
-    text: &mut Text,
-) -> Result<(), Memory> {
+    answer: &mut Answer,
+) {
     let Scene {
         name,
         stations,
@@ -46,23 +64,63 @@ fn rehearse<R: Threads + Wait + Clock + Sync>(
         door,
         roles,
     } = scene;
-    tell_name(name.as_bytes(), text)?;
-    let mut world = world_of(alloc, door, roles)?;
+    answer.push(b"run ");
+    answer.push(name.as_bytes());
+    answer.push(b"\n");
+    match make_stage(alloc, stations, door, roles) {
+        Ok(stage) => run(rt, alloc, stage, is_replayed, answer),
+        Err(Memory) => answer.fail(CaseFault::Memory),
+    }
+}
+
+/// Runs what a stage has, and tells what everybody was handed.
+fn run<R: Threads + Wait + Clock + Sync>(
+    rt: &R,
+    alloc: Global,
+    stage: Stage,
+    is_replayed: bool,
+    answer: &mut Answer,
+) {
+    let Stage {
+        options,
+        core,
+        again,
+        mut world,
+    } = stage;
     let mut report = MemorySink::new(alloc, calm(alloc));
-    let options = ServeOptions {
+    let status = serve(rt, alloc, core, &options, &mut world, &mut report);
+    tell_run(alloc, status, report.as_bytes(), &world, answer);
+    if is_replayed {
+        tell_replay(alloc, again, &world, answer);
+    }
+}
+
+/// The stage of so many stations, a door that behaves so, and these links.
+fn make_stage(alloc: Global, stations: u8, door: Script, roles: Vec<Role>) -> Result<Stage, Memory>
+    requires { (0 < stations) × (stations ≤ MOST_STATIONS) }
+{
+    let options = options(alloc, stations)?;
+    let core = core_between(alloc, &options.bases)?;
+    let again = core_between(alloc, &options.bases)?;
+    let world = world_of(alloc, door, roles)?;
+    Ok(Stage {
+        options,
+        core,
+        again,
+        world,
+    })
+}
+
+/// The options of a run with so many stations.
+fn options(alloc: Global, stations: u8) -> Result<ServeOptions, Memory>
+    requires { (0 < stations) × (stations ≤ MOST_STATIONS) }
+{
+    Ok(ServeOptions {
         bases: bases(alloc)?,
         listen: Text::copy(alloc, b"127.0.0.1:554")?,
         stations,
         recorder: Text::copy(alloc, b"recording")?,
-    };
-    let core = core_between(alloc, &options.bases)?;
-    let status = serve(rt, alloc, core, &options, &mut world, &mut report);
-    tell_run(alloc, status, report.as_bytes(), &world, text)?;
-    if is_replayed {
-        let core = core_between(alloc, &options.bases)?;
-        tell_replay(alloc, core, &world, text)?;
-    }
-    Ok(())
+    })
 }
 
 /// The two addresses of all scenes.

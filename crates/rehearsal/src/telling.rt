@@ -3,8 +3,8 @@ ghost use Rattle.std.specs.Prelude.{[]};
 ghost use Rattle.gateway_mux.specs.Stands.{Stands};
 
 use crate::scene::calm;
-use case_text::{push_records, push_shown};
-use gate_bytes::{Memory, Text, push_decimal};
+use case_text::{Answer, CaseFault};
+use gate_bytes::{Memory, Text};
 use gate_outside::{MemorySink, MemorySource};
 use gate_transcript::{Entry, LONGEST_BODY, write_entry};
 use gate_world::MemoryWorld;
@@ -13,13 +13,6 @@ use gateway_replay::replay;
 use rtsp_frame::Framer;
 use std::alloc::Global;
 
-/// Tells the name of a run.
-pub fn tell_name(name: &[u8], text: &mut Text) -> Result<(), Memory> {
-    text.push_slice(b"run ")?;
-    text.push_slice(name)?;
-    text.push_slice(b"\n")
-}
-
 /// Tells how a run ended, its report, and what everybody was handed: the server, and the players in the order in which their
 /// links came back.
 pub fn tell_run(
@@ -27,75 +20,91 @@ pub fn tell_run(
     status: Status,
     report: &[u8],
     world: &MemoryWorld,
-    text: &mut Text,
-) -> Result<(), Memory> {
-    let line = format!(in alloc; "ended with {}: {status}\n", status.exit_code())?;
-    text.push_slice(line.as_bytes())?;
-    text.push_slice(report)?;
+    answer: &mut Answer,
+) {
+    answer.push(b"ended with ");
+    answer.push_number(u64::from(status.exit_code()));
+    answer.push(b": ");
+    answer.push_display(alloc, &status);
+    answer.push(b"\n");
+    answer.push(report);
     if let Some(link) = world.upstream() {
-        tell_handed(alloc, b"server", link.outlet.as_bytes(), text)?;
+        tell_handed(alloc, b"server", link.outlet.as_bytes(), answer);
     }
     if let Some(door) = world.door() {
         for link in door.returned() {
-            tell_handed(alloc, b"player", link.outlet.as_bytes(), text)?;
+            tell_handed(alloc, b"player", link.outlet.as_bytes(), answer);
         }
     }
-    Ok(())
 }
 
 /// Tells how much one was handed, and each message and frame of it.
-fn tell_handed(alloc: Global, who: &[u8], handed: &[u8], text: &mut Text) -> Result<(), Memory> {
-    text.push_slice(who)?;
-    text.push_slice(b" was handed ")?;
-    push_decimal(text, handed.len() as u64)?;
-    text.push_slice(b"\n")?;
-    tell_messages(alloc, handed, text)
+fn tell_handed(alloc: Global, who: &[u8], handed: &[u8], answer: &mut Answer) {
+    answer.push(who);
+    answer.push(b" was handed ");
+    answer.push_number(handed.len() as u64);
+    answer.push(b"\n");
+    let mut framer = Framer::new(alloc);
+    match framer.feed(alloc, handed) {
+        Ok(()) => tell_messages(&mut framer, handed, answer),
+        Err(_refused) => answer.fail(CaseFault::Memory),
+    }
 }
 
 /// Tells each message and frame in its line, and what is left behind them, if anything is.
-fn tell_messages(alloc: Global, handed: &[u8], text: &mut Text) -> Result<(), Memory> {
-    let mut framer = Framer::new(alloc);
-    framer.feed(alloc, handed)?;
+fn tell_messages(framer: &mut Framer, handed: &[u8], answer: &mut Answer) {
     let mut told: usize = 0;
     for _ in 0..handed.len() {
         let Some(item) = framer.next() else { break };
-        push_shown(text, item.bytes.as_bytes())?;
-        text.push_slice(b"\n")?;
+        answer.push_shown(item.bytes.as_bytes());
+        answer.push(b"\n");
         told = told.saturating_add(item.bytes.len());
     }
     match handed.get(told..) {
         Some(left) if !left.is_empty() => {
-            text.push_slice(b"left ")?;
-            push_shown(text, left)?;
-            text.push_slice(b"\n")
+            answer.push(b"left ");
+            answer.push_shown(left);
+            answer.push(b"\n");
         }
-        _ => Ok(()),
+        _ => {}
     }
 }
 
 /// Replays what was recorded, and tells how that ends and its records.
-pub fn tell_replay(
-    alloc: Global,
-    core: Mux,
-    world: &MemoryWorld,
-    text: &mut Text,
-) -> Result<(), Memory>
+pub fn tell_replay(alloc: Global, core: Mux, world: &MemoryWorld, answer: &mut Answer)
     requires { Stands core [] }
 {
     let Some(recorder) = world.transcript() else {
-        return Ok(());
+        return;
     };
-    let mut source = MemorySource::new(transcript(alloc, recorder.as_slice())?, calm(alloc));
+    match transcript(alloc, recorder.as_slice()) {
+        Ok(bytes) => tell_records(alloc, core, bytes, answer),
+        Err(Memory) => answer.fail(CaseFault::Memory),
+    }
+}
+
+/// Replays a transcript, and tells how that ends and its records.
+fn tell_records(alloc: Global, core: Mux, bytes: Text, answer: &mut Answer)
+    requires { Stands core [] }
+{
+    let mut source = MemorySource::new(bytes, calm(alloc));
     let mut sink = MemorySink::new(alloc, calm(alloc));
     let status = replay(alloc, core, &mut source, &mut sink);
-    let line = format!(in alloc; "replayed with {}\n", status.exit_code())?;
-    text.push_slice(line.as_bytes())?;
-    push_records(text, sink.as_bytes())
+    answer.push(b"replayed with ");
+    answer.push_number(u64::from(status.exit_code()));
+    answer.push(b"\n");
+    answer.push_records(sink.as_bytes());
 }
 
 /// Entries as a transcript.
 fn transcript(alloc: Global, entries: &[Entry]) -> Result<Text, Memory> {
     let mut text = Text::copy(alloc, b"RTSPGW1\n")?;
+    push_entries(alloc, entries, &mut text)?;
+    Ok(text)
+}
+
+/// Appends entries.
+fn push_entries(alloc: Global, entries: &[Entry], text: &mut Text) -> Result<(), Memory> {
     for entry in entries {
         let body = entry.body.as_bytes();
         if body.len() <= LONGEST_BODY as usize {
@@ -103,5 +112,5 @@ fn transcript(alloc: Global, entries: &[Entry]) -> Result<Text, Memory> {
             text.push_slice(entry.as_bytes())?;
         }
     }
-    Ok(text)
+    Ok(())
 }

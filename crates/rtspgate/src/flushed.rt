@@ -16,17 +16,3 @@ pub fn after_flush(answer: Status, flushed: Result<(), Failed>) -> Status
         Err(Failed) => Status::SinkFault,
     }
 }
-
-#[cfg(test)]
-mod tests {
-    use super::*;
-
-    #[test]
-    fn a_failed_flush_is_the_answer(rt: HostRuntime) {
-        assert_eq!(rt; after_flush(Status::TooLong, Ok(())), Status::TooLong);
-        assert_eq!(rt;
-            after_flush(Status::TooLong, Err(Failed)),
-            Status::SinkFault
-        );
-    }
-}

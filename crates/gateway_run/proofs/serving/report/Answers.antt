@@ -1,6 +1,6 @@
 use Rattle.std.proofs.Common.{refl, sym, ap, ◌∙◌}
-use Rattle.gateway_run.specs.Report.{report_text}
-use Rattle.gateway_run.specs.declared.upstream.UpRun.{UpRun}
+use Rattle.run_report.specs.Report.{report_text}
+use Rattle.run_report.specs.declared.met.UpRun.{UpRun}
 use Rattle.gateway_run.proofs.ReceiptLemmas.{few_receipts}
 use Rattle.gateway_run.proofs.EndingLemmas.{shown_last, left_last, recorder_failed, ran_to, wrote_report}
 use Rattle.gateway_run.proofs.LinkLemmas.{no_link_left}
