@@ -55,12 +55,14 @@ gate-cost:
 # Runs the program over real files and pipes: cuts, the gate's transcripts, bad words, faults of the source, the sink
 # and memory, and the longest transcript; and compares the records of drawn transcripts with a second reading of
 # docs/FORMATS.md. Then it serves players over sockets: ends of all kinds, bursts, a player that takes nothing, and what can't be
-# opened. Before that it looks whether the pictures of docs/ are as they would be drawn, and counts the must-fail edits.
+# opened. tools/check_tools has tools/transcript look into recordings. Before all that it looks whether the pictures of docs/ are
+# as they would be drawn, and counts the must-fail edits.
 check: $(PROGRAM)
 	tools/pictures --check
 	tools/edits --count
 	tools/check_program $(PROGRAM)
 	tools/check_serve $(PROGRAM)
+	tools/check_tools $(PROGRAM)
 	tools/compare $(PROGRAM)
 
 bench: $(PROGRAM)

@@ -161,7 +161,13 @@ def handed_out(program, front, up, transcript):
     return run.stdout
 
 
-def chart(program, front, up, transcript):
+def chart(options, source, sink):
+    """Writes the picture of a transcript; nothing is found wrong with one."""
+    sink.write(drawn_text(options.program, options.front, options.up, source.read()).encode("utf-8"))
+    return []
+
+
+def drawn_text(program, front, up, transcript):
     """A transcript as the text of a picture."""
     drawn, written = Chart(), 0
     entries = list(pieces(transcript, MAGIC_LENGTH))
