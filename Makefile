@@ -28,7 +28,8 @@ demo: $(PROGRAM)
 	tools/transcript records < examples/out/sessions.records
 	$(PROGRAM) drill 64 7
 
-# Serves two players, between them and a small server, over sockets; with `PLAYER=ffprobe` that player, twice.
+# Serves two players, between them and a small server, over sockets, and draws the recording; with `PLAYER=ffprobe` that
+# player, twice.
 serve-demo: $(PROGRAM)
 	tools/serve_demo $(PROGRAM) $(PLAYER)
 

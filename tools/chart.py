@@ -1,182 +1,190 @@
-"""A transcript as a sequence chart: what each player and the server said, and what each was handed for it.
+"""A recording as a sequence chart: what each player and the server said, and what each was handed for it.
 
-The program tells what was handed out. It is run on the transcript's first entry, on its first two, and so on, so that
-what an entry brings is seen behind it. A run of frames stands as one arrow for each way that they went.
+It prints nothing and has no exit status: tools/transcript does. The program is run once. How the records of an event
+are found among all that it hands out stands at the head of tools/replayed.py, and whose an event is at that of
+tools/accounts.py. Here events become rows; tools/chart_picture.py draws them, and tools/chart_page.py makes a page.
+
+An event has one row, or more where an arrow's place is taken: what comes in stands first, and what is handed out for it
+beside it or below. All frames between two other events are one bar.
 """
 import re
-import subprocess
-import sys
+from dataclasses import dataclass, field
+from http import HTTPStatus
 
-from interleaved import Pieces
-from svg import Picture
+import chart_page
+import chart_picture
+from accounts import Accounts, Frames
+from notation import line_text, lines_text
+from replayed import Failed, Replay
 
-HEAD, MAGIC_LENGTH, MOST_ENTRIES = 9, 8, 400
-STEP, LIFE_STEP, WIDE_STEP, TOP = 34, 150, 330, 96
-CLOSES = {b"E": "closed: its end", b"B": "closed: it can't be read", b"S": "closed: too slow", b"U": "closed: no server"}
-ENDS = {b"E": "it ends", b"R": "reading fails", b"W": "writing fails", b"Q": "its queue is full"}
-SHOWN = (b"cseq", b"session", b"transport", b"range")
-GATEWAY, SERVER = "gateway", "server"
-
-
-class Stream(Pieces):
-    """The messages and frames of one speaker, each as its label and the channel of a frame."""
-
-    def first(self):
-        return first_item(self.left)
+LONGEST_LABEL, LONGEST_DETAIL = 40, 24
+CHANNELS = re.compile(r"(?i)interleaved *= *([0-9]+(?:-[0-9]+)?)")
+CAUSES = {b"E": "left", b"B": "closed: it sent what is no message", b"S": "closed: it was too slow",
+          b"U": "closed: no server"}
+ENDS = {b"E": "it ends", b"R": "reading fails", b"W": "writing fails", b"Q": "it is too slow"}
+LEFT, RIGHT, REFUSALS = "left", "right", range(400, 600)
 
 
-def first_item(data):
-    """The label and the channel of the first whole item, and its length; none where none is whole."""
-    if data[:1] == b"$":
-        size = 4 + int.from_bytes(data[2:4], "big")
-        return (("", data[1]), size) if len(data) >= max(size, 4) else (None, 0)
-    end = data.find(b"\r\n\r\n")
-    if end < 0:
-        return None, 0
-    first, *lines = data[:end].strip(b"\r\n").split(b"\r\n")
-    fields = [(name.strip().lower(), value.strip()) for name, _, value in (line.partition(b":") for line in lines)]
-    body = next((int(value) for name, value in fields if name == b"content-length" and value.isdigit()), 0)
-    if len(data) < end + 4 + body:
-        return None, 0
-    return (label_of(first, fields), None), end + 4 + body
+@dataclass(slots=True)
+class Part:
+    """An arrow between a player or the server and the gateway, or a note at one of them."""
+    side: str
+    owner: object
+    label: str
+    whole: str
+    is_note: bool = False
+    is_inward: bool = False
+    is_refusal: bool = False
 
 
-def label_of(first, fields):
-    """What a message says, in a few words."""
-    words = first.decode("latin-1").split(" ")
-    said = [words[1] if words[0].startswith("RTSP/") and len(words) > 1 else words[0]]
-    for shown in SHOWN:
-        value = next((value for name, value in fields if name == shown), None)
-        if value is not None:
-            said.append(field_of(shown, value.decode("latin-1")))
-    return ", ".join(said)
+@dataclass(slots=True)
+class Row:
+    """Parts that stand side by side, or the frames of a bar by owner and way; with the first entry they are of."""
+    entry: int
+    parts: list = field(default_factory=list)
+    frames: dict = None
 
 
-def field_of(name, value):
-    """A field as it is told."""
-    if name == b"transport":
-        pair = re.search("interleaved=([0-9]+-?[0-9]*)", value)
-        return "channels " + pair[1] if pair else "no channels"
-    if name == b"session":
-        return "session " + value.partition(";")[0][:12]
-    return {b"cseq": "CSeq "}.get(name, "") + value[:24]
+def shortened(text, longest):
+    return text if len(text) <= longest else text[:longest - 1] + "…"
 
 
-def pieces(data, at):
-    """Kind, connection and body of each whole entry or record, and where it ends."""
-    while len(data) - at >= HEAD:
-        end = at + HEAD + int.from_bytes(data[at + 5:at + HEAD], "big")
-        if end > len(data):
+def path_of(uri):
+    """What stands behind the authority of a URI."""
+    if not uri.lower().startswith(b"rtsp://"):
+        return line_text(uri)
+    return line_text(b"/" + uri[7:].partition(b"/")[2])
+
+
+def details_of(item):
+    """The fields that are told beside a message's first words."""
+    details = []
+    for name, before in ((b"cseq", "CSeq "), (b"transport", ""), (b"range", ""), (b"notify-reason", "")):
+        value = item.field(name)
+        if value is None:
+            continue
+        text = line_text(value)
+        if name == b"transport":
+            found = CHANNELS.search(text)
+            text = "channels " + found[1] if found else "no channels"
+        details.append(shortened(before + text, LONGEST_DETAIL))
+    return details
+
+
+def reason_of(item):
+    """The reason of a reply, or that which its code has where it says none."""
+    said = item.raw.partition(b"\n")[0].strip().split(b" ", 2)
+    if len(said) == 3:
+        return line_text(said[2])
+    return HTTPStatus(item.code).phrase if item.code in set(HTTPStatus) else ""
+
+
+def arrow(side, owner, item, is_inward):
+    """A message as an arrow."""
+    words = [str(item.code), reason_of(item)] if item.kind == "reply" else [line_text(item.method), path_of(item.uri)]
+    label = shortened(" ".join(words).strip(), LONGEST_LABEL)
+    return Part(side, owner, ", ".join([label] + details_of(item)), lines_text(item.raw), is_inward=is_inward,
+                is_refusal=item.code in REFUSALS)
+
+
+def note(side, owner, text, whole=""):
+    return Part(side, owner, text, whole or text, is_note=True)
+
+
+def incoming(event, owner):
+    """What came, as a part; None where what it led to says as much."""
+    side = RIGHT if event.kind in (b"U", b"Z") else LEFT
+    if event.item:
+        if event.item.kind == "bad":
+            text = "no message (%s)" % event.item.why
+            return note(side, owner, text, text + ":\n" + lines_text(event.item.raw))
+        return arrow(side, owner, event.item, True)
+    if event.kind == b"O":
+        return note(LEFT, owner, "enters")
+    if event.kind == b"Z":
+        return None if event.records else note(RIGHT, None, ENDS[event.body])
+    return None if event.records else note(LEFT, owner, CAUSES[event.kind])
+
+
+def outgoing(record, owner):
+    """What a record says, as parts."""
+    kind, connection, said = record
+    if kind == b"C":
+        return [note(LEFT, connection, CAUSES[said])]
+    if kind == b"F":
+        return [note(RIGHT, None, "the server's connection ends: " + line_text(said))]
+    side, whose = (LEFT, connection) if kind == b"T" else (RIGHT, owner)
+    return [arrow(side, whose, item, False) for item in said]
+
+
+class Rows:
+    """The rows of a chart, in their order, and what was seen of the recording."""
+
+    def __init__(self, options):
+        self.options, self.rows, self.accounts = options, [], Accounts()
+        self.last_entry = 0
+
+    def take(self, event):
+        """Takes an event, and draws it where it was asked for."""
+        owner, options = self.accounts.take(event), self.options
+        self.last_entry = event.entry
+        is_within = options.first <= event.entry and (options.last is None or event.entry <= options.last)
+        is_wanted = options.conn is None or owner == options.conn or self.is_end(event)
+        if not is_within or not is_wanted:
             return
-        yield data[at:at + 1], int.from_bytes(data[at + 1:at + 5], "big"), data[at + HEAD:end], end
-        at = end
-
-
-class Chart:
-    """The rows of a chart, in their order: arrows, frames that were counted, and notes."""
-
-    def __init__(self):
-        self.rows, self.players, self.streams = [], [], {}
-
-    def say(self, whence, whither, body):
-        """The items of a piece, as arrows."""
-        stream = self.streams.setdefault((whence, whither), Stream())
-        for label, channel in stream.feed(body):
-            if channel is None:
-                self.rows.append([whence, whither, label, 0])
-            else:
-                self.count(whence, whither, "channel %d" % channel)
-
-    def count(self, whence, whither, label):
-        """A frame; it joins its like in the run of frames that stands last."""
-        for row in reversed(self.rows):
-            if not row[3]:
-                break
-            if row[:3] == [whence, whither, label]:
-                row[3] += 1
-                return
-        self.rows.append([whence, whither, label, 1])
-
-    def note(self, who, text):
-        self.rows.append([who, None, text, 0])
-
-    def entry(self, kind, connection, body):
-        """What came in."""
-        player = "player %d" % connection
-        if kind == b"O":
-            self.players.append(player)
-            self.note(player, "enters")
-        elif kind == b"A":
-            self.say(player, GATEWAY, body)
-        elif kind == b"U":
-            self.say(SERVER, GATEWAY, body)
-        elif kind == b"Z":
-            self.note(SERVER, ENDS.get(body, "it ends"))
+        if event.item and event.item.kind == "frame":
+            self.add_frame(event, owner)
         else:
-            self.note(player, "ends" if kind == b"E" else "its queue is full")
+            self.add_event(event, owner)
 
-    def record(self, kind, connection, body):
-        """What was handed out."""
-        player = "player %d" % connection
-        if kind == b"T":
-            self.say(GATEWAY, player, body)
-        elif kind == b"Y":
-            self.say(GATEWAY, SERVER, body)
-        elif kind == b"C":
-            self.note(player, CLOSES.get(body, "closed"))
-        else:
-            self.note(SERVER, body.decode("latin-1"))
+    def is_end(self, event):
+        """Whether the server's connection ends."""
+        return event.kind == b"Z" or any(kind == b"F" for kind, _, _ in event.records)
 
-    def draw(self):
-        """The picture."""
-        lives = {who: 90 + LIFE_STEP * place for place, who in enumerate(self.players)}
-        lives[GATEWAY] = 90 + LIFE_STEP * max(len(lives) - 1, 0) + WIDE_STEP
-        lives[SERVER] = lives[GATEWAY] + WIDE_STEP
-        height = TOP + STEP * len(self.rows) + 30
-        picture = Picture(lives[SERVER] + 110, height, "what players and the server said, and what they were handed")
-        for who, x in lives.items():
-            picture.path("M%d 56V%d" % (x, height - 20), "life")
-            picture.box(x, 36, 130, 34, [who], "top" if who == GATEWAY else "")
-        for place, (whence, whither, text, frames) in enumerate(self.rows):
-            self.draw_row(picture, lives, TOP + STEP * place, whence, whither, text, frames)
-        return picture
+    def add_frame(self, event, owner):
+        """A frame; it joins the bar that stands last."""
+        if not self.rows or self.rows[-1].frames is None:
+            self.rows.append(Row(event.entry, frames={}))
+        way = "dropped" if not event.records else "up" if event.kind == b"A" else "down"
+        frames = self.rows[-1].frames.setdefault(owner, {}).setdefault(way, Frames())
+        frames.add(1, len(event.item.raw))
 
-    def draw_row(self, picture, lives, y, whence, whither, text, frames):
-        """One arrow or note."""
-        x = lives[whence]
-        if whither is None:
-            picture.box(x, y - 6, max(80, 7 * len(text)), 20, [], "hold")
-            picture.text(x, y - 5, text, "note")
-            return
-        u = lives[whither]
-        picture.path("M%d %dH%d" % (x, y, u - 2 if u > x else u + 2), "", True)
-        middle = (x + u) / 2 if SERVER in (whence, whither) else lives[GATEWAY] - WIDE_STEP / 2
-        told = "%d frame%s, %s" % (frames, "" if frames == 1 else "s", text) if frames else text
-        picture.text(middle, y - 8, told, "small")
+    def add_event(self, event, owner):
+        """Each part goes into the event's last row, or into a new one where its side is taken there."""
+        came = incoming(event, owner)
+        parts = [came] if came else []
+        for record in event.records:
+            parts += outgoing(record, owner)
+        row = None
+        for part in parts:
+            if self.options.conn is not None and part.side == LEFT and part.owner != self.options.conn:
+                continue
+            if row is None or any(self.is_taken(other, part) for other in row.parts):
+                row = Row(event.entry)
+                self.rows.append(row)
+            row.parts.append(part)
 
-
-def handed_out(program, front, up, transcript):
-    """The records of a transcript."""
-    run = subprocess.run([program, "replay", front, up], input=transcript, capture_output=True, check=False)
-    return run.stdout
+    def is_taken(self, other, part):
+        """Whether a part can't stand beside another. Notes of several players can."""
+        are_notes = part.is_note and other.is_note and part.side == LEFT
+        return other.side == part.side and not (are_notes and part.owner != other.owner)
 
 
 def chart(options, source, sink):
-    """Writes the picture of a transcript; nothing is found wrong with one."""
-    sink.write(drawn_text(options.program, options.front, options.up, source.read()).encode("utf-8"))
-    return []
-
-
-def drawn_text(program, front, up, transcript):
-    """A transcript as the text of a picture."""
-    drawn, written = Chart(), 0
-    entries = list(pieces(transcript, MAGIC_LENGTH))
-    if len(entries) > MOST_ENTRIES:
-        sys.exit("transcript: a chart has %d entries at most, and here are %d" % (MOST_ENTRIES, len(entries)))
-    for kind, connection, body, end in entries:
-        drawn.entry(kind, connection, body)
-        records = handed_out(program, front, up, transcript[:end])
-        for record, conn, said, _ in pieces(records, written):
-            drawn.record(record, conn, said)
-        written = len(records)
-    return drawn.draw().svg()
+    """Writes the chart of a recording; what was wrong with it or with the run, as lines."""
+    rows, faults = Rows(options), []
+    try:
+        replay = Replay(options.program, options.front, options.up, source)
+        for event in replay.events():
+            rows.take(event)
+        faults = replay.faults()
+    except Failed as failed:
+        faults = [str(failed)]
+    if options.conn is not None and options.conn not in rows.accounts.of:
+        faults.insert(0, "it has no connection %d" % options.conn)
+    elif options.first > max(rows.last_entry, 1):
+        faults.insert(0, "it has no entry %d: the last is %d" % (options.first, rows.last_entry))
+    picture = chart_picture.drawn(rows.rows)
+    text = chart_page.page(picture) if options.html else picture.svg()
+    sink.write(text.encode("utf-8"))
+    return faults

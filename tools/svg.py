@@ -1,4 +1,4 @@
-"""Pictures in SVG, for tools/pictures and tools/chart.py."""
+"""Pictures in SVG, for tools/pictures."""
 from xml.sax.saxutils import escape
 
 STYLE = """

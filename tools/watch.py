@@ -122,7 +122,7 @@ def is_new(source, size):
 
 
 def watch(name, sink, is_once):
-    """Prints what a recording says, and what is added to it until that is no file, or is read once, or an interrupt comes.
+    """Prints what a recording says, and what is added to it until an interrupt comes; or once, as a pipe is read.
 
     Raises Broken or OSError. A file that became shorter was begun anew by a new run of `serve`.
     """
