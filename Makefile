@@ -8,8 +8,10 @@ REPLAY := replay rtsp://gate.example rtsp://media.example
 JOBS ?= $(shell awk -v most=$$(nproc) '/^MemAvailable/ { n = int($$2 / 5000000); print n < 1 ? 1 : n < most ? n : most }' /proc/meminfo)
 SOURCES := crates.txt $(shell find crates -name out -prune -o \( -name '*.rt' -o -name '*.antt' \) -print)
 EXAMPLES := sessions players options describe
+# What tools/transcript imports.
+PARTS := accounts.py chart.py chart_page.py chart_picture.py items.py notation.py recording.py replayed.py report.py watch.py
 
-.PHONY: all demo serve-demo chart try test gate-cost check bench bench-hub bench-serve install examples clean
+.PHONY: all demo serve-demo chart try test gate-cost check bench bench-hub bench-serve install deb examples clean
 
 # The proved program. Nothing is built that is not proved, so a first `make` takes some three quarters of an hour.
 all: $(PROGRAM)
@@ -78,13 +80,35 @@ bench-hub: $(PROGRAM)
 bench-serve: $(PROGRAM)
 	bench/serve $(PROGRAM)
 
+# Puts the program, its man page, the units and tools/transcript into a folder: $(1) is the folder, $(2) the prefix in it. Words
+# that are in /etc/default/rtspgate stay.
+define put
+	install -d $(1)$(2)/bin $(1)$(2)/lib/rtspgate $(1)$(2)/lib/systemd/system $(1)$(2)/share/man/man1 \
+	    $(1)$(2)/share/doc/rtspgate $(1)/etc/default
+	install -m 755 $(PROGRAM) $(1)$(2)/bin/rtspgate
+	install -m 755 tools/transcript $(1)$(2)/lib/rtspgate/transcript
+	install -m 644 $(addprefix tools/,$(PARTS)) $(1)$(2)/lib/rtspgate
+	ln -sf ../lib/rtspgate/transcript $(1)$(2)/bin/rtspgate-transcript
+	install -m 644 contrib/rtspgate.1 $(1)$(2)/share/man/man1/rtspgate.1
+	for unit in rtspgate.service rtspgate@.service; do \
+	    sed 's|/usr/local/bin|$(2)/bin|' contrib/$$unit > $(1)$(2)/lib/systemd/system/$$unit || exit 1; done
+	install -m 644 docs/OPERATING.md docs/FORMATS.md contrib/haproxy.cfg $(1)$(2)/share/doc/rtspgate
+	test -e $(1)/etc/default/rtspgate || install -m 644 contrib/rtspgate.default $(1)/etc/default/rtspgate
+endef
+
+# The user that the units run as is not made here; docs/OPERATING.md says how.
 install: $(PROGRAM)
-	install -d $(DESTDIR)$(PREFIX)/bin
-	install -m 755 $(PROGRAM) $(DESTDIR)$(PREFIX)/bin/rtspgate
+	$(call put,$(DESTDIR),$(PREFIX))
+
+# The same as a package of Debian, in out/deb; `tools/check_deb` unpacks and installs it into a folder.
+deb: $(PROGRAM)
+	rm -rf out/deb
+	$(call put,out/deb/root,/usr)
+	tools/make_deb out/deb/root out/deb
 
 # Makes the transcripts of examples/ anew from their texts.
 examples:
 	for name in $(EXAMPLES); do tools/transcript bin < examples/$$name.txt > examples/$$name.rtspgw || exit 1; done
 
 clean:
-	rm -rf crates/*/out bench/out examples/out
+	rm -rf crates/*/out bench/out examples/out out
