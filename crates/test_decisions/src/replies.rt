@@ -1,11 +1,12 @@
 //! What players get of the server's replies.
+ghost use Rattle.std.specs.Prelude.{◌≡◌, IfOk};
 ghost use Rattle.translate_down.specs.Settings.{setting_of, CanBeTold};
 
-use crate::telling::{push_bytes, push_came};
-use case_text::{CaseFault, first_number, first_word, meant};
+use crate::telling::tell_written;
+use case_text::{Answer, CaseFault, first_word, meant};
 use gate_bytes::{Memory, Text};
 use head_two::Reply2;
-use rtsp_head::{Head, HeadFault, Start, read_head};
+use rtsp_head::{Head, Start, read_head};
 use rtsp_small::{Method, read_method};
 use rtsp_transport::Pair;
 use rtsp_uri::Bases;
@@ -17,73 +18,33 @@ use translate_down::{Context, reply_one};
 /// The player's channels.
 const CHANNELS: Pair = Pair { rtp: 0, rtcp: 1 };
 
-/// What a line says before its reply.
-#[derive(Clone, Copy)]
-struct Told<'a> {
-    method: Method,
-    named: bool,
-    source: &'a [u8],
-    seconds: Option<u32>,
-}
-
-/// What the first words of a line say, and the rest of the line.
-fn read_told(line: &[u8]) -> Option<(Told<'_>, &[u8])> {
+/// Tells what players get of the reply of a line: one with a session, and one without.
+pub fn tell_reply(alloc: Global, bases: &Bases, line: &[u8], answer: &mut Answer) {
     let (method, line) = first_word(line);
     let (named, line) = first_word(line);
     let (source, line) = first_word(line);
-    let (seconds, line) = first_word(line);
-    let told = Told {
-        method: read_method(method)?,
-        named: read_named(named)?,
-        source,
-        seconds: read_seconds(seconds)?,
-    };
-    Some((told, line))
-}
-
-/// Whether a request named its session, by a word.
-fn read_named(word: &[u8]) -> Option<bool> {
-    match word {
-        b"named" => Some(true),
-        b"unnamed" => Some(false),
-        _ => None,
-    }
-}
-
-/// The seconds that a word is; none where it is a dash.
-fn read_seconds(word: &[u8]) -> Option<Option<u32>> {
-    if word == b"-".as_slice() {
-        return Some(None);
-    }
-    let (number, _) = first_number(word)?;
-    Some(Some(u32::try_from(number).ok()?))
-}
-
-/// The source that the four bytes are which a word means; none where it is a dash.
-fn read_source(alloc: Global, word: &[u8]) -> Result<Option<u32>, CaseFault> {
-    if word == b"-".as_slice() {
-        return Ok(None);
-    }
-    match meant(alloc, word)?.as_bytes() {
-        [a, b, c, d] => Ok(Some(u32::from_be_bytes([*a, *b, *c, *d]))),
-        _ => Err(CaseFault::Unreadable),
-    }
-}
-
-/// What is told to a player with a session.
-fn with_session(bases: &Bases, source: Option<u32>, seconds: Option<u32>) -> Context<'_>
-    ensures { CanBeTold (setting_of result) }
-{
-    Context {
+    let (seconds, text) = first_word(line);
+    let with = Context {
         bases,
         session: Some(b"abcd1234"),
         client: Some(&CHANNELS),
-        ssrc: source,
-        timeout: seconds.map(u64::from),
+        ssrc: (source != b"-".as_slice()).then_some(0x0A0B_0C0D),
+        timeout: (seconds != b"-".as_slice()).then_some(30),
+    };
+    match said(alloc, method, named == b"named".as_slice(), text) {
+        Ok((asked, reply)) => {
+            tell_written(b"", reply_one(alloc, &with, &asked, &reply), answer);
+            tell_written(
+                b"",
+                reply_one(alloc, &without_session(bases), &asked, &reply),
+                answer,
+            );
+        }
+        Err(fault) => answer.fail(fault),
     }
 }
 
-/// What is told to a player without one.
+/// What is told to a player without a session.
 fn without_session(bases: &Bases) -> Context<'_>
     ensures { CanBeTold (setting_of result) }
 {
@@ -96,69 +57,54 @@ fn without_session(bases: &Bases) -> Context<'_>
     }
 }
 
-/// The player's request.
-fn request(alloc: Global, told: Told<'_>) -> Result<Asked, Memory> {
+/// The player's request, and the server's reply to it.
+fn said(
+    alloc: Global,
+    method: &[u8],
+    named: bool,
+    text: &[u8],
+) -> Result<(Asked, Reply2), CaseFault> {
+    let Some(method) = read_method(method) else {
+        return Err(CaseFault::Unreadable);
+    };
+    let reply = reply_in(alloc, text)?;
+    let asked = asked(alloc, method, named, b"rtsp://media.example/m")?;
+    Ok((asked, reply))
+}
+
+/// A request with the number 7.
+pub fn asked(alloc: Global, method: Method, named: bool, uri: &[u8]) -> Result<Asked, Memory>
+    ensures { IfOk result (λ asked. asked.uri ≡ uri.now) }
+{
     Ok(Asked {
-        method: told.method,
+        method,
         cseq: 7,
-        named: told.named,
-        uri: Text::copy(alloc, b"rtsp://media.example/m")?,
+        named,
+        uri: Text::copy(alloc, uri)?,
     })
 }
 
-/// The server's reply that a text means. All that follows its head is its body.
-fn read_reply(alloc: Global, text: &[u8]) -> Result<Reply2, CaseFault> {
-    let head = meant_head(alloc, text)?;
-    let Start::Status { code, .. } = &head.start else {
-        return Err(CaseFault::Unreadable);
+/// The server's reply that a text means. All that follows its head is its body. A text of a request has the code 0.
+fn reply_in(alloc: Global, text: &[u8]) -> Result<Reply2, CaseFault> {
+    let parts = str::from_utf8(text).unwrap_or("").split_once("||");
+    let (_, body) = parts.unwrap_or(("", ""));
+    let head = head_in(alloc, text)?;
+    let code = match &head.start {
+        Start::Status { code, .. } => *code,
+        _ => 0,
     };
     Ok(Reply2 {
-        code: *code,
+        code,
         cseq: 3,
+        body: meant(alloc, body.as_bytes())?,
         head,
-        body: meant(alloc, body_in(text)?)?,
     })
 }
 
 /// The head that a text means.
-fn meant_head(alloc: Global, text: &[u8]) -> Result<Head, CaseFault> {
+fn head_in(alloc: Global, text: &[u8]) -> Result<Head, CaseFault> {
     match read_head(alloc, meant(alloc, text)?.as_bytes()) {
         Ok(head) => Ok(head),
-        Err(HeadFault::Memory) => Err(CaseFault::Memory),
-        Err(_) => Err(CaseFault::Unreadable),
+        Err(_fault) => Err(CaseFault::Unreadable),
     }
-}
-
-/// The text of the body of a message.
-fn body_in(text: &[u8]) -> Result<&[u8], CaseFault> {
-    let Ok(text) = str::from_utf8(text) else {
-        return Err(CaseFault::Unreadable);
-    };
-    match text.split_once("||") {
-        Some((_, body)) => Ok(body.as_bytes()),
-        None => Err(CaseFault::Unreadable),
-    }
-}
-
-/// Tells what players get of the reply of a line: one with a session, and one without.
-pub fn tell_reply(
-    alloc: Global,
-    bases: &Bases,
-    line: &[u8],
-    text: &mut Text,
-) -> Result<(), CaseFault> {
-    let Some((told, line)) = read_told(line) else {
-        return Err(CaseFault::Unreadable);
-    };
-    let asked = request(alloc, told)?;
-    let reply = read_reply(alloc, line)?;
-    let source = read_source(alloc, told.source)?;
-    let with = with_session(bases, source, told.seconds);
-    let with = reply_one(alloc, &with, &asked, &reply)?;
-    let without = reply_one(alloc, &without_session(bases), &asked, &reply)?;
-    push_came(text)?;
-    push_bytes(text, with.as_bytes())?;
-    push_came(text)?;
-    push_bytes(text, without.as_bytes())?;
-    Ok(())
 }

@@ -1,98 +1,101 @@
 //! The steps that change a connection. One that may not be taken can't be read.
+ghost use Rattle.std.specs.Prelude.{◌≡◌, true, IfOk, IfSome};
+ghost use Rattle.rtsp_small.specs.Sessions.{is_session_id};
 
-use crate::items::only_item;
-use case_text::{CaseFault, first_number, first_word};
-use client_slot::{LONGEST_URI, MOST_WAITING, Slot, Waiting};
+use crate::items::item_in;
+use crate::replies::asked;
+use crate::telling::{push_optional, tell};
+use crate::trial::Trial;
+use case_text::{Answer, CaseFault, first_number, first_word};
+use client_slot::{LONGEST_URI, MOST_WAITING, Pending, Slot, Waiting};
 use gate_bytes::{Memory, Text};
 use play_queue::MOST_PLAYS;
 use rtsp_range::read_one;
 use rtsp_small::{Method, read_cseq_two, read_method};
 use rtsp_transport::Pair;
-use session_one::{Asked, MOST_TRACKS, Play, Track};
+use session_one::{MOST_TRACKS, Play, Track};
 use session_two::Names;
 use std::alloc::Global;
 use std::str;
 
-/// Takes the step of a line:
-///
-/// - `METHOD URI`: the player's request goes up, and a SETUP with the stream that it sets up;
-/// - `reply NUMBER CODE ID`: the final reply to the open request comes, with the id of the session that the server made; no
-///   id is there where it made none;
-/// - `queue URI`: a PLAY waits;
-/// - `release`: the PLAY that is due goes up;
-/// - `end NUMBER`: the end of what plays is told, and names the request with this number; without one it names none;
-/// - `wait REQUEST`: a request waits;
-/// - `next`: the oldest request that waits is treated;
-/// - `close`: the connection closes;
-/// - `closing NUMBER`: its TEARDOWN goes up with this number;
-/// - `new`: another connection enters.
-pub fn step(alloc: Global, slot: &mut Slot, line: &[u8]) -> Result<(), CaseFault> {
-    let (word, rest) = first_word(line);
-    if let Some(method) = read_method(word) {
-        return ask(alloc, slot, method, rest);
-    }
-    match str::from_utf8(word).unwrap_or("") {
-        "new" => enter(alloc, slot),
-        "reply" => reply(alloc, slot, rest),
-        "queue" => queue(alloc, slot, rest),
-        "wait" => wait(alloc, slot, rest),
-        _ => change(slot, word, rest),
-    }
-}
-
-/// Another connection enters.
-fn enter(alloc: Global, slot: &mut Slot) -> Result<(), CaseFault> {
-    *slot = Slot::new(alloc)?;
-    Ok(())
-}
-
-/// Takes the step of a word that takes no memory.
-fn change(slot: &mut Slot, word: &[u8], rest: &[u8]) -> Result<(), CaseFault> {
-    match str::from_utf8(word).unwrap_or("") {
-        "release" => slot.release(),
-        "end" => {
-            let _ = slot.noted(read_names(rest)?);
+impl Trial {
+    /// Takes the step of a line, and tells the connection after it:
+    ///
+    /// - `METHOD URI`: the player's request goes up, and a SETUP with the stream that it sets up;
+    /// - `reply NUMBER CODE ID`: the final reply to the open request comes, with the id of the session that the server made; no
+    ///   id is there where it made none;
+    /// - `queue URI`: a PLAY waits;
+    /// - `release`: the PLAY that is due goes up;
+    /// - `end NUMBER`: the end of what plays is told, and names the request with this number; without one it names none;
+    /// - `wait REQUEST`: a request waits;
+    /// - `next`: the oldest request that waits is treated;
+    /// - `close`: the connection closes;
+    /// - `closing NUMBER`: its TEARDOWN goes up with this number;
+    /// - `new`: another connection enters.
+    pub fn step(&mut self, alloc: Global, line: &[u8], answer: &mut Answer) {
+        let (word, rest) = first_word(line);
+        match str::from_utf8(word).unwrap_or("") {
+            "new" => self.renew(alloc, answer),
+            "reply" => reply(alloc, &mut self.slot, rest, answer),
+            "queue" => queue(alloc, &mut self.slot, rest, answer),
+            "release" => self.slot.release(),
+            "end" => end(&mut self.slot, rest),
+            "wait" => wait(alloc, &mut self.slot, rest, answer),
+            "next" => drop(self.slot.next_waiting()),
+            "close" => self.slot.close(),
+            "closing" => drop(self.slot.closing(number_in(rest))),
+            _ => ask(alloc, &mut self.slot, word, rest, answer),
         }
-        "next" => {
-            let _ = slot.next_waiting();
-        }
-        "close" => slot.close(),
-        "closing" => {
-            let _ = slot.closing(read_number(rest)?);
-        }
-        _ => return Err(CaseFault::Unreadable),
+        push_slot(alloc, &self.slot, answer);
     }
-    Ok(())
+
+    /// Tells the part of the connection that a line names:
+    ///
+    /// - `plays`: the URI of the first PLAY that waits, and of the PLAY that is due;
+    /// - `requests`: the requests that wait;
+    /// - `closing NUMBER`: the closing TEARDOWN, which goes up with this number.
+    pub fn show(&mut self, line: &[u8], answer: &mut Answer) {
+        let (word, rest) = first_word(line);
+        match str::from_utf8(word).unwrap_or("") {
+            "plays" => show_plays(&self.slot, answer),
+            "requests" => show_requests(&self.slot, answer),
+            "closing" => show_closing(self.slot.closing(number_in(rest)), answer),
+            _ => answer.unreadable(),
+        }
+    }
 }
 
-/// The number of a request.
-pub fn read_number(word: &[u8]) -> Result<u32, CaseFault> {
-    read_cseq_two(word).ok_or(CaseFault::Unreadable)
+/// The number that a word is, or 0.
+fn number_in(word: &[u8]) -> u32 {
+    read_cseq_two(word).unwrap_or(0)
 }
 
-/// What the end of what plays names: nothing where there is no word.
-fn read_names(word: &[u8]) -> Result<Names, CaseFault> {
-    if word.is_empty() {
-        return Ok(Names::Unsaid);
-    }
-    Ok(Names::This(read_number(word)?))
+/// The end of what plays is told.
+fn end(slot: &mut Slot, word: &[u8]) {
+    let names = match read_cseq_two(word) {
+        Some(number) => Names::This(number),
+        None => Names::Unsaid,
+    };
+    let _ = slot.noted(names);
 }
 
 /// The player's request with this method goes up, and a SETUP with the stream that it sets up.
-fn ask(alloc: Global, slot: &mut Slot, method: Method, uri: &[u8]) -> Result<(), CaseFault> {
-    let track = track(alloc, method, uri)?;
-    let asked = Asked {
-        method,
-        cseq: 7,
-        named: false,
-        uri: Text::copy(alloc, uri)?,
+fn ask(alloc: Global, slot: &mut Slot, method: &[u8], uri: &[u8], answer: &mut Answer) {
+    let Some(method) = read_method(method) else {
+        return answer.unreadable();
+    };
+    let Ok(track) = track(alloc, method, uri) else {
+        return answer.fail(CaseFault::Memory);
+    };
+    let Ok(asked) = asked(alloc, method, false, uri) else {
+        return answer.fail(CaseFault::Memory);
     };
     let is_placed = track.is_none() || slot.tracks().len() < MOST_TRACKS;
     if slot.alive() && !slot.busy() && asked.uri.len() <= LONGEST_URI && is_placed {
         slot.asked(asked, track);
-        return Ok(());
+    } else {
+        answer.unreadable();
     }
-    Err(CaseFault::Unreadable)
 }
 
 /// The stream that a SETUP brings.
@@ -108,53 +111,141 @@ fn track(alloc: Global, method: Method, uri: &[u8]) -> Result<Option<Track>, Mem
 }
 
 /// A final reply comes.
-fn reply(alloc: Global, slot: &mut Slot, line: &[u8]) -> Result<(), CaseFault> {
+fn reply(alloc: Global, slot: &mut Slot, line: &[u8], answer: &mut Answer) {
     let (number, line) = first_word(line);
-    let number = read_number(number)?;
-    let Some((code, id)) = first_number(line) else {
-        return Err(CaseFault::Unreadable);
+    let (code, id) = first_number(line).unwrap_or((0, b""));
+    let Ok(id) = id_in(alloc, id) else {
+        return answer.fail(CaseFault::Memory);
     };
-    let Ok(code) = u16::try_from(code) else {
-        return Err(CaseFault::Unreadable);
-    };
-    let id = match id {
-        b"" => None,
-        b"abcd1234" => Some(Text::copy(alloc, b"abcd1234")?),
-        _ => return Err(CaseFault::Unreadable),
-    };
+    let code = u16::try_from(code).unwrap_or(0);
     if slot.busy() && code >= 200 {
-        let _ = slot.settle(number, code, id);
-        return Ok(());
+        let _ = slot.settle(number_in(number), code, id);
+    } else {
+        answer.unreadable();
     }
-    Err(CaseFault::Unreadable)
+}
+
+/// The id of the session, where a word is there.
+fn id_in(alloc: Global, word: &[u8]) -> Result<Option<Text>, Memory>
+    ensures { IfOk result (λ id. IfSome id (λ id. is_session_id id ≡ true)) }
+{
+    if word.is_empty() {
+        return Ok(None);
+    }
+    Ok(Some(Text::copy(alloc, b"abcd1234")?))
 }
 
 /// A PLAY of this URI waits.
-fn queue(alloc: Global, slot: &mut Slot, uri: &[u8]) -> Result<(), CaseFault> {
+fn queue(alloc: Global, slot: &mut Slot, uri: &[u8], answer: &mut Answer) {
     let Ok(range) = read_one(b"npt=20-30") else {
-        return Err(CaseFault::Unreadable);
+        return answer.unreadable();
     };
-    let play = Play {
-        uri: Text::copy(alloc, uri)?,
-        range,
-        scale: None,
+    let Ok(uri) = Text::copy(alloc, uri) else {
+        return answer.fail(CaseFault::Memory);
     };
-    if play.uri.len() <= LONGEST_URI && slot.queued() < MOST_PLAYS {
-        slot.queue(play);
-        return Ok(());
+    if uri.len() <= LONGEST_URI && slot.queued() < MOST_PLAYS {
+        slot.queue(Play {
+            uri,
+            range,
+            scale: None,
+        });
+    } else {
+        answer.unreadable();
     }
-    Err(CaseFault::Unreadable)
 }
 
 /// The request that a text means waits.
-fn wait(alloc: Global, slot: &mut Slot, text: &[u8]) -> Result<(), CaseFault> {
-    let item = only_item(alloc, text)?;
-    let Ok(waiting) = Waiting::new(alloc, item) else {
-        return Err(CaseFault::Memory);
-    };
-    if slot.waiting() < MOST_WAITING {
-        slot.wait(waiting);
-        return Ok(());
+fn wait(alloc: Global, slot: &mut Slot, text: &[u8], answer: &mut Answer) {
+    match waiting_in(alloc, text) {
+        Ok(waiting) if slot.waiting() < MOST_WAITING => slot.wait(waiting),
+        Ok(_waiting) => answer.unreadable(),
+        Err(fault) => answer.fail(fault),
     }
-    Err(CaseFault::Unreadable)
+}
+
+/// The request that a text means, as one that waits.
+fn waiting_in(alloc: Global, text: &[u8]) -> Result<Waiting, CaseFault> {
+    match Waiting::new(alloc, item_in(alloc, text)?) {
+        Ok(waiting) => Ok(waiting),
+        Err(_fault) => Err(CaseFault::Memory),
+    }
+}
+
+/// Appends a connection:
+///
+/// 1. the state of its session;
+/// 2. the session's id;
+/// 3. the URI that stands for what it is about;
+/// 4. how many streams are set up;
+/// 5. the number of the PLAY that runs;
+/// 6. how many PLAYs wait;
+/// 7. how many requests wait;
+/// 8. what the open request is for: its method, released or closing;
+/// 9. whether it is alive or closed.
+fn push_slot(alloc: Global, slot: &Slot, answer: &mut Answer) {
+    answer.push_debug(alloc, &slot.state());
+    answer.push(b" ");
+    push_optional(slot.session(), answer);
+    push_optional(slot.control(), answer);
+    answer.push_number(slot.tracks().len() as u64);
+    answer.push(b" ");
+    push_running(slot.running(), answer);
+    answer.push(b" ");
+    answer.push_number(slot.queued() as u64);
+    answer.push(b" ");
+    answer.push_number(slot.waiting() as u64);
+    answer.push(b" ");
+    answer.push(purpose(slot));
+    answer.push(if slot.alive() {
+        b" alive".as_slice()
+    } else {
+        b" closed"
+    });
+}
+
+/// Appends the number of the PLAY that runs, or a dash.
+fn push_running(number: Option<u32>, answer: &mut Answer) {
+    match number {
+        Some(number) => answer.push_number(u64::from(number)),
+        None => answer.push(b"-"),
+    }
+}
+
+/// What the open request is for.
+fn purpose(slot: &Slot) -> &'static [u8] {
+    match slot.pending() {
+        Some(Pending::Client(asked, _)) => asked.method.name(),
+        Some(Pending::Released(_)) => b"released",
+        Some(Pending::Closing) => b"closing",
+        None => b"-",
+    }
+}
+
+/// Appends the closing TEARDOWN, or a dash.
+fn show_closing(closing: Option<Text>, answer: &mut Answer) {
+    match closing {
+        Some(text) => tell(b"", text.as_bytes(), answer),
+        None => answer.push(b"\n= -"),
+    }
+}
+
+/// Appends the URI of the first PLAY that waits, and of the PLAY that is due.
+fn show_plays(slot: &Slot, answer: &mut Answer) {
+    answer.push(b"\n=");
+    for play in [slot.first_queued(), slot.due()] {
+        answer.push(b" ");
+        match play {
+            Some(play) => answer.push_shown(play.uri.as_bytes()),
+            None => answer.push(b"-"),
+        }
+    }
+}
+
+/// Appends the requests that wait.
+fn show_requests(slot: &Slot, answer: &mut Answer) {
+    for at in 0..slot.waiting() {
+        if let Some(item) = slot.waiting_at(at) {
+            tell(b"", item.bytes.as_bytes(), answer);
+        }
+    }
 }

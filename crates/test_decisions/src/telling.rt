@@ -1,29 +1,28 @@
 //! How what came is told.
 
-use case_text::push_shown;
+use case_text::{Answer, CaseFault};
 use gate_bytes::{Memory, Text};
 
-/// Appends a line that begins with a sign for what came.
-pub fn push_came(text: &mut Text) -> Result<(), Memory> {
-    text.push_slice(b"\n=")
+/// Tells a word and what bytes mean, in a line of its own.
+pub fn tell(word: &[u8], bytes: &[u8], answer: &mut Answer) {
+    answer.push(b"\n= ");
+    answer.push(word);
+    answer.push_shown(bytes);
 }
 
-/// Appends a space and a word.
-pub fn push_word(text: &mut Text, word: &[u8]) -> Result<(), Memory> {
-    text.push_slice(b" ")?;
-    text.push_slice(word)
-}
-
-/// Appends a space and bytes, as a text that means them.
-pub fn push_bytes(text: &mut Text, bytes: &[u8]) -> Result<(), Memory> {
-    text.push_slice(b" ")?;
-    push_shown(text, bytes)
-}
-
-/// Appends a space and what bytes mean, or a dash where there are none.
-pub fn push_optional(text: &mut Text, bytes: Option<&[u8]>) -> Result<(), Memory> {
-    match bytes {
-        Some(bytes) => push_bytes(text, bytes),
-        None => push_word(text, b"-"),
+/// Tells a word and a text, where there was memory for it.
+pub fn tell_written(word: &[u8], written: Result<Text, Memory>, answer: &mut Answer) {
+    match written {
+        Ok(text) => tell(word, text.as_bytes(), answer),
+        Err(_memory) => answer.fail(CaseFault::Memory),
     }
+}
+
+/// Appends what bytes mean and a space, or a dash where there are none.
+pub fn push_optional(bytes: Option<&[u8]>, answer: &mut Answer) {
+    match bytes {
+        Some(bytes) => answer.push_shown(bytes),
+        None => answer.push(b"-"),
+    }
+    answer.push(b" ");
 }
