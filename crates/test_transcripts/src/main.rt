@@ -1,36 +1,59 @@
-//! A program that replays transcripts, and prints the records and the fault line of each. The gate compares that with what it
-//! must print.
+//! A program that tells what transcripts give: whole ones through a replay, their entries and recordings of them, single calls
+//! of the multiplexer, how each end of a run is told, and drills. It reads cases, and prints what came of each. The gate
+//! compares that with what must come.
 //!
-//! A case is lines, ended by an empty one. They have the notation of `tools/transcript`, and besides:
+//! A case is a line, and what came of it stands behind its colon. Empty lines and lines with `#` at their front are printed as
+//! they are. Bytes have the notation of [`case_text`]. The player calls the gateway `rtsp://gate.example`, and the gateway the
+//! server `rtsp://media.example`.
 //!
-//! - `# TITLE` says what the case shows;
-//! - `times COUNT ENTRY` is an entry so many times, and `each FIRST LAST ENTRY` one for each number, which stands where `@` does;
-//! - `pad LENGTH ENTRY` is an entry with line feeds before its body, so many that the transcript has so many bytes with it;
-//! - `read-pieces SIZE` and `write-pieces SIZE` have a call of the source or the sink move so many bytes at most, and
-//!   `pieces SIZE` of both; a case without them is replayed in pieces of 1, 7 and 4,096 bytes, which must make no difference;
-//! - `fail-read CALL` and `fail-write CALL` have a call of the source or the sink fail, counted from 0;
-//! - `core refuser` replays it through a core that answers every request with 501.
+//! Entries, in the notation of `tools/transcript`, are put together to a transcript:
+//!
+//! - `magic WORD` begins it anew: with its magic where the word is `1`, and with nothing where it is `none`;
+//! - `each FIRST LAST ENTRY` is an entry for each number, which stands where `@` does;
+//! - `run HOW` tells what it gives, and begins the next one:
+//!   - `replay` tells the records and the fault line of its replay. It is replayed in pieces of 4,096 bytes, and of 1 and 7,
+//!     which must make no difference; `refuse` does the same with a core that answers every request with 501;
+//!   - `pieces READ WRITE CALL CALL` replays it in pieces of so many bytes at most of the source and of the sink, of which this
+//!     call of the source and this one of the sink fail, counted from 0; `-` is no call;
+//!   - `entries` tells its entries and its first fault. It is read whole and in pieces of 1, 2, 7, 9 and 100 bytes;
+//!   - `record CALL` notes its entries into a sink that takes 7 bytes in a call, and tells what the sink holds; `keep CALL`
+//!     notes them into a recorder in memory. The call with this number fails.
+//!
+//! These have to do with no transcript:
+//!
+//! - `reader feed BYTES`, `reader next` and `reader finish` call a reader of entries step by step;
+//! - `reason BYTES` reads the reason of a server's end, and `write CONNECTION BYTES` writes the entry of a player's bytes;
+//! - `mux CALL` calls a multiplexer, as [`calls`] says;
+//! - `status END` tells the exit status and the fault line of a run that ended so;
+//! - `draw NUMBER MOST..` draws numbers below each of these, from this number on;
+//! - `server feed BYTES` hands bytes to the plain server of drills, in pieces of 9, and `server pending` tells how many
+//!   requests of it wait; `server turn` tells the answer to the oldest;
+//! - `drill PLAYERS NUMBER LENGTH CALL` plays a drill with so many players, from this number on, into a sink that takes so many
+//!   bytes in a call, and fails at this call. It tells the status and what the sink took.
 #![tactic(auto)]
 
-mod case;
-mod reading;
+mod calls;
+mod drilling;
+mod entries;
+mod gateway;
+mod outcomes;
+mod played;
+mod recording;
 mod refuser;
 mod replaying;
-mod telling;
+mod statuses;
 
-use crate::reading::tell_all;
-use gate_bytes::Text;
+use crate::played::tell_all;
 use std::io;
 use std::io::{Read, Write};
 use std::process::ExitCode;
 
 fn main(rt: HostRuntime) -> io::Result<ExitCode> {
     let alloc = rt.alloc();
-    let mut cases = Vec::new(alloc);
-    rt.reader().read_to_end(&mut cases)?;
-    let mut text = Text::new(alloc);
-    match tell_all(alloc, cases.as_slice(), &mut text) {
-        Ok(()) => {
+    let mut script = Vec::new(alloc);
+    rt.reader().read_to_end(&mut script)?;
+    match tell_all(alloc, script.as_slice()) {
+        Ok(text) => {
             io::writer(&rt).write_all(text.as_bytes())?;
             Ok(ExitCode::SUCCESS)
         }

@@ -1,127 +1,149 @@
-//! Cases are replayed.
+//! Transcripts are replayed.
 
-use crate::case::{Case, CoreKind, Pieces};
+use crate::entries::tell_entries;
+use crate::gateway::{bases, gateway};
+use crate::played::number_in;
 use crate::refuser::Refuser;
-use crate::telling::{tell_difference, tell_replayed};
+use case_text::{Answer, CaseFault, first_word};
 use gate_bytes::{Memory, Text};
 use gate_outside::{MemorySink, MemorySource, Numbers, Script};
-use gateway_mux::{Base, Bases, Mux, Status};
+use gateway_mux::Status;
 use gateway_replay::replay;
-use rtsp_uri::read_base;
 use std::alloc::Global;
 
-/// The size of the pieces in which a case is replayed first that names none.
-const LARGE_PIECE: usize = 4096;
+/// The size of the pieces in which a transcript is read first.
+const LARGE_PIECE: u64 = 4096;
 
-/// The sizes in which it is replayed then.
-const SMALL_PIECES: [usize; 2] = [1, 7];
-
-/// How a replay ended, and the records that it wrote.
-#[derive(Drop)]
-pub struct Replayed {
-    /// How it ended.
-    pub status: Status,
-    /// The records.
-    pub records: Text,
+/// What is done with a transcript.
+#[derive(Clone, Copy)]
+pub enum How {
+    /// It is replayed through the multiplexer.
+    Replay,
+    /// It is replayed through a core that refuses every request.
+    Refuse,
+    /// Its entries are read.
+    Read,
 }
 
-/// Replays a case, and tells its records and its fault line.
-pub fn tell_case(alloc: Global, case: &Case, text: &mut Text) -> Result<(), Memory> {
-    let first = replay_case(alloc, case, case.pieces.unwrap_or(Pieces::of(LARGE_PIECE)))?;
-    tell_replayed(alloc, &first, text)?;
-    if case.pieces.is_some() {
-        return Ok(());
-    }
-    tell_differences(alloc, case, &first, text)
+/// How a source and a sink are cut: the most bytes that a call moves, and the number of the call that fails.
+#[derive(Clone, Copy)]
+pub struct Cuts {
+    read: u64,
+    write: u64,
+    failing_read: u64,
+    failing_write: u64,
 }
 
-/// Tells where small pieces make a difference.
-fn tell_differences(
-    alloc: Global,
-    case: &Case,
-    first: &Replayed,
-    text: &mut Text,
-) -> Result<(), Memory> {
-    for piece in SMALL_PIECES {
-        let other = replay_case(alloc, case, Pieces::of(piece))?;
-        if other.status != first.status || other.records.as_bytes() != first.records.as_bytes() {
-            tell_difference(alloc, piece, &other, text)?;
+impl Cuts {
+    /// The cuts that a line says.
+    pub fn read(line: &[u8]) -> Cuts {
+        let (read, line) = first_word(line);
+        let (write, line) = first_word(line);
+        let (failing_read, failing_write) = first_word(line);
+        Cuts {
+            read: number_in(read),
+            write: number_in(write),
+            failing_read: number_in(failing_read),
+            failing_write: number_in(failing_write),
         }
     }
-    Ok(())
 }
 
-/// Replays a case in pieces of at most these sizes, or of one byte where one is 0.
-fn replay_case(alloc: Global, case: &Case, pieces: Pieces) -> Result<Replayed, Memory> {
-    let mut sink = MemorySink::new(alloc, script(alloc, case.failing_write, pieces.write)?);
-    let status = replay_to(alloc, case, pieces.read, &mut sink)?;
-    Ok(Replayed {
-        status,
-        records: Text::copy(alloc, sink.as_bytes())?,
-    })
-}
-
-/// How the replay of a case ends whose source gives pieces of at most this size, and whose records go into a sink.
-fn replay_to(
-    alloc: Global,
-    case: &Case,
-    piece: usize,
-    sink: &mut MemorySink,
-) -> Result<Status, Memory> {
-    let script = script(alloc, case.failing_read, piece)?;
-    let transcript = Text::copy(alloc, case.transcript.as_bytes())?;
-    let mut source = MemorySource::new(transcript, script);
-    match case.core {
-        CoreKind::Mux => replay_by_mux(alloc, &mut source, sink),
-        CoreKind::Refuser => replay_by_refuser(alloc, &mut source, sink),
+/// Tells what a transcript gives in large pieces, and where pieces of other sizes make a difference.
+pub fn tell_pieces(alloc: Global, how: How, transcript: &[u8], sizes: &[u64], answer: &mut Answer) {
+    let whole = told(alloc, how, transcript, LARGE_PIECE);
+    answer.push(whole.as_bytes());
+    for size in sizes {
+        let other = told(alloc, how, transcript, *size);
+        push_difference(*size, whole.as_bytes(), other.as_bytes(), answer);
     }
 }
 
-/// How a replay through a multiplexer ends.
-fn replay_by_mux(
-    alloc: Global,
-    source: &mut MemorySource,
-    sink: &mut MemorySink,
-) -> Result<Status, Memory> {
-    let mux = Mux::new(alloc, bases(alloc)?)?;
-    Ok(replay(alloc, mux, source, sink))
+/// Appends what pieces of a size give, where that is something else.
+fn push_difference(size: u64, whole: &[u8], other: &[u8], answer: &mut Answer) {
+    if other != whole {
+        answer.push(b"# in pieces of ");
+        answer.push_number(size);
+        answer.push(b":\n");
+        answer.push(other);
+    }
 }
 
-/// How a replay through a core ends that refuses all requests.
-fn replay_by_refuser(
-    alloc: Global,
-    source: &mut MemorySource,
-    sink: &mut MemorySink,
-) -> Result<Status, Memory> {
-    let core = Refuser::new(alloc, bases(alloc)?);
-    Ok(replay(alloc, core, source, sink))
+/// What a transcript gives in pieces of a size.
+fn told(alloc: Global, how: How, transcript: &[u8], size: u64) -> Answer {
+    let mut answer = Answer::new(alloc);
+    match how {
+        How::Read => tell_entries(alloc, transcript, size as usize, &mut answer),
+        _ => {
+            let cuts = Cuts {
+                read: size,
+                write: size,
+                failing_read: u64::MAX,
+                failing_write: u64::MAX,
+            };
+            tell_replay(alloc, how, transcript, &cuts, &mut answer);
+        }
+    }
+    answer
 }
 
-/// A script of pieces of at most this size, or of one byte where it is 0, in which a call fails.
-fn script(alloc: Global, fails: Option<u64>, piece: usize) -> Result<Script, Memory> {
+/// Replays a transcript, and tells its records and its fault line.
+pub fn tell_replay(alloc: Global, how: How, transcript: &[u8], cuts: &Cuts, answer: &mut Answer) {
+    match ends(alloc, transcript, cuts) {
+        Ok((mut source, mut sink)) => {
+            let status = replayed(alloc, how, &mut source, &mut sink);
+            answer.push_records(sink.as_bytes());
+            push_fault(alloc, status, answer);
+        }
+        Err(_memory) => answer.fail(CaseFault::Memory),
+    }
+}
+
+/// Appends the fault line of a replay, where it has one.
+fn push_fault(alloc: Global, status: Status, answer: &mut Answer) {
+    if status != Status::Done {
+        answer.push(b"# fault: ");
+        answer.push_display(alloc, &status);
+        answer.push(b"\n");
+    }
+}
+
+/// A source of a transcript, and a sink.
+fn ends(
+    alloc: Global,
+    transcript: &[u8],
+    cuts: &Cuts,
+) -> Result<(MemorySource, MemorySink), Memory> {
+    let reads = script(alloc, cuts.read, cuts.failing_read)?;
+    let writes = script(alloc, cuts.write, cuts.failing_write)?;
+    let source = MemorySource::new(Text::copy(alloc, transcript)?, reads);
+    Ok((source, MemorySink::new(alloc, writes)))
+}
+
+/// How a replay ends: one through a core that refuses all requests, or one through a multiplexer.
+fn replayed(alloc: Global, how: How, source: &mut MemorySource, sink: &mut MemorySink) -> Status {
+    match how {
+        How::Refuse => match bases(alloc) {
+            Ok(bases) => replay(alloc, Refuser::new(alloc, bases), source, sink),
+            Err(_memory) => Status::Memory,
+        },
+        _ => match gateway(alloc) {
+            Ok(mux) => replay(alloc, mux, source, sink),
+            Err(_memory) => Status::Memory,
+        },
+    }
+}
+
+/// A script of pieces of at most this size, or of one byte where it is 0, in which the call with a number fails.
+pub fn script(alloc: Global, piece: u64, fails: u64) -> Result<Script, Memory> {
     let mut numbers = Numbers::new(alloc);
-    if let Some(number) = fails {
-        if let Err((_, memory)) = numbers.push(number) {
-            return Err(memory);
-        }
+    if let Err((_, memory)) = numbers.push(fails) {
+        return Err(memory);
     }
     Ok(Script {
         fails: numbers,
         waits: Numbers::new(alloc),
         idle: None,
-        piece: piece.max(1),
+        piece: (piece as usize).max(1),
     })
-}
-
-/// The two addresses of all cases.
-fn bases(alloc: Global) -> Result<Bases, Memory> {
-    Ok(Bases {
-        front: base(alloc, "rtsp://gate.example")?,
-        up: base(alloc, "rtsp://media.example")?,
-    })
-}
-
-/// The base that a word names.
-fn base(alloc: Global, word: &str) -> Result<Base, Memory> {
-    read_base(alloc, word).map_err(|_| Memory)
 }

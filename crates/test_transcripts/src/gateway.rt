@@ -8,20 +8,27 @@ use gateway_mux::{Base, Bases, Mux};
 use rtsp_uri::read_base;
 use std::alloc::Global;
 
-/// A gateway to which nothing has happened.
-fn gateway(alloc: Global) -> Result<Mux, Memory>
-    ensures { IfOk result (λ mux. Stands mux []) }
-{
-    let bases = Bases {
+/// The two addresses of all cases.
+pub fn bases(alloc: Global) -> Result<Bases, Memory> {
+    Ok(Bases {
         front: base(alloc, "rtsp://gate.example")?,
         up: base(alloc, "rtsp://media.example")?,
-    };
-    Mux::new(alloc, bases)
+    })
 }
 
 /// The base that a word names.
 fn base(alloc: Global, word: &str) -> Result<Base, Memory> {
-    read_base(alloc, word).map_err(|_| Memory)
+    match read_base(alloc, word) {
+        Ok(base) => Ok(base),
+        Err(_fault) => Err(Memory),
+    }
+}
+
+/// A gateway to which nothing has happened.
+pub fn gateway(alloc: Global) -> Result<Mux, Memory>
+    ensures { IfOk result (λ mux. Stands mux []) }
+{
+    Mux::new(alloc, bases(alloc)?)
 }
 
 /// One that a connection entered.
@@ -31,12 +38,6 @@ fn entered(alloc: Global, conn: u32) -> Result<Mux, Memory>
     let mut mux = gateway(alloc)?;
     mux.enter(alloc, conn)?;
     Ok(mux)
-}
-
-/// Begins anew with one that two connections entered.
-pub fn renew(alloc: Global, mux: &mut Mux) -> Result<(), Memory> {
-    *mux = with_two_players(alloc)?;
-    Ok(())
 }
 
 /// One that the connections 7 and 4 entered, in this order.
