@@ -1,55 +1,75 @@
-//! How answers are written.
+//! How answers are told.
 
-use case_text::{CaseFault, push_shown};
-use gate_bytes::{Memory, Text, push_decimal};
+use case_text::{Answer, CaseFault};
+use gate_bytes::{Memory, Text, is_token};
 
-/// What appending an answer came to.
-pub fn told(answer: Result<(), Memory>) -> Result<(), CaseFault> {
-    Ok(answer?)
-}
+/// The most bytes of a part that is shown.
+const MOST_SHOWN: usize = 1_024;
 
-/// Appends bytes as they are where that can be read, else in the notation of cases; and `empty` for none.
-pub fn push_bytes(text: &mut Text, bytes: &[u8]) -> Result<(), Memory> {
+/// Tells bytes: a token as it is, other bytes in the notation of cases, `empty` for none, and for very many how many they
+/// are.
+pub fn push_bytes(answer: &mut Answer, bytes: &[u8]) {
     if bytes.is_empty() {
-        text.push_slice(b"empty")
-    } else if is_plain(bytes) {
-        text.push_slice(bytes)
+        answer.push(b"empty");
+    } else if bytes.len() > MOST_SHOWN {
+        answer.push_number(bytes.len() as u64);
+        answer.push(b" bytes");
+    } else if is_token(bytes) {
+        answer.push(bytes);
     } else {
-        push_shown(text, bytes)
+        answer.push_shown(bytes);
     }
 }
 
-/// Whether all bytes are visible, and the notation of cases takes each for itself.
-fn is_plain(bytes: &[u8]) -> bool {
-    let is_visible = bytes.iter().all(|byte| byte.is_ascii_graphic()
-        && !matches!(*byte, b'|' | b'\\' | b'{' | b'}'));
-    is_visible && !bytes.starts_with(b"hex:")
+/// Tells a part behind its name, where it has a byte.
+pub fn push_part(answer: &mut Answer, name: &[u8], bytes: &[u8]) {
+    if !bytes.is_empty() {
+        answer.push(name);
+        push_bytes(answer, bytes);
+    }
 }
 
-/// Appends `yes` or `no`.
-pub fn push_truth(text: &mut Text, truth: bool) -> Result<(), Memory> {
+/// Tells a text that was written.
+pub fn push_made(answer: &mut Answer, made: Result<Text, Memory>) {
+    match made {
+        Ok(text) => push_bytes(answer, text.as_bytes()),
+        Err(_memory) => answer.fail(CaseFault::Memory),
+    }
+}
+
+/// Keeps that memory was wanting, where it was.
+pub fn keep(answer: &mut Answer, done: Result<(), Memory>) {
+    if done.is_err() {
+        answer.fail(CaseFault::Memory);
+    }
+}
+
+/// Tells `yes` or `no`.
+pub fn push_truth(answer: &mut Answer, truth: bool) {
     if truth {
-        text.push_slice(b"yes")
+        answer.push(b"yes");
     } else {
-        text.push_slice(b"no")
+        answer.push(b"no");
     }
 }
 
-/// Appends a number, and `none` where there is none.
-pub fn push_number(text: &mut Text, number: Option<u64>) -> Result<(), Memory> {
+/// Tells a number, and `none` where there is none.
+pub fn push_option(answer: &mut Answer, number: Option<u64>) {
     match number {
-        Some(number) => push_decimal(text, number),
-        None => text.push_slice(b"none"),
+        Some(number) => answer.push_number(number),
+        None => answer.push(b"none"),
     }
 }
 
-/// Appends a number behind its name, where there is one.
-pub fn push_named(text: &mut Text, name: &[u8], number: Option<u64>) -> Result<(), Memory> {
-    match number {
-        Some(number) => {
-            text.push_slice(name)?;
-            push_decimal(text, number)
-        }
-        None => Ok(()),
+/// Tells a short number, and `none` where there is none.
+pub fn push_short(answer: &mut Answer, number: Option<u32>) {
+    push_option(answer, number.map(u64::from));
+}
+
+/// Tells a number behind its name, where there is one.
+pub fn push_named(answer: &mut Answer, name: &[u8], number: Option<u64>) {
+    if let Some(number) = number {
+        answer.push(name);
+        answer.push_number(number);
     }
 }

@@ -1,54 +1,67 @@
 //! Cases, one after another.
 
-use crate::words::Words;
-use crate::{bytes, info, range, small, status, transport, uri};
-use case_text::{CaseFault, CasesFault, first_word, meant, next_line};
+use crate::words::{Words, read_meant};
+use crate::{bytes, code, command, head, longer, one, small, stream, two, uri};
+use case_text::{Answer, CasesFault, Play, first_word, play_all};
 use gate_bytes::Text;
+use rtsp_frame::Framer;
 use std::alloc::Global;
-use std::str;
+
+/// What cases are played at.
+#[derive(Drop)]
+struct Desk {
+    /// The framer of what comes bit by bit.
+    framer: Framer,
+}
+
+impl Play for Desk {
+    fn play(&mut self, alloc: Global, line: &[u8], answer: &mut Answer) {
+        let (name, left) = first_word(line);
+        let whole = read_meant(alloc, left, answer);
+        let words = Words::new(alloc, left, whole.as_bytes());
+        let is_told = bytes::tell(name, words, answer)
+            || small::tell(name, words, answer)
+            || longer::tell(name, words, answer)
+            || uri::tell(name, words, answer)
+            || head::tell(name, words, answer)
+            || self.tell(name, words, answer);
+        if !is_told {
+            answer.unreadable();
+        }
+    }
+}
+
+impl Desk {
+    /// Tells the answer of a case with one of these names; whether it has one.
+    fn tell(&mut self, name: &[u8], words: Words<'_>, answer: &mut Answer) -> bool {
+        match name {
+            b"status" => code::tell_status(words, answer),
+            b"reason" => code::tell_reason(words, answer),
+            b"request" => one::tell_request(words, answer),
+            b"write-reply" => one::tell_reply(words, answer),
+            b"reply" => two::tell_reply(words, answer),
+            b"ask" => two::tell_ask(words, answer),
+            b"write-request" => two::tell_request(words, answer),
+            b"write-answer" => two::tell_answer(words, answer),
+            b"words" => command::tell_words(words, answer),
+            b"usage" => command::tell_usage(words.alloc, answer),
+            b"items" => stream::tell_items(words, answer),
+            b"new-stream" => {
+                self.framer = Framer::new(words.alloc);
+                answer.push(b"begun");
+            }
+            b"take" => stream::tell_taken(&mut self.framer, words, answer),
+            b"next" => stream::push_item(words.alloc, answer, &self.framer.next()),
+            _ => return false,
+        }
+        true
+    }
+}
 
 /// Tells the answer of each case.
-pub fn tell_cases(alloc: Global, cases: &[u8], text: &mut Text) -> Result<(), CasesFault> {
-    let mut left = cases;
-    for number in 1..u64::MAX {
-        let Some((line, rest)) = next_line(left) else {
-            break;
-        };
-        tell_line(alloc, line, text).map_err(|fault| fault.at(number))?;
-        left = rest;
-    }
-    Ok(())
-}
-
-/// Tells a line, and where it is a case its answer.
-fn tell_line(alloc: Global, line: &[u8], text: &mut Text) -> Result<(), CaseFault> {
-    text.push_slice(line)?;
-    if !line.is_empty() && !line.starts_with(b"#") {
-        text.push_slice(b": ")?;
-        tell_answer(alloc, line, text)?;
-    }
-    text.push_slice(b"\n")?;
-    Ok(())
-}
-
-/// Tells the answer of a case.
-fn tell_answer(alloc: Global, line: &[u8], text: &mut Text) -> Result<(), CaseFault> {
-    let (name, left) = first_word(line);
-    let Ok(name) = str::from_utf8(name) else {
-        return Err(CaseFault::Unreadable);
+pub fn tell_cases(alloc: Global, cases: &[u8]) -> Result<Text, CasesFault> {
+    let mut desk = Desk {
+        framer: Framer::new(alloc),
     };
-    let whole = meant(alloc, left)?;
-    let words = Words::new(left, whole.as_bytes());
-    let is_told = bytes::tell(alloc, name, words, text)?
-        || small::tell(alloc, name, words, text)?
-        || range::tell(alloc, name, words, text)?
-        || transport::tell(alloc, name, words, text)?
-        || info::tell(alloc, name, words, text)?
-        || uri::tell(alloc, name, words, text)?
-        || status::tell(name, words, text)?;
-    if is_told {
-        Ok(())
-    } else {
-        Err(CaseFault::Unreadable)
-    }
+    play_all(alloc, cases, &mut desk)
 }

@@ -1,5 +1,5 @@
-//! A program that hands cases to the readers and writers of fields, of URIs and of the small texts below them, and prints
-//! what each answers. The gate compares that with what it must print.
+//! A program that hands cases to the readers and writers of fields, heads, messages, URIs, codes and words of the command
+//! line, and to the framer of streams, and prints what each answers. The gate compares that with what it must print.
 //!
 //! A case is a line: the name of a reader or writer, and what it is handed. The line is printed, and behind `: ` the answer:
 //! what was read and, where it can be written, how it is written again; or the name of the fault. A line that is empty or
@@ -9,16 +9,19 @@
 mod answer;
 mod bytes;
 mod cases;
-mod info;
-mod range;
+mod code;
+mod command;
+mod content;
+mod head;
+mod longer;
+mod one;
 mod small;
-mod status;
-mod transport;
+mod stream;
+mod two;
 mod uri;
 mod words;
 
 use crate::cases::tell_cases;
-use gate_bytes::Text;
 use std::io;
 use std::io::{Read, Write};
 use std::process::ExitCode;
@@ -27,9 +30,8 @@ fn main(rt: HostRuntime) -> io::Result<ExitCode> {
     let alloc = rt.alloc();
     let mut cases = Vec::new(alloc);
     rt.reader().read_to_end(&mut cases)?;
-    let mut text = Text::new(alloc);
-    match tell_cases(alloc, cases.as_slice(), &mut text) {
-        Ok(()) => {
+    match tell_cases(alloc, cases.as_slice()) {
+        Ok(text) => {
             io::writer(&rt).write_all(text.as_bytes())?;
             Ok(ExitCode::SUCCESS)
         }

@@ -1,6 +1,6 @@
 //! The words of a case.
 
-use case_text::{CaseFault, first_number, first_word, meant};
+use case_text::{Answer, CaseFault, first_word, meant};
 use gate_bytes::Text;
 use std::alloc::Global;
 use std::str;
@@ -8,19 +8,17 @@ use std::str;
 /// What is left of a case's line. Spaces part its words.
 #[derive(Clone, Copy)]
 pub struct Words<'a> {
+    /// What makes the texts.
+    pub alloc: Global,
+    /// The bytes that all words mean.
+    pub whole: &'a [u8],
     left: &'a [u8],
-    whole: &'a [u8],
 }
 
 impl<'a> Words<'a> {
     /// The words of a text, which means these bytes as a whole.
-    pub fn new(left: &'a [u8], whole: &'a [u8]) -> Words<'a> {
-        Words { left, whole }
-    }
-
-    /// The bytes that the whole text means.
-    pub fn whole(&self) -> &'a [u8] {
-        self.whole
+    pub fn new(alloc: Global, left: &'a [u8], whole: &'a [u8]) -> Words<'a> {
+        Words { alloc, whole, left }
     }
 
     /// Whether nothing is left.
@@ -28,47 +26,89 @@ impl<'a> Words<'a> {
         self.left.is_empty()
     }
 
-    /// The bytes that the next word means; none where no word is left.
-    pub fn next(&mut self, alloc: Global) -> Result<Text, CaseFault> {
+    /// The next word as it stands.
+    pub fn name(&mut self) -> &'a [u8] {
         let (word, left) = first_word(self.left);
         self.left = left;
-        meant(alloc, word)
+        word
     }
 
-    /// The byte that the next word means.
-    pub fn byte(&mut self, alloc: Global) -> Result<u8, CaseFault> {
-        match self.next(alloc)?.as_bytes() {
-            [byte] => Ok(*byte),
-            _ => Err(CaseFault::Unreadable),
-        }
+    /// The bytes that the next word means; none where no word is left.
+    pub fn next(&mut self, answer: &mut Answer) -> Text {
+        let word = self.name();
+        read_meant(self.alloc, word, answer)
     }
 
-    /// The number of at most 19 digits that the next word is.
-    pub fn number(&mut self) -> Result<u64, CaseFault> {
-        match first_number(self.left) {
-            Some((number, left)) => {
-                self.left = left;
-                Ok(number)
-            }
-            None => Err(CaseFault::Unreadable),
+    /// The bytes that all that is left means.
+    pub fn all(&self, answer: &mut Answer) -> Text {
+        read_meant(self.alloc, self.left, answer)
+    }
+
+    /// The number that the next word is; none where it is no number.
+    pub fn optional_number(&mut self) -> Option<u64> {
+        match str::from_utf8(self.name()) {
+            Ok(word) => word.parse().ok(),
+            Err(_fault) => None,
         }
     }
 
     /// The number that the next word is.
-    pub fn any_number(&mut self) -> Result<u64, CaseFault> {
-        let (word, left) = first_word(self.left);
-        self.left = left;
-        let Ok(word) = str::from_utf8(word) else {
-            return Err(CaseFault::Unreadable);
-        };
-        match word.parse() {
-            Ok(number) => Ok(number),
-            Err(_) => Err(CaseFault::Unreadable),
+    pub fn number(&mut self, answer: &mut Answer) -> u64 {
+        match self.optional_number() {
+            Some(number) => number,
+            None => {
+                answer.unreadable();
+                0
+            }
         }
     }
 
-    /// The bytes that all that is left means.
-    pub fn all(&self, alloc: Global) -> Result<Text, CaseFault> {
-        meant(alloc, self.left)
+    /// The number below 2 to the power of 32 that the next word is.
+    pub fn short(&mut self, answer: &mut Answer) -> u32 {
+        match u32::try_from(self.number(answer)) {
+            Ok(number) => number,
+            Err(_fault) => {
+                answer.unreadable();
+                0
+            }
+        }
     }
+
+    /// The number below 65,536 that the next word is.
+    pub fn small(&mut self, answer: &mut Answer) -> u16 {
+        match u16::try_from(self.number(answer)) {
+            Ok(number) => number,
+            Err(_fault) => {
+                answer.unreadable();
+                0
+            }
+        }
+    }
+}
+
+/// The bytes that a text means.
+pub fn read_meant(alloc: Global, text: &[u8], answer: &mut Answer) -> Text {
+    match meant(alloc, text) {
+        Ok(bytes) => bytes,
+        Err(fault) => {
+            answer.fail(fault);
+            Text::new(alloc)
+        }
+    }
+}
+
+/// A copy of bytes.
+pub fn copy_of(alloc: Global, bytes: &[u8], answer: &mut Answer) -> Text {
+    match Text::copy(alloc, bytes) {
+        Ok(copy) => copy,
+        Err(_memory) => {
+            answer.fail(CaseFault::Memory);
+            Text::new(alloc)
+        }
+    }
+}
+
+/// These bytes, where there is one.
+pub fn some_of(bytes: &[u8]) -> Option<&[u8]> {
+    if bytes.is_empty() { None } else { Some(bytes) }
 }

@@ -1,0 +1,149 @@
+//! Heads.
+ghost use Rattle.rtsp_head.specs.Written.{CanBeWritten};
+
+use crate::answer::{keep, push_bytes, push_made, push_named, push_part};
+use crate::content::content_of;
+use crate::words::Words;
+use case_text::Answer;
+use gate_bytes::Text;
+use rtsp_head::{Facts, Head, Length, Start, check_head, push_message, read_head, write_head};
+use std::alloc::Global;
+
+/// Tells the answer of a case with one of these names; whether it has one.
+pub fn tell(name: &[u8], words: Words<'_>, answer: &mut Answer) -> bool {
+    match name {
+        b"check" => tell_checked(words.alloc, words.whole, answer),
+        b"head" => tell_read(words.alloc, words.whole, answer),
+        b"field" => tell_field(words, answer),
+        b"many-headers" => tell_many(words, answer),
+        b"message" => tell_message(words, answer),
+        _ => return false,
+    }
+    true
+}
+
+/// What a head says of its message, or its first fault.
+fn tell_checked(alloc: Global, bytes: &[u8], answer: &mut Answer) {
+    match check_head(bytes) {
+        Ok(facts) => push_facts(answer, facts),
+        Err(fault) => answer.push_debug(alloc, &fault),
+    }
+}
+
+/// Tells what a head says of its message.
+fn push_facts(answer: &mut Answer, facts: Facts) {
+    if facts.request {
+        answer.push(b"request, ");
+    } else {
+        answer.push(b"response, ");
+    }
+    match facts.length {
+        Length::Absent => answer.push(b"no length"),
+        Length::Bad => answer.push(b"bad length"),
+        Length::Bytes(bytes) => push_named(answer, b"length ", Some(bytes)),
+    }
+}
+
+/// The first line of a head, how many headers it has, and how it is written again; or its first fault.
+fn tell_read(alloc: Global, bytes: &[u8], answer: &mut Answer) {
+    match read_head(alloc, bytes) {
+        Ok(head) => push_head(alloc, answer, &head),
+        Err(fault) => answer.push_debug(alloc, &fault),
+    }
+}
+
+/// Tells the first line of a head, how many headers it has, and how it is written again.
+fn push_head(alloc: Global, answer: &mut Answer, head: &Head)
+    requires { CanBeWritten head.now.start head.now.headers }
+{
+    push_counted(answer, head);
+    answer.push(b", written ");
+    push_made(answer, write_head(alloc, &head.start, &head.headers));
+}
+
+/// Tells the first line of a head, and how many headers it has.
+fn push_counted(answer: &mut Answer, head: &Head) {
+    push_start(answer, &head.start);
+    answer.push(b", ");
+    answer.push_number(head.headers.len() as u64);
+    answer.push(b" headers");
+}
+
+/// Tells what a first line says.
+fn push_start(answer: &mut Answer, start: &Start) {
+    match start {
+        Start::Request {
+            method,
+            uri,
+            version,
+        } => {
+            answer.push(b"request");
+            push_part(answer, b" ", method.as_bytes());
+            push_part(answer, b" ", uri.as_bytes());
+            push_part(answer, b" ", version.as_bytes());
+        }
+        Start::Status {
+            version,
+            code,
+            reason,
+        } => {
+            answer.push(b"status");
+            push_part(answer, b" ", version.as_bytes());
+            push_named(answer, b" ", Some(u64::from(*code)));
+            push_part(answer, b" ", reason.as_bytes());
+        }
+    }
+}
+
+/// The value of a head's field.
+fn tell_field(mut words: Words<'_>, answer: &mut Answer) {
+    let name = words.next(answer);
+    let bytes = words.all(answer);
+    match read_head(words.alloc, bytes.as_bytes()) {
+        Ok(head) => push_field(answer, &head, name.as_bytes()),
+        Err(fault) => answer.push_debug(words.alloc, &fault),
+    }
+}
+
+/// Tells the value of a head's field.
+fn push_field(answer: &mut Answer, head: &Head, name: &[u8]) {
+    match head.field(name) {
+        Some(value) => push_bytes(answer, value),
+        None => answer.push(b"none"),
+    }
+}
+
+/// What is said of a head that has a header so many times: by a check, and by reading it.
+fn tell_many(mut words: Words<'_>, answer: &mut Answer) {
+    let count = words.number(answer);
+    let header = words.next(answer);
+    let mut bytes = words.all(answer);
+    for _ in 0..count {
+        let appended = bytes.push_slice(header.as_bytes());
+        keep(answer, appended);
+    }
+    let ended = bytes.push_slice(b"\r\n");
+    keep(answer, ended);
+    tell_checked(words.alloc, bytes.as_bytes(), answer);
+    answer.push(b"; read ");
+    tell_counted(words.alloc, bytes.as_bytes(), answer);
+}
+
+/// The first line of a head that is read, and how many headers it has; or its first fault.
+fn tell_counted(alloc: Global, bytes: &[u8], answer: &mut Answer) {
+    match read_head(alloc, bytes) {
+        Ok(head) => push_counted(answer, &head),
+        Err(fault) => answer.push_debug(alloc, &fault),
+    }
+}
+
+/// What follows the first line of a message with this number and content.
+fn tell_message(mut words: Words<'_>, answer: &mut Answer) {
+    let number = words.optional_number();
+    let content = content_of(words, answer);
+    let mut written = Text::new(words.alloc);
+    let body = content.body.as_bytes();
+    let appended = push_message(&mut written, number, &content.headers, body);
+    keep(answer, appended);
+    push_bytes(answer, written.as_bytes());
+}

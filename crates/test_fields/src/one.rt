@@ -1,0 +1,69 @@
+//! Messages of RTSP 1.0.
+
+use crate::answer::{push_bytes, push_made, push_named, push_part};
+use crate::code::next_code;
+use crate::content::{content_of, item_of};
+use crate::words::Words;
+use case_text::{Answer, CaseFault};
+use head_one::{Refusal, Reply1, Request1, RequestFault, read_request, write_reply};
+use rtsp_frame::Item;
+use rtsp_head::Head;
+use std::alloc::Global;
+
+/// The request that a stream begins with, or how it is refused.
+pub fn tell_request(words: Words<'_>, answer: &mut Answer) {
+    match item_of(words.alloc, words.whole, answer) {
+        Some(item) => push_read(words.alloc, answer, &item),
+        None => answer.unreadable(),
+    }
+}
+
+/// Tells the request that an item is, or how it is refused.
+fn push_read(alloc: Global, answer: &mut Answer, item: &Item) {
+    match read_request(alloc, item) {
+        Ok(request) => push_request(alloc, answer, &request),
+        Err(RequestFault::Refused(refusal)) => push_refusal(answer, &refusal),
+        Err(RequestFault::Memory) => answer.fail(CaseFault::Memory),
+    }
+}
+
+/// Tells a request.
+fn push_request(alloc: Global, answer: &mut Answer, request: &Request1) {
+    answer.push_debug(alloc, &request.method);
+    answer.push(b" of ");
+    push_bytes(answer, request.uri.as_bytes());
+    push_named(answer, b" cseq ", Some(request.cseq));
+    push_body(answer, &request.head, request.body.as_bytes());
+}
+
+/// Tells how long a body is by the head, where that says it, and the body.
+pub fn push_body(answer: &mut Answer, head: &Head, body: &[u8]) {
+    if let Some(length) = head.field(b"content-length") {
+        push_part(answer, b" content-length ", length);
+    }
+    push_part(answer, b" body ", body);
+}
+
+/// Tells a refusal.
+fn push_refusal(answer: &mut Answer, refusal: &Refusal) {
+    push_named(answer, b"refused with ", Some(u64::from(refusal.code)));
+    push_named(answer, b" cseq ", refusal.cseq);
+    if let Some(options) = &refusal.unsupported {
+        answer.push(b" unsupported ");
+        push_bytes(answer, options.as_bytes());
+    }
+}
+
+/// How a reply is written.
+pub fn tell_reply(mut words: Words<'_>, answer: &mut Answer) {
+    let code = next_code(&mut words, answer);
+    let cseq = words.optional_number();
+    let content = content_of(words, answer);
+    let reply = Reply1 {
+        code,
+        cseq,
+        headers: content.headers,
+        body: content.body,
+    };
+    push_made(answer, write_reply(words.alloc, &reply));
+}

@@ -1,0 +1,77 @@
+//! Messages of RTSP 2.0.
+
+use crate::answer::{push_bytes, push_made, push_named};
+use crate::code::next_code;
+use crate::content::{content_of, item_of};
+use crate::one::push_body;
+use crate::words::{Words, some_of};
+use case_text::Answer;
+use head_two::{Reply2, Request2, read_ask, read_reply, write_answer, write_request};
+use rtsp_frame::Item;
+use std::alloc::Global;
+
+/// The reply that a stream begins with, or its fault.
+pub fn tell_reply(words: Words<'_>, answer: &mut Answer) {
+    match item_of(words.alloc, words.whole, answer) {
+        Some(item) => push_read(words.alloc, answer, &item),
+        None => answer.unreadable(),
+    }
+}
+
+/// Tells the reply that an item is, or its fault.
+fn push_read(alloc: Global, answer: &mut Answer, item: &Item) {
+    match read_reply(alloc, item) {
+        Ok(reply) => push_reply(answer, &reply),
+        Err(fault) => answer.push_debug(alloc, &fault),
+    }
+}
+
+/// Tells a reply.
+fn push_reply(answer: &mut Answer, reply: &Reply2) {
+    answer.push_number(u64::from(reply.code));
+    push_named(answer, b" cseq ", Some(u64::from(reply.cseq)));
+    push_body(answer, &reply.head, reply.body.as_bytes());
+}
+
+/// The request of the server that a stream begins with, or its fault.
+pub fn tell_ask(words: Words<'_>, answer: &mut Answer) {
+    match item_of(words.alloc, words.whole, answer) {
+        Some(item) => push_ask(words.alloc, answer, &item),
+        None => answer.unreadable(),
+    }
+}
+
+/// Tells the method and the number of the request that an item is, or its fault.
+fn push_ask(alloc: Global, answer: &mut Answer, item: &Item) {
+    match read_ask(alloc, item) {
+        Ok(ask) => {
+            push_bytes(answer, ask.method.as_bytes());
+            push_named(answer, b" cseq ", Some(u64::from(ask.cseq)));
+        }
+        Err(fault) => answer.push_debug(alloc, &fault),
+    }
+}
+
+/// How a request to the server is written.
+pub fn tell_request(mut words: Words<'_>, answer: &mut Answer) {
+    let method = words.next(answer);
+    let uri = words.next(answer);
+    let number = words.short(answer);
+    let content = content_of(words, answer);
+    let request = Request2 {
+        method,
+        uri,
+        headers: content.headers,
+        body: content.body,
+    };
+    push_made(answer, write_request(words.alloc, &request, number));
+}
+
+/// How an answer to a request of the server is written.
+pub fn tell_answer(mut words: Words<'_>, answer: &mut Answer) {
+    let code = next_code(&mut words, answer);
+    let cseq = words.short(answer);
+    let session = words.all(answer);
+    let id = some_of(session.as_bytes());
+    push_made(answer, write_answer(words.alloc, code, cseq, id));
+}
