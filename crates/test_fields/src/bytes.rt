@@ -9,23 +9,31 @@ use gate_bytes::{
 };
 
 /// Tells the answer of a case with one of these names; whether it has one.
-pub fn tell(name: &[u8], mut words: Words<'_>, answer: &mut Answer) -> bool {
+pub fn tell(name: &str, words: Words<'_>, answer: &mut Answer) -> bool {
     match name {
-        b"token" => push_truth(answer, is_token(words.whole)),
-        b"trim" => push_bytes(answer, trim(words.whole)),
-        b"decimal" => tell_decimal(words, answer),
-        b"same-fold" => tell_same(words, answer),
-        b"append-decimal" => tell_appended(words, answer),
-        b"find" => tell_place(words.whole, answer),
-        b"up-to" => tell_front(words.whole, answer),
-        b"split" => tell_parts(words.whole, answer),
-        b"text" => tell_pushed(words, answer),
-        b"set" => tell_set(words, answer),
-        b"room" => {
+        "token" => push_truth(answer, is_token(words.whole)),
+        "trim" => push_bytes(answer, trim(words.whole)),
+        "decimal" => tell_decimal(words, answer),
+        "same-fold" => tell_same(words, answer),
+        "append-decimal" => tell_appended(words, answer),
+        "find" => tell_place(words.whole, answer),
+        "up-to" => tell_front(words.whole, answer),
+        "split" => tell_parts(words.whole, answer),
+        _ => return false,
+    }
+    true
+}
+
+/// Tells the answer of a case with a text; whether it is one.
+pub fn tell_text(name: &str, mut words: Words<'_>, answer: &mut Answer) -> bool {
+    match name {
+        "text" => tell_pushed(words, answer),
+        "set" => tell_set(words, answer),
+        "room" => {
             let bytes = words.short(answer) as usize;
             push_made(answer, Text::with_room(words.alloc, bytes));
         }
-        b"copied" => tell_copied(words, answer),
+        "copied" => tell_copied(words, answer),
         _ => return false,
     }
     true

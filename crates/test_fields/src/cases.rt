@@ -1,9 +1,10 @@
 //! Cases, one after another.
 
-use crate::words::{Words, read_meant};
+use crate::books::Books;
+use crate::words::{Words, name_in, read_meant};
 use crate::{bytes, code, command, head, longer, one, small, stream, two, uri};
 use case_text::{Answer, CasesFault, Play, first_word, play_all};
-use gate_bytes::Text;
+use gate_bytes::{Memory, Text};
 use rtsp_frame::Framer;
 use std::alloc::Global;
 
@@ -12,56 +13,71 @@ use std::alloc::Global;
 struct Desk {
     /// The framer of what comes bit by bit.
     framer: Framer,
+    /// The books.
+    books: Books,
 }
 
 impl Play for Desk {
     fn play(&mut self, alloc: Global, line: &[u8], answer: &mut Answer) {
-        let (name, left) = first_word(line);
+        let (word, left) = first_word(line);
+        let name = name_in(word);
         let whole = read_meant(alloc, left, answer);
         let words = Words::new(alloc, left, whole.as_bytes());
         let is_told = bytes::tell(name, words, answer)
+            || bytes::tell_text(name, words, answer)
             || small::tell(name, words, answer)
             || longer::tell(name, words, answer)
             || uri::tell(name, words, answer)
             || head::tell(name, words, answer)
-            || self.tell(name, words, answer);
+            || tell_message(name, words, answer)
+            || tell_line(name, words, answer)
+            || stream::tell(&mut self.framer, name, words, answer)
+            || self.books.tell(name, words, answer);
         if !is_told {
             answer.unreadable();
         }
     }
 }
 
-impl Desk {
-    /// Tells the answer of a case with one of these names; whether it has one.
-    fn tell(&mut self, name: &[u8], words: Words<'_>, answer: &mut Answer) -> bool {
-        match name {
-            b"status" => code::tell_status(words, answer),
-            b"reason" => code::tell_reason(words, answer),
-            b"request" => one::tell_request(words, answer),
-            b"write-reply" => one::tell_reply(words, answer),
-            b"reply" => two::tell_reply(words, answer),
-            b"ask" => two::tell_ask(words, answer),
-            b"write-request" => two::tell_request(words, answer),
-            b"write-answer" => two::tell_answer(words, answer),
-            b"words" => command::tell_words(words, answer),
-            b"usage" => command::tell_usage(words.alloc, answer),
-            b"items" => stream::tell_items(words, answer),
-            b"new-stream" => {
-                self.framer = Framer::new(words.alloc);
-                answer.push(b"begun");
-            }
-            b"take" => stream::tell_taken(&mut self.framer, words, answer),
-            b"next" => stream::push_item(words.alloc, answer, &self.framer.next()),
-            _ => return false,
-        }
-        true
+/// Tells the answer of a case with a message; whether it is one.
+fn tell_message(name: &str, words: Words<'_>, answer: &mut Answer) -> bool {
+    match name {
+        "request" => one::tell_request(words, answer),
+        "write-reply" => one::tell_reply(words, answer),
+        "reply" => two::tell_reply(words, answer),
+        "ask" => two::tell_ask(words, answer),
+        "write-request" => two::tell_request(words, answer),
+        "write-answer" => two::tell_answer(words, answer),
+        _ => return false,
     }
+    true
+}
+
+/// Tells the answer of a case with a code or with words of the command line; whether it is one.
+fn tell_line(name: &str, words: Words<'_>, answer: &mut Answer) -> bool {
+    match name {
+        "status" => code::tell_status(words, answer),
+        "reason" => code::tell_reason(words, answer),
+        "words" => command::tell_words(words, answer),
+        "usage" => command::tell_usage(words.alloc, answer),
+        _ => return false,
+    }
+    true
+}
+
+/// Nothing has come.
+fn new_desk(alloc: Global) -> Result<Desk, Memory> {
+    let books = Books::new(alloc)?;
+    Ok(Desk {
+        framer: Framer::new(alloc),
+        books,
+    })
 }
 
 /// Tells the answer of each case.
 pub fn tell_cases(alloc: Global, cases: &[u8]) -> Result<Text, CasesFault> {
-    let mut desk = Desk {
-        framer: Framer::new(alloc),
-    };
-    play_all(alloc, cases, &mut desk)
+    match new_desk(alloc) {
+        Ok(mut desk) => play_all(alloc, cases, &mut desk),
+        Err(_memory) => Err(CasesFault::Memory),
+    }
 }

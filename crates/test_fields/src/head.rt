@@ -10,13 +10,13 @@ use rtsp_head::{Facts, Head, Length, Start, check_head, push_message, read_head,
 use std::alloc::Global;
 
 /// Tells the answer of a case with one of these names; whether it has one.
-pub fn tell(name: &[u8], words: Words<'_>, answer: &mut Answer) -> bool {
+pub fn tell(name: &str, words: Words<'_>, answer: &mut Answer) -> bool {
     match name {
-        b"check" => tell_checked(words.alloc, words.whole, answer),
-        b"head" => tell_read(words.alloc, words.whole, answer),
-        b"field" => tell_field(words, answer),
-        b"many-headers" => tell_many(words, answer),
-        b"message" => tell_message(words, answer),
+        "check" => tell_checked(words.alloc, words.whole, answer),
+        "head" => tell_read(words.alloc, words.whole, answer),
+        "field" => tell_field(words, answer),
+        "many-headers" => tell_many(words, answer),
+        "message" => tell_message(words, answer),
         _ => return false,
     }
     true

@@ -13,17 +13,17 @@ use rtsp_transport::{Grant, Pair, TransportFault, Wanted, pick, read_grant, writ
 use std::alloc::Global;
 
 /// Tells the answer of a case with one of these names; whether it has one.
-pub fn tell(name: &[u8], words: Words<'_>, answer: &mut Answer) -> bool {
+pub fn tell(name: &str, words: Words<'_>, answer: &mut Answer) -> bool {
     match name {
-        b"range-one" => tell_range(words.alloc, read_one(words.whole), answer),
-        b"range-two" => tell_range(words.alloc, read_two(words.whole), answer),
-        b"pick" => tell_wanted(words.alloc, pick(words.whole), answer),
-        b"grant" => tell_grant(words.alloc, read_grant(words.whole), answer),
-        b"rtp-info" => match read_info(words.alloc, words.whole) {
+        "range-one" => tell_range(words.alloc, read_one(words.whole), answer),
+        "range-two" => tell_range(words.alloc, read_two(words.whole), answer),
+        "pick" => tell_wanted(words.alloc, pick(words.whole), answer),
+        "grant" => tell_grant(words.alloc, read_grant(words.whole), answer),
+        "rtp-info" => match read_info(words.alloc, words.whole) {
             Ok(info) => tell_info(words.alloc, &info, answer),
             Err(fault) => answer.push_debug(words.alloc, &fault),
         },
-        b"rtp-info-of" => tell_made(words, answer),
+        "rtp-info-of" => tell_made(words, answer),
         _ => return false,
     }
     true

@@ -4,17 +4,25 @@
 //! A case is a line: the name of a reader or writer, and what it is handed. The line is printed, and behind `: ` the answer:
 //! what was read and, where it can be written, how it is written again; or the name of the fault. A line that is empty or
 //! begins with `#` is printed alone. Texts have the notation of `case_text`.
+//!
+//! A case that begins with the name of a book has one step behind another: each is a word and what it is handed, and has its
+//! own answer. A book keeps what came from case to case.
 #![tactic(auto)]
 
 mod answer;
+mod books;
 mod bytes;
 mod cases;
 mod code;
 mod command;
 mod content;
 mod head;
+mod keys;
 mod longer;
+mod numbers;
 mod one;
+mod pairs;
+mod plays;
 mod small;
 mod stream;
 mod two;

@@ -16,17 +16,17 @@ use std::alloc::Global;
 const LONGEST: u64 = 9_999_999_999;
 
 /// Tells the answer of a case with one of these names; whether it has one.
-pub fn tell(name: &[u8], words: Words<'_>, answer: &mut Answer) -> bool {
+pub fn tell(name: &str, words: Words<'_>, answer: &mut Answer) -> bool {
     match name {
-        b"method" => tell_method(words, answer),
-        b"append-methods" => tell_methods(words, answer),
-        b"cseq-one" => push_option(answer, read_cseq_one(words.whole)),
-        b"cseq-two" => push_short(answer, read_cseq_two(words.whole)),
-        b"session" => tell_session(words, answer),
-        b"write-session" => tell_written(words, answer),
-        b"notify-reason" => tell_reason(words, answer),
-        b"request-status" => push_short(answer, read_request_status(words.whole)),
-        b"scale" => push_truth(answer, is_scale(words.whole)),
+        "method" => tell_method(words, answer),
+        "append-methods" => tell_methods(words, answer),
+        "cseq-one" => push_option(answer, read_cseq_one(words.whole)),
+        "cseq-two" => push_short(answer, read_cseq_two(words.whole)),
+        "session" => tell_session(words, answer),
+        "write-session" => tell_written(words, answer),
+        "notify-reason" => tell_reason(words, answer),
+        "request-status" => push_short(answer, read_request_status(words.whole)),
+        "scale" => push_truth(answer, is_scale(words.whole)),
         _ => return false,
     }
     true

@@ -12,8 +12,23 @@ use std::alloc::Global;
 /// The bytes of the longest stream that is cut everywhere. A longer one comes byte by byte alone, since each cut costs time.
 const LONGEST_CUT: usize = 128;
 
+/// Tells the answer of a case with one of these names; whether it has one.
+pub fn tell(framer: &mut Framer, name: &str, words: Words<'_>, answer: &mut Answer) -> bool {
+    match name {
+        "items" => tell_items(words, answer),
+        "new-stream" => {
+            *framer = Framer::new(words.alloc);
+            answer.push(b"begun");
+        }
+        "take" => tell_taken(framer, words, answer),
+        "next" => push_item(words.alloc, answer, &framer.next()),
+        _ => return false,
+    }
+    true
+}
+
 /// The item that a piece is which is moved in, or the first that it gives.
-pub fn tell_taken(framer: &mut Framer, words: Words<'_>, answer: &mut Answer) {
+fn tell_taken(framer: &mut Framer, words: Words<'_>, answer: &mut Answer) {
     let piece = words.all(answer);
     match framer.take(words.alloc, piece) {
         Ok(item) => push_item(words.alloc, answer, &item),
@@ -22,7 +37,7 @@ pub fn tell_taken(framer: &mut Framer, words: Words<'_>, answer: &mut Answer) {
 }
 
 /// Tells an item, and `nothing` where there is none.
-pub fn push_item(alloc: Global, answer: &mut Answer, item: &Option<Item>) {
+fn push_item(alloc: Global, answer: &mut Answer, item: &Option<Item>) {
     match item {
         Some(item) => push_whole(alloc, answer, item),
         None => answer.push(b"nothing"),
@@ -37,7 +52,7 @@ fn push_whole(alloc: Global, answer: &mut Answer, item: &Item) {
 }
 
 /// The items of a stream, and the cuts that give others.
-pub fn tell_items(words: Words<'_>, answer: &mut Answer) {
+fn tell_items(words: Words<'_>, answer: &mut Answer) {
     let mut framer = fed(words.alloc, words.whole, answer);
     push_item(words.alloc, answer, &framer.next());
     for _ in 0..u64::MAX {

@@ -9,12 +9,12 @@ use std::alloc::Global;
 use std::str;
 
 /// Tells the answer of a case with one of these names; whether it has one.
-pub fn tell(name: &[u8], words: Words<'_>, answer: &mut Answer) -> bool {
+pub fn tell(name: &str, words: Words<'_>, answer: &mut Answer) -> bool {
     match name {
-        b"uri" => tell_uri(words.whole, answer),
-        b"base" => tell_base(words, answer),
-        b"swap" => tell_swapped(words, answer),
-        b"description" => tell_description(words, answer),
+        "uri" => tell_uri(words.whole, answer),
+        "base" => tell_base(words, answer),
+        "swap" => tell_swapped(words, answer),
+        "description" => tell_description(words, answer),
         _ => return false,
     }
     true

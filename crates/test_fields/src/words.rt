@@ -27,15 +27,20 @@ impl<'a> Words<'a> {
     }
 
     /// The next word as it stands.
-    pub fn name(&mut self) -> &'a [u8] {
+    fn word(&mut self) -> &'a [u8] {
         let (word, left) = first_word(self.left);
         self.left = left;
         word
     }
 
+    /// The next word, where it is a name.
+    pub fn name(&mut self) -> &'a str {
+        name_in(self.word())
+    }
+
     /// The bytes that the next word means; none where no word is left.
     pub fn next(&mut self, answer: &mut Answer) -> Text {
-        let word = self.name();
+        let word = self.word();
         read_meant(self.alloc, word, answer)
     }
 
@@ -46,10 +51,7 @@ impl<'a> Words<'a> {
 
     /// The number that the next word is; none where it is no number.
     pub fn optional_number(&mut self) -> Option<u64> {
-        match str::from_utf8(self.name()) {
-            Ok(word) => word.parse().ok(),
-            Err(_fault) => None,
-        }
+        self.name().parse().ok()
     }
 
     /// The number that the next word is.
@@ -74,6 +76,17 @@ impl<'a> Words<'a> {
         }
     }
 
+    /// The number below 256 that the next word is.
+    pub fn byte(&mut self, answer: &mut Answer) -> u8 {
+        match u8::try_from(self.number(answer)) {
+            Ok(number) => number,
+            Err(_fault) => {
+                answer.unreadable();
+                0
+            }
+        }
+    }
+
     /// The number below 65,536 that the next word is.
     pub fn small(&mut self, answer: &mut Answer) -> u16 {
         match u16::try_from(self.number(answer)) {
@@ -83,6 +96,14 @@ impl<'a> Words<'a> {
                 0
             }
         }
+    }
+}
+
+/// The name that a word is; the empty one, which is none, where it is no text.
+pub fn name_in(word: &[u8]) -> &str {
+    match str::from_utf8(word) {
+        Ok(name) => name,
+        Err(_fault) => "",
     }
 }
 

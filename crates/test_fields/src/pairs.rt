@@ -1,0 +1,68 @@
+//! The pairs of channels.
+
+use crate::answer::{push_named, push_option};
+use crate::words::Words;
+use case_text::Answer;
+use channel_map::{ChannelMap, Freed};
+
+/// Does a step with the table of pairs, and tells how many are held then.
+pub fn step(map: &mut ChannelMap, words: &mut Words<'_>, answer: &mut Answer) {
+    match words.name() {
+        "reserve" => {
+            let conn = words.short(answer);
+            push_option(answer, map.reserve(conn).map(u64::from));
+        }
+        "grant" => {
+            let pair = words.byte(answer);
+            grant(map, pair, answer);
+        }
+        "release" => {
+            let pair = words.byte(answer);
+            release(map, pair, answer);
+        }
+        "after" => {
+            let freed = freed_by(words, answer);
+            push_option(answer, map.free_after(freed).map(u64::from));
+        }
+        "free" => {
+            let freed = freed_by(words, answer);
+            map.free(freed);
+            answer.push(b"freed");
+        }
+        "owner" => {
+            let channel = words.byte(answer);
+            answer.push_debug(words.alloc, &map.owner(channel));
+        }
+        _ => answer.unreadable(),
+    }
+    push_named(answer, b" held ", Some(map.held() as u64));
+}
+
+/// What a reply frees: `nothing`, a `pair`, or all that were `granted` to a connection.
+fn freed_by(words: &mut Words<'_>, answer: &mut Answer) -> Freed {
+    match words.name() {
+        "pair" => Freed::Pair(words.byte(answer)),
+        "granted" => Freed::Granted(words.short(answer)),
+        "nothing" => Freed::Nothing,
+        _ => {
+            answer.unreadable();
+            Freed::Nothing
+        }
+    }
+}
+
+/// Grants a pair that is held.
+fn grant(map: &mut ChannelMap, pair: u8, answer: &mut Answer) {
+    if pair < 128 && map.owner(2 * pair).is_some() {
+        map.grant(pair);
+        answer.push(b"granted");
+    }
+}
+
+/// Releases a pair that is held.
+fn release(map: &mut ChannelMap, pair: u8, answer: &mut Answer) {
+    if pair < 128 && map.owner(2 * pair).is_some() {
+        map.release(pair);
+        answer.push(b"released");
+    }
+}
