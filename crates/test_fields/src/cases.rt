@@ -8,16 +8,16 @@ use gate_bytes::{Memory, Text};
 use rtsp_frame::Framer;
 use std::alloc::Global;
 
-/// What cases are played at.
+/// All readers and writers that cases are handed to: what they keep from case to case.
 #[derive(Drop)]
-struct Desk {
+struct Readers {
     /// The framer of what comes bit by bit.
     framer: Framer,
     /// The books.
     books: Books,
 }
 
-impl Play for Desk {
+impl Play for Readers {
     fn play(&mut self, alloc: Global, line: &[u8], answer: &mut Answer) {
         let (word, left) = first_word(line);
         let name = name_in(word);
@@ -36,6 +36,17 @@ impl Play for Desk {
         if !is_told {
             answer.unreadable();
         }
+    }
+}
+
+impl Readers {
+    /// Nothing has come.
+    fn new(alloc: Global) -> Result<Readers, Memory> {
+        let books = Books::new(alloc)?;
+        Ok(Readers {
+            framer: Framer::new(alloc),
+            books,
+        })
     }
 }
 
@@ -65,19 +76,10 @@ fn tell_line(name: &str, words: Words<'_>, answer: &mut Answer) -> bool {
     true
 }
 
-/// Nothing has come.
-fn new_desk(alloc: Global) -> Result<Desk, Memory> {
-    let books = Books::new(alloc)?;
-    Ok(Desk {
-        framer: Framer::new(alloc),
-        books,
-    })
-}
-
 /// Tells the answer of each case.
 pub fn tell_cases(alloc: Global, cases: &[u8]) -> Result<Text, CasesFault> {
-    match new_desk(alloc) {
-        Ok(mut desk) => play_all(alloc, cases, &mut desk),
+    match Readers::new(alloc) {
+        Ok(mut readers) => play_all(alloc, cases, &mut readers),
         Err(_memory) => Err(CasesFault::Memory),
     }
 }
