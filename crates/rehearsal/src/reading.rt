@@ -5,6 +5,7 @@ use case_text::{CaseFault, CasesFault, first_number, first_word, meant, next_lin
 use gate_bytes::Text;
 use gateway_words::MOST_STATIONS;
 use std::alloc::Global;
+use std::str;
 
 /// Reads scenes.
 pub fn read_scenes(alloc: Global, script: &[u8]) -> Result<Vec<Scene>, CasesFault> {
@@ -46,18 +47,18 @@ fn begin(alloc: Global, scenes: &mut Vec<Scene>, name: &[u8]) -> Result<(), Case
 
 /// Sets what a line says of a scene.
 fn set(alloc: Global, scene: &mut Scene, word: &[u8], more: &[u8]) -> Result<(), CaseFault> {
-    match word {
-        b"link" => link(alloc, scene),
-        b"replay" => {
+    match str::from_utf8(word).unwrap_or("") {
+        "link" => link(alloc, scene),
+        "replay" => {
             scene.is_replayed = true;
             Ok(())
         }
-        b"stations" => set_stations(scene, number_in(more)?),
-        b"idle" => {
+        "stations" => set_stations(scene, number_in(more)?),
+        "idle" => {
             scene.idle_from(number_in(more)?);
             Ok(())
         }
-        b"fail" => Ok(scene.fail_at(number_in(more)?)?),
+        "fail" => Ok(scene.fail_at(number_in(more)?)?),
         _ => match scene.roles.last_mut() {
             Some(role) => speak(alloc, role, word, more),
             None => Err(CaseFault::Unreadable),
@@ -73,10 +74,10 @@ fn link(alloc: Global, scene: &mut Scene) -> Result<(), CaseFault> {
 
 /// Has a link say what a line says, or wait.
 fn speak(alloc: Global, role: &mut Role, word: &[u8], more: &[u8]) -> Result<(), CaseFault> {
-    match word {
-        b"wait" => wait(alloc, role, more),
-        b"say" => Ok(role.say(meant(alloc, more)?)?),
-        b"end" => end(alloc, role, more),
+    match str::from_utf8(word).unwrap_or("") {
+        "wait" => wait(alloc, role, more),
+        "say" => Ok(role.say(meant(alloc, more)?)?),
+        "end" => end(alloc, role, more),
         _ => Err(CaseFault::Unreadable),
     }
 }
@@ -97,9 +98,9 @@ fn wait(alloc: Global, role: &mut Role, line: &[u8]) -> Result<(), CaseFault> {
 
 /// Has the end of a link wait, or never come.
 fn end(alloc: Global, role: &mut Role, line: &[u8]) -> Result<(), CaseFault> {
-    match line {
-        b"" => {}
-        b"never" => role.wait_for_ever(),
+    match str::from_utf8(line).unwrap_or(" ") {
+        "" => {}
+        "never" => role.wait_for_ever(),
         _ => return Err(CaseFault::Unreadable),
     }
     Ok(role.say(Text::new(alloc))?)

@@ -43,7 +43,16 @@ fn entered(alloc: Global, conn: u32) -> Result<Mux, Memory>
 /// One that the connections 7 and 4 entered, in this order.
 pub fn with_two_players(alloc: Global) -> Result<Mux, Memory> {
     let mut mux = entered(alloc, 7)?;
+    match enter_fourth(alloc, &mut mux) {
+        Ok(()) => Ok(mux),
+        Err(memory) => Err(memory),
+    }
+}
+
+/// The connection 4 enters, behind 7.
+fn enter_fourth(alloc: Global, mux: &mut Mux) -> Result<(), Memory>
+    requires { Stands mux.old (entering 7 ∷ []) }
+{
     mux.prepare(alloc)?;
-    mux.enter(alloc, 4)?;
-    Ok(mux)
+    mux.enter(alloc, 4)
 }

@@ -1,7 +1,7 @@
 use Rattle.std.proofs.Common.{refl, [], ◌∷◌}
 use Rattle.mux_history.specs.Happenings.{entering}
 use Rattle.gateway_mux.proofs.StandLemmas.{never_fresh}
-use Rattle.test_transcripts.proofs.gateway.with_two_players.Goals as goal
+use Rattle.test_transcripts.proofs.gateway.enter_fourth.Goals as goal
 
 pub enter-requires : goal.enter-requires
-enter-requires c = c.prepare.ensures.fresh 4 (never_fresh c.in_ok-mux.mux (entering 7 ∷ []) 4 c.in_ok-mux.ensures refl)
+enter-requires c = c.prepare.ensures.fresh 4 (never_fresh c.args.mux.now (entering 7 ∷ []) 4 c.requires refl)
