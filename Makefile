@@ -11,7 +11,7 @@ EXAMPLES := sessions players options describe
 # What tools/transcript imports.
 PARTS := accounts.py chart.py chart_page.py chart_picture.py items.py notation.py recording.py replayed.py report.py watch.py
 
-.PHONY: all demo serve-demo chart try test gate-cost check bench bench-hub bench-serve install deb examples clean
+.PHONY: all demo serve-demo chart try test gate-cost check bench bench-hub bench-serve bench-many install deb examples clean
 
 # The proved program. Nothing is built that is not proved, so a first `make` takes some three quarters of an hour.
 all: $(PROGRAM)
@@ -79,6 +79,10 @@ bench-hub: $(PROGRAM)
 # What `serve` moves over loopback, beside a plain relay.
 bench-serve: $(PROGRAM)
 	bench/serve $(PROGRAM)
+
+# Two hundred players through four gateways behind haproxy, where that is installed.
+bench-many: $(PROGRAM)
+	bench/many $(PROGRAM)
 
 # Puts the program, its man page, the units and tools/transcript into a folder: $(1) is the folder, $(2) the prefix in it. Words
 # that are in /etc/default/rtspgate stay.

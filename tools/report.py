@@ -64,7 +64,8 @@ def write(sink, accounts, count):
         show(sink, "conn %d" % number, lines_of(account) + ["ended     " + CAUSES[account.ended]])
     show(sink, "server", server_lines(accounts))
     ends = collections.Counter(CAUSES[account.ended] for account in accounts.of.values())
-    title = "all: %s connections, %s events" % (format(len(accounts.of), ","), format(count, ","))
+    title = "all: %s connection%s, %s event%s" % (format(len(accounts.of), ","), "" if len(accounts.of) == 1 else "s",
+                                                  format(count, ","), "" if count == 1 else "s")
     show(sink, title, lines_of(sums_of(accounts.of.values())) + ["ended     " + (counted(ends) or "none")])
 
 
