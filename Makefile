@@ -73,7 +73,7 @@ bench: $(PROGRAM)
 
 # What an event costs through a hub, beside a replay of the same events.
 bench-hub: $(PROGRAM)
-	cd crates/hub_bench && rt run -- options 1
+	cd crates/test_hub && rt run < stdin > /dev/null
 	bench/hub
 
 # What `serve` moves over loopback, beside a plain relay.

@@ -136,21 +136,43 @@ fn add(script: &mut Script, call: u64) -> Result<(), Memory> {
     }
 }
 
-/// The world in which this is said, at a door that behaves so.
-pub fn world_of(alloc: Global, door: Script, roles: Vec<Role>) -> Result<MemoryWorld, Memory> {
-    let mut server = Role::new(alloc).into_link(alloc)?;
-    let mut players = Links::new(alloc);
-    let mut is_server = true;
-    for role in roles {
-        let link = role.into_link(alloc)?;
-        if is_server {
-            server = link;
-            is_server = false;
-        } else if let Err((_, memory)) = players.push(link) {
-            return Err(memory);
-        }
-    }
-    let door = MemoryDoor::new(alloc, players, door)?;
+/// The world in which this is said, at a door that behaves so. What is said first is the server's.
+pub fn world_of(alloc: Global, door: Script, mut roles: Vec<Role>) -> Result<MemoryWorld, Memory> {
+    let server = server_link(alloc, &mut roles)?;
+    let door = door_of(alloc, door, roles)?;
     let recorder = MemoryRecorder::new(alloc, calm(alloc));
     MemoryWorld::new(alloc, door, server, recorder)
+}
+
+/// The server's link, whose role is taken out. Where there is no role it says nothing.
+fn server_link(alloc: Global, roles: &mut Vec<Role>) -> Result<NewLink, Memory> {
+    if roles.is_empty() {
+        return Role::new(alloc).into_link(alloc);
+    }
+    roles.remove(0).into_link(alloc)
+}
+
+/// A door that behaves so, by which these players come.
+fn door_of(alloc: Global, script: Script, roles: Vec<Role>) -> Result<MemoryDoor, Memory> {
+    let mut players = Links::new(alloc);
+    match push_links(alloc, roles, &mut players) {
+        Ok(()) => MemoryDoor::new(alloc, players, script),
+        Err(memory) => Err(memory),
+    }
+}
+
+/// Appends the links of players.
+fn push_links(alloc: Global, roles: Vec<Role>, players: &mut Links) -> Result<(), Memory> {
+    for role in roles {
+        push_link(alloc, role, players)?;
+    }
+    Ok(())
+}
+
+/// Appends the link of a player.
+fn push_link(alloc: Global, role: Role, players: &mut Links) -> Result<(), Memory> {
+    match players.push(role.into_link(alloc)?) {
+        Ok(()) => Ok(()),
+        Err((_link, memory)) => Err(memory),
+    }
 }

@@ -1,48 +1,99 @@
 //! Parcels: how items are put at a port, and what is taken from one.
+ghost use Rattle.std.specs.Prelude.{◌≡◌};
+ghost use Rattle.client_ports.specs.Ends.{takers_port};
 
-use case_text::{CaseFault, meant, push_shown};
+use case_text::{Answer, CaseFault, meant};
 use client_ports::{Parcel, Putter, Taker};
-use gate_bytes::Text;
 use rtsp_frame::Framer;
 use rtsp_head::Item;
 use std::alloc::Global;
 use std::sync::Wait;
 
-/// Puts the item that a body means, and tells whether there was room for it.
+/// Puts the item that a body means. Tells `full` where there is no room for it, and answers whether it was put.
 pub fn put_item<W: Wait>(
     rt: &W,
     alloc: Global,
     end: &mut Putter,
     body: &[u8],
-) -> Result<bool, CaseFault> {
-    let item = item_of(alloc, body)?;
-    Ok(end.put(rt, Parcel::Item(item)).is_ok())
+    answer: &mut Answer,
+) -> bool {
+    match meant(alloc, body) {
+        Ok(bytes) => put_bytes(rt, alloc, end, bytes.as_bytes(), answer),
+        Err(fault) => {
+            answer.fail(fault);
+            false
+        }
+    }
 }
 
-/// The item that a body means.
-fn item_of(alloc: Global, body: &[u8]) -> Result<Item, CaseFault> {
-    let bytes = meant(alloc, body)?;
+/// The same of the item that bytes are.
+pub fn put_bytes<W: Wait>(
+    rt: &W,
+    alloc: Global,
+    end: &mut Putter,
+    bytes: &[u8],
+    answer: &mut Answer,
+) -> bool {
+    match item_of(alloc, bytes) {
+        Ok(item) => {
+            let is_put = end.put(rt, Parcel::Item(item)).is_ok();
+            if !is_put {
+                answer.push(b"full");
+            }
+            is_put
+        }
+        Err(fault) => {
+            answer.fail(fault);
+            false
+        }
+    }
+}
+
+/// The item that bytes are.
+fn item_of(alloc: Global, bytes: &[u8]) -> Result<Item, CaseFault> {
     let mut framer = Framer::new(alloc);
-    framer.feed(alloc, bytes.as_bytes())?;
+    framer.feed(alloc, bytes)?;
     framer.next().ok_or(CaseFault::Unreadable)
 }
 
-/// Appends whether there was room for a parcel.
-pub fn tell_put(is_put: bool, answer: &mut Text) -> Result<(), CaseFault> {
-    let word: &[u8] = if is_put { b"put" } else { b"full" };
-    answer.push_slice(word)?;
-    Ok(())
+/// Puts the item that a body means, and tells whether there was room for it.
+pub fn tell_put<W: Wait>(
+    rt: &W,
+    alloc: Global,
+    end: &mut Putter,
+    body: &[u8],
+    answer: &mut Answer,
+) {
+    if put_item(rt, alloc, end, body, answer) {
+        answer.push(b"put");
+    }
 }
 
-/// Takes the next parcel of an end, and appends its bytes; `none` where there is none.
-pub fn tell_next<W: Wait>(rt: &W, end: &mut Taker, answer: &mut Text) -> Result<(), CaseFault> {
+/// Takes the next parcel of an end, and tells its bytes; `none` where there is none.
+pub fn tell_next<W: Wait>(rt: &W, end: &mut Taker, answer: &mut Answer)
+    ensures { takers_port end.new ≡ takers_port end.old }
+{
     match end.take(rt) {
-        Some(Parcel::Bytes(bytes)) => push_shown(answer, bytes.as_bytes())?,
-        Some(Parcel::Item(item)) => {
-            answer.push_slice(b"item ")?;
-            push_shown(answer, item.bytes.as_bytes())?;
-        }
-        None => answer.push_slice(b"none")?,
+        Some(parcel) => tell_parcel(&parcel, answer),
+        None => answer.push(b"none"),
     }
-    Ok(())
+}
+
+/// Tells the bytes of a parcel.
+pub fn tell_parcel(parcel: &Parcel, answer: &mut Answer) {
+    match parcel {
+        Parcel::Bytes(bytes) => answer.push_shown(bytes.as_bytes()),
+        Parcel::Item(item) => {
+            answer.push(b"item ");
+            answer.push_shown(item.bytes.as_bytes());
+        }
+    }
+}
+
+/// Tells the bytes of an item that was taken; `none` where there was none.
+pub fn tell_item(item: &Option<Item>, answer: &mut Answer) {
+    match item {
+        Some(item) => answer.push_shown(item.bytes.as_bytes()),
+        None => answer.push(b"none"),
+    }
 }

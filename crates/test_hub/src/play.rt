@@ -1,156 +1,108 @@
-//! What is played: a scene at a hub, and what is left of it once the hub is closed.
+//! What is played: a scene at a hub or at places, and what is left of a hub that is closed.
 
-use crate::looking::{hub_call, look};
-use crate::over::{Over, over_call};
-use crate::players::{call_player, player_call};
-use crate::server::{call_server, server_call};
-use crate::stage::Stage;
-use crate::telling::{Runs, number_in};
-use case_text::{CaseFault, first_number, first_word};
-use gate_bytes::Text;
-use gate_outside::Numbers;
+use crate::calls::call_open;
+use crate::over::{Over, word_in};
+use crate::places::PlacesPlay;
+use crate::ports::{play_bell, play_port};
+use crate::stage::{Stage, calm};
+use case_text::{Answer, CaseFault, Play, first_number};
+use gate_outside::Script;
 use std::alloc::Global;
-use std::mem;
 use std::sync::Wait;
+use std::time::Clock;
 
-/// How a scene stands.
+/// What stands of a scene: an open hub before places, and these before a hub that is closed. Each is in a box, since what is
+/// dropped through a reference is dear to prove where it lies in the struct itself.
 #[derive(Drop)]
-pub enum Play {
-    /// No scene has begun.
-    Waiting,
-    /// The hub is open.
-    Open(Stage),
-    /// The hub is closed.
-    Closed(Over),
+pub struct HubPlay<'a, W: Wait + Clock> {
+    rt: &'a W,
+    /// A hub that is open.
+    stage: Option<Box<Stage>>,
+    /// What a hub that is closed gave back.
+    over: Option<Box<Over>>,
+    /// Places.
+    places: Option<Box<PlacesPlay>>,
 }
 
-impl Play {
-    /// Plays a line, and appends what came.
-    pub fn play<W: Wait>(
-        &mut self,
-        rt: &W,
-        alloc: Global,
-        line: &[u8],
-        answer: &mut Text,
-    ) -> Result<(), CaseFault> {
-        let (word, more) = first_word(line);
-        match word {
-            b"scene" => self.begin(alloc, Numbers::new(alloc)),
-            b"fail-note" => self.begin_failing(alloc, number_in(more)?),
-            b"close" => self.close(),
-            _ => self.call(rt, alloc, line, answer),
+impl<'a, W: Wait + Clock> HubPlay<'a, W> {
+    /// No scene has begun.
+    pub fn new(rt: &'a W) -> HubPlay<'a, W> {
+        HubPlay {
+            rt,
+            stage: None,
+            over: None,
+            places: None,
         }
     }
 
-    /// Makes the call of a line, and appends what came.
-    fn call<W: Wait>(
-        &mut self,
-        rt: &W,
-        alloc: Global,
-        line: &[u8],
-        answer: &mut Text,
-    ) -> Result<(), CaseFault> {
-        match self {
-            Play::Waiting => Err(CaseFault::Unreadable),
-            Play::Open(stage) => call_open(rt, alloc, stage, line, answer),
-            Play::Closed(over) => call_closed(alloc, over, line, answer),
+    /// Begins a hub whose recorder fails as this script says.
+    fn begin(&mut self, alloc: Global, script: Script, answer: &mut Answer) {
+        match Stage::new(alloc, script) {
+            Ok(stage) => self.stage = Some(stage),
+            Err(fault) => answer.fail(fault),
         }
     }
 
-    /// Begins a hub whose recorder fails at these notes.
-    fn begin(&mut self, alloc: Global, fails: Numbers) -> Result<(), CaseFault> {
-        *self = Play::Open(Stage::new(alloc, fails)?);
-        Ok(())
+    /// Begins a hub whose recorder fails at the note with the number of a line.
+    fn begin_failing(&mut self, alloc: Global, more: &[u8], answer: &mut Answer) {
+        let Some((number, _)) = first_number(more) else {
+            return answer.unreadable();
+        };
+        let mut script = calm(alloc);
+        if script.fails.push(number).is_err() {
+            answer.fail(CaseFault::Memory);
+        }
+        self.begin(alloc, script, answer);
     }
 
-    /// Begins a hub whose recorder fails at this note.
-    fn begin_failing(&mut self, alloc: Global, number: u64) -> Result<(), CaseFault> {
-        let mut fails = Numbers::new(alloc);
-        match fails.push(number) {
-            Ok(()) => self.begin(alloc, fails),
-            Err(_) => Err(CaseFault::Memory),
+    /// Begins places, behind which no hub is open.
+    fn begin_places(&mut self, alloc: Global, answer: &mut Answer) {
+        self.stage = None;
+        match PlacesPlay::new(alloc) {
+            Ok(places) => self.places = Some(places),
+            Err(fault) => answer.fail(fault),
         }
     }
 
     /// Closes the hub.
-    fn close(&mut self) -> Result<(), CaseFault> {
-        match mem::replace(self, Play::Waiting) {
-            Play::Open(stage) => {
-                *self = Play::Closed(stage.close());
-                Ok(())
-            }
-            _ => Err(CaseFault::Unreadable),
+    fn close(&mut self, alloc: Global, answer: &mut Answer) {
+        match self.stage.take() {
+            Some(stage) => match Box::into_inner(stage).close(alloc) {
+                Ok(over) => {
+                    self.over = Some(over);
+                    self.places = None;
+                }
+                Err(fault) => answer.fail(fault),
+            },
+            None => answer.unreadable(),
+        }
+    }
+
+    /// Makes the call of a line at what stands, and tells what came.
+    fn call(&mut self, alloc: Global, line: &[u8], answer: &mut Answer) {
+        if let Some(stage) = &mut self.stage {
+            call_open(self.rt, alloc, stage, line, answer);
+        } else if let Some(places) = &mut self.places {
+            places.call(self.rt, alloc, line, answer);
+        } else if let Some(over) = &self.over {
+            over.call(alloc, line, answer);
+        } else {
+            answer.unreadable();
         }
     }
 }
 
-/// Makes the call of a line, once or as often as it says, and appends what came.
-fn call_open<W: Wait>(
-    rt: &W,
-    alloc: Global,
-    stage: &mut Stage,
-    line: &[u8],
-    answer: &mut Text,
-) -> Result<(), CaseFault> {
-    let (word, more) = first_word(line);
-    if word != b"times".as_slice() {
-        return call_once(rt, alloc, stage, line, answer);
-    }
-    match first_number(more) {
-        Some((count, call)) => call_often(rt, alloc, stage, count, call, answer),
-        None => Err(CaseFault::Unreadable),
-    }
-}
-
-/// Makes a call so often, and appends how often in a row each answer came.
-fn call_often<W: Wait>(
-    rt: &W,
-    alloc: Global,
-    stage: &mut Stage,
-    count: u64,
-    call: &[u8],
-    answer: &mut Text,
-) -> Result<(), CaseFault> {
-    let mut runs = Runs::new(alloc);
-    for _ in 0..count {
-        let mut one = Text::new(alloc);
-        call_once(rt, alloc, stage, call, &mut one)?;
-        runs.add(one, answer)?;
-    }
-    runs.end(answer)
-}
-
-/// Makes a call, and appends what came.
-fn call_once<W: Wait>(
-    rt: &W,
-    alloc: Global,
-    stage: &mut Stage,
-    line: &[u8],
-    answer: &mut Text,
-) -> Result<(), CaseFault> {
-    let (word, more) = first_word(line);
-    if let Some(call) = player_call(word) {
-        return call_player(rt, alloc, stage, call, more, answer);
-    }
-    if let Some(call) = server_call(word) {
-        return call_server(rt, alloc, stage, call, more, answer);
-    }
-    match hub_call(word) {
-        Some(call) => look(rt, alloc, &mut stage.hub, call, more, answer),
-        None => Err(CaseFault::Unreadable),
-    }
-}
-
-/// Makes the call of a line at a hub that is closed, and appends what came.
-fn call_closed(
-    alloc: Global,
-    over: &Over,
-    line: &[u8],
-    answer: &mut Text,
-) -> Result<(), CaseFault> {
-    let (word, more) = first_word(line);
-    match over_call(word) {
-        Some(call) => over.call(alloc, call, more, answer),
-        None => Err(CaseFault::Unreadable),
+impl<'a, W: Wait + Clock> Play for HubPlay<'a, W> {
+    fn play(&mut self, alloc: Global, line: &[u8], answer: &mut Answer) {
+        let (word, more) = word_in(line);
+        match word {
+            "scene" => self.begin(alloc, calm(alloc), answer),
+            "fail-note" => self.begin_failing(alloc, more, answer),
+            "places" => self.begin_places(alloc, answer),
+            "port" => play_port(self.rt, alloc, more, answer),
+            "bell" => play_bell(self.rt, answer),
+            "close" => self.close(alloc, answer),
+            _ => self.call(alloc, line, answer),
+        }
     }
 }

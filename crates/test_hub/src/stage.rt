@@ -29,32 +29,37 @@ pub struct Stage {
 }
 
 impl Stage {
-    /// A hub to which nothing happened, whose recorder fails at these notes.
-    pub fn new(alloc: Global, fails: Numbers) -> Result<Stage, CaseFault> {
+    /// A hub to which nothing happened, whose recorder fails as this script says.
+    pub fn new(alloc: Global, script: Script) -> Result<Box<Stage>, CaseFault> {
         let mux = new_mux(alloc)?;
-        let recorder = MemoryRecorder::new(alloc, script(alloc, fails));
-        match Hub::new(alloc, mux, recorder) {
-            Ok((hub, says, hears)) => Ok(Stage {
-                hub,
-                says,
-                hears,
-                players: Vec::new(alloc),
-            }),
+        match Hub::new(alloc, mux, MemoryRecorder::new(alloc, script)) {
+            Ok((hub, says, hears)) => {
+                let players = Vec::new(alloc);
+                Ok(Box::new(
+                    alloc,
+                    Stage {
+                        hub,
+                        says,
+                        hears,
+                        players,
+                    },
+                )?)
+            }
             Err(_) => Err(CaseFault::Memory),
         }
     }
 
     /// Closes the hub.
-    pub fn close(self) -> Over {
+    pub fn close(self, alloc: Global) -> Result<Box<Over>, CaseFault> {
         let (recorder, receipts) = self.hub.close();
-        Over { recorder, receipts }
+        Ok(Box::new(alloc, Over { recorder, receipts })?)
     }
 }
 
-/// A script by which these calls fail, and a call moves 100 bytes at most.
-pub fn script(alloc: Global, fails: Numbers) -> Script {
+/// A script by which no call fails, and a call moves 100 bytes at most.
+pub fn calm(alloc: Global) -> Script {
     Script {
-        fails,
+        fails: Numbers::new(alloc),
         waits: Numbers::new(alloc),
         idle: None,
         piece: 100,
