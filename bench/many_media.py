@@ -43,10 +43,13 @@ class Server:
         self.connections += 1
         self.writers.append(writer)
         items = Items()
-        while piece := await reader.read(65_536):
-            for item in items.feed(piece):
-                if not isinstance(item, Frame) and item.method:
-                    self.answer(writer, item)
+        try:
+            while piece := await reader.read(65_536):
+                for item in items.feed(piece):
+                    if not isinstance(item, Frame) and item.method:
+                        self.answer(writer, item)
+        except (ConnectionError, asyncio.CancelledError):
+            pass
         writer.close()
 
     def answer(self, writer, request):
@@ -65,9 +68,13 @@ class Server:
             asyncio.get_running_loop().create_task(self.play(writer, *self.open[request.get("Session")]))
 
     async def play(self, writer, name, channel):
+        """Sends the frames of a session, as long as its gateway is there."""
         for number in range(FRAMES):
             writer.write(framed(Frame(channel, payload(name, number))))
-            await writer.drain()
+            try:
+                await writer.drain()
+            except ConnectionError:
+                return
             await asyncio.sleep(SECONDS_BETWEEN_FRAMES)
 
     def stop(self):
@@ -131,6 +138,7 @@ class Player:
         if not isinstance(item, Frame):
             return item
         if item != Frame(self.channel, payload(self.name, self.frames)):
-            raise Wrong("%s got a frame on channel %d that begins with %r" % (self.name, item.channel, item.payload[:24]))
+            raise Wrong("%s got a frame on channel %d that begins with %r" % (
+                self.name, item.channel, item.payload[:24]))
         self.frames += 1
         return None

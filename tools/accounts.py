@@ -22,6 +22,7 @@ class Frames:
     size: int = 0
 
     def add(self, count, size):
+        """Counts some more."""
         self.count += count
         self.size += size
 

@@ -46,6 +46,7 @@ class Row:
 
 
 def shortened(text, longest):
+    """A text of at most so many signs."""
     return text if len(text) <= longest else text[:longest - 1] + "…"
 
 
@@ -88,6 +89,7 @@ def arrow(side, owner, item, is_inward):
 
 
 def note(side, owner, text, whole=""):
+    """A note at a player or at the server."""
     return Part(side, owner, text, whole or text, is_note=True)
 
 

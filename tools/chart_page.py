@@ -52,6 +52,7 @@ box.addEventListener("click", event => {
 
 
 def mark(shade, text):
+    """A colour of the legend and what it means."""
     return '<span><i style="background:%s"></i>%s</span>' % (shade, text)
 
 

@@ -34,6 +34,7 @@ def colour(owner, lightness=0.36):
 
 
 def counted(frames):
+    """Frames as they are told."""
     return "%s frame%s, %s bytes" % (format(frames.count, ","), "" if frames.count == 1 else "s",
                                      format(frames.size, ","))
 
@@ -86,15 +87,19 @@ class Chart:
         self.size = self.server + MARGIN, TOP + STEP * len(rows) + BOTTOM
 
     def x(self, owner):
+        """Where the column of a player is."""
         return FIRST_COLUMN + COLUMN_STEP * self.spans[owner].column
 
     def y(self, place):
+        """Where a row is."""
         return TOP + STEP * place
 
     def add(self, text, *values):
+        """Adds a piece of SVG."""
         self.parts.append(text % values)
 
     def text(self, x, y, line, kind=""):
+        """Adds words."""
         self.add('<text class="%s" x="%d" y="%d">%s</text>', kind, x, y, escape(line))
 
     def draw(self):

@@ -33,6 +33,7 @@ class Item:
 
     @property
     def channel(self):
+        """The channel of a frame."""
         return self.raw[1]
 
     def field(self, wanted):
@@ -55,10 +56,13 @@ class Items:
         """The items that are whole now. Behind a bad one comes none."""
         if self.is_over:
             return []
-        self.left += piece
-        if len(self.left) < self.needed:
-            return []
-        data, at, items = bytes(self.left), 0, []
+        data = piece
+        if self.left:
+            self.left += piece
+            if len(self.left) < self.needed:
+                return []
+            data = bytes(self.left)
+        at, items = 0, []
         while True:
             at = EMPTY_LINES.match(data, at).end()
             item = self.first(data, at)
@@ -70,7 +74,7 @@ class Items:
                 self.is_over, at = True, len(data)
                 break
         self.needed -= at
-        del self.left[:at]
+        self.left = bytearray(data[at:])
         return items
 
     def first(self, data, at):
@@ -88,6 +92,7 @@ class Items:
         return self.message(data, at, found.end())
 
     def bad(self, why, raw):
+        """What is no item, and why."""
         return Item("bad", raw, why=why)
 
     def message(self, data, at, end):

@@ -38,6 +38,7 @@ class Made:
         self.data = b"".join(self.parts)
 
     def add(self, kind, connection, body=b""):
+        """Adds an entry."""
         self.parts.append(spelled(kind, connection, body))
 
     def answer(self, more=""):
@@ -61,10 +62,12 @@ class Made:
         self.add(b"A", player, b"$\1\0\0")
 
     def frame(self, player):
+        """The server sends a frame to a player."""
         self.frames[player] += 1
         self.add(b"U", 0, b"$" + bytes([2 * player]) + len(PAYLOAD).to_bytes(2, "big") + PAYLOAD)
 
     def end(self, player):
+        """A player tears its session down, and leaves."""
         self.add(b"A", player, request("TEARDOWN", 4, "Session: session%d\r\n" % player))
         self.answer()
         self.add(b"E", player)
@@ -82,5 +85,6 @@ class Made:
 
 
 def frames_line(down, up):
+    """What a report says of so many frames each way."""
     return "down %s (%s bytes), up %s (%s bytes)" % tuple(
         format(count, ",") for count in (down, down * FRAME_SIZE, up, up * 4))

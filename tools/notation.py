@@ -6,6 +6,7 @@ import re
 
 LETTERS = {"n": b"\n", "r": b"\r", "t": b"\t", "s": b" ", "p": b"|", "\\": b"\\"}
 NAMES = {10: "\\n", 13: "\\r", 9: "\\t", 92: "\\\\", 124: "\\p"}
+PLAIN = re.compile(rb"[ -\[\]-z~]*")
 TOKEN = re.compile(r"\|"
                    r"|\\x(?P<code>[0-9a-fA-F]{2})"
                    r"|\\(?P<letter>[nrtsp\\])"
@@ -48,6 +49,8 @@ def is_binary(body):
 
 def line_text(line):
     """The signs of a piece of a body that holds no CR LF."""
+    if PLAIN.fullmatch(line):
+        return line.decode("ascii")
     return "".join(NAMES.get(byte) or (chr(byte) if 32 <= byte <= 126 and byte not in b"{}" else "\\x%02x" % byte)
                    for byte in line)
 

@@ -18,10 +18,12 @@ def counted(counter):
 
 
 def by_name(pair):
+    """What counts are put in order by."""
     return str(pair[0])
 
 
 def frames_text(frames):
+    """Frames as they are told."""
     return "%s (%s bytes)" % (format(frames.count, ","), format(frames.size, ","))
 
 
@@ -70,6 +72,7 @@ def write(sink, accounts, count):
 
 
 def show(sink, title, lines):
+    """Writes a title and the lines below it."""
     sink.write(title + "\n" + "".join("  %s\n" % line for line in lines))
 
 

@@ -50,19 +50,22 @@ class Watch:
     def __init__(self, sink):
         self.sink, self.entries, self.streams = sink, Entries(), {}
         self.frames, self.sessions, self.channels, self.closed = {}, {}, {}, set()
-        self.shown_at = time.monotonic()
+        self.shown_at, self.clock = time.monotonic(), time.strftime("%H:%M:%S")
 
     def say(self, text):
-        self.sink.write("%s %s\n" % (time.strftime("%H:%M:%S"), text))
+        """Prints a line with the time at which it was seen."""
+        self.sink.write("%s %s\n" % (self.clock, text))
 
     def take(self, piece):
-        """Takes some bytes; raises Broken behind the lines of all that is whole."""
+        """Takes some bytes, all seen at one time; raises Broken behind the lines of all that is whole."""
+        self.clock = time.strftime("%H:%M:%S")
         for entry in self.entries.feed(piece):
             self.take_entry(entry)
             if time.monotonic() - self.shown_at >= SECONDS_APART:
                 self.show_frames()
 
     def take_entry(self, entry):
+        """Says what an entry tells."""
         who = "conn %d" % entry.connection
         if entry.kind in (b"A", b"U"):
             stream = self.streams.setdefault((entry.kind, entry.connection), Items())
@@ -107,6 +110,7 @@ class Watch:
 
     def show_frames(self):
         """A line for each connection that had frames since the last time."""
+        self.clock = time.strftime("%H:%M:%S")
         for who, ways in sorted(self.frames.items()):
             parts = ["%s frame%s, %s bytes %s" % (format(ways[kind].count, ","), "" if ways[kind].count == 1 else "s",
                                                  format(ways[kind].size, ","), way)
