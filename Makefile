@@ -35,10 +35,9 @@ demo: $(PROGRAM)
 serve-demo: $(PROGRAM)
 	tools/serve_demo $(PROGRAM) $(PLAYER)
 
-# Draws the sessions as a sequence chart.
+# Draws the sessions as a sequence chart, which is docs/sessions.svg.
 chart: $(PROGRAM)
-	@mkdir -p examples/out
-	tools/transcript chart $(PROGRAM) rtsp://gate.example rtsp://media.example < examples/sessions.rtspgw > examples/out/sessions.svg
+	tools/transcript chart $(PROGRAM) rtsp://gate.example rtsp://media.example < examples/sessions.rtspgw > docs/sessions.svg
 
 # What `demo` shows half a minute after a fresh clone, before any proof: the program is compiled with checks, and nothing of it
 # is kept.

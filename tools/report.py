@@ -77,17 +77,14 @@ def show(sink, title, lines):
 
 
 def report(source, sink, program, front, up):
-    """Writes the report on a recording; what was wrong with it or with the run, as lines."""
-    accounts, count, faults = Accounts(), 0, []
+    """Writes the report on a recording; what was wrong with it, as lines. Where the run failed that is all."""
+    accounts, count = Accounts(), 0
     try:
         replay = Replay(program, front, up, source)
-    except Failed as failed:
-        return [str(failed)]
-    try:
         for event in replay.events():
             accounts.take(event)
             count += 1
     except Failed as failed:
-        faults.append(str(failed))
+        return [str(failed)]
     write(sink, accounts, count)
-    return faults + replay.faults()
+    return replay.faults()
