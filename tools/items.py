@@ -117,10 +117,12 @@ class Items:
 
 def read_head(raw, has_limits):
     """An item with all that its head says; raises Fault with the first that is wrong."""
-    lines = [line[:-1] if line.endswith(b"\r") else line for line in raw.split(b"\n")[:-2]]
-    item, headers = first_line(lines[0], raw), []
+    text = raw.replace(b"\r\n", b"\n")
+    has_control = b"\r" in text or b"\0" in text
+    lines, headers = text.split(b"\n")[:-2], []
+    item = first_line(lines[0], raw)
     for line in lines[1:]:
-        if b"\r" in line or b"\0" in line:
+        if has_control and (b"\r" in line or b"\0" in line):
             raise Fault("Control")
         name, colon, value = line.partition(b":")
         if line[:1] in (b" ", b"\t"):
