@@ -42,12 +42,7 @@ pub fn rehearse_all<R: Threads + Wait + Clock + Sync>(
 #[derive(Drop)]
 struct Stage {
     options: ServeOptions,
-    core: Mux,
-    again: Mux,
     world: MemoryWorld,
-    ghost stands: { Stands core [] },
-    ghost between: { AreSameAddresses (bases_of core) options.bases },
-    ghost stands_again: { Stands again [] },
 }
 
 /// Runs a scene, and tells what everybody was handed.
@@ -81,17 +76,25 @@ fn run<R: Threads + Wait + Clock + Sync>(
     is_replayed: bool,
     answer: &mut Answer,
 ) {
-    let Stage {
-        options,
-        core,
-        again,
-        mut world,
-    } = stage;
-    let mut report = MemorySink::new(alloc, calm(alloc));
-    let status = serve(rt, alloc, core, &options, &mut world, &mut report);
-    tell_run(alloc, status, report.as_bytes(), &world, answer);
+    let Stage { options, mut world } = stage;
+    match core_between(alloc, &options.bases) {
+        Ok(core) => {
+            let mut report = MemorySink::new(alloc, calm(alloc));
+            let status = serve(rt, alloc, core, &options, &mut world, &mut report);
+            tell_run(alloc, status, report.as_bytes(), &world, answer);
+        }
+        Err(Memory) => answer.fail(CaseFault::Memory),
+    }
     if is_replayed {
-        tell_replay(alloc, again, &world, answer);
+        replay_again(alloc, &options.bases, &world, answer);
+    }
+}
+
+/// Replays what was recorded through a new multiplexer, and tells what comes.
+fn replay_again(alloc: Global, bases: &Bases, world: &MemoryWorld, answer: &mut Answer) {
+    match core_between(alloc, bases) {
+        Ok(core) => tell_replay(alloc, core, world, answer),
+        Err(Memory) => answer.fail(CaseFault::Memory),
     }
 }
 
@@ -100,15 +103,10 @@ fn make_stage(alloc: Global, stations: u8, door: Script, roles: Vec<Role>) -> Re
     requires { (0 < stations) × (stations ≤ MOST_STATIONS) }
 {
     let options = options(alloc, stations)?;
-    let core = core_between(alloc, &options.bases)?;
-    let again = core_between(alloc, &options.bases)?;
-    let world = world_of(alloc, door, roles)?;
-    Ok(Stage {
-        options,
-        core,
-        again,
-        world,
-    })
+    match world_of(alloc, door, roles) {
+        Ok(world) => Ok(Stage { options, world }),
+        Err(memory) => Err(memory),
+    }
 }
 
 /// The options of a run with so many stations.
