@@ -1,8 +1,7 @@
 //! How the next thing of a scene behaves, and what it says.
 
-use crate::telling::number_in;
-use case_text::{CaseFault, first_number, meant};
-use gate_bytes::Memory;
+use case_text::{Answer, CaseFault, first_number, meant};
+use gate_bytes::{Memory, Text};
 use gate_outside::{Links, MemoryInlet, MemoryOutlet, NewLink, Numbers, Part, Parts, Script};
 use std::alloc::Global;
 use std::{mem, str};
@@ -35,40 +34,6 @@ pub struct Draft {
     after: u64,
 }
 
-/// A line of a draft.
-#[derive(Clone, Copy, Debug, PartialEq, Eq)]
-pub enum DraftWord {
-    /// How many bytes a call moves at most.
-    Piece,
-    /// Which call fails.
-    Fail,
-    /// At which call nothing comes for now.
-    Pause,
-    /// From which call on nothing comes.
-    Idle,
-    /// What is waited for.
-    Wait,
-    /// What is said.
-    Say,
-    /// A link that is given.
-    Link,
-}
-
-/// The line that a word begins.
-pub fn draft_word(word: &[u8]) -> Option<DraftWord> {
-    let word = match str::from_utf8(word).ok()? {
-        "piece" => DraftWord::Piece,
-        "fail" => DraftWord::Fail,
-        "pause" => DraftWord::Pause,
-        "idle" => DraftWord::Idle,
-        "wait" => DraftWord::Wait,
-        "say" => DraftWord::Say,
-        "link" => DraftWord::Link,
-        _ => return None,
-    };
-    Some(word)
-}
-
 impl Draft {
     /// Nothing is said, and no call fails.
     pub fn new(alloc: Global) -> Draft {
@@ -86,6 +51,11 @@ impl Draft {
         mem::replace(&mut self.script, calm(alloc))
     }
 
+    /// The links that the next thing gives. The one behind it gives none again.
+    pub fn take_links(&mut self, alloc: Global) -> Links {
+        mem::replace(&mut self.links, Links::new(alloc))
+    }
+
     /// What the next thing says. The one behind it says nothing again.
     pub fn take_parts(&mut self, alloc: Global) -> Parts {
         self.outlet = 0;
@@ -93,89 +63,112 @@ impl Draft {
         mem::replace(&mut self.parts, Parts::new(alloc))
     }
 
-    /// The links that the next thing gives. The one behind it gives none again.
-    pub fn take_links(&mut self, alloc: Global) -> Links {
-        mem::replace(&mut self.links, Links::new(alloc))
-    }
-
-    /// Does what a line says.
-    pub fn obey(&mut self, alloc: Global, word: DraftWord, more: &[u8]) -> Result<(), CaseFault> {
-        match word {
-            DraftWord::Piece => self.move_most(number_in(more)?),
-            DraftWord::Fail => push(&mut self.script.fails, number_in(more)?),
-            DraftWord::Pause => push(&mut self.script.waits, number_in(more)?),
-            DraftWord::Idle => {
-                self.script.idle = Some(number_in(more)?);
-                Ok(())
-            }
-            DraftWord::Wait => self.wait(alloc, more),
-            DraftWord::Say => self.say(alloc, more),
-            DraftWord::Link => self.give_link(alloc),
+    /// Does what a line says that begins with a word.
+    pub fn obey(&mut self, alloc: Global, word: &[u8], more: &[u8], answer: &mut Answer) {
+        match str::from_utf8(word).unwrap_or("") {
+            "say" => self.say(alloc, more, answer),
+            "link" => self.give_link(alloc, answer),
+            _ => match first_number(more) {
+                Some((number, body)) => self.count(alloc, word, number, body, answer),
+                None => answer.unreadable(),
+            },
         }
     }
 
-    /// A call moves so many bytes at most.
-    fn move_most(&mut self, bytes: u64) -> Result<(), CaseFault> {
-        match usize::try_from(bytes) {
-            Ok(piece) if piece > 0 => {
-                self.script.piece = piece;
-                Ok(())
-            }
-            _ => Err(CaseFault::Unreadable),
+    /// Does what a line says in which a word has a number behind it.
+    fn count(&mut self, alloc: Global, word: &[u8], number: u64, body: &[u8], answer: &mut Answer) {
+        match str::from_utf8(word).unwrap_or("") {
+            "piece" => self.script.piece = number.max(1) as usize,
+            "fail" => push(&mut self.script.fails, number, answer),
+            "pause" => push(&mut self.script.waits, number, answer),
+            "idle" => self.script.idle = Some(number),
+            "wait" => self.wait(alloc, short(number), body, answer),
+            _ => answer.unreadable(),
         }
     }
 
     /// What is said next waits until this outlet has taken these bytes more.
-    fn wait(&mut self, alloc: Global, line: &[u8]) -> Result<(), CaseFault> {
-        let Some((outlet, body)) = first_number(line) else {
-            return Err(CaseFault::Unreadable);
-        };
-        let Ok(outlet) = u32::try_from(outlet) else {
-            return Err(CaseFault::Unreadable);
-        };
-        let bytes = meant(alloc, body)?;
+    fn wait(&mut self, alloc: Global, outlet: u32, body: &[u8], answer: &mut Answer) {
         if outlet != self.outlet {
             self.outlet = outlet;
             self.after = 0;
         }
-        self.after = self.after.saturating_add(bytes.len() as u64);
-        Ok(())
+        match meant(alloc, body) {
+            Ok(bytes) => self.after = self.after.saturating_add(bytes.len() as u64),
+            Err(fault) => answer.fail(fault),
+        }
     }
 
     /// These bytes are said.
-    fn say(&mut self, alloc: Global, body: &[u8]) -> Result<(), CaseFault> {
+    fn say(&mut self, alloc: Global, body: &[u8], answer: &mut Answer) {
+        match meant(alloc, body) {
+            Ok(bytes) => self.add(bytes, answer),
+            Err(fault) => answer.fail(fault),
+        }
+    }
+
+    /// The same of bytes that were read.
+    fn add(&mut self, bytes: Text, answer: &mut Answer) {
         let part = Part {
-            bytes: meant(alloc, body)?,
+            bytes,
             outlet: self.outlet,
             after: self.after,
         };
-        match self.parts.push(part) {
-            Ok(()) => Ok(()),
-            Err(_) => Err(CaseFault::Memory),
+        if self.parts.push(part).is_err() {
+            answer.fail(CaseFault::Memory);
         }
     }
 
-    /// A link is given that says nothing, and whose outlet behaves as the draft says.
-    fn give_link(&mut self, alloc: Global) -> Result<(), CaseFault> {
-        let link = quiet_link(alloc, self.take_script(alloc))?;
-        match self.links.push(link) {
-            Ok(()) => Ok(()),
-            Err(_) => Err(CaseFault::Memory),
-        }
+    /// A link is given that says what was said, and whose outlet behaves as the draft says.
+    fn give_link(&mut self, alloc: Global, answer: &mut Answer) {
+        let parts = self.take_parts(alloc);
+        let script = self.take_script(alloc);
+        keep(push_link(alloc, parts, script, &mut self.links), answer);
     }
 }
 
-/// A link that says nothing, and whose outlet behaves so.
-fn quiet_link(alloc: Global, script: Script) -> Result<NewLink, Memory> {
+/// A link that says so, and fails after one wait, and whose outlet behaves so.
+pub fn new_link(alloc: Global, parts: Parts, script: Script) -> Result<NewLink, Memory> {
     let outlet = MemoryOutlet::new(alloc, script)?;
-    let inlet = MemoryInlet::new(alloc, Parts::new(alloc), calm(alloc), 0)?;
+    let inlet = MemoryInlet::new(alloc, parts, calm(alloc), 1)?;
     Ok(NewLink::new(inlet, outlet))
 }
 
-/// Appends a number.
-fn push(numbers: &mut Numbers, number: u64) -> Result<(), CaseFault> {
-    match numbers.push(number) {
+/// Appends such a link.
+fn push_link(
+    alloc: Global,
+    parts: Parts,
+    script: Script,
+    links: &mut Links,
+) -> Result<(), CaseFault> {
+    let link = new_link(alloc, parts, script)?;
+    match links.push(link) {
         Ok(()) => Ok(()),
-        Err(_) => Err(CaseFault::Memory),
+        Err(_refused) => Err(CaseFault::Memory),
+    }
+}
+
+/// Keeps the fault of a thing that was not made.
+pub fn keep(made: Result<(), CaseFault>, answer: &mut Answer) {
+    if let Err(fault) = made {
+        answer.fail(fault);
+    }
+}
+
+/// A thing in memory of its own. What is played holds its things so, since a large one would be dear for the prover to
+/// replace.
+pub fn boxed<T: Drop>(alloc: Global, thing: T) -> Result<Box<T>, CaseFault> {
+    Ok(Box::new(alloc, thing)?)
+}
+
+/// A number of an outlet or a connection, where one that is too great is the greatest.
+pub fn short(number: u64) -> u32 {
+    u32::try_from(number).unwrap_or(u32::MAX)
+}
+
+/// Appends a number.
+pub fn push(numbers: &mut Numbers, number: u64, answer: &mut Answer) {
+    if numbers.push(number).is_err() {
+        answer.fail(CaseFault::Memory);
     }
 }

@@ -7,48 +7,44 @@
 //!
 //! Lines that say how the next thing behaves, which is made by one of the lines further below:
 //!
-//! - `scene NAME` begins a scene, with nothing said and nothing made; an empty line ends it;
+//! - `scene NAME` begins a scene, with nothing said and nothing made;
 //! - `piece BYTES` has a call move so many bytes at most, `fail CALL` and `pause CALL` have the call with this number fail
 //!   or have nothing for now, and `idle CALL` has nothing come from this call on, all counted from 0;
 //! - `wait OUTLET BODY` has what is said next wait until this outlet has taken so many bytes as the body means: more than
 //!   the line `wait` before it said, where that was of the same outlet;
 //! - `say BODY` has an inlet give these bytes;
-//! - `link` has a door give a link that says nothing and behaves so.
+//! - `link` has a door give a link that says what was said and behaves so.
 //!
 //! What is made, and its calls:
 //!
-//! - `source BODY`: `read` tells what it answers, and then the buffer of 20 bytes;
-//! - `sink`: `write-all BODY`, and `written` tells all that was written;
-//! - `inlet TURNS`, which fails after so many waits for its outlets: `read` tells what it answers and the bytes that came;
-//!   `outlet NUMBER` makes an outlet and ties it, `write BODY` writes to it, `shut` shuts it, and `is-shut` and `written`
-//!   tell of it;
-//! - `numbers`: `is-empty`, `push NUMBER`, `count`, `at PLACE` and `holds NUMBER`, where `most` is the greatest number;
-//! - `door`: `accept`, `write BODY` to the link that came, `give-back`, `faults`, `ends`, and `returned`, which tells what
-//!   was written to each link that came back;
+//! - `source BODY`: `read-source` tells what it answers, and then the buffer of 20 bytes;
+//! - `sink`: `write-all BODY`, and `tell-sink` tells all that was written;
+//! - `inlet TURNS`, which fails after so many waits for its outlets, and `outlet NUMBER`, which is tied to it: the two are
+//!   the link at hand then;
+//! - the link at hand: `read` tells what its inlet answers and the bytes that came; `write BODY` writes to its outlet,
+//!   `shut` shuts it, and `is-shut` and `written` tell of it;
+//! - `numbers NUMBER ..` tells of the list of them whether it was empty first, how many it has, the one at place 2, and
+//!   whether it holds 0 and 1, where a word that is no number is the greatest one;
+//! - `door`: `accept` has the link that came at hand, `give-back` gives it back, and `tell-door` tells how often the door
+//!   failed and came to its end, and what was written to each link that came back;
 //! - `read-all CAPACITY` has a reader read what was said into a port that holds so many items, until the end of it; the
 //!   bytes of the items are told, whether the port was ever full, and how many items were put;
 //! - `writer`: `put BODY` puts a parcel, `turn` has a writer write, `failed` tells whether its outlet failed, `shut` shuts
-//!   it, and `end` ends the writer, and tells how many bytes were written, whether its outlet is shut, and how many texts
-//!   are kept; `next-writer` begins another one with the same buffer;
+//!   it, and `end` ends the writer, tells how many bytes were written, whether its outlet is shut, and how many texts are
+//!   kept, and begins the next one with the same buffer;
 //! - `desk`: `hand CONNECTION` hands it a writer, `take` takes it and `give-back` gives it back, `is-back` tells whether it
 //!   came back, `collect` takes it then and tells its connection, and `close` closes the desk.
 #![tactic(auto)]
 
-mod desk;
-mod door;
 mod draft;
-mod inlet;
-mod numbers;
-mod playing;
+mod links;
+mod play;
 mod reader;
-mod sink;
-mod source;
-mod telling;
-mod thing;
-mod writer;
+mod streams;
+mod writers;
 
-use crate::playing::play_all;
-use gate_bytes::Text;
+use crate::play::LinksPlay;
+use case_text::play_all;
 use std::io;
 use std::io::{Read, Write};
 use std::process::ExitCode;
@@ -57,9 +53,9 @@ fn main(rt: HostRuntime) -> io::Result<ExitCode> {
     let alloc = rt.alloc();
     let mut script = Vec::new(alloc);
     rt.reader().read_to_end(&mut script)?;
-    let mut text = Text::new(alloc);
-    match play_all(&rt, alloc, script.as_slice(), &mut text) {
-        Ok(()) => {
+    let mut play = LinksPlay::new(&rt);
+    match play_all(alloc, script.as_slice(), &mut play) {
+        Ok(text) => {
             io::writer(&rt).write_all(text.as_bytes())?;
             Ok(ExitCode::SUCCESS)
         }
