@@ -1,14 +1,16 @@
 //! Doors and links in memory.
 
 use crate::draft::{Draft, boxed, keep, short};
+use crate::worlds::{call_world, new_world};
 use case_text::{Answer, CaseFault, first_number, meant};
 use gate_bytes::Memory;
 use gate_outside::{
     Arrived, Door, Failed, Got, Inlet, MemoryDoor, MemoryInlet, MemoryLink, MemoryOutlet, Outlet,
     Script, Sink,
 };
+use gate_world::MemoryWorld;
 use std::alloc::Global;
-use std::str;
+use std::{mem, str};
 
 /// What a scene has of doors and links.
 #[derive(Drop)]
@@ -17,8 +19,12 @@ pub struct LinkPlay {
     inlet: Option<Box<MemoryInlet>>,
     /// The link at hand.
     hand: Option<Box<MemoryLink>>,
+    /// Another one.
+    aside: Option<Box<MemoryLink>>,
     /// A door.
     door: Option<Box<MemoryDoor>>,
+    /// A world.
+    world: Option<Box<MemoryWorld>>,
 }
 
 impl LinkPlay {
@@ -27,7 +33,9 @@ impl LinkPlay {
         LinkPlay {
             inlet: None,
             hand: None,
+            aside: None,
             door: None,
+            world: None,
         }
     }
 
@@ -47,10 +55,33 @@ impl LinkPlay {
             "accept" => self.accept(alloc, answer),
             "give-back" => self.give_back(answer),
             "tell-door" => self.tell_door(answer),
-            _ => match &mut self.hand {
-                Some(link) => call_link(alloc, link, draft, word, more, answer),
-                None => draft.obey(alloc, word, more, answer),
-            },
+            "swap" => mem::swap(&mut self.hand, &mut self.aside),
+            "world" => put(new_world(alloc, draft), &mut self.world, answer),
+            "at-world" => self.call_world(alloc, more, answer),
+            _ => self.call_hand(alloc, draft, word, more, answer),
+        }
+    }
+
+    /// Makes the call that a word is at the link at hand, or does what the line says of the next thing, where there is none.
+    fn call_hand(
+        &mut self,
+        alloc: Global,
+        draft: &mut Draft,
+        word: &[u8],
+        more: &[u8],
+        answer: &mut Answer,
+    ) {
+        match &mut self.hand {
+            Some(link) => call_link(alloc, link, draft, word, more, answer),
+            None => draft.obey(alloc, word, more, answer),
+        }
+    }
+
+    /// Makes the call that a word is at the world.
+    fn call_world(&mut self, alloc: Global, word: &[u8], answer: &mut Answer) {
+        match &mut self.world {
+            Some(world) => call_world(alloc, world, &mut self.door, &mut self.hand, word, answer),
+            None => answer.unreadable(),
         }
     }
 

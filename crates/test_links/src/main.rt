@@ -1,5 +1,5 @@
-//! A program that plays scenes at the sources, sinks and links in memory, and at the readers and writers of links, on one
-//! thread, and prints what each call answers. The gate compares that with what it must print.
+//! A program that plays scenes at the sources, sinks, links and worlds in memory, and at the readers and writers of links, on
+//! one thread, and prints what each call answers. The gate compares that with what it must print.
 //!
 //! A scene is lines, each of a word and what it is about. Each is printed with what came behind a colon, and so are lines
 //! that are empty or begin with `#`, which say nothing. Bytes have the notation of the crate `case_text`. A call that
@@ -22,11 +22,14 @@
 //! - `inlet TURNS`, which fails after so many waits for its outlets, and `outlet NUMBER`, which is tied to it: the two are
 //!   the link at hand then;
 //! - the link at hand: `read` tells what its inlet answers and the bytes that came; `write BODY` writes to its outlet,
-//!   `shut` shuts it, and `is-shut` and `written` tell of it;
+//!   `shut` shuts it, and `is-shut` and `written` tell of it; `swap` puts the link aside, and takes the one that was there;
 //! - `numbers NUMBER ..` tells of the list of them whether it was empty first, how many it has, the one at place 2, and
 //!   whether it holds 0 and 1, where a word that is no number is the greatest one;
 //! - `door`: `accept` has the link that came at hand, `give-back` gives it back, and `tell-door` tells how often the door
 //!   failed and came to its end, and what was written to each link that came back;
+//! - `world`: `at-world listen` opens its door, `at-world dial` has its link to the server at hand, `at-world record` makes
+//!   and closes a recorder, `at-world close-door` and `at-world close-link` close the two, and `at-world tell` tells which
+//!   of the three came back, and how often each was given and refused;
 //! - `read-all CAPACITY` has a reader read what was said into a port that holds so many items, until the end of it; the
 //!   bytes of the items are told, whether the port was ever full, and how many items were put;
 //! - `writer`: `put BODY` puts a parcel, `turn` has a writer write, `failed` tells whether its outlet failed, `shut` shuts
@@ -41,6 +44,7 @@ mod links;
 mod play;
 mod reader;
 mod streams;
+mod worlds;
 mod writers;
 
 use crate::play::LinksPlay;
