@@ -37,9 +37,14 @@
 //!   kept, and begins the next one with the same buffer;
 //! - `desk`: `hand CONNECTION` hands it a writer, `take` takes it and `give-back` gives it back, `is-back` tells whether it
 //!   came back, `collect` takes it then and tells its connection, and `close` closes the desk.
+//!
+//! The world over TCP and files, which is told as the functions of `edge` say: `edge loopback` carries a link over loopback,
+//! `edge note-in NAME` notes one entry in a file, `edge file` tells the bytes of the one named `transcript`, and
+//! `edge refused` asks for what can't be.
 #![tactic(auto)]
 
 mod draft;
+mod edge;
 mod links;
 mod play;
 mod reader;

@@ -1,12 +1,15 @@
 //! What is played: a scene.
 
 use crate::draft::{Draft, boxed};
+use crate::edge::tell_edge;
 use crate::links::{LinkPlay, put};
 use crate::reader::read_all;
 use crate::streams::{StreamsPlay, tell_numbers};
 use crate::writers::{DeskPlay, WriterPlay};
 use case_text::{Answer, CaseFault, Play, first_word};
-use std::alloc::Global;
+use std::alloc::{Alloc, Global};
+use std::fs::{File, Files};
+use std::net::{Net, TcpListener, TcpStream};
 use std::str;
 use std::sync::Wait;
 
@@ -96,23 +99,34 @@ impl LinksScene {
 
 /// A scene, where one has begun.
 #[derive(Drop)]
-pub struct LinksPlay<'a, W: Wait> {
-    rt: &'a W,
+pub struct LinksPlay<
+    'a,
+    R: Wait + Net<Listener = TcpListener, Stream = TcpStream> + Files<File = File> + Alloc,
+> {
+    rt: &'a R,
     scene: Option<Box<LinksScene>>,
 }
 
-impl<'a, W: Wait> LinksPlay<'a, W> {
+impl<
+    'a,
+    R: Wait + Net<Listener = TcpListener, Stream = TcpStream> + Files<File = File> + Alloc,
+> LinksPlay<'a, R> {
     /// No scene has begun.
-    pub fn new(rt: &'a W) -> LinksPlay<'a, W> {
+    pub fn new(rt: &'a R) -> LinksPlay<'a, R> {
         LinksPlay { rt, scene: None }
     }
 }
 
-impl<'a, W: Wait> Play for LinksPlay<'a, W> {
+impl<
+    'a,
+    R: Wait + Net<Listener = TcpListener, Stream = TcpStream> + Files<File = File> + Alloc,
+> Play for LinksPlay<'a, R> {
     fn play(&mut self, alloc: Global, line: &[u8], answer: &mut Answer) {
         let (word, more) = first_word(line);
         if word == b"scene".as_slice() {
             put(new_scene(alloc), &mut self.scene, answer);
+        } else if word == b"edge".as_slice() {
+            tell_edge(self.rt, alloc, more, answer);
         } else if let Some(scene) = &mut self.scene {
             scene.play(self.rt, alloc, word, more, answer);
         } else {

@@ -1,0 +1,166 @@
+//! The world over TCP and files.
+
+use case_text::{Answer, first_word};
+use gate_outside::{Arrived, Door, Failed, Got, Inlet, Outlet, Sink};
+use gate_transcript::{EntryKind, Recorder};
+use gate_world::World;
+use std::alloc::{Alloc, Global};
+use std::fs::{self, File, Files};
+use std::net::{Net, TcpListener, TcpStream};
+use std::str;
+use tcp_world::{TcpDoor, TcpInlet, TcpOutlet, TcpWorld};
+
+/// Does at the edge what a line says, and tells what came.
+pub fn tell_edge<R: Net<Listener = TcpListener, Stream = TcpStream> + Files<File = File> + Alloc>(
+    rt: &R,
+    alloc: Global,
+    line: &[u8],
+    answer: &mut Answer,
+) {
+    let (word, name) = first_word(line);
+    match str::from_utf8(word).unwrap_or("") {
+        "loopback" => tell_loopback(rt, alloc, answer),
+        "note-in" => tell_note(rt, alloc, name, answer),
+        "file" => tell_file(rt, answer),
+        "refused" => tell_refused(rt, alloc, answer),
+        _ => answer.unreadable(),
+    }
+}
+
+/// Opens a door at loopback, and tells whether it had nothing at first; then makes a link to it, and tells whether it carried
+/// bytes and ended at both sides; and how many doors, links and ends there were, and how many faults of links and doors.
+fn tell_loopback<R: Net<Listener = TcpListener, Stream = TcpStream> + Files<File = File>>(
+    rt: &R,
+    alloc: Global,
+    answer: &mut Answer,
+) {
+    let mut world = TcpWorld::new(rt, alloc);
+    match world.listen(b"127.0.0.1:0") {
+        Ok(door) => tell_door(alloc, &mut world, door, answer),
+        Err(Failed) => answer.unreadable(),
+    }
+    let tally = world.tally();
+    let once = [tally.listens, tally.dials, tally.link_ends];
+    answer.push(b", ");
+    answer.push_debug(alloc, &once);
+    answer.push(b", ");
+    answer.push_debug(alloc, &[tally.link_faults, tally.door_faults]);
+}
+
+/// Whether a door has nothing at first is told, and whether a link to it carries. It is closed.
+fn tell_door<W: World<Door = TcpDoor, UpIn = TcpInlet, UpOut = TcpOutlet>>(
+    alloc: Global,
+    world: &mut W,
+    door: TcpDoor,
+    answer: &mut Answer,
+) {
+    let mut door = door;
+    let had_none = matches!(door.accept(), Ok(Arrived::NotYet));
+    let carried = match door.port() {
+        Ok(port) => is_dialled(world, &mut door, port),
+        Err(_error) => false,
+    };
+    answer.push_debug(alloc, &[had_none, carried]);
+    world.close_door(door);
+}
+
+/// Whether a link is made to a door at this port, and carries.
+fn is_dialled<W: World<Door = TcpDoor, UpIn = TcpInlet, UpOut = TcpOutlet>>(
+    world: &mut W,
+    door: &mut TcpDoor,
+    port: u16,
+) -> bool {
+    match world.dial(b"127.0.0.1", port) {
+        Ok((mut inlet, mut outlet)) => {
+            let carried = is_carried(door, &mut inlet, &mut outlet);
+            world.close_link(inlet, outlet);
+            carried
+        }
+        Err(Failed) => false,
+    }
+}
+
+/// Whether the link comes by the door, carries bytes, and ends at both sides. The door's side is given back.
+fn is_carried(door: &mut TcpDoor, inlet: &mut TcpInlet, outlet: &mut TcpOutlet) -> bool {
+    match door.accept() {
+        Ok(Arrived::Link(mut theirs, back)) => {
+            let carried = is_joined(outlet, &mut theirs) && has_ended(inlet);
+            door.give_back(theirs, back);
+            carried
+        }
+        Ok(Arrived::NotYet) => false,
+        Ok(Arrived::End) => false,
+        Err(Failed) => false,
+    }
+}
+
+/// Whether the bytes of one half come in by the other, and then its end.
+fn is_joined(outward: &mut TcpOutlet, inward: &mut TcpInlet) -> bool {
+    let mut buffer = [0u8; 8];
+    let written = outward.write(b"gate");
+    let read = inward.read(&mut buffer);
+    outward.shut();
+    let ended = has_ended(inward);
+    written == Ok(4) && read == Ok(Got::Bytes(4)) && buffer.starts_with(b"gate") && ended
+}
+
+/// Whether what comes in has ended.
+fn has_ended(inward: &mut TcpInlet) -> bool {
+    let mut buffer = [0u8; 8];
+    inward.read(&mut buffer) == Ok(Got::End)
+}
+
+/// Notes one entry in a file of this name. Whether it was noted is told, whether the recorder was closed without a fault, and
+/// how often it failed.
+fn tell_note<R: Net<Listener = TcpListener, Stream = TcpStream> + Files<File = File>>(
+    rt: &R,
+    alloc: Global,
+    name: &[u8],
+    answer: &mut Answer,
+) {
+    let mut world = TcpWorld::new(rt, alloc);
+    match world.recorder(name) {
+        Ok(mut recorder) => {
+            let noted = recorder.note(EntryKind::Enter, 1, b"").is_ok();
+            let closed = world.close_recorder(recorder).is_ok();
+            answer.push_debug(alloc, &[noted, closed]);
+        }
+        Err(Failed) => answer.unreadable(),
+    }
+    answer.push(b", ");
+    answer.push_number(world.tally().record_faults);
+}
+
+/// The bytes of the file `transcript` are told.
+fn tell_file<R: Files<File = File> + Alloc>(rt: &R, answer: &mut Answer) {
+    match fs::read(rt, "transcript") {
+        Ok(bytes) => answer.push_shown(bytes.as_slice()),
+        Err(_fault) => answer.unreadable(),
+    }
+}
+
+/// Asks for a door, a link and a recorder that can't be, and has a thread refused. Which of the three were made is told, and
+/// how often each of the four was refused.
+fn tell_refused<R: Net<Listener = TcpListener, Stream = TcpStream> + Files<File = File>>(
+    rt: &R,
+    alloc: Global,
+    answer: &mut Answer,
+) {
+    let mut world = TcpWorld::new(rt, alloc);
+    let made = [
+        world.listen(b"\xff").is_ok(),
+        world.dial(b"[::1", 1).is_ok(),
+        world.recorder(b"no/such/folder").is_ok(),
+    ];
+    world.refuse();
+    answer.push_debug(alloc, &made);
+    let tally = world.tally();
+    let refused = [
+        tally.listens_failed,
+        tally.dials_failed,
+        tally.records_failed,
+        tally.crew_refusals,
+    ];
+    answer.push(b", ");
+    answer.push_debug(alloc, &refused);
+}
