@@ -5,11 +5,11 @@ ghost use Rattle.gateway_mux.specs.Stands.{Stands, bases_of};
 ghost use Rattle.gateway_run.specs.Serving.{AreSameAddresses, IsSameAddress};
 
 use crate::reading::read_scenes;
-use crate::scene::{Role, Scene, calm, world_of};
-use crate::telling::{tell_replay, tell_run};
+use crate::scene::{Scene, calm, world_of};
+use crate::telling::{tell_name, tell_replay, tell_run};
 use case_text::{Answer, CaseFault, CasesFault};
 use gate_bytes::{Memory, Text};
-use gate_outside::{MemorySink, Script};
+use gate_outside::MemorySink;
 use gate_world::MemoryWorld;
 use gateway_mux::{Base, Bases, Mux};
 use gateway_run::serve;
@@ -38,13 +38,6 @@ pub fn rehearse_all<R: Threads + Wait + Clock + Sync>(
     }
 }
 
-/// What a run has before it begins.
-#[derive(Drop)]
-struct Stage {
-    options: ServeOptions,
-    world: MemoryWorld,
-}
-
 /// Runs a scene, and tells what everybody was handed.
 fn rehearse<R: Threads + Wait + Clock + Sync>(
     rt: &R,
@@ -59,35 +52,74 @@ fn rehearse<R: Threads + Wait + Clock + Sync>(
         door,
         roles,
     } = scene;
-    answer.push(b"run ");
-    answer.push(name.as_bytes());
-    answer.push(b"\n");
-    match make_stage(alloc, stations, door, roles) {
-        Ok(stage) => run(rt, alloc, stage, is_replayed, answer),
+    tell_name(name.as_bytes(), answer);
+    match world_of(alloc, door, roles) {
+        Ok(mut world) => perform(rt, alloc, stations, is_replayed, &mut world, answer),
         Err(Memory) => answer.fail(CaseFault::Memory),
     }
 }
 
-/// Runs what a stage has, and tells what everybody was handed.
+/// Runs in a world with so many stations, and tells what everybody was handed.
+fn perform<R: Threads + Wait + Clock + Sync>(
+    rt: &R,
+    alloc: Global,
+    stations: u8,
+    is_replayed: bool,
+    world: &mut MemoryWorld,
+    answer: &mut Answer,
+)
+    requires { (0 < stations) × (stations ≤ MOST_STATIONS) }
+{
+    match options(alloc, stations) {
+        Ok(options) => run(rt, alloc, &options, is_replayed, world, answer),
+        Err(Memory) => answer.fail(CaseFault::Memory),
+    }
+}
+
+/// Runs with these options, and tells what everybody was handed, and what comes where that is replayed.
 fn run<R: Threads + Wait + Clock + Sync>(
     rt: &R,
     alloc: Global,
-    stage: Stage,
+    options: &ServeOptions,
     is_replayed: bool,
+    world: &mut MemoryWorld,
     answer: &mut Answer,
 ) {
-    let Stage { options, mut world } = stage;
+    run_once(rt, alloc, options, world, answer);
+    if is_replayed {
+        replay_again(alloc, &options.bases, world, answer);
+    }
+}
+
+/// Runs in a world, and tells what everybody was handed.
+fn run_once<R: Threads + Wait + Clock + Sync>(
+    rt: &R,
+    alloc: Global,
+    options: &ServeOptions,
+    world: &mut MemoryWorld,
+    answer: &mut Answer,
+) {
     match core_between(alloc, &options.bases) {
-        Ok(core) => {
-            let mut report = MemorySink::new(alloc, calm(alloc));
-            let status = serve(rt, alloc, core, &options, &mut world, &mut report);
-            tell_run(alloc, status, report.as_bytes(), &world, answer);
-        }
+        Ok(core) => serve_with(rt, alloc, core, options, world, answer),
         Err(Memory) => answer.fail(CaseFault::Memory),
     }
-    if is_replayed {
-        replay_again(alloc, &options.bases, &world, answer);
-    }
+}
+
+/// Runs with a multiplexer to which nothing has happened, and tells what everybody was handed.
+fn serve_with<R: Threads + Wait + Clock + Sync>(
+    rt: &R,
+    alloc: Global,
+    core: Mux,
+    options: &ServeOptions,
+    world: &mut MemoryWorld,
+    answer: &mut Answer,
+)
+    requires stands { Stands core [] }
+    requires bases { AreSameAddresses (bases_of core) options.now.bases }
+{
+    let mut report = MemorySink::new(alloc, calm(alloc));
+    let status = serve(rt, alloc, core, options, world, &mut report);
+    tell_run(alloc, status, report.as_bytes(), world, answer);
 }
 
 /// Replays what was recorded through a new multiplexer, and tells what comes.
@@ -95,17 +127,6 @@ fn replay_again(alloc: Global, bases: &Bases, world: &MemoryWorld, answer: &mut 
     match core_between(alloc, bases) {
         Ok(core) => tell_replay(alloc, core, world, answer),
         Err(Memory) => answer.fail(CaseFault::Memory),
-    }
-}
-
-/// The stage of so many stations, a door that behaves so, and these links.
-fn make_stage(alloc: Global, stations: u8, door: Script, roles: Vec<Role>) -> Result<Stage, Memory>
-    requires { (0 < stations) × (stations ≤ MOST_STATIONS) }
-{
-    let options = options(alloc, stations)?;
-    match world_of(alloc, door, roles) {
-        Ok(world) => Ok(Stage { options, world }),
-        Err(memory) => Err(memory),
     }
 }
 

@@ -1,5 +1,6 @@
 //! Scenes: what everybody says in a run.
-ghost use Rattle.std.specs.Prelude.{◌<◌, ◌≤◌};
+ghost use Rattle.std.specs.Prelude.{◌≡◌, ◌<◌, ◌≤◌, IfOk};
+ghost use Rattle.gate_outside.specs.MemoryDoors.{door_faults, door_ends};
 ghost use Rattle.gateway_words.specs.declared.options.TheConstants.{MOST_STATIONS};
 
 use gate_bytes::{Memory, Text};
@@ -153,7 +154,10 @@ fn server_link(alloc: Global, roles: &mut Vec<Role>) -> Result<NewLink, Memory> 
 }
 
 /// A door that behaves so, by which these players come.
-fn door_of(alloc: Global, script: Script, roles: Vec<Role>) -> Result<MemoryDoor, Memory> {
+fn door_of(alloc: Global, script: Script, roles: Vec<Role>) -> Result<MemoryDoor, Memory>
+    ensures faults { IfOk result (λ door. door_faults door ≡ 0) }
+    ensures ends { IfOk result (λ door. door_ends door ≡ 0) }
+{
     let mut players = Links::new(alloc);
     match push_links(alloc, roles, &mut players) {
         Ok(()) => MemoryDoor::new(alloc, players, script),

@@ -13,6 +13,13 @@ use gateway_replay::replay;
 use rtsp_frame::Framer;
 use std::alloc::Global;
 
+/// Tells the name of a run.
+pub fn tell_name(name: &[u8], answer: &mut Answer) {
+    answer.push(b"run ");
+    answer.push(name);
+    answer.push(b"\n");
+}
+
 /// Tells how a run ended, its report, and what everybody was handed: the server, and the players in the order in which their
 /// links came back.
 pub fn tell_run(
