@@ -3,7 +3,7 @@
 use crate::answer::{push_named, push_option};
 use crate::words::Words;
 use case_text::Answer;
-use channel_map::{ChannelMap, Freed};
+use channel_map::{ChannelMap, Freed, PAIRS};
 
 /// Does a step with the table of pairs, and tells how many are held then.
 pub fn step(map: &mut ChannelMap, words: &mut Words<'_>, answer: &mut Answer) {
@@ -53,7 +53,7 @@ fn freed_by(words: &mut Words<'_>, answer: &mut Answer) -> Freed {
 
 /// Grants a pair that is held.
 fn grant(map: &mut ChannelMap, pair: u8, answer: &mut Answer) {
-    if pair < 128 && map.owner(2 * pair).is_some() {
+    if usize::from(pair) < PAIRS && map.owner(2 * pair).is_some() {
         map.grant(pair);
         answer.push(b"granted");
     }
@@ -61,7 +61,7 @@ fn grant(map: &mut ChannelMap, pair: u8, answer: &mut Answer) {
 
 /// Releases a pair that is held.
 fn release(map: &mut ChannelMap, pair: u8, answer: &mut Answer) {
-    if pair < 128 && map.owner(2 * pair).is_some() {
+    if usize::from(pair) < PAIRS && map.owner(2 * pair).is_some() {
         map.release(pair);
         answer.push(b"released");
     }

@@ -1,13 +1,14 @@
 //! The calls of players, of the server and of their workers at a hub.
 
 use crate::over::{connection_in, word_in};
-use crate::parcels::{put_bytes, put_item, tell_next, tell_put};
+use crate::parcels::{put_framed, put_item, tell_next, tell_put};
 use crate::stage::{SceneHub, Stage};
 use case_text::{Answer, CaseFault, first_number, meant};
 use client_ports::Putter;
 use gate_bytes::Text;
 use gateway_hub::{Entered, StopWhy};
 use gateway_mux::UpWhy;
+use rtsp_frame::Framer;
 use std::alloc::Global;
 use std::sync::Wait;
 
@@ -185,9 +186,11 @@ fn drive<W: Wait>(
 ) {
     match counted(alloc, more) {
         Ok((count, bytes)) => {
+            let mut framer = Framer::new(alloc);
             let mut taken: u64 = 0;
             for _ in 0..count {
-                put_bytes(rt, alloc, &mut player.inward, bytes.as_bytes(), answer);
+                let inward = &mut player.inward;
+                put_framed(rt, alloc, &mut framer, inward, bytes.as_bytes(), answer);
                 let _taken = hub.take(alloc, rt, &player.seat);
                 taken = taken.saturating_add(u64::from(player.outward.take(rt).is_some()));
             }
@@ -209,9 +212,10 @@ fn drive_up<W: Wait>(
 ) {
     match counted(alloc, more) {
         Ok((count, bytes)) => {
+            let mut framer = Framer::new(alloc);
             let mut taken: u64 = 0;
             for _ in 0..count {
-                put_bytes(rt, alloc, says, bytes.as_bytes(), answer);
+                put_framed(rt, alloc, &mut framer, says, bytes.as_bytes(), answer);
                 let _taken = hub.take_up(alloc, rt);
                 taken = taken.saturating_add(u64::from(player.outward.take(rt).is_some()));
             }

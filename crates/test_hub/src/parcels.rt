@@ -27,14 +27,26 @@ pub fn put_item<W: Wait>(
 }
 
 /// The same of the item that bytes are.
-pub fn put_bytes<W: Wait>(
+fn put_bytes<W: Wait>(
     rt: &W,
     alloc: Global,
     end: &mut Putter,
     bytes: &[u8],
     answer: &mut Answer,
 ) -> bool {
-    match item_of(alloc, bytes) {
+    put_framed(rt, alloc, &mut Framer::new(alloc), end, bytes, answer)
+}
+
+/// The same with a framer that has nothing left.
+pub fn put_framed<W: Wait>(
+    rt: &W,
+    alloc: Global,
+    framer: &mut Framer,
+    end: &mut Putter,
+    bytes: &[u8],
+    answer: &mut Answer,
+) -> bool {
+    match item_of(alloc, framer, bytes) {
         Ok(item) => {
             let is_put = end.put(rt, Parcel::Item(item)).is_ok();
             if !is_put {
@@ -50,8 +62,7 @@ pub fn put_bytes<W: Wait>(
 }
 
 /// The item that bytes are.
-fn item_of(alloc: Global, bytes: &[u8]) -> Result<Item, CaseFault> {
-    let mut framer = Framer::new(alloc);
+fn item_of(alloc: Global, framer: &mut Framer, bytes: &[u8]) -> Result<Item, CaseFault> {
     framer.feed(alloc, bytes)?;
     framer.next().ok_or(CaseFault::Unreadable)
 }
