@@ -19,5 +19,4 @@ pub mod SettleLemmas
 pub mod StepLemmas
 pub mod TakeLemmas
 pub mod UpLemmas
-pub mod RetoldLemmas
 pub mod RoomLemmas

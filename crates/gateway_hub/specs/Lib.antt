@@ -7,7 +7,6 @@ pub mod Retiring
 pub mod Kept
 pub mod Taking
 pub mod Calls
-pub mod Retold
 pub mod Closing
 pub mod Receipts
 pub mod Rooms

@@ -12,7 +12,6 @@ mod desk;
 mod enter;
 mod fault;
 mod hub;
-mod laws;
 mod noting;
 mod receipts;
 mod retire;
@@ -26,6 +25,5 @@ pub use hub_places::{
     Close, Ending, INWARD_CAPACITY, MOST_CONNECTIONS, OUTWARD_CAPACITY, Receipt, SERVER_CAPACITY,
     SERVER_INWARD_CAPACITY, StopWhy,
 };
-pub use laws::what_was_noted_tells_the_history;
 pub use receipts::Receipts;
 pub use seat::{Entered, Seat, Taken};

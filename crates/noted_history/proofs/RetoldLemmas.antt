@@ -13,7 +13,7 @@ use Rattle.gateway_replay.specs.declared.streams.Speaker.{Speaker}
 use Rattle.gateway_replay.specs.declared.streams.Speaker.TheVariants.{Client, Server}
 use Rattle.gateway_replay.specs.Events.{bytes_here, stream_of, new_items, said_by, events_by, events_of}
 use Rattle.gateway_hub.specs.Notes.{note_of, notes}
-use Rattle.gateway_hub.specs.Retold.{said_in, all_said, AreSoundBefore, IsSaidWhole, IsToldWhole, AreToldWhole}
+use Rattle.noted_history.specs.Retold.{said_in, all_said, AreSoundBefore, IsSaidWhole, IsToldWhole, AreToldWhole}
 
 -- the bytes of items in a row
 abbrev joined : List Shape → List ℕ

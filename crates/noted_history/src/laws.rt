@@ -3,7 +3,7 @@ ghost use Rattle.std.specs.Prelude.{◌≡◌, List};
 ghost use Rattle.mux_history.specs.Happenings.{Entry, happened};
 ghost use Rattle.gateway_replay.specs.Events.{events_of};
 ghost use Rattle.gateway_hub.specs.Notes.{notes};
-ghost use Rattle.gateway_hub.specs.Retold.{AreToldWhole};
+ghost use Rattle.noted_history.specs.Retold.{AreToldWhole};
 
 /// The entries that were noted of a history tell, as a transcript, just what happened in it: each
 /// item that was noted alone is that item again in its speaker's stream. It asks that each item is
