@@ -5,34 +5,57 @@ ghost use Rattle.tcp_world.specs.Edges.{IsNewTcpLink};
 
 use crate::door::TcpDoor;
 use crate::file_sink::FileSink;
-use crate::link::{TcpInlet, TcpOutlet, halves};
+use crate::link::{TcpInlet, TcpOutlet, connect_within, halves};
 use gate_outside::Failed;
 use gate_transcript::TranscriptRecorder;
 use gate_world::{Tally, World};
 use std::alloc::Global;
-use std::fs::{File, Files};
 use std::net::{Net, TcpListener, TcpStream};
-use std::str;
+use std::thread::Threads;
+use std::{io, str};
 
 /// Doors that listen at `host:port`, links to a host and a port, and recorders that write a transcript to a file, which is
-/// made, or emptied, where it is opened. A name that is not UTF-8 is a failure.
+/// made, or emptied, where it is opened, and written by a thread of its own. A name that is not UTF-8 is a failure. That it
+/// listens, and that it is connected, is told on standard error, before a player is served; a line that can't be written there
+/// is left out.
 #[derive(Drop)]
-pub struct TcpWorld<'a, R: Net<Listener = TcpListener, Stream = TcpStream> + Files<File = File>> {
+pub struct TcpWorld<'a, R: Net<Listener = TcpListener, Stream = TcpStream> + Threads> {
     rt: &'a R,
+    host: HostRuntime,
     alloc: Global,
     tally: Tally,
+    players: Option<u8>,
+    refusal: Option<io::Error>,
 }
 
-impl<'a, R: Net<Listener = TcpListener, Stream = TcpStream> + Files<File = File>> TcpWorld<'a, R> {
+impl<'a, R: Net<Listener = TcpListener, Stream = TcpStream> + Threads> TcpWorld<'a, R> {
     /// A world to which nothing has happened.
-    pub fn new(rt: &'a R, alloc: Global) -> TcpWorld<'a, R>
+    pub fn new(rt: &'a R, host: HostRuntime, alloc: Global) -> TcpWorld<'a, R>
         ensures { result.tally ≡ no_tally }
     {
         TcpWorld {
             rt,
+            host,
             alloc,
             tally: Tally::new(),
+            players: None,
+            refusal: None,
         }
+    }
+
+    /// The same world, which tells for how many players it listens, where that is known.
+    pub fn for_players(mut self, players: Option<u8>) -> TcpWorld<'a, R>
+        ensures { result.tally ≡ self.entry.tally }
+    {
+        self.players = players;
+        self
+    }
+
+    /// Why the system refused what was asked for last, where it did.
+    pub fn refusal(&self) -> Option<io::Error>
+        ensures { result ≡ self.now.refusal }
+    {
+        self.refusal
     }
 
     /// What has happened to it.
@@ -43,36 +66,77 @@ impl<'a, R: Net<Listener = TcpListener, Stream = TcpStream> + Files<File = File>
     }
 
     /// The door at this address.
-    fn open_door(&self, address: &[u8]) -> Result<TcpDoor, Failed>
+    fn open_door(&self, address: &[u8]) -> io::Result<TcpDoor>
         ensures { IfOk result (λ door. door.faults ≡ 0) }
     {
-        let address = str::from_utf8(address).map_err(|_| Failed)?;
-        let listener = TcpListener::bind(self.rt, address).map_err(|_| Failed)?;
-        TcpDoor::new(self.alloc, listener).map_err(|_| Failed)
+        let listener = TcpListener::bind(self.rt, text_of(address)?)?;
+        TcpDoor::new(self.host, self.alloc, listener)
     }
 
     /// The link to this host, which may stand in brackets, and port.
-    fn open_link(&self, host: &[u8], port: u16) -> Result<(TcpInlet, TcpOutlet), Failed>
+    fn open_link(&self, host: &[u8], port: u16) -> io::Result<(TcpInlet, TcpOutlet)>
         ensures { IfOk result (λ link. IsNewTcpLink link.0 link.1) }
     {
-        let host = str::from_utf8(without_brackets(host)).map_err(|_| Failed)?;
-        let stream = TcpStream::connect(self.rt, (host, port)).map_err(|_| Failed)?;
-        halves(self.alloc, stream).map_err(|_| Failed)
+        let host = text_of(without_brackets(host))?;
+        let stream = connect_within(self.rt, &self.host, host, port)?;
+        halves(self.alloc, stream)
     }
 
     /// The recorder that writes to the file of this name.
-    fn open_recorder(&self, name: &[u8]) -> Result<TranscriptRecorder<FileSink>, Failed>
+    fn open_recorder(&self, name: &[u8]) -> io::Result<TranscriptRecorder<FileSink>>
         ensures { IfOk result (λ recorder. recorder.sink.faults ≡ 0) }
     {
-        let name = str::from_utf8(name).map_err(|_| Failed)?;
-        let file = File::create(self.rt, name).map_err(|_| Failed)?;
-        let sink = FileSink::new(self.alloc, file).map_err(|_| Failed)?;
-        let recorder = TranscriptRecorder::start(sink).map_err(|refused| refused.1)?;
-        if recorder.sink().faults() > 0 {
-            return Err(Failed);
+        let sink = FileSink::create(self.rt, self.host, self.alloc, name)?;
+        match TranscriptRecorder::start(sink) {
+            Ok(recorder) => settled(recorder),
+            Err((sink, Failed)) => Err(left(sink)),
         }
-        Ok(recorder)
     }
+
+    /// Tells that it listens at this address, and for how many players.
+    fn tell_listening(&self, address: &[u8]) {
+        let address = str::from_utf8(address).unwrap_or("");
+        let _ = match self.players {
+            Some(players) => eprintln!(self.host; "listening on {address} for {players} players"),
+            None => eprintln!(self.host; "listening on {address}"),
+        };
+    }
+
+    /// Tells that it is connected to this host and port.
+    fn tell_connected(&self, host: &[u8], port: u16) {
+        let host = str::from_utf8(host).unwrap_or("");
+        let _ = eprintln!(self.host; "connected to {host}:{port}");
+    }
+}
+
+/// The text that bytes are.
+fn text_of(bytes: &[u8]) -> io::Result<&str> {
+    str::from_utf8(bytes).map_err(|_| io::Error::other("the name is no text"))
+}
+
+/// Lets a file go that takes nothing, and tells why.
+fn left(sink: FileSink) -> io::Error {
+    let failure = sink.failure();
+    sink.leave();
+    failure
+}
+
+/// Why the system refused, where it did.
+fn reason<T>(asked: &io::Result<T>) -> Option<io::Error> {
+    match asked {
+        Ok(_) => None,
+        Err(error) => Some(*error),
+    }
+}
+
+/// The recorder, where its file is there and takes what is written. Else the file is let go.
+fn settled(recorder: TranscriptRecorder<FileSink>) -> io::Result<TranscriptRecorder<FileSink>>
+    ensures { IfOk result (λ made. made.sink.faults ≡ 0) }
+{
+    if recorder.sink().settles() && recorder.sink().faults() == 0 {
+        return Ok(recorder);
+    }
+    Err(left(recorder.into_sink()))
 }
 
 /// The host without the brackets round an IPv6 address.
@@ -83,8 +147,7 @@ fn without_brackets(host: &[u8]) -> &[u8] {
     }
 }
 
-impl<'a, R: Net<Listener = TcpListener, Stream = TcpStream> + Files<File = File>> World
-    for TcpWorld<'a, R> {
+impl<'a, R: Net<Listener = TcpListener, Stream = TcpStream> + Threads> World for TcpWorld<'a, R> {
     type Door = TcpDoor;
 
     type UpIn = TcpInlet;
@@ -102,19 +165,37 @@ impl<'a, R: Net<Listener = TcpListener, Stream = TcpStream> + Files<File = File>
     fn listen(&mut self, address: &[u8]) -> Result<TcpDoor, Failed> {
         let door = self.open_door(address);
         self.tally.add_listen(door.is_ok());
-        door
+        self.refusal = reason(&door);
+        match door {
+            Ok(door) => {
+                self.tell_listening(address);
+                Ok(door)
+            }
+            Err(_) => Err(Failed),
+        }
     }
 
     fn dial(&mut self, host: &[u8], port: u16) -> Result<(TcpInlet, TcpOutlet), Failed> {
         let link = self.open_link(host, port);
         self.tally.add_dial(link.is_ok());
-        link
+        self.refusal = reason(&link);
+        match link {
+            Ok(link) => {
+                self.tell_connected(host, port);
+                Ok(link)
+            }
+            Err(_) => Err(Failed),
+        }
     }
 
     fn recorder(&mut self, name: &[u8]) -> Result<TranscriptRecorder<FileSink>, Failed> {
         let recorder = self.open_recorder(name);
         self.tally.add_record(recorder.is_ok());
-        recorder
+        self.refusal = reason(&recorder);
+        match recorder {
+            Ok(recorder) => Ok(recorder),
+            Err(_) => Err(Failed),
+        }
     }
 
     fn refuse(&mut self) {
@@ -132,11 +213,10 @@ impl<'a, R: Net<Listener = TcpListener, Stream = TcpStream> + Files<File = File>
             .add_link(inward.faults(), outward.faults(), inward.ends());
     }
 
-    /// Hands on to the file what is held back, which may fail, and closes it.
+    /// Waits until the file has all that was noted, as long as it goes on taking, and closes it.
     fn close_recorder(&mut self, recorder: TranscriptRecorder<FileSink>) -> Result<(), Failed> {
-        let mut sink = recorder.into_sink();
-        let flushed = sink.flush();
-        self.tally.add_recorder(sink.faults());
-        flushed
+        let (faults, written) = recorder.into_sink().close();
+        self.tally.add_recorder(faults);
+        written
     }
 }
