@@ -1,3 +1,4 @@
 pub mod CountLemmas
 pub mod CheckLemmas
 pub mod NamedLemmas
+pub mod ArgumentLemmas

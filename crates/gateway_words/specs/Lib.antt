@@ -1,3 +1,4 @@
 pub mod Kinds
 pub mod Words
 pub mod Named
+pub mod Arguments

@@ -10,19 +10,19 @@ use rtsp_uri::{BaseFault, read_base};
 use std::alloc::Global;
 
 /// The most digits of the word with the number of a drill's players.
-const CLIENTS_DIGITS: u32 = 2;
+pub const CLIENTS_DIGITS: u32 = 2;
 
 /// The most players of a drill.
-const MOST_CLIENTS: u64 = 64;
+pub const MOST_CLIENTS: u64 = 64;
 
 /// The most digits of the number from which a drill is made.
-const NUMBER_DIGITS: u32 = 19;
+pub const NUMBER_DIGITS: u32 = 19;
 
 /// The most digits of the word with the number of stations.
-const STATIONS_DIGITS: u32 = 2;
+pub const STATIONS_DIGITS: u32 = 2;
 
 /// The most bytes of a word that names a place outside.
-const LONGEST_NAME: usize = 255;
+pub const LONGEST_NAME: usize = 255;
 
 /// What a word after a command is.
 #[derive(Clone, Copy, Debug, PartialEq, Eq)]

@@ -1,17 +1,21 @@
-//! The words that the program is started with: its commands, what each word of them is, and which word is refused.
+//! The words that the program is started with: its commands, what each word of them is, which word is refused, and what is
+//! told of all that.
 //!
 //! The words after a command are told apart by a list of kinds. `clap` hands out the words of a line that was accepted by
-//! their names, and writes the usage and the help.
+//! their names, and lays out the usage and the help.
 #![tactic(auto)]
 
+mod arguments;
 mod help;
 mod kinds;
 mod named;
 mod options;
+mod refused;
 mod words;
 
-pub use help::Texts;
-pub use kinds::WordsFault;
-pub use named::program;
+pub use arguments::{Argument, Form, words_are_checked_as_arguments};
+pub use help::{command_help, program_help, program_version, usage_for};
+pub use kinds::{LONGEST_NAME, MOST_CLIENTS, WordsFault};
 pub use options::{MOST_STATIONS, ServeOptions};
+pub use refused::{argument_at, form_of, given_for, refusal_line};
 pub use words::{Command, asks_to_serve, read_words};

@@ -1,17 +1,24 @@
-//! The commands as clap knows them. It hands out their words by name, and writes the usage and the help.
+//! The commands as clap knows them. It hands out their words by name.
 ghost use Rattle.std.specs.Prelude.{◌≡◌, true, IfOk, Some, map};
 ghost use Rattle.std.specs.Option.{IsSome};
 ghost use Rattle.clap.specs.Words.{app_of, found_of, first_value, kind_of, new_app, takes, HasMatchesOf};
 ghost use Rattle.gateway_words.specs.Words.{replay_word, drill_word};
 ghost use Rattle.gateway_words.specs.Named.{with_needed, clap_line, serve_line, IsClapLine, IsServeLine, replay_app, drill_app, serve_app};
 
-use crate::help::{
-    DRILL_ABOUT, DRILL_WORDS, REPLAY_ABOUT, REPLAY_WORDS, SERVE_ABOUT, SERVE_WORDS, Texts,
-};
+use crate::arguments::{CLIENTS, FRONT, LISTEN, NUMBER, RECORD, STATIONS, UP};
 use clap::error::ErrorKind;
 use clap::{Arg, ArgMatches, Command, Error};
 use gate_bytes::Memory;
 use std::alloc::{AllocError, Global};
+
+/// The words of a replay.
+const REPLAY_WORDS: [&str; 2] = [FRONT, UP];
+
+/// The words of a drill.
+const DRILL_WORDS: [&str; 2] = [CLIENTS, NUMBER];
+
+/// The words of `serve`.
+const SERVE_WORDS: [&str; 5] = [FRONT, UP, LISTEN, STATIONS, RECORD];
 
 /// The words of a command of two, as clap handed them out.
 #[derive(Clone, Copy)]
@@ -38,15 +45,10 @@ pub struct ServeWords<'a> {
 }
 
 /// A command whose words have these names. Each of them is needed.
-fn command_of<'a>(
-    alloc: Global,
-    name: &'a str,
-    about: &'a str,
-    ids: &[&'a str],
-) -> Result<Command<'a>, AllocError>
+fn command_of<'a>(alloc: Global, name: &'a str, ids: &[&'a str]) -> Result<Command<'a>, AllocError>
     ensures { IfOk result (λ command. app_of command ≡ with_needed (new_app name.now) (map (λ id. id.now) ids.now)) }
 {
-    let mut command = Command::new(alloc, name).about(about);
+    let mut command = Command::new(alloc, name);
     let mut ids = ids;
     while let [id, more @ ..] = ids {
         command = command.arg(Arg::new(alloc, *id).required(true))?;
@@ -59,55 +61,21 @@ fn command_of<'a>(
 fn replay_command<'a>(alloc: Global) -> Result<Command<'a>, AllocError>
     ensures { IfOk result (λ command. app_of command ≡ replay_app) }
 {
-    command_of(alloc, "replay", REPLAY_ABOUT, REPLAY_WORDS.as_slice())
+    command_of(alloc, "replay", REPLAY_WORDS.as_slice())
 }
 
 /// The command that plays a drill.
 fn drill_command<'a>(alloc: Global) -> Result<Command<'a>, AllocError>
     ensures { IfOk result (λ command. app_of command ≡ drill_app) }
 {
-    command_of(alloc, "drill", DRILL_ABOUT, DRILL_WORDS.as_slice())
+    command_of(alloc, "drill", DRILL_WORDS.as_slice())
 }
 
 /// The command that serves players.
 fn serve_command<'a>(alloc: Global) -> Result<Command<'a>, AllocError>
     ensures { IfOk result (λ command. app_of command ≡ serve_app) }
 {
-    command_of(alloc, "serve", SERVE_ABOUT, SERVE_WORDS.as_slice())
-}
-
-/// The program, with all its commands and these texts.
-///
-/// # Errors
-///
-/// An [`AllocError`] where memory ran out.
-pub fn program<'a>(alloc: Global, texts: &'a Texts) -> Result<Command<'a>, AllocError> {
-    let program = with_command(bare_program(alloc, texts), replay_command(alloc))?;
-    let program = with_command(program, drill_command(alloc))?;
-    with_command(program, serve_command(alloc))
-}
-
-/// The program without its commands.
-fn bare_program<'a>(alloc: Global, texts: &'a Texts) -> Command<'a> {
-    Command::new(alloc, "rtspgate")
-        .version("0.1.0")
-        .about("A gateway between players of RTSP 1.0 and a server of RTSP 2.0.")
-        .override_usage(texts.usage.as_str())
-        .after_help(texts.more.as_str())
-        .disable_help_flag(true)
-        .disable_version_flag(true)
-        .disable_help_subcommand(true)
-}
-
-/// The program with a command more, where there was memory for that.
-fn with_command<'a>(
-    program: Command<'a>,
-    command: Result<Command<'a>, AllocError>,
-) -> Result<Command<'a>, AllocError> {
-    match command {
-        Ok(command) => program.subcommand(command),
-        Err(error) => Err(error),
-    }
+    command_of(alloc, "serve", SERVE_WORDS.as_slice())
 }
 
 /// What clap makes of a line that the command takes.
@@ -145,8 +113,8 @@ pub fn replay_words<'a>(alloc: Global, line: &'a [&'a str]) -> Result<TwoWords<'
     let command = replay_command(alloc)?;
     let matches = matches_in(command, line)?;
     Ok(TwoWords {
-        one: word_by(&matches, "FRONT"),
-        other: word_by(&matches, "UP"),
+        one: word_by(&matches, FRONT),
+        other: word_by(&matches, UP),
     })
 }
 
@@ -158,8 +126,8 @@ pub fn drill_words<'a>(alloc: Global, line: &'a [&'a str]) -> Result<TwoWords<'a
     let command = drill_command(alloc)?;
     let matches = matches_in(command, line)?;
     Ok(TwoWords {
-        one: word_by(&matches, "CLIENTS"),
-        other: word_by(&matches, "NUMBER"),
+        one: word_by(&matches, CLIENTS),
+        other: word_by(&matches, NUMBER),
     })
 }
 
@@ -171,10 +139,10 @@ pub fn serve_words<'a>(alloc: Global, line: &'a [&'a str]) -> Result<ServeWords<
     let command = serve_command(alloc)?;
     let matches = matches_in(command, line)?;
     Ok(ServeWords {
-        front: word_by(&matches, "FRONT"),
-        up: word_by(&matches, "UP"),
-        listen: word_by(&matches, "LISTEN"),
-        stations: word_by(&matches, "STATIONS"),
-        recorder: word_by(&matches, "RECORD"),
+        front: word_by(&matches, FRONT),
+        up: word_by(&matches, UP),
+        listen: word_by(&matches, LISTEN),
+        stations: word_by(&matches, STATIONS),
+        recorder: word_by(&matches, RECORD),
     })
 }

@@ -12,19 +12,19 @@ use rtsp_uri::{Base, BaseFault, Bases, read_base};
 use std::alloc::Global;
 
 /// The first word of the command that replays a transcript.
-const REPLAY: [u8; 6] = *b"replay";
+pub const REPLAY: [u8; 6] = *b"replay";
 
 /// The kinds of its other words.
 const REPLAY_KINDS: [Kind; 2] = [Kind::Base, Kind::Base];
 
 /// The first word of the command that plays a drill.
-const DRILL: [u8; 5] = *b"drill";
+pub const DRILL: [u8; 5] = *b"drill";
 
 /// The kinds of its other words.
 const DRILL_KINDS: [Kind; 2] = [Kind::Clients, Kind::Number];
 
 /// The first word of the command that serves players.
-const SERVE: [u8; 5] = *b"serve";
+pub const SERVE: [u8; 5] = *b"serve";
 
 /// The kinds of its other words.
 const SERVE_KINDS: [Kind; 5] = [
@@ -82,7 +82,7 @@ pub fn asks_to_serve(words: &[String]) -> bool
 }
 
 /// The first word, and those after it.
-fn first_word(words: &[String]) -> Option<(&str, &[String])>
+pub fn first_word(words: &[String]) -> Option<(&str, &[String])>
     ensures { MatchOption result (words.now ≡ []) (λ parts. map string_bytes words.now ≡ parts.0.now ∷ map string_bytes parts.1.now) }
 {
     let (first, rest) = words.split_first()?;

@@ -70,7 +70,8 @@ fn tell_line(name: &str, words: Words<'_>, answer: &mut Answer) -> bool {
         "status" => code::tell_status(words, answer),
         "reason" => code::tell_reason(words, answer),
         "words" => command::tell_words(words, answer),
-        "usage" => command::tell_usage(words.alloc, answer),
+        "refusal" => command::tell_refusal(words, answer),
+        "usage" => command::tell_usage(words, answer),
         _ => return false,
     }
     true

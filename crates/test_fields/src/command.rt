@@ -2,9 +2,9 @@
 
 use crate::words::Words;
 use case_text::{Answer, CaseFault};
-use gateway_words::{Command, ServeOptions, Texts, WordsFault, program, read_words};
+use gateway_words::{Command, ServeOptions, WordsFault, read_words, refusal_line, usage_for};
 use rtsp_uri::Bases;
-use std::alloc::Global;
+use std::alloc::{AllocError, Global};
 use std::str;
 
 /// Tells the command that words spell, or the place of the first that is refused.
@@ -72,16 +72,30 @@ fn push_options(answer: &mut Answer, options: &ServeOptions) {
     answer.push(options.recorder.as_bytes());
 }
 
-/// Tells the usage.
-pub fn tell_usage(alloc: Global, answer: &mut Answer) {
-    match usage_of(alloc) {
-        Ok(usage) => answer.push_shown(usage.as_bytes()),
-        Err(fault) => answer.fail(fault),
+/// Tells what is wrong with the first of some words that is refused.
+pub fn tell_refusal(words: Words<'_>, answer: &mut Answer) {
+    let alloc = words.alloc;
+    let list = words_of(words, answer);
+    match read_words(alloc, list.as_slice()) {
+        Ok(_) => answer.push(b"none"),
+        Err(WordsFault::Memory) => answer.fail(CaseFault::Memory),
+        Err(WordsFault::Place(place)) => {
+            push_text(answer, refusal_line(alloc, list.as_slice(), place))
+        }
     }
 }
 
-/// The usage.
-fn usage_of(alloc: Global) -> Result<String, CaseFault> {
-    let texts = Texts::new(alloc)?;
-    Ok(program(alloc, &texts)?.render_usage()?)
+/// Tells the usage that these words ask for.
+pub fn tell_usage(words: Words<'_>, answer: &mut Answer) {
+    let alloc = words.alloc;
+    let list = words_of(words, answer);
+    push_text(answer, usage_for(alloc, list.as_slice()));
+}
+
+/// Tells a text that was made.
+fn push_text(answer: &mut Answer, text: Result<String, AllocError>) {
+    match text {
+        Ok(text) => answer.push_shown(text.as_bytes()),
+        Err(AllocError) => answer.fail(CaseFault::Memory),
+    }
 }
