@@ -4,37 +4,47 @@ use case_text::{Answer, first_word};
 use gate_outside::{Arrived, Door, Failed, Got, Inlet, Outlet, Sink};
 use gate_transcript::{EntryKind, Recorder};
 use gate_world::World;
-use std::alloc::{Alloc, Global};
-use std::fs::{self, File, Files};
+use std::alloc::Global;
 use std::net::{Net, TcpListener, TcpStream};
-use std::str;
+use std::thread::Threads;
+use std::time::Duration;
+use std::{fs, str, thread};
 use tcp_world::{TcpDoor, TcpInlet, TcpOutlet, TcpWorld};
 
+/// How often a recording is looked at that is not closed.
+const MOST_LOOKS: u32 = 200;
+
+/// How long a look waits for the next one, in milliseconds.
+const LOOK_MILLISECONDS: u64 = 20;
+
 /// Does at the edge what a line says, and tells what came.
-pub fn tell_edge<R: Net<Listener = TcpListener, Stream = TcpStream> + Files<File = File> + Alloc>(
+pub fn tell_edge<R: Net<Listener = TcpListener, Stream = TcpStream> + Threads>(
     rt: &R,
+    host: HostRuntime,
     alloc: Global,
     line: &[u8],
     answer: &mut Answer,
 ) {
     let (word, name) = first_word(line);
     match str::from_utf8(word).unwrap_or("") {
-        "loopback" => tell_loopback(rt, alloc, answer),
-        "note-in" => tell_note(rt, alloc, name, answer),
-        "file" => tell_file(rt, answer),
-        "refused" => tell_refused(rt, alloc, answer),
+        "loopback" => tell_loopback(rt, host, alloc, answer),
+        "note-in" => tell_note(rt, host, alloc, name, answer),
+        "note-live" => tell_live(rt, host, alloc, answer),
+        "file" => tell_file(&host, answer),
+        "refused" => tell_refused(rt, host, alloc, answer),
         _ => answer.unreadable(),
     }
 }
 
 /// Opens a door at loopback, and tells whether it had nothing at first; then makes a link to it, and tells whether it carried
 /// bytes and ended at both sides; and how many doors, links and ends there were, and how many faults of links and doors.
-fn tell_loopback<R: Net<Listener = TcpListener, Stream = TcpStream> + Files<File = File>>(
+fn tell_loopback<R: Net<Listener = TcpListener, Stream = TcpStream> + Threads>(
     rt: &R,
+    host: HostRuntime,
     alloc: Global,
     answer: &mut Answer,
 ) {
-    let mut world = TcpWorld::new(rt, alloc);
+    let mut world = TcpWorld::new(rt, host, alloc);
     match world.listen(b"127.0.0.1:0") {
         Ok(door) => tell_door(alloc, &mut world, door, answer),
         Err(Failed) => answer.unreadable(),
@@ -111,29 +121,69 @@ fn has_ended(inward: &mut TcpInlet) -> bool {
 }
 
 /// Notes one entry in a file of this name. Whether it was noted is told, whether the recorder was closed without a fault, and
-/// how often it failed.
-fn tell_note<R: Net<Listener = TcpListener, Stream = TcpStream> + Files<File = File>>(
+/// how often it failed; or that it was refused.
+fn tell_note<R: Net<Listener = TcpListener, Stream = TcpStream> + Threads>(
     rt: &R,
+    host: HostRuntime,
     alloc: Global,
     name: &[u8],
     answer: &mut Answer,
 ) {
-    let mut world = TcpWorld::new(rt, alloc);
+    let mut world = TcpWorld::new(rt, host, alloc);
     match world.recorder(name) {
         Ok(mut recorder) => {
             let noted = recorder.note(EntryKind::Enter, 1, b"").is_ok();
             let closed = world.close_recorder(recorder).is_ok();
             answer.push_debug(alloc, &[noted, closed]);
         }
-        Err(Failed) => answer.unreadable(),
+        Err(Failed) => answer.push(b"refused"),
     }
     answer.push(b", ");
     answer.push_number(world.tally().record_faults);
 }
 
+/// Notes two entries in the file `live`. Whether its bytes were there each time before the recorder was closed is told, and
+/// whether that had no fault.
+fn tell_live<R: Net<Listener = TcpListener, Stream = TcpStream> + Threads>(
+    rt: &R,
+    host: HostRuntime,
+    alloc: Global,
+    answer: &mut Answer,
+) {
+    let mut world = TcpWorld::new(rt, host, alloc);
+    match world.recorder(b"live") {
+        Ok(mut recorder) => {
+            let first = recorder.note(EntryKind::Enter, 1, b"").is_ok() && is_there(&host, 17);
+            let second = recorder.note(EntryKind::Client, 1, b"hi").is_ok() && is_there(&host, 28);
+            let closed = world.close_recorder(recorder).is_ok();
+            answer.push_debug(alloc, &[first, second, closed]);
+        }
+        Err(Failed) => answer.push(b"refused"),
+    }
+}
+
+/// Whether the file `live` comes to have just so many bytes.
+fn is_there(host: &HostRuntime, bytes: usize) -> bool {
+    for _ in 0..MOST_LOOKS {
+        if length_of(host, "live") == Some(bytes) {
+            return true;
+        }
+        thread::sleep(host, Duration::from_millis(LOOK_MILLISECONDS));
+    }
+    false
+}
+
+/// How many bytes a file has.
+fn length_of(host: &HostRuntime, name: &str) -> Option<usize> {
+    match fs::read(host, name) {
+        Ok(bytes) => Some(bytes.len()),
+        Err(_fault) => None,
+    }
+}
+
 /// The bytes of the file `transcript` are told.
-fn tell_file<R: Files<File = File> + Alloc>(rt: &R, answer: &mut Answer) {
-    match fs::read(rt, "transcript") {
+fn tell_file(host: &HostRuntime, answer: &mut Answer) {
+    match fs::read(host, "transcript") {
         Ok(bytes) => answer.push_shown(bytes.as_slice()),
         Err(_fault) => answer.unreadable(),
     }
@@ -141,12 +191,13 @@ fn tell_file<R: Files<File = File> + Alloc>(rt: &R, answer: &mut Answer) {
 
 /// Asks for a door, a link and a recorder that can't be, and has a thread refused. Which of the three were made is told, and
 /// how often each of the four was refused.
-fn tell_refused<R: Net<Listener = TcpListener, Stream = TcpStream> + Files<File = File>>(
+fn tell_refused<R: Net<Listener = TcpListener, Stream = TcpStream> + Threads>(
     rt: &R,
+    host: HostRuntime,
     alloc: Global,
     answer: &mut Answer,
 ) {
-    let mut world = TcpWorld::new(rt, alloc);
+    let mut world = TcpWorld::new(rt, host, alloc);
     let made = [
         world.listen(b"\xff").is_ok(),
         world.dial(b"[::1", 1).is_ok(),

@@ -39,8 +39,8 @@
 //!   came back, `collect` takes it then and tells its connection, and `close` closes the desk.
 //!
 //! The world over TCP and files, which is told as the functions of `edge` say: `edge loopback` carries a link over loopback,
-//! `edge note-in NAME` notes one entry in a file, `edge file` tells the bytes of the one named `transcript`, and
-//! `edge refused` asks for what can't be.
+//! `edge note-in NAME` notes one entry in a file, `edge file` tells the bytes of the one named `transcript`, `edge note-live`
+//! looks at a file while it is noted in, and `edge refused` asks for what can't be.
 #![tactic(auto)]
 
 mod draft;
@@ -62,7 +62,7 @@ fn main(rt: HostRuntime) -> io::Result<ExitCode> {
     let alloc = rt.alloc();
     let mut script = Vec::new(alloc);
     rt.reader().read_to_end(&mut script)?;
-    let mut play = LinksPlay::new(&rt);
+    let mut play = LinksPlay::new(&rt, rt);
     match play_all(alloc, script.as_slice(), &mut play) {
         Ok(text) => {
             io::writer(&rt).write_all(text.as_bytes())?;

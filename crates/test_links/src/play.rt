@@ -7,11 +7,11 @@ use crate::reader::read_all;
 use crate::streams::{StreamsPlay, tell_numbers};
 use crate::writers::{DeskPlay, WriterPlay};
 use case_text::{Answer, CaseFault, Play, first_word};
-use std::alloc::{Alloc, Global};
-use std::fs::{File, Files};
+use std::alloc::Global;
 use std::net::{Net, TcpListener, TcpStream};
 use std::str;
 use std::sync::Wait;
+use std::thread::Threads;
 
 /// The things of a scene, and how the next one behaves.
 #[derive(Drop)]
@@ -99,34 +99,31 @@ impl LinksScene {
 
 /// A scene, where one has begun.
 #[derive(Drop)]
-pub struct LinksPlay<
-    'a,
-    R: Wait + Net<Listener = TcpListener, Stream = TcpStream> + Files<File = File> + Alloc,
-> {
+pub struct LinksPlay<'a, R: Wait + Net<Listener = TcpListener, Stream = TcpStream> + Threads> {
     rt: &'a R,
+    host: HostRuntime,
     scene: Option<Box<LinksScene>>,
 }
 
-impl<
-    'a,
-    R: Wait + Net<Listener = TcpListener, Stream = TcpStream> + Files<File = File> + Alloc,
-> LinksPlay<'a, R> {
+impl<'a, R: Wait + Net<Listener = TcpListener, Stream = TcpStream> + Threads> LinksPlay<'a, R> {
     /// No scene has begun.
-    pub fn new(rt: &'a R) -> LinksPlay<'a, R> {
-        LinksPlay { rt, scene: None }
+    pub fn new(rt: &'a R, host: HostRuntime) -> LinksPlay<'a, R> {
+        LinksPlay {
+            rt,
+            host,
+            scene: None,
+        }
     }
 }
 
-impl<
-    'a,
-    R: Wait + Net<Listener = TcpListener, Stream = TcpStream> + Files<File = File> + Alloc,
-> Play for LinksPlay<'a, R> {
+impl<'a, R: Wait + Net<Listener = TcpListener, Stream = TcpStream> + Threads> Play
+    for LinksPlay<'a, R> {
     fn play(&mut self, alloc: Global, line: &[u8], answer: &mut Answer) {
         let (word, more) = first_word(line);
         if word == b"scene".as_slice() {
             put(new_scene(alloc), &mut self.scene, answer);
         } else if word == b"edge".as_slice() {
-            tell_edge(self.rt, alloc, more, answer);
+            tell_edge(self.rt, self.host, alloc, more, answer);
         } else if let Some(scene) = &mut self.scene {
             scene.play(self.rt, alloc, word, more, answer);
         } else {
