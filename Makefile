@@ -39,13 +39,18 @@ serve-demo: $(PROGRAM)
 chart: $(PROGRAM)
 	tools/transcript chart $(PROGRAM) rtsp://gate.example rtsp://media.example < examples/sessions.rtspgw > docs/sessions.svg
 
-# What `demo` shows half a minute after a fresh clone, before any proof: the program is compiled with checks, and nothing of it
-# is kept.
+# What `demo` shows within minutes after a fresh clone, before any proof: the program is compiled once, with checks, and nothing
+# of it is kept. The replay's records are compared with those that it must give; then those are shown.
+TRIED := examples/out/try
 try:
-	@mkdir -p examples/out
-	cd crates/rtspgate && rt try -- $(REPLAY) < ../../examples/sessions.rtspgw > ../../examples/out/sessions.records
-	tools/transcript records < examples/out/sessions.records
-	cd crates/rtspgate && rt try -- drill 2 7
+	@rm -rf $(TRIED) && mkdir -p $(TRIED)
+	@cp examples/sessions.rtspgw $(TRIED)/replay
+	@printf '%s\n' $(REPLAY) > $(TRIED)/replay.args
+	@tools/transcript bin < examples/sessions.records.txt > $(TRIED)/replay.stdout
+	@: > $(TRIED)/drill
+	@printf '%s\n' drill 2 7 > $(TRIED)/drill.args
+	cd crates/rtspgate && rt try --cases ../../$(TRIED)
+	tools/transcript records < $(TRIED)/replay.stdout
 
 test:
 	rt ci
@@ -57,13 +62,16 @@ gate-cost:
 # Runs the program over real files and pipes: cuts, the gate's transcripts, bad words, faults of the source, the sink
 # and memory, and the longest transcript; and compares the records of drawn transcripts with a second reading of
 # docs/FORMATS.md. Then it serves players over sockets: ends of all kinds, bursts, a player that takes nothing, and what can't be
-# opened. tools/check_tools has tools/transcript look into recordings. Before all that it looks whether the pictures of docs/ are
-# as they would be drawn, and counts the must-fail edits.
+# opened; and where the host fails it: recordings that stall, few descriptors, a server that doesn't answer.
+# tools/check_tools has tools/transcript look into recordings. Before all that it looks whether the pictures of docs/ are as they
+# would be drawn, counts the must-fail edits, and compares the numbers of the pages with those of the help.
 check: $(PROGRAM)
 	tools/pictures --check
 	tools/edits --count
+	tools/check_pages $(PROGRAM)
 	tools/check_program $(PROGRAM)
 	tools/check_serve $(PROGRAM)
+	tools/check_world $(PROGRAM)
 	tools/check_tools $(PROGRAM)
 	tools/compare $(PROGRAM)
 

@@ -1,0 +1,203 @@
+"""A server, players and a run of `PROGRAM serve` over real sockets, and how a comparison is told; for tools/check_serve and
+tools/check_stands."""
+import os
+import socket
+import struct
+import subprocess
+import threading
+import time
+
+from interleaved import Frame, Items, written
+
+HOST, STREAM = "127.0.0.1", "/live"
+WAIT_SECONDS = 20
+
+# Ports below those that the system picks, so that nobody is given one meanwhile.
+ports = iter(range(10_000 + os.getpid() % 1_000 * 10, 32_768))
+# The names of comparisons that failed, and all runs.
+failed, runs = [], []
+# The name of the scene that a thread plays, where it has one.
+playing = threading.local()
+
+
+def check(name, is_right, found=""):
+    """Prints how a comparison ended, and remembers it where it failed."""
+    name = getattr(playing, "scene", "") + name
+    print("%-6s %s%s" % ("ok" if is_right else "FAILED", name, "" if is_right else ": %s" % (found,)), flush=True)
+    if not is_right:
+        failed.append(name)
+
+
+def end_runs():
+    """Ends all runs that are left."""
+    while runs:
+        run = runs.pop()
+        if run.poll() is None:
+            run.kill()
+            run.communicate()
+
+
+def listener():
+    """A socket that listens at a port of its own."""
+    one = socket.socket()
+    one.setsockopt(socket.SOL_SOCKET, socket.SO_REUSEADDR, 1)
+    one.bind((HOST, 0))
+    one.listen(128)
+    return one
+
+
+def free_port():
+    """A port that nobody listens at, each time another one."""
+    while True:
+        with socket.socket() as one:
+            one.setsockopt(socket.SOL_SOCKET, socket.SO_REUSEADDR, 1)
+            port = next(ports)
+            try:
+                one.bind((HOST, port))
+                return port
+            except OSError:
+                continue
+
+
+class Server:
+    """A server that answers each request at once, and grants what is asked for; what it was handed."""
+
+    def __init__(self):
+        self.door, self.heard, self.sessions, self.socket = listener(), b"", 0, None
+        self.url = "rtsp://%s:%d" % self.door.getsockname()
+        self.sending = threading.Lock()
+
+    def start(self):
+        """Waits for the gateway, and answers it from then on."""
+        self.door.settimeout(WAIT_SECONDS)
+        self.socket, _ = self.door.accept()
+        threading.Thread(target=self.serve, daemon=True).start()
+
+    def serve(self):
+        items = Items()
+        for piece in iter(lambda: self.receive(), b""):
+            self.heard += piece
+            for item in items.feed(piece):
+                if not isinstance(item, Frame) and item.method:
+                    self.send(self.answer(item))
+
+    def receive(self):
+        try:
+            return self.socket.recv(65_536)
+        except OSError:
+            return b""
+
+    def send(self, data):
+        with self.sending:
+            try:
+                self.socket.sendall(data)
+            except OSError:
+                pass
+
+    def answer(self, request):
+        """The bytes of a success."""
+        headers = [("CSeq", request.get("CSeq")), ("Session", request.get("Session"))]
+        if request.method == "SETUP":
+            self.sessions += 1
+            headers[1:] = [("Session", "session%d" % self.sessions), ("Transport", request.get("Transport"))]
+        if request.method == "PLAY":
+            headers += [("Range", "npt=0-"), ("RTP-Info", 'url="%s"' % request.uri)]
+        return written("RTSP/2.0 200 OK", headers)
+
+    def close(self):
+        """Ends the connection, as a server does that is stopped."""
+        self.socket.shutdown(socket.SHUT_RDWR)
+        self.socket.close()
+
+
+class Player:
+    """A player, and all that it was handed."""
+
+    def __init__(self, port, receive_room=None):
+        self.socket = socket.socket()
+        if receive_room:
+            self.socket.setsockopt(socket.SOL_SOCKET, socket.SO_RCVBUF, receive_room)
+        self.socket.settimeout(WAIT_SECONDS)
+        self.socket.connect((HOST, port))
+        self.number, self.heard, self.items, self.arrived = 0, b"", Items(), []
+
+    def ask(self, method, uri=STREAM, headers=()):
+        """Sends a request; its reply, or None where the connection ended."""
+        self.number += 1
+        self.socket.sendall(written("%s rtsp://gate.example%s RTSP/1.0" % (method, uri),
+                                    [("CSeq", str(self.number))] + list(headers)))
+        return self.next_item()
+
+    def next_item(self):
+        """The next item, or None at the end."""
+        while not self.arrived:
+            piece = self.socket.recv(65_536)
+            if not piece:
+                return None
+            self.heard += piece
+            self.arrived = list(self.items.feed(piece))
+        return self.arrived.pop(0)
+
+    def watch(self):
+        """Sets a session up and plays; its channel on the server's connection is that of the lowest free pair."""
+        reply = self.ask("SETUP", STREAM + "/1", [("Transport", "RTP/AVP/TCP;unicast;interleaved=0-1")])
+        self.session = reply.get("Session")
+        return self.ask("PLAY", STREAM, [("Session", self.session)])
+
+    def leave(self):
+        """Ends its side, and reads what is left."""
+        self.socket.shutdown(socket.SHUT_WR)
+        while self.next_item() is not None:
+            pass
+        self.socket.close()
+
+
+def begun(words):
+    """What a run with these words says on standard error once it listens and is connected."""
+    _, _, up, listen, stations, _ = words
+    return "listening on %s for %s players\nconnected to %s\n" % (listen, stations, up.partition("//")[2])
+
+
+def fault_lines(said):
+    """Those lines of what the program said on standard error that tell of a fault."""
+    return "\n".join(line for line in said.splitlines() if line.startswith("rtspgate: "))
+
+
+class Gateway:
+    """A run of the program between a server and the players of a port; `before` are words that stand before its own."""
+
+    def __init__(self, program, server, stations, folder, record=None, before=(), **options):
+        self.program, self.recording = program, record or folder / "recording"
+        self.bases, self.port = ["rtsp://gate.example", server.url], free_port()
+        words = ["serve", *self.bases, "%s:%d" % (HOST, self.port), str(stations), str(self.recording)]
+        self.begun, self.said = begun(words), ""
+        self.run = subprocess.Popen([*before, program, *words], stdout=subprocess.PIPE, stderr=subprocess.PIPE, **options)
+        runs.append(self.run)
+        server.start()
+
+    def end(self, seconds=WAIT_SECONDS):
+        """Its status, its fault lines and its report, and how long it took to end. `said` is all of standard error then."""
+        begin = time.monotonic()
+        try:
+            report, said = self.run.communicate(timeout=seconds)
+        except subprocess.TimeoutExpired:
+            self.run.kill()
+            report, said = self.run.communicate()
+        self.said = said.decode()
+        return self.run.returncode, fault_lines(self.said), report, time.monotonic() - begin
+
+    def records(self):
+        """What a replay of the recording hands to each connection, and to the server."""
+        with open(self.recording, "rb") as recording:
+            run = subprocess.run([self.program, "replay", *self.bases], stdin=recording, stdout=subprocess.PIPE)
+        check("the recording is replayed", run.returncode == 0, run.returncode)
+        players, server, at = {}, b"", 0
+        while at < len(run.stdout):
+            kind, conn, length = struct.unpack_from(">cII", run.stdout, at)
+            body = run.stdout[at + 9:at + 9 + length]
+            at += 9 + length
+            if kind == b"T":
+                players[conn] = players.get(conn, b"") + body
+            elif kind == b"Y":
+                server += body
+        return players, server
