@@ -34,6 +34,16 @@ abbrev pub Writes : {E : Type 0} → Option (List ℕ) → Option (List ℕ) →
 Writes before now piece (Ok n) = WritesOk before now piece n
 Writes before now piece (Err e) = now ≡ before
 
+-- A link took the first n bytes of the piece, maybe none.
+pub record OffersOk (before now : Option (List ℕ)) (piece : List ℕ) (n : ℕ) : Type 0 where
+  pub within : n ≤ length piece
+  pub grown : Grows before now (take n piece)
+
+-- What an offer did to what was written: a failed one wrote nothing.
+abbrev pub Offers : {E : Type 0} → Option (List ℕ) → Option (List ℕ) → List ℕ → Result ℕ E → Type 0
+Offers before now piece (Ok n) = OffersOk before now piece n
+Offers before now piece (Err e) = now ≡ before
+
 -- Some front of these bytes was written and the rest was not.
 pub record GrowsByFront (before now : Option (List ℕ)) (bytes : List ℕ) : Type 0 where
   pub front : List ℕ

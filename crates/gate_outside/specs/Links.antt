@@ -1,6 +1,7 @@
 -- What a read of an inlet gives and takes. This project's own.
-use Rattle.std.specs.Prelude.{◌≡◌, ℕ, ◌<◌, ◌≤◌, List, Option, Result, Ok, Err}
+use Rattle.std.specs.Prelude.{◌≡◌, ℕ, ◌<◌, ◌≤◌, List, [], Option, Result, Ok, Err}
 use Rattle.std.specs.List.{flat_map}
+use Rattle.std.specs.Option.{ForSome}
 use Rattle.gate_outside.specs.declared.links.Got.{Got}
 use Rattle.gate_outside.specs.declared.links.Got.TheVariants.{Bytes, End, NotYet}
 use Rattle.gate_outside.specs.declared.parts.Part.{Part}
@@ -18,6 +19,10 @@ Gets before now (Ok (Bytes n)) buffer = ReadsOk before now n buffer
 Gets before now (Ok End) buffer = now ≡ before
 Gets before now (Ok NotYet) buffer = now ≡ before
 Gets before now (Err e) buffer = now ≡ before
+
+-- No bytes are left, where they are told.
+abbrev pub NoneComes : Option (List ℕ) → Type 0
+NoneComes rest = ForSome rest (λ bytes. bytes ≡ [])
 
 -- the bytes of parts, one after another
 abbrev pub parts_joined : List Part → List ℕ

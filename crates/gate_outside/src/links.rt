@@ -2,7 +2,8 @@
 ghost use Rattle.std.specs.Prelude.{◌≡◌, ℕ, ◌<◌, List, Option, Ok, length, IfOk};
 ghost use Rattle.gate_outside.specs.declared.links.Got.TheVariants.{End, NotYet};
 ghost use Rattle.gate_outside.specs.Causes.{HasCause, RisesWith};
-ghost use Rattle.gate_outside.specs.Links.{Gets, FitsIn};
+ghost use Rattle.gate_outside.specs.Contents.{Offers};
+ghost use Rattle.gate_outside.specs.Links.{Gets, FitsIn, NoneComes};
 
 use crate::{Failed, Sink};
 
@@ -32,14 +33,15 @@ pub trait Inlet: Send {
     ghost ends: { Self → ℕ };
 
     /// Puts the next bytes in front of `into`, and answers how many they are. Every other answer takes nothing, and comes
-    /// only where its count rose.
+    /// only where its count rose; the end comes only where no bytes are left, where they are told.
     fn read(&mut self, into: &mut [u8]) -> Result<Got, Failed>
         requires { 0 < length into.old }
         ensures bound { IfOk result (λ got. FitsIn got (length into.new)) }
         ensures bytes { Gets (rest self.old) (rest self.new) result into.new }
         ensures cause { HasCause (faults self.old) (faults self.new) result }
         ensures waits { RisesWith (waits self.old) (waits self.new) (result ≡ Ok NotYet) }
-        ensures ends { RisesWith (ends self.old) (ends self.new) (result ≡ Ok End) };
+        ensures ends { RisesWith (ends self.old) (ends self.new) (result ≡ Ok End) }
+        ensures given { result ≡ Ok End → NoneComes (rest self.old) };
 
     /// Ends the link both ways, so that whoever waits for it in the other half is let go. It changes nothing that is told,
     /// and nothing else is promised.
@@ -52,6 +54,13 @@ pub trait Inlet: Send {
 
 /// Takes the bytes that go out by a link, in pieces.
 pub trait Outlet: Sink + Send {
+    /// Writes the first bytes of the piece, as many as the link takes without a long wait, and answers how many they are: 0
+    /// where it takes none for now. Fails only where the count of faults rose, and then nothing was written.
+    fn offer(&mut self, piece: &[u8]) -> Result<usize, Failed>
+        requires { 0 < length piece.now }
+        ensures bytes { Offers (Self.written self.old) (Self.written self.new) piece.now result }
+        ensures cause { HasCause (Self.faults self.old) (Self.faults self.new) result };
+
     /// Tells the other side that no more comes. What was written stays so, and it is no fault; nothing else is promised.
     fn shut(&mut self)
         ensures written { Self.written self.new ≡ Self.written self.old }

@@ -1,5 +1,5 @@
 //! A source and a sink in memory, whose calls go by a script.
-ghost use Rattle.std.specs.Prelude.{◌≡◌, ℕ, ◌<◌, ◌↔◌, ◌⊎◌, ◌+◌, ◌≤◌, List, [], length, drop, min, Some, IsErr, IfOk, OnOk, OnErr, Contains};
+ghost use Rattle.std.specs.Prelude.{◌≡◌, ℕ, ◌<◌, ◌↔◌, ◌⊎◌, ◌+◌, ◌≤◌, List, [], length, drop, min, Some, IsErr, IsTrue, IfOk, OnOk, OnErr, Contains};
 ghost use Rattle.gate_outside.specs.Causes.{HasCause, capped, counted_on};
 ghost use Rattle.gate_outside.specs.Contents.{Reads, Writes};
 
@@ -72,7 +72,7 @@ pub struct MemorySink {
 }
 
 impl MemorySink {
-    ghost use Rattle.gate_outside.specs.Memories.{bytes_written, write_script, writes_made, growths_refused, write_faults};
+    ghost use Rattle.gate_outside.specs.Memories.{NamesWait, bytes_written, write_script, writes_made, growths_refused, write_faults};
 
     /// A sink to which nothing was written.
     pub fn new(alloc: Global, script: Script) -> Self
@@ -101,6 +101,26 @@ impl MemorySink {
         ensures { result ≡ capped (write_faults self.now) }
     {
         self.calls.failed().saturating_add(self.refused)
+    }
+
+    /// Whether the next call takes nothing for now, where it does not fail.
+    pub(crate) fn pauses(&self) -> bool
+        ensures { IsTrue result ↔ NamesWait (write_script self.now) (writes_made self.now) }
+    {
+        self.calls.pauses()
+    }
+
+    /// Makes a call that takes nothing.
+    pub(crate) fn skip(&mut self) -> Result<usize, Failed>
+        ensures written { bytes_written self.new ≡ bytes_written self.old }
+        ensures none { IfOk result (λ n. n ≡ 0) }
+        ensures cause { HasCause (write_faults self.old) (write_faults self.new) result }
+        ensures fails { IsErr result ↔ Contains (write_script self.old).fails (writes_made self.old) }
+        ensures made { writes_made self.new ≡ counted_on (writes_made self.old) }
+        ensures script { write_script self.new ≡ write_script self.old }
+    {
+        self.calls.enter()?;
+        Ok(0)
     }
 }
 

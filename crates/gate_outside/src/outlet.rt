@@ -1,7 +1,7 @@
 //! An outlet in memory, which counts what it has taken for the inlets that wait for it.
 ghost use Rattle.std.specs.Prelude.{◌≡◌, ℕ, ◌<◌, ◌≤◌, ◌⊎◌, [], length, min, true, Some, IsErr, IfOk, OnErr, Contains};
 ghost use Rattle.gate_outside.specs.Causes.{HasCause, capped, counted_on};
-ghost use Rattle.gate_outside.specs.Contents.{Writes};
+ghost use Rattle.gate_outside.specs.Contents.{Writes, Offers};
 
 use crate::{Failed, MemorySink, Outlet, Script, Sink};
 use gate_bytes::Memory;
@@ -89,7 +89,27 @@ impl Sink for MemoryOutlet {
 }
 
 impl Outlet for MemoryOutlet {
-    ghost use Rattle.gate_outside.specs.MemoryLinks.{outlet_sink, is_shut};
+    ghost use Rattle.gate_outside.specs.Memories.{NamesWait, write_script, writes_made, write_faults};
+    ghost use Rattle.gate_outside.specs.MemoryLinks.{outlet_sink, bytes_sent, is_shut};
+
+    /// A link in memory takes nothing for now where the script says so of the call.
+    fn offer(&mut self, piece: &[u8]) -> Result<usize, Failed>
+        requires { 0 < length piece.now }
+        ensures bytes { Offers (Some (bytes_sent self.old)) (Some (bytes_sent self.new)) piece.now result }
+        ensures cause { HasCause (write_faults (outlet_sink self.old)) (write_faults (outlet_sink self.new)) result }
+        ensures fails { Contains (write_script (outlet_sink self.old)).fails (writes_made (outlet_sink self.old)) → IsErr result }
+        ensures pauses { NamesWait (write_script (outlet_sink self.old)) (writes_made (outlet_sink self.old)) → IfOk result (λ n. n ≡ 0) }
+        ensures made { writes_made (outlet_sink self.new) ≡ counted_on (writes_made (outlet_sink self.old)) }
+        ensures script { write_script (outlet_sink self.new) ≡ write_script (outlet_sink self.old) }
+    {
+        if self.sink.pauses() {
+            return self.sink.skip();
+        }
+        match self.write(piece) {
+            Ok(taken) => Ok(taken),
+            Err(failed) => Err(failed),
+        }
+    }
 
     fn shut(&mut self)
         ensures written { outlet_sink self.new ≡ outlet_sink self.old }
