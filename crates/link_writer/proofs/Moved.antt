@@ -1,11 +1,11 @@
 -- Bytes that are gathered and written, one after another.
-use Rattle.std.proofs.Common.{◌≡◌, ℕ, List, [], ◌∷◌, ◌++◌, Option, Some, None, Result, Ok, Err, refl, sym, ap, ◌∙◌, subst, append_assoc}
-use Rattle.std.proofs.lemmas.List.{append-nil, flat_map_more}
+use Rattle.std.proofs.Common.{◌≡◌, ℕ, List, [], ◌∷◌, ◌++◌, take, drop, Option, Some, None, Result, Ok, Err, refl, sym, ap, ◌∙◌, subst, append_assoc}
+use Rattle.std.proofs.lemmas.List.{append-nil, flat_map_more, take-append-drop}
 use Rattle.client_ports.specs.declared.parcel.Parcel.{Parcel}
 use Rattle.gate_outside.specs.Contents.{Grows, GrowsByFront, WritesAll}
 use Rattle.gate_outside.proofs.Fronts.{grows_twice}
 use Rattle.link_writer.specs.Parcels.{parcel_bytes, parcels_bytes}
-use Rattle.link_writer.specs.Turns.{Carries, Moves, Gathers}
+use Rattle.link_writer.specs.Turns.{Carries, Moves, Gathers, Forwards}
 
 -- nothing was written
 pub grows_none : (now : Option (List ℕ)) → Grows now now []
@@ -51,13 +51,7 @@ pub moves_all : {T E : Type 0} (before now : Option (List ℕ)) (mid left bytes 
 moves_all before now mid left bytes result none nothing h =
     subst (λ (x : List ℕ × List ℕ). Moves before now x.0 x.1 bytes result) (λ i. (sym none i, sym nothing i)) (all_moved before now bytes result h)
 
--- The bytes of these parcels came to those that were gathered.
-pub record Gathering (before now : Option (List ℕ)) (taken taken_now : List Parcel) (held left : List ℕ) : Type 0 where
-  pub more : List Parcel
-  pub taken_more : taken_now ≡ taken ++ more
-  pub carries : Carries before now held left (parcels_bytes more)
-
-pub gathering_begins : (now : Option (List ℕ)) (taken : List Parcel) (held : List ℕ) → Gathering now now taken taken held held
+pub gathering_begins : (now : Option (List ℕ)) (taken : List Parcel) (held : List ℕ) → Forwards now now taken taken held held
 gathering_begins now taken held = record {
   more = [];
   taken_more = sym (append-nil taken);
@@ -72,7 +66,7 @@ taken_one : (taken more between now : List Parcel) (parcel : Parcel) → between
 taken_one taken more between now parcel first then =
     then ∙ (ap (λ (l : List Parcel). l ++ parcel ∷ []) first ∙ append_assoc taken more (parcel ∷ []))
 
-pub gathering_more : (before between now : Option (List ℕ)) (taken some taken_now : List Parcel) (held mid left : List ℕ) (parcel : Parcel) → Gathering before between taken some held mid → taken_now ≡ some ++ parcel ∷ [] → Carries between now mid left (parcel_bytes parcel) → Gathering before now taken taken_now held left
+pub gathering_more : (before between now : Option (List ℕ)) (taken some taken_now : List Parcel) (held mid left : List ℕ) (parcel : Parcel) → Forwards before between taken some held mid → taken_now ≡ some ++ parcel ∷ [] → Carries between now mid left (parcel_bytes parcel) → Forwards before now taken taken_now held left
 gathering_more before between now taken some taken_now held mid left parcel h one carried = record {
   more = h.more ++ parcel ∷ [];
   taken_more = taken_one taken h.more some taken_now parcel h.taken_more one;
@@ -81,7 +75,7 @@ gathering_more before between now taken some taken_now held mid left parcel h on
 }
 
 -- the outlet failed at one more
-pub gathering_fails : {T E : Type 0} (before between now : Option (List ℕ)) (taken some taken_now : List Parcel) (held mid left : List ℕ) (parcel : Parcel) (e : E) → Gathering before between taken some held mid → taken_now ≡ some ++ parcel ∷ [] → GrowsByFront between now (mid ++ parcel_bytes parcel) → Gathers {T = T} {E = E} before now taken taken_now held left (Err e)
+pub gathering_fails : {T E : Type 0} (before between now : Option (List ℕ)) (taken some taken_now : List Parcel) (held mid left : List ℕ) (parcel : Parcel) (e : E) → Forwards before between taken some held mid → taken_now ≡ some ++ parcel ∷ [] → GrowsByFront between now (mid ++ parcel_bytes parcel) → Gathers {T = T} {E = E} before now taken taken_now held left (Err e)
 gathering_fails before between now taken some taken_now held mid left parcel e h one front = record {
   more = h.more ++ parcel ∷ [];
   taken_more = taken_one taken h.more some taken_now parcel h.taken_more one;
@@ -89,5 +83,26 @@ gathering_fails before between now taken some taken_now held mid left parcel e h
       (carries_fails before between now held mid (parcels_bytes h.more) (parcel_bytes parcel) h.carries front);
 }
 
-pub gathering_ends : {T E : Type 0} (before now : Option (List ℕ)) (taken taken_now : List Parcel) (held left : List ℕ) (u : T) → Gathering before now taken taken_now held left → Gathers {T = T} {E = E} before now taken taken_now held left (Ok u)
+pub gathering_ends : {T E : Type 0} (before now : Option (List ℕ)) (taken taken_now : List Parcel) (held left : List ℕ) (u : T) → Forwards before now taken taken_now held left → Gathers {T = T} {E = E} before now taken taken_now held left (Ok u)
 gathering_ends before now taken taken_now held left u h = record { more = h.more; taken_more = h.taken_more; moves = h.carries }
+
+-- the outlet took the first of what is held
+pub offered : (before now : Option (List ℕ)) (held left : List ℕ) (n : ℕ) → left ≡ drop n held → Grows before now (take n held) → Carries before now held left []
+offered before now held left n rest grown = record {
+  put = take n held;
+  whole = ap (λ (l : List ℕ). take n held ++ l) rest ∙ (take-append-drop n held ∙ sym (append-nil held));
+  grown = grown;
+}
+
+-- the outlet failed, and took nothing
+pub offer_failed : (before now : Option (List ℕ)) (bytes : List ℕ) → now ≡ before → GrowsByFront before now bytes
+offer_failed before now bytes same = record {
+  front = [];
+  rest = bytes;
+  whole = refl;
+  grown = subst (λ (l : Option (List ℕ)). Grows before l []) (sym same) (grows_none before);
+}
+
+-- nothing was held, and nothing was offered
+pub none_offered : (now : Option (List ℕ)) (held : List ℕ) → Carries now now held held []
+none_offered now held = record { put = []; whole = sym (append-nil held); grown = grows_none now }

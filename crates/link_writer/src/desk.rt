@@ -5,6 +5,7 @@ use crate::Writer;
 use crate::place::{Found, Slot};
 use client_ports::Bell;
 use gate_outside::Outlet;
+use std::sync::atomic::{AtomicU64, Ordering};
 use std::sync::{Mutex, Wait};
 use std::time::{Clock, Duration};
 
@@ -16,6 +17,7 @@ use std::time::{Clock, Duration};
 pub struct Desk<O: Outlet> {
     slot: Mutex<Slot<Writer<O>>>,
     bell: Bell,
+    moves: AtomicU64,
 }
 
 impl<O: Outlet + Drop> Desk<O> {
@@ -24,7 +26,18 @@ impl<O: Outlet + Drop> Desk<O> {
         Desk {
             slot: Mutex::new(Slot::new()),
             bell: Bell::new(),
+            moves: AtomicU64::new(0),
         }
+    }
+
+    /// Counts that a writer has written something.
+    pub fn tell_move(&self) {
+        self.moves.fetch_add(1, Ordering::Relaxed);
+    }
+
+    /// How often that was told. So a reader that waits for its writer sees whether it gets on.
+    pub fn moves(&self) -> u64 {
+        self.moves.load(Ordering::Relaxed)
     }
 
     /// Hands a writer to the thread, and wakes it. Where there is a writer already, or the desk is closed, it is given back.

@@ -1,9 +1,9 @@
-//! The outlet of a writer and the end of the port whose parcels are written to it.
+//! The outlet of a writer, the end of the port whose parcels are written to it, and the bytes between them.
 ghost use Rattle.std.specs.Prelude.{◌≡◌, ◌≤◌, true, false, []};
 ghost use Rattle.client_ports.specs.Ends.{takers_port, taken_of, told_of, WasEmpty};
 ghost use Rattle.gate_outside.specs.Causes.{HasCause, Rose};
 ghost use Rattle.link_writer.specs.Parcels.{parcel_bytes};
-ghost use Rattle.link_writer.specs.Turns.{Moves, Gathers, Empties, WritesFrom, DoesTurn, is_failure};
+ghost use Rattle.link_writer.specs.Turns.{Moves, Gathers, GathersFrom, Empties, DoesTurn, is_failure, turn_of};
 ghost use Rattle.link_writer.specs.declared.turn.Turn.TheVariants as turns;
 
 use crate::{Gather, MOST_PARCELS, Turn};
@@ -12,11 +12,14 @@ use gate_outside::{Failed, Outlet, Sink, write_all};
 use std::sync::Wait;
 use text_pool::TextPool;
 
-/// An outlet, and the end of the port whose parcels are written to it.
+/// An outlet, the end of the port whose parcels are written to it, and what was taken and is not written yet.
 #[derive(Drop)]
 pub struct Ends<O: Outlet> {
     pub outlet: O,
     pub taker: Taker,
+    pub held: Gather,
+    /// Whether much may be held for an outlet that takes nothing for now.
+    pub patient: bool,
     /// Whether the outlet has failed.
     pub failed: bool,
 }
@@ -39,83 +42,102 @@ fn keep(spent: &mut TextPool, parcel: Parcel) {
     }
 }
 
-/// Writes what was gathered, which empties the buffer.
-fn write_out<O: Sink>(outlet: &mut O, gather: &mut Gather) -> Result<(), Failed>
-    ensures moves { Moves (O.written outlet.old) (O.written outlet.new) gather.old gather.new [] result }
-    ensures empty { Empties result gather.new }
+/// Writes what is held, however long that takes.
+fn write_out<O: Sink>(outlet: &mut O, held: &mut Gather) -> Result<(), Failed>
+    ensures moves { Moves (O.written outlet.old) (O.written outlet.new) held.old held.new [] result }
+    ensures empty { Empties result held.new }
     ensures cause { HasCause (O.faults outlet.old) (O.faults outlet.new) result }
 {
-    write_all(outlet, gather.as_bytes())?;
-    gather.clear();
+    write_all(outlet, held.as_bytes())?;
+    held.clear();
     Ok(())
 }
 
-/// Puts the bytes behind those that were gathered. Where there is no room, what was gathered is written first; and where
-/// they don't fit into the whole buffer they are written from where they stand.
-fn add<O: Sink>(outlet: &mut O, gather: &mut Gather, bytes: &[u8]) -> Result<(), Failed>
-    ensures moves { Moves (O.written outlet.old) (O.written outlet.new) gather.old gather.new bytes.now result }
+/// Puts the bytes behind those that are held. Where there is no room, what is held is written first; and where they don't
+/// fit into the whole buffer they are written from where they stand.
+fn add<O: Sink>(outlet: &mut O, held: &mut Gather, bytes: &[u8]) -> Result<(), Failed>
+    ensures moves { Moves (O.written outlet.old) (O.written outlet.new) held.old held.new bytes.now result }
     ensures cause { HasCause (O.faults outlet.old) (O.faults outlet.new) result }
 {
-    if gather.add(bytes) {
+    if held.add(bytes) {
         return Ok(());
     }
-    write_out(outlet, gather)?;
-    if gather.add(bytes) {
+    write_out(outlet, held)?;
+    if held.add(bytes) {
         return Ok(());
     }
     write_all(outlet, bytes)
 }
 
-/// Gathers the parcels that are there, so many at most, and keeps their texts. Where the buffer is full they are written.
+/// Takes the parcels that are there, as far as there is room and so many at most, and keeps their texts.
 fn gather_more<O: Sink, R: Wait>(
     rt: &R,
     outlet: &mut O,
     taker: &mut Taker,
-    gather: &mut Gather,
+    held: &mut Gather,
     spent: &mut TextPool,
 ) -> Result<(), Failed>
     ensures port { takers_port taker.new ≡ takers_port taker.old }
     ensures told { told_of taker.new ≡ told_of taker.old }
-    ensures gathers { Gathers (O.written outlet.old) (O.written outlet.new) (taken_of taker.old) (taken_of taker.new) gather.old gather.new result }
+    ensures gathers { Gathers (O.written outlet.old) (O.written outlet.new) (taken_of taker.old) (taken_of taker.new) held.old held.new result }
     ensures cause { HasCause (O.faults outlet.old) (O.faults outlet.new) result }
 {
     for _ in 1..MOST_PARCELS {
+        if held.is_full() {
+            return Ok(());
+        }
         let Some(parcel) = taker.take(rt) else {
             return Ok(());
         };
-        add(outlet, gather, bytes_of(&parcel))?;
+        add(outlet, held, bytes_of(&parcel))?;
         keep(spent, parcel);
     }
     Ok(())
 }
 
+/// Offers what is held to the outlet, where it is some. Whether it took any.
+fn offer<O: Outlet>(outlet: &mut O, held: &mut Gather) -> Result<bool, Failed>
+    ensures moves { Moves (O.Sink.written outlet.old) (O.Sink.written outlet.new) held.old held.new [] result }
+    ensures cause { HasCause (O.Sink.faults outlet.old) (O.Sink.faults outlet.new) result }
+{
+    if held.is_empty() {
+        return Ok(true);
+    }
+    let count = outlet.offer(held.as_bytes())?;
+    held.forget(count);
+    Ok(count > 0)
+}
+
 impl<O: Outlet> Ends<O> {
-    /// Writes this parcel, which was taken, and those that are there behind it.
-    fn write_from<R: Wait>(
-        &mut self,
-        rt: &R,
-        gather: &mut Gather,
-        spent: &mut TextPool,
-        first: &Parcel,
-    ) -> Result<(), Failed>
-        ensures port { takers_port self.new.taker ≡ takers_port self.old.taker }
-        ensures told { told_of self.new.taker ≡ told_of self.old.taker }
-        ensures failed { self.new.failed ≡ self.old.failed }
-        ensures writes { WritesFrom first.now (O.written self.old.outlet) (O.written self.new.outlet) (taken_of self.old.taker) (taken_of self.new.taker) result }
-        ensures cause { HasCause (O.faults self.old.outlet) (O.faults self.new.outlet) result }
+    /// Writes what is held, however long that takes. No parcel is taken.
+    pub fn finish(&mut self) -> Turn
+        ensures taker { self.new.taker ≡ self.old.taker }
+        ensures failed { self.new.failed ≡ is_failure result }
+        ensures did { DoesTurn result (O.written self.old.outlet) (O.written self.new.outlet) (taken_of self.old.taker) (taken_of self.new.taker) self.old.held self.new.held }
+        ensures later { O.faults self.old.outlet ≤ O.faults self.new.outlet }
+        ensures rose { result ≡ turns.Failed → self.old.failed ≡ false → Rose (O.faults self.old.outlet) (O.faults self.new.outlet) }
+        ensures done { self.new.failed ≡ false → self.new.held ≡ [] }
+        ensures over { self.old.failed ≡ true → self.new ≡ self.old }
     {
-        gather.clear();
-        add(&mut self.outlet, gather, bytes_of(first))?;
-        gather_more(rt, &mut self.outlet, &mut self.taker, gather, spent)?;
-        write_out(&mut self.outlet, gather)
+        if self.failed {
+            return Turn::Failed;
+        }
+        match write_out(&mut self.outlet, &mut self.held) {
+            Ok(()) => Turn::Idle,
+            Err(Failed) => {
+                self.failed = true;
+                Turn::Failed
+            }
+        }
     }
 
-    /// Writes the parcels that are there, where the outlet has not failed. Texts that were written go to the pool.
-    pub fn turn<R: Wait>(&mut self, rt: &R, gather: &mut Gather, spent: &mut TextPool) -> Turn
+    /// Takes the parcels that are there, as far as there is room, and offers what is held to the outlet, where that has not
+    /// failed. Texts that are done with go to the pool.
+    pub fn turn<R: Wait>(&mut self, rt: &R, spent: &mut TextPool) -> Turn
         ensures port { takers_port self.new.taker ≡ takers_port self.old.taker }
         ensures told { told_of self.new.taker ≡ told_of self.old.taker }
         ensures failed { self.new.failed ≡ is_failure result }
-        ensures did { DoesTurn result (O.written self.old.outlet) (O.written self.new.outlet) (taken_of self.old.taker) (taken_of self.new.taker) }
+        ensures did { DoesTurn result (O.written self.old.outlet) (O.written self.new.outlet) (taken_of self.old.taker) (taken_of self.new.taker) self.old.held self.new.held }
         ensures later { O.faults self.old.outlet ≤ O.faults self.new.outlet }
         ensures rose { result ≡ turns.Failed → self.old.failed ≡ false → Rose (O.faults self.old.outlet) (O.faults self.new.outlet) }
         ensures empty { result ≡ turns.Idle → WasEmpty self.new.taker }
@@ -124,18 +146,73 @@ impl<O: Outlet> Ends<O> {
         if self.failed {
             return Turn::Failed;
         }
-        let Some(first) = self.taker.take(rt) else {
-            return Turn::Idle;
-        };
-        match self.write_from(rt, gather, spent, &first) {
-            Ok(()) => {
+        if self.held.is_full() {
+            let wrote = self.offer_held();
+            return self.turn_of(wrote);
+        }
+        match self.taker.take(rt) {
+            Some(first) => {
+                let wrote = self.forward(rt, spent, &first);
                 keep(spent, first);
-                Turn::Wrote
+                self.turn_of(wrote)
             }
+            None if self.held.is_empty() => Turn::Idle,
+            None => {
+                let wrote = self.offer_held();
+                self.turn_of(wrote)
+            }
+        }
+    }
+
+    /// The turn in which an offer had this outcome, which is kept where it failed.
+    fn turn_of(&mut self, wrote: Result<bool, Failed>) -> Turn
+        requires { self.old.failed ≡ false }
+        ensures turn { result ≡ turn_of wrote }
+        ensures failed { self.new.failed ≡ is_failure result }
+        ensures outlet { self.new.outlet ≡ self.old.outlet }
+        ensures taker { self.new.taker ≡ self.old.taker }
+        ensures held { self.new.held ≡ self.old.held }
+    {
+        match wrote {
+            Ok(true) => Turn::Wrote,
+            Ok(false) => Turn::Stuck,
             Err(Failed) => {
                 self.failed = true;
                 Turn::Failed
             }
         }
+    }
+
+    /// Offers what is held. Where the outlet takes nothing for now, there is room for more then, as far as much may be held.
+    fn offer_held(&mut self) -> Result<bool, Failed>
+        ensures taker { self.new.taker ≡ self.old.taker }
+        ensures failed { self.new.failed ≡ self.old.failed }
+        ensures moves { Moves (O.written self.old.outlet) (O.written self.new.outlet) self.old.held self.new.held [] result }
+        ensures cause { HasCause (O.faults self.old.outlet) (O.faults self.new.outlet) result }
+    {
+        let wrote = offer(&mut self.outlet, &mut self.held)?;
+        if self.patient && !wrote {
+            self.held.grow();
+        }
+        Ok(wrote)
+    }
+
+    /// Puts the bytes of this parcel, which was taken, and of those that are there behind it to those that are held, and
+    /// offers them.
+    fn forward<R: Wait>(
+        &mut self,
+        rt: &R,
+        spent: &mut TextPool,
+        first: &Parcel,
+    ) -> Result<bool, Failed>
+        ensures port { takers_port self.new.taker ≡ takers_port self.old.taker }
+        ensures told { told_of self.new.taker ≡ told_of self.old.taker }
+        ensures failed { self.new.failed ≡ self.old.failed }
+        ensures forwards { GathersFrom first.now (O.written self.old.outlet) (O.written self.new.outlet) (taken_of self.old.taker) (taken_of self.new.taker) self.old.held self.new.held result }
+        ensures cause { HasCause (O.faults self.old.outlet) (O.faults self.new.outlet) result }
+    {
+        add(&mut self.outlet, &mut self.held, bytes_of(first))?;
+        gather_more(rt, &mut self.outlet, &mut self.taker, &mut self.held, spent)?;
+        self.offer_held()
     }
 }

@@ -1,67 +1,156 @@
-//! The buffer in which a thread gathers what it writes.
-ghost use Rattle.std.specs.Prelude.{◌≡◌, ◌≤◌, ◌+◌, [], ◌++◌, length, nat_le, IfOk};
+//! The bytes that a writer took and has not written yet.
+ghost use Rattle.std.specs.Prelude.{◌≡◌, ◌<◌, ◌≤◌, ◌==◌, true, [], ◌++◌, length, drop};
 ghost use Rattle.std.specs.Bool.{OnTrue, OnFalse};
-ghost use Rattle.std.specs.Vec.{vec_capacity};
 
-use gate_bytes::Memory;
+use gate_bytes::{Memory, after};
 use std::alloc::Global;
 use std::marker::Model;
+use std::mem;
 
-/// The most bytes that are gathered before they are written (this project's own).
-pub const BUFFER_SIZE: usize = 65_536;
+/// With so many bytes or more, no more are gathered before they are written (this project's own).
+pub const WRITE_SIZE: usize = 65_536;
 
-/// A buffer of [`BUFFER_SIZE`] bytes, made once by a thread for all that it writes. Contracts see it as the bytes in it.
+/// The bytes that a buffer has room for: those that are gathered at once, and a message or a frame behind them (this
+/// project's own).
+pub const BUFFER_SIZE: usize = 139_264;
+
+/// With so many bytes or more, no more are taken for an outlet that takes nothing for now (this project's own).
+pub const MOST_HELD: usize = 4_194_304;
+
+/// The bytes that the buffer for such an outlet has room for.
+const LARGE_SIZE: usize = MOST_HELD + BUFFER_SIZE;
+
+/// The bytes that were taken and are not written yet, in one buffer. Contracts see it as these bytes.
 #[derive(Drop)]
 pub struct Gather {
+    alloc: Global,
     bytes: Vec<u8>,
-    ghost fits: { length bytes.items ≤ 65536 },
-    ghost room: { 65536 ≤ vec_capacity bytes },
+    /// So many bytes at the front are written.
+    start: usize,
+    /// The small buffer, while the large one is in use.
+    spare: Option<Vec<u8>>,
+    ghost within: { start ≤ length bytes.items },
 }
 
 impl Model for Gather {
-    ghost use Rattle.std.specs.Prelude.{ℕ, List};
+    ghost use Rattle.std.specs.Prelude.{ℕ, List, drop};
 
     ghost Value = { List ℕ };
 
-    ghost view = { λ gather. gather.bytes.items };
+    ghost view = { λ gather. drop gather.start gather.bytes.items };
 }
 
 impl Gather {
-    /// An empty buffer.
-    pub fn new(alloc: Global) -> Result<Gather, Memory>
-        ensures { IfOk result (λ gather. gather ≡ []) }
+    /// An empty buffer. Where memory is wanting it has no room.
+    pub(crate) fn new(alloc: Global) -> Gather
+        ensures { result ≡ [] }
     {
-        Ok(Gather {
-            bytes: Vec::with_capacity(alloc, BUFFER_SIZE)?,
-        })
+        let bytes = match Vec::with_capacity(alloc, BUFFER_SIZE) {
+            Ok(bytes) => bytes,
+            Err(_) => Vec::new(alloc),
+        };
+        Gather {
+            alloc,
+            bytes,
+            start: 0,
+            spare: None,
+        }
     }
 
     /// The bytes in it.
     pub(crate) fn as_bytes(&self) -> &[u8]
         ensures { result.now ≡ self.now }
     {
-        self.bytes.as_slice()
+        after(self.bytes.as_slice(), self.start)
     }
 
-    /// Empties it.
-    pub(crate) fn clear(&mut self)
-        ensures { self.new ≡ [] }
+    /// Whether no bytes are in it.
+    pub(crate) fn is_empty(&self) -> bool
+        ensures { result ≡ (length self.now == 0) }
     {
-        self.bytes.clear();
+        self.as_bytes().is_empty()
     }
 
-    /// Appends the bytes, where there is room for them all. It takes no memory.
+    /// Whether no more are to be put into it: it holds many, or so many were written that those left are few beside them.
+    pub(crate) fn is_full(&self) -> bool
+        ensures { result ≡ true → 0 < length self.now }
+    {
+        let held = self.as_bytes().len();
+        let most = if self.spare.is_some() {
+            MOST_HELD
+        } else {
+            WRITE_SIZE
+        };
+        held >= most || (self.bytes.len() >= most && self.start < held)
+    }
+
+    /// Appends the bytes, where there is room for them all.
     pub(crate) fn add(&mut self, bytes: &[u8]) -> bool
-        ensures room { result ≡ nat_le (length self.old + length bytes.now) 65536 }
         ensures added { OnTrue result (self.new ≡ self.old ++ bytes.now) }
         ensures same { OnFalse result (self.new ≡ self.old) }
     {
-        if bytes.len() > BUFFER_SIZE - self.bytes.len() {
+        if self.room() < bytes.len() {
+            self.close_up();
+        }
+        if self.room() < bytes.len() {
             return false;
         }
-        let Ok(()) = self.bytes.extend_from_slice(bytes) else {
-            unreachable!()
-        };
-        true
+        self.bytes.extend_from_slice(bytes).is_ok()
+    }
+
+    /// How many bytes more there is room for at its end.
+    fn room(&self) -> usize {
+        self.bytes.capacity().saturating_sub(self.bytes.len())
+    }
+
+    /// Makes room at its end, where bytes at its front are written and memory can be had.
+    fn close_up(&mut self)
+        ensures { self.new ≡ self.old }
+    {
+        if self.start > 0 {
+            let size = self.bytes.capacity();
+            let _ = self.renew(size);
+        }
+    }
+
+    /// Takes a large buffer, where memory can be had.
+    pub(crate) fn grow(&mut self)
+        ensures { self.new ≡ self.old }
+    {
+        if self.spare.is_none() {
+            self.spare = self.renew(LARGE_SIZE).ok();
+        }
+    }
+
+    /// Takes a new buffer of this size, and gives back the old one.
+    fn renew(&mut self, size: usize) -> Result<Vec<u8>, Memory>
+        ensures { self.new ≡ self.old }
+    {
+        let mut bytes = Vec::with_capacity(self.alloc, size)?;
+        bytes.extend_from_slice(self.as_bytes())?;
+        self.start = 0;
+        Ok(mem::replace(&mut self.bytes, bytes))
+    }
+
+    /// Forgets so many bytes at its front, which are written. Once none is left, a large buffer is given back.
+    pub(crate) fn forget(&mut self, count: usize)
+        requires { count ≤ length self.old }
+        ensures { self.new ≡ drop count self.old }
+    {
+        self.start += count;
+        if self.start == self.bytes.len() {
+            self.clear();
+        }
+    }
+
+    /// Empties it, and gives back a large buffer.
+    pub(crate) fn clear(&mut self)
+        ensures { self.new ≡ [] }
+    {
+        if let Some(small) = self.spare.take() {
+            self.bytes = small;
+        }
+        self.bytes.clear();
+        self.start = 0;
     }
 }

@@ -1,14 +1,16 @@
 //! What comes of a turn of a writer.
 
-/// The most parcels that one turn writes (this project's own), so that no turn is endless.
+/// The most parcels that one turn takes (this project's own), so that no turn is endless.
 pub const MOST_PARCELS: u32 = 4_096;
 
 /// What came of a turn of a writer.
 #[derive(Clone, Copy, Debug, PartialEq, Eq)]
 pub enum Turn {
-    /// Parcels were taken, and all their bytes were written.
+    /// Bytes were written. Others may be held.
     Wrote,
-    /// No parcel was there.
+    /// Bytes are held, and the outlet took none of them for now.
+    Stuck,
+    /// No parcel was there, and no byte is held.
     Idle,
     /// The outlet failed, in this turn or before.
     Failed,

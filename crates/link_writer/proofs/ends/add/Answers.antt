@@ -5,7 +5,7 @@ use Rattle.link_writer.proofs.ends.add.Goals as goal
 pub returns-clause-moves : goal.returns-clause-moves
 returns-clause-moves g c =
     moves_then (g.O.Sink.written c.args.outlet.now) (g.O.Sink.written c.write_out.new.outlet) (g.O.Sink.written c.write_all.new.sink)
-    c.args.gather.now c.write_out.new.gather c.add-2.new.self [] c.args.bytes.now c.write_all.result
+    c.args.held.now c.write_out.new.held c.add-2.new.self [] c.args.bytes.now c.write_all.result
     (rw c.if-add.ensures.same at c.in_ok-write_out.ensures.moves)
-    (moves_all (g.O.Sink.written c.write_out.new.outlet) (g.O.Sink.written c.write_all.new.sink) c.write_out.new.gather c.add-2.new.self c.args.bytes.now c.write_all.result
+    (moves_all (g.O.Sink.written c.write_out.new.outlet) (g.O.Sink.written c.write_all.new.sink) c.write_out.new.held c.add-2.new.self c.args.bytes.now c.write_all.result
     c.in_ok-write_out.ensures.empty (c.if-add-2.ensures.same ∙ c.in_ok-write_out.ensures.empty) c.write_all.ensures.bytes)

@@ -10,7 +10,7 @@ returns-in_err-add-clause-gathers g c =
     rw (p.1, p.2)
     (gathering_fails (g.O.Sink.written c.args.outlet.now) (g.O.Sink.written c.loop.outlet) (g.O.Sink.written c.add.new.outlet)
     (taken_of c.args.taker.now) (taken_of c.loop.taker) (taken_of c.take.new.self)
-    c.args.gather.now c.loop.gather c.add.new.gather c.in-Some.parcel _
+    c.args.held.now c.loop.held c.add.new.held c.in-Some.parcel _
     c.loop.invariant.2 c.in-Some.ensures.some
     (rw c.bytes_of.ensures at c.in_err-add.ensures.moves))
 
@@ -20,7 +20,7 @@ loop-preserved g c = (
   c.take.ensures.told ∙ c.loop.invariant.1,
   gathering_more (g.O.Sink.written c.args.outlet.now) (g.O.Sink.written c.loop.outlet) (g.O.Sink.written c.add.new.outlet)
       (taken_of c.args.taker.now) (taken_of c.loop.taker) (taken_of c.take.new.self)
-      c.args.gather.now c.loop.gather c.add.new.gather c.in-Some.parcel
+      c.args.held.now c.loop.held c.add.new.held c.in-Some.parcel
       c.loop.invariant.2 c.in-Some.ensures.some
       (rw c.bytes_of.ensures at c.in_ok-add.ensures.moves),
   omega (arith, c.loop.invariant.3, c.add.ensures.cause.later),

@@ -1,10 +1,10 @@
 use Rattle.std.proofs.Common.{◌≡◌, ◌≤◌}
 use Rattle.client_ports.specs.Ends.{takers_port, taken_of, told_of}
-use Rattle.link_writer.proofs.Moved.{Gathering}
+use Rattle.link_writer.specs.Turns.{Forwards}
 use Rattle.link_writer.proofs.ends.gather_more.Given as goal
 
 -- the parcels taken so far were gathered, and no fault was met
 abbrev pub invariant-loop : goal.invariant-loop
 invariant-loop g l = (takers_port l.taker ≡ takers_port l.fn.taker) × (told_of l.taker ≡ told_of l.fn.taker)
-    × Gathering (g.O.Sink.written l.fn.outlet) (g.O.Sink.written l.outlet) (taken_of l.fn.taker) (taken_of l.taker) l.fn.gather l.gather
+    × Forwards (g.O.Sink.written l.fn.outlet) (g.O.Sink.written l.outlet) (taken_of l.fn.taker) (taken_of l.taker) l.fn.held l.held
     × (g.O.Sink.faults l.fn.outlet ≤ g.O.Sink.faults l.outlet)
