@@ -1,5 +1,5 @@
 -- What a reader has put, at a push more.
-use Rattle.std.proofs.Common.{◌≡◌, ℕ, Bool, List, [], ◌∷◌, ◌++◌, Option, Some, None, IfSome, IfNone, sym, ap, ◌∙◌, subst}
+use Rattle.std.proofs.Common.{◌≡◌, ℕ, Bool, List, [], ◌∷◌, ◌++◌, Option, Some, None, IfSome, IfNone, refl, sym, ap, ◌∙◌, subst}
 use Rattle.std.proofs.lemmas.List.{append-nil, map_push}
 use Rattle.rtsp_head.specs.Items.{Shape, items_of}
 use Rattle.rtsp_head.specs.Shapes.{shape_of}
@@ -47,6 +47,11 @@ puts_none held now seen put waiting none h = record {
   framed = subst (λ (l : List Shape). Framed now seen l) (sym (append-nil h.items)) (none seen h.items h.framed).0;
   put_is = h.put_is;
 }
+
+-- the item that was next waits, where there is one
+pub puts_next : (held now : Held) (seen : List ℕ) (put : List Parcel) (waiting next : Option WholeItem) → IfSome next (λ item. Gives held now waiting item) → IfNone next (GivesNone held now waiting) → PutsItems held seen put waiting → PutsItems now seen put next
+puts_next held now seen put waiting None some none h = puts_none held now seen put waiting none h
+puts_next held now seen put waiting (Some item) some none h = puts_later held now seen put put waiting item some refl h
 
 -- and so all whole items were put
 pub puts_all : (first left : Option (List ℕ)) (held now : Held) (put : List Parcel) (waiting : Option WholeItem) → GivesNone held now waiting → ReadsItemsSo first left held put waiting → PutAllSo first left put

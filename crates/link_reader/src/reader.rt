@@ -12,7 +12,7 @@ use client_ports::{Full, Parcel, Putter};
 use gate_bytes::{Memory, before};
 use gate_outside::{Failed, Got, Inlet};
 use rtsp_frame::Framer;
-use rtsp_head::Item;
+use rtsp_head::{Item, ItemKind};
 use std::alloc::Global;
 use std::sync::Wait;
 use text_pool::TextPool;
@@ -129,6 +129,18 @@ impl<I: Inlet> Reader<I> {
         }
     }
 
+    /// Whether the next item that came is a frame. It waits here then. It takes no memory.
+    pub fn next_is_frame(&mut self) -> bool
+        ensures inlet { self.new.inlet ≡ self.old.inlet }
+        ensures over { self.new.over ≡ self.old.over }
+        ensures inward { self.new.inward ≡ self.old.inward }
+        ensures reads { (first : Option (List ℕ)) → ReadsItems I.rest first self.old → ReadsItems I.rest first self.new }
+        ensures front { (first : Option (List ℕ)) → ReadsFront I.rest first self.old → ReadsFront I.rest first self.new }
+    {
+        self.waiting = next_item(&mut self.framer, &mut self.waiting);
+        is_frame(&self.waiting)
+    }
+
     /// Ends the link both ways, so that its writer is let go. What is told of the inlet stays.
     pub fn shut(&mut self)
         ensures rest { I.rest self.new.inlet ≡ I.rest self.old.inlet }
@@ -138,6 +150,8 @@ impl<I: Inlet> Reader<I> {
         ensures inward { self.new.inward ≡ self.old.inward }
         ensures waiting { self.new.waiting ≡ self.old.waiting }
         ensures over { self.new.over ≡ self.old.over }
+        ensures reads { (first : Option (List ℕ)) → ReadsItems I.rest first self.old → ReadsItems I.rest first self.new }
+        ensures all { (first : Option (List ℕ)) → PutAll I.rest first self.old → PutAll I.rest first self.new }
     {
         self.inlet.shut();
     }
@@ -148,5 +162,13 @@ impl<I: Inlet> Reader<I> {
         ensures inward { result.1 ≡ self.inward }
     {
         (self.inlet, self.inward)
+    }
+}
+
+/// Whether the item that waits is a frame.
+fn is_frame(waiting: &Option<Item>) -> bool {
+    match waiting {
+        Some(item) => item.kind == ItemKind::Frame,
+        None => false,
     }
 }
