@@ -3,7 +3,7 @@ use Rattle.std.specs.Prelude.{ℕ, zero, suc, ◌^◌, ◌&&◌, is_none, List, 
 use Rattle.rtsp_head.specs.declared.item.BadKind.{BadKind}
 use Rattle.rtsp_head.specs.declared.item.BadKind.TheVariants as bad
 use Rattle.gate_machine.specs.declared.why.CloseWhy.{CloseWhy}
-use Rattle.gate_machine.specs.declared.why.CloseWhy.TheVariants.{Ended, BadItem, Slow, Upstream}
+use Rattle.gate_machine.specs.declared.why.CloseWhy.TheVariants.{Upstream}
 use Rattle.mux_history.specs.declared.event.Closed.{Closed}
 use Rattle.mux_history.specs.declared.event.Closed.TheVariants.{Nobody, One, All}
 use Rattle.mux_history.specs.declared.event.FramingFault.{FramingFault}
@@ -15,17 +15,10 @@ use Rattle.mux_history.specs.declared.event.ToUp.{ToUp}
 use Rattle.mux_history.specs.declared.event.UpMessage.{UpMessage}
 use Rattle.mux_history.specs.declared.event.UpMessage.TheVariants.{Request, Frame}
 use Rattle.mux_history.specs.declared.event.Outcome.{Outcome}
+use Rattle.mux_history.specs.Closes.{close_byte}
 use Rattle.mux_history.specs.Happenings.{Entry, is_alive}
 use Rattle.gateway_replay.specs.declared.records.RecordKind.TheVariants as kind
-use Rattle.gateway_replay.specs.declared.outcomes.TheConstants.{END_CLOSE, BAD_ITEM_CLOSE, SLOW_CLOSE, UPSTREAM_CLOSE}
 use Rattle.gateway_replay.specs.Records.{record_byte, record_text}
-
--- the byte that tells why a connection was closed
-abbrev pub close_byte : CloseWhy → ℕ
-close_byte Ended = END_CLOSE
-close_byte BadItem = BAD_ITEM_CLOSE
-close_byte Slow = SLOW_CLOSE
-close_byte Upstream = UPSTREAM_CLOSE
 
 -- the record of a piece that a client was handed
 abbrev pub piece_record : Option ToClient → List ℕ

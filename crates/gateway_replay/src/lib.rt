@@ -14,5 +14,4 @@ mod streams;
 mod watched;
 
 pub use laws::a_transcript_of_one_player_is_its_own;
-pub use outcomes::close_byte;
 pub use replaying::{LONGEST_TRANSCRIPT, READ_SIZE, replay};

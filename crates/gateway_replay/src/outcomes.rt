@@ -5,7 +5,7 @@ ghost use Rattle.gate_outside.specs.Contents.{WritesAll};
 ghost use Rattle.mux_history.specs.Happenings.{Entry};
 ghost use Rattle.mux_history.specs.Short.{IsShort, piece_length, message_length, up_length};
 ghost use Rattle.gateway_replay.specs.Watching.{AreLiving, StayLiving};
-ghost use Rattle.gateway_replay.specs.Written.{close_byte, bad_name, framing_name, piece_record, up_message_text, up_record, close_record, ends, closed_records, cause_record, fault_record, records_of};
+ghost use Rattle.gateway_replay.specs.Written.{bad_name, framing_name, piece_record, up_message_text, up_record, close_record, ends, closed_records, cause_record, fault_record, records_of};
 ghost use Rattle.gateway_replay.specs.declared.records.TheConstants.{FAULT_BYTE};
 ghost use Rattle.gateway_replay.specs.Records.{record_text};
 
@@ -14,19 +14,8 @@ use crate::records::{RecordKind, write_parted_record, write_record};
 use gate_bytes::Text;
 use gate_outside::{Failed, Sink};
 use gateway_mux::{CloseWhy, Closed, FramingFault, Outcome, ToClient, ToUp, UpCause, UpMessage};
+use mux_history::close_byte;
 use rtsp_head::BadKind;
-
-/// The byte that tells of a connection that its own end closed.
-pub const END_CLOSE: u8 = b'E';
-
-/// The byte that tells of a connection that a Bad item closed.
-pub const BAD_ITEM_CLOSE: u8 = b'B';
-
-/// The byte that tells of a connection whose client took its bytes too slowly.
-pub const SLOW_CLOSE: u8 = b'S';
-
-/// The byte that tells of a connection that the end of the connection to the server closed.
-pub const UPSTREAM_CLOSE: u8 = b'U';
 
 /// Writes the records of an event's outcome. The connections that were alive before the event become those after it.
 pub fn write_outcome<K: Sink>(
@@ -136,18 +125,6 @@ fn write_ends<K: Sink>(sink: &mut K, living: &mut Living) -> Result<(), Failed>
         };
     }
     Ok(())
-}
-
-/// The byte that tells why a connection was closed.
-pub fn close_byte(why: CloseWhy) -> u8
-    ensures { result ≡ close_byte why }
-{
-    match why {
-        CloseWhy::Ended => END_CLOSE,
-        CloseWhy::BadItem => BAD_ITEM_CLOSE,
-        CloseWhy::Slow => SLOW_CLOSE,
-        CloseWhy::Upstream => UPSTREAM_CLOSE,
-    }
 }
 
 /// Writes the record of why the connection to the server ended.

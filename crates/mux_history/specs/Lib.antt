@@ -1,6 +1,7 @@
 pub mod Apart
 pub mod Asked
 pub mod Books
+pub mod Closes
 pub mod Cores
 pub mod Follows
 pub mod Free

@@ -7,10 +7,12 @@
 //! with empty bodies.
 #![tactic(auto)]
 
+mod closes;
 mod cores;
 mod event;
 mod laws;
 
+pub use closes::{BAD_ITEM_CLOSE, END_CLOSE, SLOW_CLOSE, UPSTREAM_CLOSE, close_byte};
 pub use cores::Core;
 pub use event::{Closed, Event, FramingFault, Outcome, ToClient, ToUp, UpCause, UpMessage, UpWhy};
 pub use gate_machine::CloseWhy;
