@@ -48,6 +48,7 @@ impl<M: Core, R: Recorder> State<M, R> {
             recorder,
             desk,
             last: _,
+            closed: _,
         } = self;
         let receipts = Receipts {
             places: desk.places,

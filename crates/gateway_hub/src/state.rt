@@ -23,6 +23,8 @@ pub struct State<M: Core, R: Recorder> {
     pub desk: Desk,
     /// The connection for which bytes were put last as an item of the server was taken, where that was not told since.
     pub last: Option<u32>,
+    /// Whether a connection was closed since it was too slow, where that was not told since.
+    pub closed: bool,
 }
 
 /// An event that was not taken, and why.
@@ -116,6 +118,7 @@ impl<M: Core, R: Recorder> State<M, R> {
         }
         match self.take_one(alloc, rt, Event::Slow(conn)) {
             Ok(delivery) => {
+                self.closed = true;
                 let later = self.end_if_full(alloc, rt, delivery.server);
                 later.or(delivery.landed)
             }

@@ -66,6 +66,7 @@ impl<M: Core, R: Recorder> Hub<M, R> {
             recorder,
             desk,
             last: None,
+            closed: false,
         };
         Ok((Hub { state }, inward, outward))
     }
@@ -120,6 +121,22 @@ impl<M: Core, R: Recorder> Hub<M, R> {
         ensures bases { M.bases self.new.state.core ≡ M.bases self.old.state.core }
     {
         self.state.last.take()
+    }
+
+    /// Whether a connection was closed since it was too slow, since this was asked last.
+    pub fn has_closed(&mut self) -> bool
+        ensures told { result ≡ self.old.state.closed }
+        ensures cleared { self.new.state.closed ≡ false }
+        ensures same { self.new.state.desk ≡ self.old.state.desk }
+        ensures ends { KeepsEnds self.old.state.desk self.new.state.desk }
+        ensures last { self.new.state.last ≡ self.old.state.last }
+        ensures stays { Stays (Keeps (M.stands self.old.state.core) (R.entries self.old.state.recorder) (R.faults self.old.state.recorder) self.old.state.desk)
+            (Keeps (M.stands self.new.state.core) (R.entries self.new.state.recorder) (R.faults self.new.state.recorder) self.new.state.desk) }
+        ensures bases { M.bases self.new.state.core ≡ M.bases self.old.state.core }
+    {
+        let closed = self.state.closed;
+        self.state.closed = false;
+        closed
     }
 
     /// How many parcels were put for the server's writer.
