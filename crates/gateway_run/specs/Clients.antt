@@ -8,7 +8,7 @@ use Rattle.hub_places.specs.declared.receipt.Receipt.{Receipt}
 use Rattle.link_reader.specs.Reading.{GaveBytes}
 use Rattle.link_writer.specs.Parcels.{HasWritten}
 use Rattle.gateway_run.specs.declared.client.ClientWhy.{ClientWhy}
-use Rattle.gateway_run.specs.declared.client.ClientWhy.TheVariants.{ClientEnd, ReadFault, WriteFault, Slow, Refused, Closed, Ended, Stopped, Memory}
+use Rattle.gateway_run.specs.declared.client.ClientWhy.TheVariants.{ClientEnd, ReadFault, WriteFault, Slow, Refused, Closed, Ended, Stopped, CrewRefused, Memory}
 
 -- Why the connection ended, as far as its receipt tells.
 abbrev pub GoesWithReceipt : ClientWhy → Receipt → Type 0
@@ -20,9 +20,10 @@ GoesWithReceipt Refused receipt = receipt.why ≡ closes.BadItem
 GoesWithReceipt Closed receipt = (receipt.why ≡ closes.Ended) × (receipt.by_upstream ≡ true)
 GoesWithReceipt (Ended cause) receipt = receipt.ending ≡ Some (endings.Upstream cause)
 GoesWithReceipt (Stopped why) receipt = receipt.ending ≡ Some (endings.Stopped why)
+GoesWithReceipt CrewRefused receipt = Unit {0}
 GoesWithReceipt Memory receipt = Unit {0}
 
--- The player's own end, a fault and want of memory are not told by a receipt.
+-- The player's own end, a fault, a thread that is missing and want of memory are not told by a receipt.
 abbrev pub is_hubs : ClientWhy → Bool
 is_hubs ClientEnd = false
 is_hubs ReadFault = false
@@ -32,6 +33,7 @@ is_hubs Refused = true
 is_hubs Closed = true
 is_hubs (Ended cause) = true
 is_hubs (Stopped why) = true
+is_hubs CrewRefused = false
 is_hubs Memory = false
 
 abbrev pub IfGoesWithReceipt : Option ClientWhy → Receipt → Type 0

@@ -8,7 +8,7 @@ ghost use Rattle.gateway_run.specs.declared.reading.ReadEnd.TheVariants as ends;
 ghost use Rattle.gateway_run.specs.Clients.{GoesWithReceipt, IfGoesWithReceipt, CountsAll, WroteTaken};
 
 use crate::collecting::collect;
-use crate::common::{Common, rest_for_ever};
+use crate::common::Common;
 use crate::reading::{ReadEnd, read_on};
 use client_ports::{Putter, Taker};
 use gate_machine::CloseWhy;
@@ -39,6 +39,8 @@ pub enum ClientWhy {
     Ended(UpCause),
     /// The hub was stopped.
     Stopped(StopWhy),
+    /// No thread writes to it.
+    CrewRefused,
     /// Memory was wanting.
     Memory,
 }
@@ -83,13 +85,12 @@ pub fn run_client<I: Inlet + Drop, O: Outlet + Drop, M: Core, R: Recorder, W: Wa
         outward,
     } = entered;
     let mut reader = Reader::new(common.alloc, inlet, inward);
-    let writer = Writer::new(Some(seat.number()), outlet, outward);
+    let writer = Writer::new(common.alloc, Some(seat.number()), outlet, outward);
     let (end, writer) = read_link(common, desk, &seat, &mut reader, writer, buffer);
-    let failed = writer.has_failed();
     let (inlet, inward) = reader.into_ends();
-    let (outlet, outward) = writer.into_ends();
+    let (outlet, outward, failed) = writer.into_ends();
     let receipt = retire(common, seat, inward, outward);
-    let why = why_of(common, end, failed, &receipt);
+    let why = why_of(end, failed, &receipt);
     Retired {
         inlet,
         outlet,
@@ -158,12 +159,7 @@ fn retire<M: Core, R: Recorder, W: Wait>(
 }
 
 /// Why the connection ended, as its reading, its writing and its receipt tell.
-fn why_of<M: Core, R: Recorder, W: Wait>(
-    common: &Common<'_, M, R, W>,
-    end: ReadEnd,
-    failed: bool,
-    receipt: &Receipt,
-) -> ClientWhy
+fn why_of(end: ReadEnd, failed: bool, receipt: &Receipt) -> ClientWhy
     ensures told { GoesWithReceipt result receipt.now }
     ensures end { result ≡ whys.ClientEnd → end ≡ ends.Ended }
     ensures read { result ≡ whys.ReadFault → end ≡ ends.Failed }
@@ -176,7 +172,7 @@ fn why_of<M: Core, R: Recorder, W: Wait>(
         ReadEnd::Ended => ClientWhy::ClientEnd,
         ReadEnd::Over => match told_by(receipt) {
             Some(why) => why,
-            None => rest_for_ever(common.rt),
+            None => ClientWhy::CrewRefused,
         },
     }
 }

@@ -10,14 +10,18 @@ use link_writer::{Desk, Writer};
 use std::sync::Wait;
 use std::time::{Clock, Duration};
 
-/// How long a writer is waited for before it is asked again whether the run is over, in milliseconds.
+/// How long a writer is waited for before it is looked at again whether it gets on, in milliseconds.
 const STEP_MILLIS: u64 = 100;
 
-/// How often that is done before the link is shut under the writer: after some 5 s.
-const MOST_STEPS: u32 = 50;
+/// So often it may be found to have written nothing since the last look, before the link is shut under it: after some
+/// second.
+const MOST_STILL: u32 = 10;
 
-/// Waits until the writer has written what its link was handed. One that does not get on is let go, by shutting its link:
-/// soon where the run is over, and else after some seconds.
+/// So often it is looked at at most: for some half a minute.
+const MOST_STEPS: u32 = 300;
+
+/// Waits until the writer has written what its link was handed. One that does not get on is let go, by shutting its link, and
+/// so is one that gets on too slowly.
 pub fn collect<I: Inlet + Drop, O: Outlet + Drop, M: Core, R: Recorder, W: Wait + Clock>(
     common: &Common<'_, M, R, W>,
     desk: &Desk<O>,
@@ -31,11 +35,20 @@ pub fn collect<I: Inlet + Drop, O: Outlet + Drop, M: Core, R: Recorder, W: Wait 
     ensures waiting { reader.new.waiting ≡ reader.old.waiting }
     ensures over { reader.new.over ≡ reader.old.over }
 {
+    let mut moves = desk.moves();
+    let mut still = 0u32;
     for _ in 0..MOST_STEPS {
         if let Some(writer) = desk.collect_within(common.rt, Duration::from_millis(STEP_MILLIS)) {
             return writer;
         }
-        if common.ending().is_some() {
+        let now = desk.moves();
+        still = if now == moves {
+            still.saturating_add(1)
+        } else {
+            0
+        };
+        moves = now;
+        if still >= MOST_STILL {
             break;
         }
     }

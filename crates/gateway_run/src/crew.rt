@@ -4,7 +4,6 @@ ghost use denote.Param.Send.{IsSend, IsSync};
 
 use crate::common::Common;
 use crate::gate::Gate;
-use crate::meeting::Meeting;
 use crate::stations::station;
 use crate::taking::{Taking, take_on};
 use crate::upstream::{UpBack, Upstream, run_upstream};
@@ -13,12 +12,13 @@ use gate_bytes::Memory;
 use gate_outside::{Door, Inlet, Outlet};
 use gateway_hub::{Recorder, StopWhy};
 use gateway_mux::Core;
-use link_writer::{Desk, Gather};
+use link_writer::Desk;
 use std::alloc::Global;
 use std::sync::{Mutex, Wait};
 use std::thread;
 use std::thread::Threads;
 use std::time::Clock;
+use worker_signals::Meeting;
 
 /// How many bytes of a player are read at once.
 const PLAYER_READ_SIZE: usize = 16_384;
@@ -26,40 +26,36 @@ const PLAYER_READ_SIZE: usize = 16_384;
 /// How many bytes of the server are read at once.
 const SERVER_READ_SIZE: usize = 262_144;
 
-/// What a link is read and written with: a buffer to read into, and one to gather in what is to be written.
+/// A buffer into which a link is read.
 #[derive(Drop)]
-pub struct Buffers {
-    read: Vec<u8>,
-    gather: Gather,
-    ghost readable: { 0 < length read.items },
+pub struct ReadBuffer {
+    bytes: Vec<u8>,
+    ghost room: { 0 < length bytes.items },
 }
 
-impl Buffers {
-    /// Buffers for one link, of which so many bytes are read at once.
-    fn new(alloc: Global, size: usize) -> Result<Buffers, Memory>
+impl ReadBuffer {
+    /// A buffer of so many bytes.
+    fn new(alloc: Global, size: usize) -> Result<ReadBuffer, Memory>
         requires { 0 < size }
     {
-        let mut read = Vec::new(alloc);
-        read.resize(size, 0)?;
-        Ok(Buffers {
-            read,
-            gather: Gather::new(alloc)?,
-        })
+        let mut bytes = Vec::new(alloc);
+        bytes.resize(size, 0)?;
+        Ok(ReadBuffer { bytes })
     }
 }
 
-/// The desks at which writers are handed over, and the buffers of all threads. All memory of a run but the connections' own
-/// is taken here.
+/// The desks at which writers are handed over, and the buffers of all readers. All memory of a run but the connections' own is
+/// taken here.
 #[derive(Drop)]
 pub struct Crew<O: Outlet + Drop, P: Outlet + Drop> {
     /// A desk for each station.
     pub desks: Vec<Desk<O>>,
     /// The desk of the server's link.
     pub server_desk: Desk<P>,
-    /// The buffers of each station.
-    pub buffers: Vec<Buffers>,
-    /// The buffers of the server's link.
-    pub server_buffers: Buffers,
+    /// The buffer of each station.
+    pub buffers: Vec<ReadBuffer>,
+    /// The buffer of the server's link.
+    pub server_buffer: ReadBuffer,
 }
 
 impl<O: Outlet + Drop, P: Outlet + Drop> Crew<O, P> {
@@ -69,13 +65,13 @@ impl<O: Outlet + Drop, P: Outlet + Drop> Crew<O, P> {
         let mut buffers = Vec::new(alloc);
         for _ in 0..stations {
             desks.push(Desk::new())?;
-            buffers.push(Buffers::new(alloc, PLAYER_READ_SIZE)?)?;
+            buffers.push(ReadBuffer::new(alloc, PLAYER_READ_SIZE)?)?;
         }
         Ok(Crew {
             desks,
             server_desk: Desk::new(),
             buffers,
-            server_buffers: Buffers::new(alloc, SERVER_READ_SIZE)?,
+            server_buffer: ReadBuffer::new(alloc, SERVER_READ_SIZE)?,
         })
     }
 }
@@ -87,24 +83,23 @@ pub struct StationPost<'a, D: Door + Drop> {
     pub gate: &'a Mutex<Gate<D>>,
     /// A desk for each station.
     pub desks: &'a [Desk<D::Outward>],
-    /// The buffers of each station.
-    pub buffers: Vec<Buffers>,
+    /// The buffer of each station.
+    pub buffers: Vec<ReadBuffer>,
 }
 
-/// What the threads of the server's link work on: their desk, their buffers, and the link.
+/// What the threads of the server's link work on: their desk, their buffer, and the link.
 #[derive(Drop)]
 pub struct ServerPost<'a, I: Inlet + Drop, P: Outlet + Drop> {
     /// The desk.
     pub desk: &'a Desk<P>,
-    /// The buffers.
-    pub buffers: Buffers,
+    /// The buffer.
+    pub buffer: ReadBuffer,
     /// The link.
     pub upstream: Upstream<I, P>,
 }
 
-/// Serves players and the server beside each other until all threads have ended. Each side waits for the other to begin: where
-/// it does not, a thread was refused. Where one is the hub is stopped; that is told beside what is left of the server's
-/// connection.
+/// Serves players and the server beside each other until all threads have ended. Nobody is served before all have begun. Where
+/// one is refused the hub is stopped; that is told beside what is left of the server's connection.
 pub fn work<
     D: Door + Drop,
     I: Inlet + Drop,
@@ -120,26 +115,28 @@ pub fn work<
 where
     M::Plan: Send,
 {
-    let meeting = Meeting::new();
-    let meets = &meeting;
-    let ((back, server_refused), stations_refused) = thread::join(
-        common.rt,
-        move || work_server(common, meets, server),
-        move || work_stations(common, meets, stations),
-    );
+    let beginning = Meeting::new();
+    let both = &beginning;
+    let beside = move || -> (UpBack<I, P>, bool)
+        requires { IsSync W.row × IsSend I.row × IsSend P.row × IsSend M.row × IsSend M.Plan.row × IsSend R.row }
+    { work_server(common, both, server) };
+    let here = move || -> bool
+        requires { IsSync W.row × IsSend D.row × IsSend D.Inward.row × IsSend D.Outward.row × IsSend M.row × IsSend M.Plan.row × IsSend R.row }
+    { work_stations(common, both, stations) };
+    let ((back, server_refused), stations_refused) = thread::join(common.rt, beside, here);
     (back, server_refused || stations_refused)
 }
 
-/// Starts two threads for each station, and waits until all have ended. Whether one was refused.
+/// Starts two threads for each station, and waits until all have ended. Whether one was refused: then no more are started.
 fn work_stations<D: Door + Drop, M: Core, R: Recorder, W: Threads + Wait + Clock + Sync>(
     common: &Common<'_, M, R, W>,
-    meeting: &Meeting,
+    beginning: &Meeting,
     post: StationPost<'_, D>,
 ) -> bool
 where
     M::Plan: Send,
 {
-    let met = meeting.meet(common.rt);
+    let met = beginning.meet(common.rt);
     thread::scope(
         thread::scope_env(),
         common.rt,
@@ -153,27 +150,29 @@ where
             } = post;
             let mut refused = !met;
             for desk in desks {
-                let Some(Buffers { mut read, gather }) = buffers.pop() else {
+                let Some(ReadBuffer { mut bytes }) = buffers.pop() else {
                     break;
                 };
-                if scope
-                    .spawn(move || write_from(common, desk, gather))
-                    .is_err()
-                {
+                if scope.spawn(move || write_from(common, desk)).is_err() {
                     refused = true;
-                    desk.close(common.rt);
+                    break;
                 }
                 let at_station = move ||
-                    requires { 0 < length read.items }
-                { station(common, gate, desk, read.as_mut_slice()) };
+                    requires { 0 < length bytes.items }
+                {
+                    common.signals.meeting.wait(common.rt);
+                    station(common, gate, desk, bytes.as_mut_slice())
+                };
                 if scope.spawn(at_station).is_err() {
                     refused = true;
                     desk.close(common.rt);
+                    break;
                 }
             }
             if refused {
                 common.stop(StopWhy::Crew);
             }
+            common.signals.meeting.arrive(common.rt);
             refused
         },
     )
@@ -189,13 +188,13 @@ fn work_server<
     W: Threads + Wait + Clock + Sync,
 >(
     common: &Common<'_, M, R, W>,
-    meeting: &Meeting,
+    beginning: &Meeting,
     post: ServerPost<'_, I, P>,
 ) -> (UpBack<I, P>, bool)
 where
     M::Plan: Send,
 {
-    let met = meeting.meet(common.rt);
+    let met = beginning.meet(common.rt);
     let taking = Taking::new(common.alloc);
     let taking = &taking;
     thread::scope(
@@ -206,15 +205,12 @@ where
         {
             let ServerPost {
                 desk,
-                buffers,
+                buffer,
                 upstream,
             } = post;
-            let Buffers { mut read, gather } = buffers;
+            let ReadBuffer { mut bytes } = buffer;
             let mut refused = !met;
-            if scope
-                .spawn(move || write_from(common, desk, gather))
-                .is_err()
-            {
+            if scope.spawn(move || write_from(common, desk)).is_err() {
                 refused = true;
                 desk.close(common.rt);
             }
@@ -224,7 +220,8 @@ where
             if refused {
                 common.stop(StopWhy::Crew);
             }
-            let back = run_upstream(common, desk, taking, upstream, read.as_mut_slice());
+            common.signals.meeting.arrive(common.rt);
+            let back = run_upstream(common, desk, taking, upstream, bytes.as_mut_slice());
             desk.close(common.rt);
             taking.came.ring(common.rt);
             (back, refused)

@@ -8,6 +8,7 @@ use gate_outside::{Arrived, Door, Failed};
 use gateway_hub::{Recorder, StopWhy};
 use gateway_mux::Core;
 use std::sync::{Mutex, Wait};
+use std::time::Clock;
 
 /// The door, and how many stations have not ended. It keeps that the door has failed where that is told, and that it has told
 /// its end, with no link left, where that is told.
@@ -74,14 +75,15 @@ impl<D: Door + Drop> Gate<D> {
 }
 
 /// Waits for the next link, unless an ending was kept.
-pub fn next_link<D: Door + Drop, M: Core, R: Recorder, W: Wait>(
+pub fn next_link<D: Door + Drop, M: Core, R: Recorder, W: Wait + Clock>(
     common: &Common<'_, M, R, W>,
     gate: &Mutex<Gate<D>>,
 ) -> Next<D::Inward, D::Outward>
     ensures { GivesNew D.Inward.faults D.Inward.ends D.Outward.faults D.Outward.written result }
 {
+    let _turn = common.signals.turnstile.enter(common.rt);
     let mut gate = gate.lock(common.rt);
-    // Asked under the gate's lock, so that stations that wait for it end one after another at once.
+    // Asked once it is its turn, so that stations that wait for theirs end one after another at once.
     if common.ending().is_some() {
         return Next::Over;
     }

@@ -12,7 +12,6 @@ mod common;
 mod crew;
 mod gate;
 mod life;
-mod meeting;
 mod next;
 mod pace;
 mod reading;

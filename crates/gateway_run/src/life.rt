@@ -33,7 +33,7 @@ impl Life {
     ) -> bool
         ensures { result ≡ self.new.over }
     {
-        let overs = common.bells.overs();
+        let overs = common.signals.overs();
         if self.asked != Some(overs) {
             self.asked = Some(overs);
             self.over = !common.is_open(conn);

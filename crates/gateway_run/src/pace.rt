@@ -3,15 +3,17 @@
 //! A port holds far less than a server may send at once. So where a port is nearly full, whoever takes the server's items
 //! waits a little for its writer, before more are taken. Each player may have some pauses; once it had them, nobody waits for
 //! it until all that it was handed has been written. So a player that takes nothing delays the others only once, and is then
-//! found too slow. One that goes on taking has its pauses back: a burst is no reason to close it.
+//! found too slow. One that goes on taking has its pauses back: a burst is no reason to close it. Only time counts in which its
+//! socket took nothing: a writer that does not come to write, since the machine is busy, is no fault of its player.
 
-use crate::common::{Common, Due};
+use crate::common::Common;
 use gateway_hub::{Hub, OUTWARD_CAPACITY, Recorder};
 use gateway_mux::Core;
 use std::alloc::Global;
 use std::sync::Wait;
 use std::thread;
 use std::time::{Clock, Duration};
+use worker_signals::Due;
 
 /// With less room than this a port is nearly full. More is not put under one lock.
 const LEAST_ROOM: usize = 64;
@@ -25,6 +27,9 @@ const PAUSE_MICROS: u64 = 250;
 /// How many pauses more than it took parcels a player may have until its port was empty again: some 40 ms with
 /// what a sleep takes more.
 const MOST_PAUSES: u32 = 120;
+
+/// How many pauses there are for one player at one time at most, whatever its writer does: some second.
+const MOST_AT_ONCE: u32 = 3_000;
 
 /// For how many players at once it is remembered how long they were waited for.
 const MOST_REMEMBERED: usize = 64;
@@ -44,8 +49,7 @@ struct Room {
 }
 
 /// How long which players were waited for, for whom bytes were put last, whose port was found to have the least room since the
-/// last wait, whose bells are to ring, how many parcels had been put for the server, and whether an item put nothing for any
-/// player.
+/// last wait, whose bells are to ring, how many parcels had been put for the server, and whether a player was found too slow.
 #[derive(Drop)]
 pub struct Pace {
     spent: Vec<Spent>,
@@ -53,7 +57,7 @@ pub struct Pace {
     least: Option<Room>,
     due: Due,
     asked: u64,
-    nobody: bool,
+    closed: bool,
 }
 
 impl Pace {
@@ -65,15 +69,17 @@ impl Pace {
             least: None,
             due: Due::new(),
             asked: 0,
-            nobody: false,
+            closed: false,
         }
     }
 
     /// Notes for whom the hub put something as it took an item. Where that is another one than for the item before, the port of
     /// that one is looked at.
     pub fn note<M: Core, R: Recorder, W: Wait>(&mut self, rt: &W, hub: &mut Hub<M, R>) {
+        if hub.has_closed() {
+            self.closed = true;
+        }
         let Some(conn) = hub.last_handed() else {
-            self.nobody = true;
             return;
         };
         if self.handed != Some(conn) {
@@ -106,17 +112,17 @@ impl Pace {
         }
     }
 
-    /// Tells that a link may be over, where an item put nothing for any player: its port may have been full.
+    /// Tells that a link may be over, where a player was found too slow.
     pub fn tell_over<M: Core, R: Recorder, W: Wait>(&mut self, common: &Common<'_, M, R, W>) {
-        if self.nobody {
-            self.nobody = false;
+        if self.closed {
+            self.closed = false;
             common.tell_over();
         }
     }
 
     /// Wakes those for whom something was put.
     pub fn wake<M: Core, R: Recorder, W: Wait>(&mut self, common: &Common<'_, M, R, W>) {
-        common.bells.ring_due(common.rt, &mut self.due);
+        common.signals.ring_due(common.rt, &mut self.due);
     }
 
     /// Waits for the player whose port was found to have the least room, where it is nearly full and it may have pauses.
@@ -155,8 +161,8 @@ impl Pace {
     }
 }
 
-/// Pauses until the port of a player has room enough, or the player has had as many pauses as it may. For each parcel that it
-/// takes meanwhile it may have one more. How many it has had then.
+/// Pauses until the port of a player has room enough, or the player has had as many pauses as it may. Those count in which its
+/// outlet took nothing, and for each parcel that is taken meanwhile it may have one more. How many it has had then.
 fn pause<M: Core, R: Recorder, W: Wait + Clock>(
     common: &Common<'_, M, R, W>,
     room: Room,
@@ -164,15 +170,18 @@ fn pause<M: Core, R: Recorder, W: Wait + Clock>(
 ) -> u32 {
     let mut parcels = room.parcels;
     let mut pauses = pauses;
-    for _ in common.rt.forever() {
+    for _ in 0..MOST_AT_ONCE {
         if parcels >= ENOUGH_ROOM || pauses >= MOST_PAUSES {
-            return pauses;
+            break;
         }
         thread::sleep(common.rt, Duration::from_micros(PAUSE_MICROS));
         let now = common.room_of(room.conn);
         let taken = u32::try_from(now.saturating_sub(parcels)).unwrap_or(0);
-        pauses = pauses.saturating_add(1).saturating_sub(taken);
+        if common.signals.flow.is_stuck(room.conn) {
+            pauses = pauses.saturating_add(1);
+        }
+        pauses = pauses.saturating_sub(taken);
         parcels = now;
     }
-    unreachable!()
+    pauses
 }

@@ -1,8 +1,10 @@
 //! The loop that reads a player's link.
-ghost use Rattle.std.specs.Prelude.{◌≡◌, ℕ, ◌<◌, ◌≤◌, List, Option, Some, None, true, length};
+ghost use Rattle.std.specs.Prelude.{◌≡◌, ℕ, ◌<◌, ◌≤◌, List, Option, Some, None, length};
 ghost use Rattle.gate_outside.specs.Causes.{Rose};
 ghost use Rattle.link_reader.specs.Reading.{ReadsItems, ReadsFront, PutAll};
 ghost use Rattle.gateway_run.specs.declared.reading.ReadEnd.TheVariants as ends;
+ghost use Rattle.gateway_run.specs.declared.reading.Put.TheVariants as puts;
+ghost use Rattle.gateway_run.specs.declared.reading.Step.TheVariants as steps;
 
 use crate::common::Common;
 use gate_outside::{Inlet, Outlet};
@@ -12,9 +14,24 @@ use link_reader::{Push, Read, Reader};
 use link_writer::Desk;
 use std::sync::Wait;
 use std::thread;
+use std::time::{Clock, Duration};
+use worker_signals::Stopwatch;
 
 /// How many items are taken under one lock, and how many of a player are put before that.
 pub const ITEMS_AT_ONCE: u32 = 16;
+
+/// How long a player may say nothing after it connected, in milliseconds.
+const SILENT_MILLIS: u64 = 30_000;
+
+/// How long a reader whose connection is busy pauses at most, and how often it looks whether its player is still there, in
+/// milliseconds.
+const BUSY_MILLIS: u64 = 250;
+
+/// How long the reply to a player that has ended what it sends is waited for, in milliseconds.
+const REPLY_MILLIS: u64 = 10_000;
+
+/// How long a reader pauses whose next item is a frame, while many parcels wait for the server, in milliseconds.
+const CROWDED_MILLIS: u64 = 1;
 
 /// Why a player's link is read no more.
 #[derive(Clone, Copy, Debug, PartialEq, Eq)]
@@ -44,8 +61,47 @@ enum Line {
     Memory,
 }
 
+/// What came of putting what came.
+#[derive(Clone, Copy, PartialEq, Eq)]
+pub enum Put {
+    /// No whole item is left of what came.
+    All,
+    /// Some may be left.
+    More,
+    /// The next item is a frame, and many parcels wait for the server.
+    Held,
+}
+
+/// Since when a player is waited for.
+#[derive(Clone, Copy)]
+struct Watch {
+    /// Since it connected, while no whole item came.
+    silent: Option<Stopwatch>,
+    /// Since its reader looked last whether it is still there, while its connection was busy.
+    looked: Stopwatch,
+}
+
+impl Watch {
+    /// Of a player that has just connected.
+    fn new<W: Clock>(rt: &W) -> Watch {
+        let started = Stopwatch::start(rt);
+        Watch {
+            silent: Some(started),
+            looked: started,
+        }
+    }
+
+    /// Whether its player has said nothing for too long.
+    fn is_silent_too_long<W: Clock>(&self, rt: &W) -> bool {
+        match self.silent {
+            Some(connected) => connected.has_passed(rt, SILENT_MILLIS),
+            None => false,
+        }
+    }
+}
+
 /// Reads what a player sends, and has it taken, until the link ends or the connection is over.
-pub fn read_on<I: Inlet + Drop, O: Outlet + Drop, M: Core, R: Recorder, W: Wait>(
+pub fn read_on<I: Inlet + Drop, O: Outlet + Drop, M: Core, R: Recorder, W: Wait + Clock>(
     common: &Common<'_, M, R, W>,
     desk: &Desk<O>,
     seat: &Seat,
@@ -59,48 +115,184 @@ pub fn read_on<I: Inlet + Drop, O: Outlet + Drop, M: Core, R: Recorder, W: Wait>
     ensures all { result ≡ ends.Ended → (first : Option (List ℕ)) → ReadsItems I.rest first reader.old → PutAll I.rest first reader.new }
     ensures failed { result ≡ ends.Failed → Rose (I.faults reader.old.inlet) (I.faults reader.new.inlet) }
 {
-    let bell = common.bells.of(Some(seat.number()));
+    let bell = common.signals.of(Some(seat.number()));
+    let mut watch = Watch::new(common.rt);
     for _ in common.rt.forever() {
         let seen = bell.rings(common.rt);
-        let all_put = put_some(common, reader, ITEMS_AT_ONCE);
-        match take_some(common, seat) {
-            Line::More => {}
-            Line::Empty if !all_put => {}
-            Line::Empty => {
-                if let Some(end) = read_more(common, desk, reader, buffer) {
-                    return end;
+        let put = put_some(
+            common,
+            reader,
+            ITEMS_AT_ONCE,
+            common.signals.flow.is_crowded(),
+        );
+        let line = take_some(common, seat);
+        match step_of(common, &mut watch, line, put) {
+            Step::Go => {}
+            Step::Read => {
+                if let Some(end) = read_more(common, desk, reader, buffer, &watch) {
+                    return finish(common, desk, seat, end);
                 }
             }
-            Line::Busy if desk.is_back(common.rt) => return ReadEnd::Over,
-            Line::Busy => {
-                bell.pause(common.rt, seen);
+            Step::Pause(millis) => {
+                if desk.is_back(common.rt) {
+                    return ReadEnd::Over;
+                }
+                bell.pause_within(common.rt, seen, Duration::from_millis(millis));
             }
-            Line::Over => return ReadEnd::Over,
-            Line::Memory => return ReadEnd::Memory,
+            Step::Over => return ReadEnd::Over,
+            Step::Memory => return ReadEnd::Memory,
         }
     }
     unreachable!()
 }
 
-/// Puts the next items that came, so many at most. True where no whole item is left of what came.
+/// What a reader does next.
+#[derive(Clone, Copy, PartialEq, Eq)]
+enum Step {
+    /// It puts and takes more.
+    Go,
+    /// It reads, since all that came was put.
+    Read,
+    /// It pauses for so many milliseconds at most.
+    Pause(u64),
+    /// The connection is over.
+    Over,
+    /// Memory was wanting.
+    Memory,
+}
+
+/// What a reader does next, by what came of putting and of taking. While its connection is busy it reads now and then, where
+/// all was put: so it learns that its player has left.
+fn step_of<M: Core, R: Recorder, W: Wait + Clock>(
+    common: &Common<'_, M, R, W>,
+    watch: &mut Watch,
+    line: Line,
+    put: Put,
+) -> Step
+    ensures { result ≡ steps.Read → put ≡ puts.All }
+{
+    match (line, put) {
+        (Line::Over, _) => Step::Over,
+        (Line::Memory, _) => Step::Memory,
+        (Line::More, _) => {
+            watch.silent = None;
+            Step::Go
+        }
+        (Line::Empty, Put::More) => Step::Go,
+        (Line::Empty, Put::All) => Step::Read,
+        (Line::Empty, Put::Held) => Step::Pause(CROWDED_MILLIS),
+        (Line::Busy, Put::All) if watch.looked.has_passed(common.rt, BUSY_MILLIS) => {
+            watch.looked = Stopwatch::start(common.rt);
+            Step::Read
+        }
+        (Line::Busy, _) => Step::Pause(BUSY_MILLIS),
+    }
+}
+
+/// Before a link that told its end is given up, waits for the reply where a request is open, and has what is in line taken.
+fn finish<O: Outlet + Drop, M: Core, R: Recorder, W: Wait + Clock>(
+    common: &Common<'_, M, R, W>,
+    desk: &Desk<O>,
+    seat: &Seat,
+    end: ReadEnd,
+) -> ReadEnd
+    ensures { result ≡ end }
+{
+    if end == ReadEnd::Ended {
+        wait_for_reply(common, desk, seat);
+    }
+    end
+}
+
+/// Has what is in line taken, and waits for the reply that this takes, but not for ever.
+fn wait_for_reply<O: Outlet + Drop, M: Core, R: Recorder, W: Wait + Clock>(
+    common: &Common<'_, M, R, W>,
+    desk: &Desk<O>,
+    seat: &Seat,
+) {
+    let bell = common.signals.of(Some(seat.number()));
+    let waiting = Stopwatch::start(common.rt);
+    for _ in common.rt.forever() {
+        let seen = bell.rings(common.rt);
+        match take_some(common, seat) {
+            Line::More => {}
+            Line::Busy if desk.is_back(common.rt) => return,
+            Line::Busy if waiting.has_passed(common.rt, REPLY_MILLIS) => return,
+            Line::Busy => bell.pause_within(common.rt, seen, Duration::from_millis(BUSY_MILLIS)),
+            Line::Empty | Line::Over | Line::Memory => return,
+        }
+    }
+}
+
+/// Puts the next items that came, so many at most, and where the server is crowded none from a frame on.
 pub fn put_some<I: Inlet + Drop, M: Core, R: Recorder, W: Wait>(
     common: &Common<'_, M, R, W>,
     reader: &mut Reader<I>,
     most: u32,
-) -> bool
+    is_crowded: bool,
+) -> Put
     ensures inlet { reader.new.inlet ≡ reader.old.inlet }
     ensures reads { (first : Option (List ℕ)) → ReadsItems I.rest first reader.old → ReadsItems I.rest first reader.new }
     ensures front { (first : Option (List ℕ)) → ReadsFront I.rest first reader.old → ReadsFront I.rest first reader.new }
-    ensures all { result ≡ true → (first : Option (List ℕ)) → ReadsItems I.rest first reader.old → PutAll I.rest first reader.new }
+    ensures all { result ≡ puts.All → (first : Option (List ℕ)) → ReadsItems I.rest first reader.old → PutAll I.rest first reader.new }
 {
     for _ in 0..most {
-        match reader.push(common.rt) {
-            Push::Put => {}
-            Push::Full => return false,
-            Push::Empty => return true,
+        if let Some(put) = put_one(common, reader, is_crowded) {
+            return put;
         }
     }
-    false
+    Put::More
+}
+
+/// Puts the next item that came, and where the server is crowded no frame. None where one was put.
+fn put_one<I: Inlet + Drop, M: Core, R: Recorder, W: Wait>(
+    common: &Common<'_, M, R, W>,
+    reader: &mut Reader<I>,
+    is_crowded: bool,
+) -> Option<Put>
+    ensures inlet { reader.new.inlet ≡ reader.old.inlet }
+    ensures reads { (first : Option (List ℕ)) → ReadsItems I.rest first reader.old → ReadsItems I.rest first reader.new }
+    ensures front { (first : Option (List ℕ)) → ReadsFront I.rest first reader.old → ReadsFront I.rest first reader.new }
+    ensures all { result ≡ Some puts.All → (first : Option (List ℕ)) → ReadsItems I.rest first reader.old → PutAll I.rest first reader.new }
+{
+    if is_crowded {
+        put_message(common, reader)
+    } else {
+        put_next(common, reader)
+    }
+}
+
+/// Puts the next item that came, unless it is a frame.
+fn put_message<I: Inlet + Drop, M: Core, R: Recorder, W: Wait>(
+    common: &Common<'_, M, R, W>,
+    reader: &mut Reader<I>,
+) -> Option<Put>
+    ensures inlet { reader.new.inlet ≡ reader.old.inlet }
+    ensures reads { (first : Option (List ℕ)) → ReadsItems I.rest first reader.old → ReadsItems I.rest first reader.new }
+    ensures front { (first : Option (List ℕ)) → ReadsFront I.rest first reader.old → ReadsFront I.rest first reader.new }
+    ensures all { result ≡ Some puts.All → (first : Option (List ℕ)) → ReadsItems I.rest first reader.old → PutAll I.rest first reader.new }
+{
+    if reader.next_is_frame() {
+        return Some(Put::Held);
+    }
+    put_next(common, reader)
+}
+
+/// Puts the next item that came.
+fn put_next<I: Inlet + Drop, M: Core, R: Recorder, W: Wait>(
+    common: &Common<'_, M, R, W>,
+    reader: &mut Reader<I>,
+) -> Option<Put>
+    ensures inlet { reader.new.inlet ≡ reader.old.inlet }
+    ensures reads { (first : Option (List ℕ)) → ReadsItems I.rest first reader.old → ReadsItems I.rest first reader.new }
+    ensures front { (first : Option (List ℕ)) → ReadsFront I.rest first reader.old → ReadsFront I.rest first reader.new }
+    ensures all { result ≡ Some puts.All → (first : Option (List ℕ)) → ReadsItems I.rest first reader.old → PutAll I.rest first reader.new }
+{
+    match reader.push(common.rt) {
+        Push::Put => None,
+        Push::Full => Some(Put::More),
+        Push::Empty => Some(Put::All),
+    }
 }
 
 /// Has what is in line taken, under one lock, and wakes whoever may wait for what came of it.
@@ -114,12 +306,13 @@ fn take_some<M: Core, R: Recorder, W: Wait>(common: &Common<'_, M, R, W>, seat: 
         }
         line = take_one(common, &mut hub, seat);
     }
+    common.signals.flow.tell_asked(hub.asked());
     drop(hub);
     if line == Line::Over {
         common.tell_over();
     } else if first == Line::More {
-        common.bells.of(Some(seat.number())).ring(common.rt);
-        common.bells.of(None).ring(common.rt);
+        common.signals.of(Some(seat.number())).ring(common.rt);
+        common.signals.of(None).ring(common.rt);
     }
     line
 }
@@ -143,8 +336,31 @@ fn take_one<M: Core, R: Recorder, W: Wait>(
     }
 }
 
-/// Reads once more, where nothing that came is left. None where the link is to be read on.
-fn read_more<I: Inlet + Drop, O: Outlet + Drop, M: Core, R: Recorder, W: Wait>(
+/// Reads once more, where nothing that came is left. One whose player has said nothing for too long is shut before, and so it
+/// tells its end. None where the link is to be read on.
+fn read_more<I: Inlet + Drop, O: Outlet + Drop, M: Core, R: Recorder, W: Wait + Clock>(
+    common: &Common<'_, M, R, W>,
+    desk: &Desk<O>,
+    reader: &mut Reader<I>,
+    buffer: &mut [u8],
+    watch: &Watch,
+) -> Option<ReadEnd>
+    requires { 0 < length buffer.old }
+    ensures faults { I.faults reader.old.inlet ≤ I.faults reader.new.inlet }
+    ensures ends { I.ends reader.old.inlet ≤ I.ends reader.new.inlet }
+    ensures on { result ≡ None → (first : Option (List ℕ)) → ReadsItems I.rest first reader.old → ReadsItems I.rest first reader.new }
+    ensures end { result ≡ Some ends.Ended → Rose (I.ends reader.old.inlet) (I.ends reader.new.inlet) }
+    ensures all { result ≡ Some ends.Ended → (first : Option (List ℕ)) → PutAll I.rest first reader.old → PutAll I.rest first reader.new }
+    ensures failed { result ≡ Some ends.Failed → Rose (I.faults reader.old.inlet) (I.faults reader.new.inlet) }
+{
+    if watch.is_silent_too_long(common.rt) {
+        reader.shut();
+    }
+    read_once(common, desk, reader, buffer)
+}
+
+/// Reads once, where nothing that came is left. None where the link is to be read on.
+pub fn read_once<I: Inlet + Drop, O: Outlet + Drop, M: Core, R: Recorder, W: Wait>(
     common: &Common<'_, M, R, W>,
     desk: &Desk<O>,
     reader: &mut Reader<I>,
@@ -153,6 +369,7 @@ fn read_more<I: Inlet + Drop, O: Outlet + Drop, M: Core, R: Recorder, W: Wait>(
     requires { 0 < length buffer.old }
     ensures faults { I.faults reader.old.inlet ≤ I.faults reader.new.inlet }
     ensures ends { I.ends reader.old.inlet ≤ I.ends reader.new.inlet }
+    ensures front { (first : Option (List ℕ)) → ReadsFront I.rest first reader.old → ReadsFront I.rest first reader.new }
     ensures on { result ≡ None → (first : Option (List ℕ)) → ReadsItems I.rest first reader.old → ReadsItems I.rest first reader.new }
     ensures end { result ≡ Some ends.Ended → Rose (I.ends reader.old.inlet) (I.ends reader.new.inlet) }
     ensures all { result ≡ Some ends.Ended → (first : Option (List ℕ)) → PutAll I.rest first reader.old → PutAll I.rest first reader.new }

@@ -7,7 +7,7 @@ ghost use Rattle.mux_history.specs.Happenings.{Entry};
 ghost use Rattle.gateway_run.specs.Serving.{HasShown, HasLeftNone, RanTo, SaysRan, OpensNothing, TakesBack, OpensOnce, ServeSays, AreSameAddresses, IsSameAddress, counted_refusal};
 ghost use Rattle.gate_outside.specs.Causes.{Rose};
 
-use crate::common::{Bells, Common, rest_for_ever};
+use crate::common::{Common, rest_for_ever};
 use crate::crew::{Crew, ServerPost, StationPost, work};
 use crate::gate::Gate;
 use crate::upstream::{UpBack, Upstream};
@@ -23,6 +23,7 @@ use std::sync::{Mutex, Wait};
 use std::thread::Threads;
 use std::time::Clock;
 use text_pool::TextPool;
+use worker_signals::Signals;
 
 /// The port of a server that names none (RFC 7826, 20.2; RFC 2326, 3.2).
 const RTSP_PORT: u16 = 554;
@@ -222,19 +223,19 @@ where
 {
     let hub = Mutex::new(hub);
     let gate = Mutex::new(gate);
-    let bells = Bells::new();
+    let signals = Signals::new();
     let spent = Mutex::new(TextPool::new(alloc));
     let Crew {
         desks,
         server_desk,
         buffers,
-        server_buffers,
+        server_buffer,
     } = crew;
     let common = Common {
         rt,
         alloc,
         hub: &hub,
-        bells: &bells,
+        signals: &signals,
         spent: &spent,
     };
     let stations = StationPost {
@@ -244,7 +245,7 @@ where
     };
     let server = ServerPost {
         desk: &server_desk,
-        buffers: server_buffers,
+        buffer: server_buffer,
         upstream,
     };
     let (back, refused) = work(&common, stations, server);

@@ -60,7 +60,9 @@ fn serve_link<D: Door + Drop, M: Core, R: Recorder, W: Wait + Clock>(
         }
         None => (inlet, outlet),
     };
+    common.signals.turnstile.begin_return();
     gate.lock(common.rt).door.give_back(inlet, outlet);
+    common.signals.turnstile.end_return();
 }
 
 /// A connection enters. Where it can't, the hub is stopped or was.

@@ -4,7 +4,8 @@ ghost use Rattle.gate_outside.specs.Causes.{Rose};
 ghost use Rattle.client_ports.specs.Ends.{put_of, taken_of};
 ghost use Rattle.link_reader.specs.Reading.{ReadsItems, ReadsFront, PutAll, PutAllSo};
 ghost use Rattle.link_writer.specs.Parcels.{HasWritten};
-ghost use Rattle.gateway_run.specs.declared.upstream.HearEnd.TheVariants as ends;
+ghost use Rattle.gateway_run.specs.declared.reading.ReadEnd.TheVariants as ends;
+ghost use Rattle.gateway_run.specs.declared.reading.Put.TheVariants as puts;
 ghost use Rattle.gateway_run.specs.declared.taking.Heard.TheVariants as heard;
 ghost use Rattle.link_reader.specs.Promise.{BeginsGiven};
 ghost use Rattle.std.specs.Option.{option_map};
@@ -12,13 +13,13 @@ ghost use Rattle.std.specs.Option.{option_map};
 use crate::collecting::collect;
 use crate::common::Common;
 use crate::life::Life;
-use crate::reading::put_some;
+use crate::reading::{Put, ReadEnd, put_some, read_once};
 use crate::taking::{Heard, Taking, take_all, take_few};
 use client_ports::{Putter, Taker};
 use gate_outside::{Inlet, Outlet};
 use gateway_hub::{Recorder, StopWhy};
 use gateway_mux::{Core, UpWhy};
-use link_reader::{Read, Reader};
+use link_reader::Reader;
 use link_writer::{Desk, Writer};
 use run_report::UpRun;
 use std::sync::Wait;
@@ -68,19 +69,6 @@ pub struct UpBack<I: Inlet, O: Outlet> {
     ghost end: { run.ended ≡ true → 0 < I.ends inlet },
 }
 
-/// Why the server's link is read no more.
-#[derive(Clone, Copy, Debug, PartialEq, Eq)]
-enum HearEnd {
-    /// It told its end, and all that came before was taken.
-    Ended,
-    /// It failed.
-    Failed,
-    /// An ending was kept, or what is written to it failed.
-    Kept,
-    /// Memory was wanting.
-    Memory,
-}
-
 /// Serves the server's connection until an ending is kept: reads what it says and has it taken, while the writer of this desk
 /// writes what it is handed, and a thread beside this one takes where much comes. Nothing was read from the inlet
 /// or written to the outlet before.
@@ -106,11 +94,11 @@ pub fn run_upstream<I: Inlet + Drop, O: Outlet + Drop, M: Core, R: Recorder, W: 
         outward,
     } = upstream;
     let mut reader = Reader::new(common.alloc, inlet, inward);
-    let writer = Writer::new(None, outlet, outward);
+    let writer = Writer::new(common.alloc, None, outlet, outward);
     let (end, writer) = hear_link(common, desk, taking, &mut reader, writer, buffer);
-    let run = run_of(end, writer.has_failed());
     let (inlet, inward) = reader.into_ends();
-    let (outlet, outward) = writer.into_ends();
+    let (outlet, outward, failed) = writer.into_ends();
+    let run = run_of(end, failed);
     UpBack {
         inlet,
         outlet,
@@ -121,15 +109,15 @@ pub fn run_upstream<I: Inlet + Drop, O: Outlet + Drop, M: Core, R: Recorder, W: 
 }
 
 /// What was met, by how reading ended and whether writing has failed.
-fn run_of(end: HearEnd, write_failed: bool) -> UpRun
+fn run_of(end: ReadEnd, write_failed: bool) -> UpRun
     ensures read { result.read_failed ≡ true → end ≡ ends.Failed }
     ensures end { result.ended ≡ true → end ≡ ends.Ended }
     ensures write { result.write_failed ≡ write_failed }
 {
     UpRun {
-        read_failed: matches!(end, HearEnd::Failed),
+        read_failed: matches!(end, ReadEnd::Failed),
         write_failed,
-        ended: matches!(end, HearEnd::Ended),
+        ended: matches!(end, ReadEnd::Ended),
     }
 }
 
@@ -141,7 +129,7 @@ fn hear_link<I: Inlet + Drop, O: Outlet + Drop, M: Core, R: Recorder, W: Wait + 
     reader: &mut Reader<I>,
     writer: Writer<O>,
     buffer: &mut [u8],
-) -> (HearEnd, Writer<O>)
+) -> (ReadEnd, Writer<O>)
     requires { 0 < length buffer.old }
     ensures front { (first : Option (List ℕ)) → ReadsFront I.rest first reader.old → ReadsFront I.rest first reader.new }
     ensures end { result.0 ≡ ends.Ended → Rose (I.ends reader.old.inlet) (I.ends reader.new.inlet) }
@@ -151,7 +139,7 @@ fn hear_link<I: Inlet + Drop, O: Outlet + Drop, M: Core, R: Recorder, W: Wait + 
     match desk.hand(common.rt, writer) {
         Ok(()) => {}
         // Nobody writes.
-        Err(writer) => return (HearEnd::Kept, writer),
+        Err(writer) => return (ReadEnd::Over, writer),
     }
     let end = hear_on(common, desk, taking, reader, buffer);
     tell_end(common, end);
@@ -159,12 +147,12 @@ fn hear_link<I: Inlet + Drop, O: Outlet + Drop, M: Core, R: Recorder, W: Wait + 
 }
 
 /// Tells the hub why the server's link is read no more, and wakes all workers.
-fn tell_end<M: Core, R: Recorder, W: Wait>(common: &Common<'_, M, R, W>, end: HearEnd) {
+fn tell_end<M: Core, R: Recorder, W: Wait>(common: &Common<'_, M, R, W>, end: ReadEnd) {
     match end {
-        HearEnd::Ended => common.end_server(UpWhy::Ended),
-        HearEnd::Failed => common.end_server(UpWhy::ReadFault),
-        HearEnd::Kept => common.tell_over(),
-        HearEnd::Memory => common.stop(StopWhy::Memory),
+        ReadEnd::Ended => common.end_server(UpWhy::Ended),
+        ReadEnd::Failed => common.end_server(UpWhy::ReadFault),
+        ReadEnd::Over => common.tell_over(),
+        ReadEnd::Memory => common.stop(StopWhy::Memory),
     }
 }
 
@@ -175,7 +163,7 @@ fn hear_on<I: Inlet + Drop, O: Outlet + Drop, M: Core, R: Recorder, W: Wait + Cl
     taking: &Taking,
     reader: &mut Reader<I>,
     buffer: &mut [u8],
-) -> HearEnd
+) -> ReadEnd
     requires { 0 < length buffer.old }
     ensures faults { I.faults reader.old.inlet ≤ I.faults reader.new.inlet }
     ensures ends { I.ends reader.old.inlet ≤ I.ends reader.new.inlet }
@@ -188,8 +176,8 @@ fn hear_on<I: Inlet + Drop, O: Outlet + Drop, M: Core, R: Recorder, W: Wait + Cl
     for _ in common.rt.forever() {
         match put_all(common, taking, &mut life, reader) {
             Heard::Empty => {}
-            Heard::Kept => return HearEnd::Kept,
-            Heard::Memory => return HearEnd::Memory,
+            Heard::Kept => return ReadEnd::Over,
+            Heard::Memory => return ReadEnd::Memory,
         }
         if let Some(end) = hear_more(common, desk, reader, buffer) {
             return end_after_rest(common, taking, end);
@@ -210,16 +198,16 @@ fn put_all<I: Inlet + Drop, M: Core, R: Recorder, W: Wait + Clock>(
     ensures front { (first : Option (List ℕ)) → ReadsFront I.rest first reader.old → ReadsFront I.rest first reader.new }
     ensures all { result ≡ heard.Empty → (first : Option (List ℕ)) → ReadsItems I.rest first reader.old → PutAll I.rest first reader.new }
 {
-    if put_some(common, reader, FEW_ITEMS) {
+    if put_some(common, reader, FEW_ITEMS, false) == Put::All {
         return take_few(common, taking, life);
     }
     for _ in common.rt.forever() {
-        let all_put = put_some(common, reader, u32::MAX);
+        let put = put_some(common, reader, u32::MAX, false);
         taking.came.ring(common.rt);
         if life.is_over(common, None) {
             return Heard::Kept;
         }
-        if all_put {
+        if put == Put::All {
             return Heard::Empty;
         }
         thread::sleep(common.rt, Duration::from_micros(FULL_PAUSE_MICROS));
@@ -231,25 +219,26 @@ fn put_all<I: Inlet + Drop, M: Core, R: Recorder, W: Wait + Clock>(
 fn end_after_rest<M: Core, R: Recorder, W: Wait + Clock>(
     common: &Common<'_, M, R, W>,
     taking: &Taking,
-    end: HearEnd,
-) -> HearEnd
+    end: ReadEnd,
+) -> ReadEnd
     ensures end { result ≡ ends.Ended → end ≡ ends.Ended }
     ensures failed { result ≡ ends.Failed → end ≡ ends.Failed }
 {
     let heard = take_all(common, &mut taking.pace.lock(common.rt));
     match heard {
-        Heard::Memory => HearEnd::Memory,
+        Heard::Memory => ReadEnd::Memory,
         Heard::Empty | Heard::Kept => end,
     }
 }
 
-/// Reads once more, where nothing that came is left. None where the link is to be read on.
+/// Reads once more, where nothing that came is left, with texts that are done with to hold what comes. None where the link is
+/// to be read on.
 fn hear_more<I: Inlet + Drop, O: Outlet + Drop, M: Core, R: Recorder, W: Wait>(
     common: &Common<'_, M, R, W>,
     desk: &Desk<O>,
     reader: &mut Reader<I>,
     buffer: &mut [u8],
-) -> Option<HearEnd>
+) -> Option<ReadEnd>
     requires { 0 < length buffer.old }
     ensures faults { I.faults reader.old.inlet ≤ I.faults reader.new.inlet }
     ensures ends { I.ends reader.old.inlet ≤ I.ends reader.new.inlet }
@@ -260,15 +249,5 @@ fn hear_more<I: Inlet + Drop, O: Outlet + Drop, M: Core, R: Recorder, W: Wait>(
     ensures failed { result ≡ Some ends.Failed → Rose (I.faults reader.old.inlet) (I.faults reader.new.inlet) }
 {
     reader.refill(&mut common.spent.lock(common.rt));
-    match reader.read(common.alloc, buffer) {
-        Read::Came => None,
-        Read::End => Some(HearEnd::Ended),
-        Read::Failed => Some(HearEnd::Failed),
-        Read::Memory => Some(HearEnd::Memory),
-        Read::NotYet if desk.is_back(common.rt) => Some(HearEnd::Kept),
-        Read::NotYet => {
-            thread::yield_now();
-            None
-        }
-    }
+    read_once(common, desk, reader, buffer)
 }

@@ -5,7 +5,7 @@ use crate::life::Life;
 use gate_outside::Outlet;
 use gateway_hub::Recorder;
 use gateway_mux::{Core, UpWhy};
-use link_writer::{Desk, Gather, Turn, Writer};
+use link_writer::{Desk, Turn, Writer};
 use std::sync::Wait;
 use text_pool::TextPool;
 
@@ -13,16 +13,14 @@ use text_pool::TextPool;
 pub fn write_from<O: Outlet + Drop, M: Core, R: Recorder, W: Wait>(
     common: &Common<'_, M, R, W>,
     desk: &Desk<O>,
-    gather: Gather,
 ) {
-    let mut gather = gather;
     let mut spent = TextPool::new(common.alloc);
     for _ in common.rt.forever() {
         let Some(writer) = desk.take(common.rt) else {
             return;
         };
-        let bell = common.bells.of(writer.conn());
-        let writer = write_out(common, writer, &mut gather, &mut spent);
+        let bell = common.signals.of(writer.conn());
+        let writer = write_out(common, desk, writer, &mut spent);
         desk.give_back(common.rt, writer);
         bell.ring(common.rt);
     }
@@ -32,17 +30,23 @@ pub fn write_from<O: Outlet + Drop, M: Core, R: Recorder, W: Wait>(
 /// reads from the same link is let go then.
 fn write_out<O: Outlet + Drop, M: Core, R: Recorder, W: Wait>(
     common: &Common<'_, M, R, W>,
+    desk: &Desk<O>,
     writer: Writer<O>,
-    gather: &mut Gather,
     spent: &mut TextPool,
 ) -> Writer<O> {
     let mut writer = writer;
     let mut life = Life::new();
-    let bell = common.bells.of(writer.conn());
+    let bell = common.signals.of(writer.conn());
     for _ in common.rt.forever() {
         let seen = bell.rings(common.rt);
-        match writer.turn(common.rt, gather, spent) {
-            Turn::Wrote => common.spent.lock(common.rt).keep_all(spent),
+        let turn = writer.turn(common.rt, spent);
+        tell_turn(common, &writer, turn);
+        match turn {
+            Turn::Wrote => {
+                desk.tell_move();
+                common.spent.lock(common.rt).keep_all(spent);
+            }
+            Turn::Stuck => {}
             Turn::Failed => {
                 tell_failure(common, writer.conn());
                 break;
@@ -58,6 +62,19 @@ fn write_out<O: Outlet + Drop, M: Core, R: Recorder, W: Wait>(
     }
     writer.shut();
     writer
+}
+
+/// Tells what a turn shows of how a writer gets on: for the server how many parcels were taken, for a player whether its outlet
+/// takes nothing for now.
+fn tell_turn<O: Outlet + Drop, M: Core, R: Recorder, W: Wait>(
+    common: &Common<'_, M, R, W>,
+    writer: &Writer<O>,
+    turn: Turn,
+) {
+    match writer.conn() {
+        Some(conn) => common.signals.flow.tell_stuck(conn, turn == Turn::Stuck),
+        None => common.signals.flow.tell_sent(writer.taken()),
+    }
 }
 
 /// Tells the hub that what is written to the server fails, before its link is shut: its reader would tell the end of it.

@@ -1,0 +1,17 @@
+//! What the workers of a run tell each other: when to look for work, how writers get on, that all have begun, whose turn it is
+//! at the door, and how much time has passed.
+//!
+//! Nothing is promised of when a worker wakes. What a worker does is proved without that.
+#![tactic(auto)]
+
+mod flow;
+mod meeting;
+mod signals;
+mod stopwatch;
+mod turnstile;
+
+pub use flow::Flow;
+pub use meeting::Meeting;
+pub use signals::{Due, Signals};
+pub use stopwatch::Stopwatch;
+pub use turnstile::Turnstile;

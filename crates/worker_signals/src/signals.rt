@@ -1,0 +1,109 @@
+//! What workers tell each other.
+ghost use Rattle.std.specs.Prelude.{◌≡◌, false};
+
+use crate::flow::Flow;
+use crate::meeting::Meeting;
+use crate::turnstile::Turnstile;
+use client_ports::Bell;
+use std::array;
+use std::sync::Wait;
+use std::sync::atomic::{AtomicU64, Ordering};
+
+/// How many bells the players' connections have: as many as there can be stations. Each is shared by the connections whose numbers
+/// leave the same rest; of those that are served at once mostly no two do.
+const PLAYER_BELLS: usize = 64;
+
+/// What workers of a run tell each other: the bells, how writers get on, who has begun, and whose turn it is at the door. A
+/// worker waits at the bell of its connection, so that what comes for one player wakes few others.
+#[derive(Drop)]
+pub struct Signals {
+    /// Each rings after a change that a worker of one of its connections may wait for.
+    players: [Bell; PLAYER_BELLS],
+    /// Rings after a change that the server's writer may wait for.
+    server: Bell,
+    /// How often a link may have come to be over. So a writer asks the hub only after that, whose lock the server's reader has
+    /// most of the time.
+    overs: AtomicU64,
+    /// What writers tell of how they get on.
+    pub flow: Flow,
+    /// Where it is told that all threads have begun.
+    pub meeting: Meeting,
+    /// Where stations wait for their turn to wait at the door.
+    pub turnstile: Turnstile,
+}
+
+impl Signals {
+    /// Nothing was told, and no bell has rung. They take no memory.
+    pub fn new() -> Signals {
+        Signals {
+            players: array::from_fn(|_| Bell::new()),
+            server: Bell::new(),
+            overs: AtomicU64::new(0),
+            flow: Flow::new(),
+            meeting: Meeting::new(),
+            turnstile: Turnstile::new(),
+        }
+    }
+
+    /// The bell of the connection with this number, or of the server's.
+    pub fn of(&self, conn: Option<u32>) -> &Bell {
+        match conn {
+            Some(conn) => &self.players[conn as usize % PLAYER_BELLS],
+            None => &self.server,
+        }
+    }
+
+    /// Rings those that are due, which are due no longer.
+    pub fn ring_due<W: Wait>(&self, rt: &W, due: &mut Due) {
+        if due.server {
+            self.server.ring(rt);
+        }
+        for place in 0..PLAYER_BELLS {
+            if due.players[place] {
+                self.players[place].ring(rt);
+            }
+        }
+        *due = Due::new();
+    }
+
+    /// How often a link may have come to be over. It is counted before all bells ring for it.
+    pub fn overs(&self) -> u64 {
+        self.overs.load(Ordering::SeqCst)
+    }
+
+    /// Rings all, since a link may be over.
+    pub fn ring_all<W: Wait>(&self, rt: &W) {
+        self.overs.fetch_add(1, Ordering::SeqCst);
+        self.server.ring(rt);
+        for bell in &self.players {
+            bell.ring(rt);
+        }
+    }
+}
+
+/// Which bells are to ring.
+#[derive(Clone, Copy)]
+pub struct Due {
+    /// Whether that of the server's connection is.
+    pub server: bool,
+    players: [bool; PLAYER_BELLS],
+}
+
+impl Due {
+    /// None of them.
+    pub fn new() -> Due
+        ensures { result.server ≡ false }
+    {
+        Due {
+            server: false,
+            players: [false; PLAYER_BELLS],
+        }
+    }
+
+    /// That of the connection with this number too.
+    pub fn add(&mut self, conn: u32)
+        ensures { self.new.server ≡ self.old.server }
+    {
+        self.players[conn as usize % PLAYER_BELLS] = true;
+    }
+}
