@@ -1,7 +1,7 @@
 //! The queue between who notes and the thread that writes the file.
 ghost use Rattle.std.specs.Prelude.{◌≤◌, length};
 
-use crate::backlog::{Backlog, Sight};
+use crate::backlog::{Backlog, FileProgress, empty};
 use gate_bytes::Memory;
 use std::alloc::Global;
 use std::sync::{Mutex, MutexGuard};
@@ -15,15 +15,19 @@ pub const STALL_SECONDS: u64 = 10;
 /// How long whoever waits for the thread that writes pauses between two looks, in milliseconds (this project's own).
 const LOOK_MILLISECONDS: u64 = 1;
 
+/// How long whoever puts pauses at once for a thread that is late, in microseconds (this project's own).
+const LATE_MICROSECONDS: u64 = 50;
+
+/// How often the lock of a queue is tried before another thread is let run. It is held for less than that takes, unless the
+/// thread that has it does not run.
+const TRIES_IN_A_ROW: u32 = 1_000;
+
 /// How often a file may be looked at that takes nothing.
 const MOST_LOOKS: u64 = STALL_SECONDS * 1_000 / LOOK_MILLISECONDS;
 
-/// How often the lock of a queue is asked for. The other thread has it for a moment.
-const MOST_TRIES: u32 = 1_000_000_000;
-
 /// What the thread that writes found in its queue.
 #[derive(Clone, Copy, Debug, PartialEq, Eq)]
-pub enum Taken {
+pub enum Collected {
     /// Bytes, which it has now.
     Bytes,
     /// Nothing for now.
@@ -52,10 +56,10 @@ impl FileQueue {
         })
     }
 
-    /// What waits, once the other thread does not have it.
+    /// What waits, once the other thread does not have it: it has it for a moment.
     fn enter(&self) -> Option<MutexGuard<'_, Backlog>> {
-        for _ in 0..MOST_TRIES {
-            if let Some(backlog) = self.backlog.try_lock() {
+        for _ in 0..u64::MAX {
+            if let Some(backlog) = self.try_enter() {
                 return Some(backlog);
             }
             thread::yield_now();
@@ -63,40 +67,75 @@ impl FileQueue {
         None
     }
 
+    /// The same, where the other thread lets it go soon.
+    fn try_enter(&self) -> Option<MutexGuard<'_, Backlog>> {
+        for _ in 0..TRIES_IN_A_ROW {
+            if let Some(backlog) = self.backlog.try_lock() {
+                return Some(backlog);
+            }
+        }
+        None
+    }
+
     /// How far the thread has come that writes.
-    fn sight(&self) -> Option<Sight> {
+    fn progress(&self) -> Option<FileProgress> {
         let backlog = self.enter()?;
-        Some(backlog.sight())
+        Some(backlog.progress())
     }
 
     /// Puts the first bytes of a piece, and answers how many they are. It waits for the file only while the queue is full, and
-    /// answers 0 where it stays so for [`STALL_SECONDS`], or the file has failed.
+    /// answers 0 where it stays so for [`STALL_SECONDS`], or the file has failed. Besides, it pauses some milliseconds at most
+    /// where the thread that writes is late.
     pub fn put(&self, host: &HostRuntime, piece: &[u8]) -> usize
         ensures { result ≤ length piece.now }
     {
-        let count = self.put_now(piece);
+        let (count, is_late) = self.put_now(piece);
+        if is_late {
+            self.await_thread(host);
+        }
         if count > 0 {
             return count;
         }
         self.await_room(host);
-        self.put_now(piece)
+        self.put_now(piece).0
     }
 
-    /// The same without any wait.
-    fn put_now(&self, piece: &[u8]) -> usize
-        ensures { result ≤ length piece.now }
+    /// The same without any wait, and whether the thread that writes may be waited for. Where memory is wanting, nothing is put.
+    fn put_now(&self, piece: &[u8]) -> (usize, bool)
+        ensures { result.0 ≤ length piece.now }
     {
         match self.enter() {
-            Some(mut backlog) => backlog.put(piece),
-            None => 0,
+            Some(mut backlog) => {
+                let count = backlog.put(piece).unwrap_or(0);
+                (count, backlog.may_wait_for_thread())
+            }
+            None => (0, false),
+        }
+    }
+
+    /// Pauses until the thread has come, where that may be waited for.
+    fn await_thread(&self, host: &HostRuntime) {
+        for _ in 0..u64::MAX {
+            thread::sleep(host, Duration::from_micros(LATE_MICROSECONDS));
+            if !self.may_wait_for_thread() {
+                return;
+            }
+        }
+    }
+
+    /// Whether the thread that writes is late, and may be waited for.
+    fn may_wait_for_thread(&self) -> bool {
+        match self.enter() {
+            Some(mut backlog) => backlog.may_wait_for_thread(),
+            None => false,
         }
     }
 
     /// Waits while there is no room.
     fn await_room(&self, host: &HostRuntime) {
         for _ in 0..MOST_LOOKS {
-            match self.sight() {
-                Some(sight) if sight.full && !sight.over => pause(host),
+            match self.progress() {
+                Some(progress) if progress.full && !progress.over => pause(host),
                 _ => return,
             }
         }
@@ -105,8 +144,8 @@ impl FileQueue {
     /// Waits until all that was put is written, for [`STALL_SECONDS`] at most, and tells whether it is.
     pub fn settle(&self, host: &HostRuntime) -> bool {
         for _ in 0..MOST_LOOKS {
-            match self.sight() {
-                Some(sight) if sight.written || sight.over => return sight.written,
+            match self.progress() {
+                Some(progress) if progress.written || progress.over => return progress.written,
                 Some(_) => pause(host),
                 None => return false,
             }
@@ -125,7 +164,7 @@ impl FileQueue {
     /// is written.
     pub fn finish(&self, host: &HostRuntime) -> bool {
         for _ in 0..u64::MAX {
-            let Some(seen) = self.sight() else {
+            let Some(seen) = self.progress() else {
                 return false;
             };
             if let Some(written) = self.await_step(host, seen.steps) {
@@ -138,9 +177,9 @@ impl FileQueue {
     /// Waits for a step of the thread. Where it has ended, or stands too long, it is told whether all is written.
     fn await_step(&self, host: &HostRuntime, seen: u64) -> Option<bool> {
         for _ in 0..MOST_LOOKS {
-            match self.sight() {
-                Some(sight) if sight.over => return Some(sight.written),
-                Some(sight) if sight.steps != seen => return None,
+            match self.progress() {
+                Some(progress) if progress.over => return Some(progress.written),
+                Some(progress) if progress.steps != seen => return None,
                 Some(_) => pause(host),
                 None => return Some(false),
             }
@@ -148,17 +187,18 @@ impl FileQueue {
         Some(false)
     }
 
-    /// The thread takes all that waits.
-    pub fn take(&self, into: &mut Vec<u8>) -> Taken {
+    /// The thread takes all that waits, in place of what it had.
+    pub fn collect(&self, buffer: &mut Vec<u8>) -> Collected {
+        empty(buffer);
         let Some(mut backlog) = self.enter() else {
-            return Taken::End;
+            return Collected::End;
         };
         let closed = backlog.is_closed();
-        backlog.take(into);
-        match (into.is_empty(), closed) {
-            (false, _) => Taken::Bytes,
-            (true, false) => Taken::Nothing,
-            (true, true) => Taken::End,
+        backlog.take(buffer);
+        match (buffer.is_empty(), closed) {
+            (false, _) => Collected::Bytes,
+            (true, false) => Collected::Nothing,
+            (true, true) => Collected::End,
         }
     }
 

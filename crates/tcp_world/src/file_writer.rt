@@ -2,7 +2,7 @@
 ghost use Rattle.std.specs.Prelude.{◌≤◌, None, IfOk, length};
 
 use crate::backlog::new_buffer;
-use crate::file_queue::{FileQueue, Taken};
+use crate::file_queue::{Collected, FileQueue};
 use gate_bytes::before;
 use gate_outside::{Failed, Sink, write_all};
 use std::alloc::Global;
@@ -19,18 +19,47 @@ const WRITE_BYTES: usize = 65_536;
 /// How often a write that a signal interrupted is tried.
 const MOST_TRIES: u32 = 100;
 
-/// How long the thread pauses where nothing came, in microseconds (this project's own). A kill loses no more, as far as the
-/// file takes it.
+/// How long the thread pauses where nothing has come for a time, in microseconds (this project's own). A kill loses no more, as
+/// far as the file takes it.
 pub const IDLE_MICROSECONDS: u64 = 10_000;
 
-/// How long it pauses after it has written, so that more comes that is written at once, in microseconds (this project's own).
+/// How long it pauses where something came of late, so that more comes that is written at once, in microseconds (this project's
+/// own).
 const BUSY_MICROSECONDS: u64 = 1_000;
 
 /// The same where so much came that more would need larger buffers.
-const FLOOD_MICROSECONDS: u64 = 250;
+const FLOOD_MICROSECONDS: u64 = 300;
 
 /// How many bytes are so much.
 const FLOOD_BYTES: usize = 65_536;
+
+/// After so many looks that found nothing, nothing has come for a time.
+const BUSY_LOOKS: u32 = 1_000;
+
+/// How the thread pauses between two looks into its queue.
+#[derive(Drop)]
+struct Rhythm {
+    /// How many looks in a row have found nothing.
+    idle_looks: u32,
+}
+
+impl Rhythm {
+    /// How long it pauses behind a look that found so many bytes.
+    fn pause_after(&mut self, count: usize) -> Duration {
+        if count > 0 {
+            self.idle_looks = 0;
+        } else {
+            self.idle_looks = self.idle_looks.saturating_add(1);
+        }
+        Duration::from_micros(if count >= FLOOD_BYTES {
+            FLOOD_MICROSECONDS
+        } else if self.idle_looks < BUSY_LOOKS {
+            BUSY_MICROSECONDS
+        } else {
+            IDLE_MICROSECONDS
+        })
+    }
+}
 
 /// Makes the file of this name, or empties it, and writes to it what is put into the queue, until that is closed and nothing
 /// waits, or the file fails. The queue is told how that went.
@@ -53,22 +82,18 @@ fn write_queued(
         faults: 0,
         failure: io::Error::other("it takes nothing"),
     };
+    let mut rhythm = Rhythm { idle_looks: 0 };
     for _ in 0..u64::MAX {
-        let pause = match queue.take(&mut piece) {
-            Taken::Bytes => {
+        match queue.collect(&mut piece) {
+            Collected::Bytes => {
                 if write_all(&mut sink, piece.as_slice()).is_err() {
                     return Err(sink.failure);
                 }
-                if piece.len() < FLOOD_BYTES {
-                    BUSY_MICROSECONDS
-                } else {
-                    FLOOD_MICROSECONDS
-                }
             }
-            Taken::Nothing => IDLE_MICROSECONDS,
-            Taken::End => return Ok(()),
-        };
-        thread::sleep(host, Duration::from_micros(pause));
+            Collected::Nothing => {}
+            Collected::End => return Ok(()),
+        }
+        thread::sleep(host, rhythm.pause_after(piece.len()));
     }
     Err(sink.failure)
 }

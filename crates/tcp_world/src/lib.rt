@@ -23,6 +23,6 @@ pub use file_queue::STALL_SECONDS;
 pub use file_sink::FileSink;
 pub use file_writer::IDLE_MICROSECONDS;
 pub use link::{
-    DIAL_SECONDS, READ_MILLISECONDS, REST_SECONDS, TcpInlet, TcpOutlet, WRITE_SECONDS, halves,
+    DIAL_SECONDS, OFFER_MILLISECONDS, READ_MILLISECONDS, TcpInlet, TcpOutlet, WRITE_SECONDS, halves,
 };
 pub use world::TcpWorld;

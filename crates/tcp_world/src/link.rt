@@ -1,5 +1,6 @@
 //! A link over TCP, by its two halves.
-ghost use Rattle.std.specs.Prelude.{◌≡◌, ◌≤◌, length, None, IfOk};
+ghost use Rattle.std.specs.Prelude.{◌≡◌, ◌≤◌, None, IfOk, length};
+ghost use Rattle.gate_outside.specs.Causes.{HasCause, Rose};
 ghost use Rattle.tcp_world.specs.Edges.{IsNewTcpLink};
 
 use crate::waiting::is_not_yet;
@@ -15,19 +16,19 @@ use std::time::{Duration, Instant};
 /// the host's name is looked up is for the resolver to say.
 pub const DIAL_SECONDS: u64 = 10;
 
-/// How long a piece that is written may wait for the other side to take all of it, in seconds (this project's own limit).
-pub const WRITE_SECONDS: u64 = 9;
+/// How long the other side may take nothing of what is offered to it, in seconds (this project's own limit).
+pub const WRITE_SECONDS: u64 = 10;
 
-/// How long the rest of a piece may wait then of which the other side took a part, in seconds (this project's own limit). So a
-/// piece has ten seconds in all.
-pub const REST_SECONDS: u64 = 1;
+/// How long an offer waits for the other side to take something, in milliseconds (this project's own limit). The system may wait
+/// for a few more.
+pub const OFFER_MILLISECONDS: u64 = 4;
 
 /// How long a read waits for the other side before it tells that it has nothing for now, in milliseconds (this project's own
 /// limit). A reader looks after its connection as often.
 pub const READ_MILLISECONDS: u64 = 100;
 
-/// How often a write that a signal interrupted is tried.
-const MOST_TRIES: u32 = 100;
+/// So many offers in turn of which the other side takes nothing are a fault.
+const MOST_STALLS: u64 = WRITE_SECONDS * 1_000 / OFFER_MILLISECONDS;
 
 /// What comes in by a link.
 #[derive(Drop)]
@@ -87,22 +88,12 @@ impl Inlet for TcpInlet {
     }
 }
 
-/// How the other side takes what is written. A write that puts a part alone has waited as long as it may.
-#[derive(Clone, Copy)]
-enum Pace {
-    /// It took all of the last piece.
-    Whole,
-    /// It took a part, and the rest has a last time.
-    Part,
-    /// It didn't take the rest in that time.
-    Late,
-}
-
-/// What goes out by a link. A write that the other side lets wait too long is a fault.
+/// What goes out by a link. It fails where the other side takes nothing for too long.
 #[derive(Drop)]
 pub struct TcpOutlet {
     stream: Arc<TcpStream>,
-    pace: Pace,
+    /// How many offers in turn found that the other side takes nothing for now.
+    stalls: u64,
     faults: u64,
 }
 
@@ -113,55 +104,13 @@ impl TcpOutlet {
     {
         self.faults
     }
-}
 
-impl TcpOutlet {
-    /// Writes the first bytes of a piece, and answers how many they are: none where the link fails.
-    fn put(&self, piece: &[u8]) -> usize
-        ensures { result ≤ length piece.now }
+    /// Counts a fault.
+    fn fail(&mut self) -> Failed
+        ensures { Rose self.old.faults self.new.faults }
     {
-        let mut stream: &TcpStream = &self.stream;
-        for _ in 0..MOST_TRIES {
-            match stream.write(piece) {
-                Ok(count) => return count,
-                Err(error) if error.kind() == ErrorKind::Interrupted => {}
-                Err(_) => return 0,
-            }
-        }
-        0
-    }
-
-    /// The same, and none where the other side is late.
-    fn put_in_time(&self, piece: &[u8]) -> usize
-        ensures { result ≤ length piece.now }
-    {
-        match self.pace {
-            Pace::Whole | Pace::Part => self.put(piece),
-            Pace::Late => 0,
-        }
-    }
-
-    /// Keeps how the other side takes what is written, of which it took all or a part now.
-    fn keep_pace(&mut self, took_all: bool)
-        ensures { self.new.faults ≡ self.old.faults }
-    {
-        match self.pace {
-            Pace::Whole if !took_all => self.set_pace(Pace::Part, REST_SECONDS),
-            Pace::Part if took_all => self.set_pace(Pace::Whole, WRITE_SECONDS),
-            Pace::Part => self.pace = Pace::Late,
-            Pace::Whole | Pace::Late => {}
-        }
-    }
-
-    /// From now on a write waits so long.
-    fn set_pace(&mut self, pace: Pace, seconds: u64)
-        ensures { self.new.faults ≡ self.old.faults }
-    {
-        self.pace = pace;
-        // where the system refuses it, the time is as before
-        let _ = self
-            .stream
-            .set_write_timeout(Some(Duration::from_secs(seconds)));
+        self.faults = self.faults.saturating_add(1);
+        Failed
     }
 }
 
@@ -171,17 +120,35 @@ impl Sink for TcpOutlet {
     ghost faults = { λ s. s.faults };
 
     fn write(&mut self, piece: &[u8]) -> Result<usize, Failed> {
-        let count = self.put_in_time(piece);
-        if count == 0 {
-            self.faults = self.faults.saturating_add(1);
-            return Err(Failed);
+        for _ in 0..MOST_STALLS {
+            let count = self.offer(piece)?;
+            if count > 0 {
+                return Ok(count);
+            }
         }
-        self.keep_pace(count == piece.len());
-        Ok(count)
+        Err(self.fail())
     }
 }
 
 impl Outlet for TcpOutlet {
+    fn offer(&mut self, piece: &[u8]) -> Result<usize, Failed>
+        ensures within { IfOk result (λ n. n ≤ length piece.now) }
+        ensures counts { HasCause self.old.faults self.new.faults result }
+    {
+        let mut stream: &TcpStream = &self.stream;
+        match stream.write(piece) {
+            Ok(count) if count > 0 => {
+                self.stalls = 0;
+                Ok(count)
+            }
+            Err(error) if is_not_yet(&error) && self.stalls < MOST_STALLS => {
+                self.stalls += 1;
+                Ok(0)
+            }
+            _ => Err(self.fail()),
+        }
+    }
+
     /// Shuts the link both ways, so that a read of its inlet that waits tells the end.
     fn shut(&mut self) {
         let _ = self.stream.shutdown(Shutdown::Both);
@@ -194,7 +161,7 @@ pub fn halves(alloc: Global, stream: TcpStream) -> io::Result<(TcpInlet, TcpOutl
 {
     stream.set_nodelay(true)?;
     stream.set_read_timeout(Some(Duration::from_millis(READ_MILLISECONDS)))?;
-    stream.set_write_timeout(Some(Duration::from_secs(WRITE_SECONDS)))?;
+    stream.set_write_timeout(Some(Duration::from_millis(OFFER_MILLISECONDS)))?;
     let ours = Arc::new(alloc, stream)?;
     let theirs = Arc::try_clone(&ours)?;
     let inlet = TcpInlet {
@@ -207,7 +174,7 @@ pub fn halves(alloc: Global, stream: TcpStream) -> io::Result<(TcpInlet, TcpOutl
         inlet,
         TcpOutlet {
             stream: theirs,
-            pace: Pace::Whole,
+            stalls: 0,
             faults: 0,
         },
     ))
