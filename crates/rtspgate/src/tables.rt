@@ -9,6 +9,7 @@ use gateway_words::{Form, MOST_STATIONS};
 use hub_places::{
     INWARD_CAPACITY, MOST_CONNECTIONS, OUTWARD_CAPACITY, SERVER_CAPACITY, SERVER_INWARD_CAPACITY,
 };
+use link_writer::MOST_HELD;
 use play_queue::MOST_PLAYS;
 use rtsp_head::{MOST_BODY, MOST_HEAD, MOST_HEADERS};
 use rtsp_small::LAST_CSEQ_TWO;
@@ -17,7 +18,7 @@ use std::alloc::{AllocError, Global};
 use tcp_world::QUEUE_BYTES;
 
 /// What is counted, and the most of it.
-const LIMITS: [(&str, u64); 15] = [
+const LIMITS: [(&str, u64); 16] = [
     ("players at once", MOST_STATIONS as u64),
     ("players of one run", MOST_CONNECTIONS as u64),
     ("tracks of a session", MOST_TRACKS as u64),
@@ -39,6 +40,10 @@ const LIMITS: [(&str, u64); 15] = [
         SERVER_INWARD_CAPACITY as u64,
     ),
     ("pieces that wait for a player", OUTWARD_CAPACITY as u64),
+    (
+        "bytes held for a player whose socket is full",
+        MOST_HELD as u64,
+    ),
     ("pieces that wait for the server", SERVER_CAPACITY as u64),
     (
         "bytes of a recording that wait for the file",
