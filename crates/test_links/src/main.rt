@@ -34,7 +34,7 @@
 //!   bytes of the items are told, whether the port was ever full, and how many items were put;
 //! - `writer`: `put BODY` puts a parcel, `turn` has a writer write, `failed` tells whether its outlet failed, `shut` shuts
 //!   it, and `end` ends the writer, tells how many bytes were written, whether its outlet is shut, and how many texts are
-//!   kept, and begins the next one with the same buffer;
+//!   kept, and begins the next one;
 //! - `desk`: `hand CONNECTION` hands it a writer, `take` takes it and `give-back` gives it back, `is-back` tells whether it
 //!   came back, `collect` takes it then and tells its connection, and `close` closes the desk.
 //!

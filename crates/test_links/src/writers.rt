@@ -7,7 +7,7 @@ use case_text::{Answer, CaseFault, meant};
 use client_ports::{Parcel, Putter, port};
 use gate_bytes::Memory;
 use gate_outside::{MemoryOutlet, Outlet, Script};
-use link_writer::{Desk, Gather, Writer};
+use link_writer::{Desk, Writer};
 use std::alloc::Global;
 use std::sync::Wait;
 use std::{mem, str};
@@ -24,7 +24,7 @@ fn new_writer(
 ) -> Result<(Putter, Writer<MemoryOutlet>), Memory> {
     let (putter, taker) = port(alloc, CAPACITY)?;
     let outlet = MemoryOutlet::new(alloc, script)?;
-    Ok((putter, Writer::new(Some(conn), outlet, taker)))
+    Ok((putter, Writer::new(alloc, Some(conn), outlet, taker)))
 }
 
 /// A writer, what puts its parcels, and the texts that it is done with.
@@ -49,19 +49,17 @@ fn new_ends(alloc: Global, script: Script) -> Result<Box<WriterEnds>, CaseFault>
     )
 }
 
-/// A writer, and the buffer that all writers of a scene have.
+/// A writer and what belongs to it.
 #[derive(Drop)]
 pub struct WriterPlay {
     ends: Box<WriterEnds>,
-    gather: Box<Gather>,
 }
 
 impl WriterPlay {
     /// A writer of an outlet that behaves as the draft says.
     pub fn new(alloc: Global, draft: &mut Draft) -> Result<Box<WriterPlay>, CaseFault> {
-        let gather = boxed(alloc, Gather::new(alloc)?)?;
         let ends = new_ends(alloc, draft.take_script(alloc))?;
-        boxed(alloc, WriterPlay { ends, gather })
+        boxed(alloc, WriterPlay { ends })
     }
 
     /// Makes the call that a word is, or does what the line says of the next thing, and tells what came.
@@ -76,7 +74,7 @@ impl WriterPlay {
     ) {
         match str::from_utf8(word).unwrap_or("") {
             "put" => put_parcel(rt, alloc, &mut self.ends.putter, more, answer),
-            "turn" => turn(rt, alloc, &mut self.ends, &mut self.gather, answer),
+            "turn" => turn(rt, alloc, &mut self.ends, answer),
             "failed" => answer.push_debug(alloc, &self.ends.writer.has_failed()),
             "shut" => self.ends.writer.shut(),
             "end" => self.end(alloc, draft.take_script(alloc), answer),
@@ -84,8 +82,7 @@ impl WriterPlay {
         }
     }
 
-    /// Ends the writer, and begins the next one with the same buffer, whose outlet behaves so. How many bytes were written is
-    /// told, whether the outlet is shut, and how many texts are kept.
+    /// Ends the writer, and begins the next one, whose outlet behaves so. How many bytes were written is told, whether the outlet is shut, and how many texts are kept.
     fn end(&mut self, alloc: Global, script: Script, answer: &mut Answer) {
         match new_ends(alloc, script) {
             Ok(next) => tell_ends(alloc, mem::replace(&mut self.ends, next), answer),
@@ -112,14 +109,8 @@ fn put_parcel<W: Wait>(
 }
 
 /// Has a writer write, and tells what it answers.
-fn turn<W: Wait>(
-    rt: &W,
-    alloc: Global,
-    ends: &mut WriterEnds,
-    gather: &mut Gather,
-    answer: &mut Answer,
-) {
-    let turn = ends.writer.turn(rt, gather, &mut ends.spent);
+fn turn<W: Wait>(rt: &W, alloc: Global, ends: &mut WriterEnds, answer: &mut Answer) {
+    let turn = ends.writer.turn(rt, &mut ends.spent);
     answer.push_debug(alloc, &turn);
 }
 
@@ -127,7 +118,7 @@ fn turn<W: Wait>(
 fn tell_ends(alloc: Global, ends: Box<WriterEnds>, answer: &mut Answer) {
     let ends = Box::into_inner(ends);
     let kept = ends.spent.len();
-    let (outlet, _taker) = ends.writer.into_ends();
+    let (outlet, _taker, _failed) = ends.writer.into_ends();
     tell_outlet(alloc, &outlet, kept, answer);
 }
 

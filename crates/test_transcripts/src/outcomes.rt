@@ -3,7 +3,7 @@
 use case_text::Answer;
 use gate_bytes::Text;
 use gateway_mux::{Closed, Outcome, Status, ToClient, UpCause, UpMessage};
-use gateway_replay::close_byte;
+use mux_history::close_byte;
 use std::alloc::Global;
 
 /// Tells an outcome: to the player, to the server, the closes and the fault, each in brackets.
