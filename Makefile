@@ -62,7 +62,8 @@ gate-cost:
 # Runs the program over real files and pipes: cuts, the gate's transcripts, bad words, faults of the source, the sink
 # and memory, and the longest transcript; and compares the records of drawn transcripts with a second reading of
 # docs/FORMATS.md. Then it serves players over sockets: ends of all kinds, bursts, a player that takes nothing, and what can't be
-# opened; and where the host fails it: recordings that stall, few descriptors, a server that doesn't answer.
+# opened; looks whether players, errors and recordings hold up or end nothing else (`tools/check_stands --long PROGRAM` has scenes
+# of a minute besides), also where the host fails it: recordings that stall, few descriptors, a server that doesn't answer.
 # tools/check_tools has tools/transcript look into recordings. Before all that it looks whether the pictures of docs/ are as they
 # would be drawn, counts the must-fail edits, and compares the numbers of the pages with those of the help.
 check: $(PROGRAM)
@@ -71,6 +72,7 @@ check: $(PROGRAM)
 	tools/check_pages $(PROGRAM)
 	tools/check_program $(PROGRAM)
 	tools/check_serve $(PROGRAM)
+	tools/check_stands $(PROGRAM)
 	tools/check_world $(PROGRAM)
 	tools/check_tools $(PROGRAM)
 	tools/compare $(PROGRAM)

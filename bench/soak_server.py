@@ -25,25 +25,6 @@ class Wrong(Exception):
     """What a player or the server should not have got."""
 
 
-class Quick(Items):
-    """A stream that is cut without a copy of all that is left for each frame."""
-
-    def feed(self, piece):
-        data, at = self.left + piece, 0
-        while True:
-            size = 4 + int.from_bytes(data[at + 2:at + 4], "big")
-            if data[at:at + 1] == b"$" and len(data) - at >= size:
-                yield Frame(data[at + 1], data[at + 4:at + size])
-                at += size
-                continue
-            self.left = data[at:]
-            message, size = (None, 0) if self.left[:1] in (b"$", b"") else self.first_message()
-            if message is None:
-                return
-            at += size
-            yield message
-
-
 def payload(name, track, number, size):
     """What a frame carries."""
     return (b"%s %d %06d " % (name.encode(), track, number)).ljust(size - 4, b".")
@@ -79,7 +60,7 @@ class Server:
 
     async def serve(self, reader, writer):
         """Serves the gateway until its end."""
-        self.writer, items = writer, Quick()
+        self.writer, items = writer, Items()
         self.came.set()
         try:
             while piece := await reader.read(65_536):

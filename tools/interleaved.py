@@ -84,38 +84,35 @@ def body_length(message):
     return int(text or 0)
 
 
-class Pieces:
-    """A stream that comes in pieces, cut into what `first` finds at its front."""
+class Items:
+    """A stream that comes in pieces, cut into frames and messages."""
 
     def __init__(self):
         self.left = b""
 
-    def first(self):
-        """The first item and its length; neither where none is whole."""
-        raise NotImplementedError
-
     def feed(self, piece):
-        """The items that are whole now."""
+        """The items that are whole now. What stands behind a frame is not copied for each of them."""
         self.left += piece
         while True:
-            item, size = self.first()
-            if item is None:
+            frames, end = self.frames()
+            self.left = self.left[end:]
+            yield from frames
+            message, size = (None, 0) if self.left[:1] in (b"$", b"") else self.first_message()
+            if message is None:
                 return
             self.left = self.left[size:]
-            yield item
+            yield message
 
-
-class Items(Pieces):
-    """A stream that is cut into frames and messages."""
-
-    def first(self):
-        return self.first_frame() if self.left.startswith(b"$") else self.first_message()
-
-    def first_frame(self):
-        size = 4 + int.from_bytes(self.left[2:4], "big")
-        if len(self.left) < max(size, 4):
-            return None, 0
-        return Frame(self.left[1], self.left[4:size]), size
+    def frames(self):
+        """The frames at the front, and where they end."""
+        found, at = [], 0
+        while self.left[at:at + 1] == b"$":
+            end = at + 4 + int.from_bytes(self.left[at + 2:at + 4], "big")
+            if len(self.left) < max(end, at + 4):
+                break
+            found.append(Frame(self.left[at + 1], self.left[at + 4:end]))
+            at = end
+        return found, at
 
     def first_message(self):
         head, end, _ = self.left.partition(b"\r\n\r\n")

@@ -80,13 +80,19 @@ def reset_within_request(program, folder):
     gateway.end()
 
 
-def half_ended_within_request(program, folder):
-    """A player that ended its side gets the reply that comes in time."""
+def half_ended(program, folder):
+    """A server that leaves a DESCRIBE open, the gateway, and the player that asked and ended its side."""
     server = QuietServer(leaves=("DESCRIBE",))
     gateway = Gateway(program, server, 1, folder)
     player = QuietPlayer(gateway.port)
     player.socket.sendall(b"DESCRIBE rtsp://gate.example/live RTSP/1.0\r\nCSeq: 1\r\n\r\n")
     player.socket.shutdown(1)
+    return server, gateway, player
+
+
+def half_ended_within_request(program, folder):
+    """A player that ended its side gets the reply that comes in time."""
+    server, gateway, player = half_ended(program, folder)
     check("a request is open", server.await_open(1), server.asked)
     time.sleep(1)
     server.answer_open()
@@ -99,11 +105,7 @@ def half_ended_within_request(program, folder):
 
 def half_ended_without_reply(program, folder):
     """A player that ended its side is waited for during ten seconds, and not longer."""
-    server = QuietServer(leaves=("DESCRIBE",))
-    gateway = Gateway(program, server, 1, folder)
-    player = QuietPlayer(gateway.port)
-    player.socket.sendall(b"DESCRIBE rtsp://gate.example/live RTSP/1.0\r\nCSeq: 1\r\n\r\n")
-    player.socket.shutdown(1)
+    server, gateway, player = half_ended(program, folder)
     begin = time.monotonic()
     code, _ = QuietPlayer(gateway.port).ask_within(13, "OPTIONS")
     lasted = time.monotonic() - begin

@@ -64,7 +64,7 @@ def beside_a_flood(program, folder, seconds, rate, size):
           "%s after %.2f s, behind %d answers" % (code, longest, count))
     check("whoever floods is not closed", flooded >= seconds, "it was after %.2f s" % flooded)
     print("       %d answers, the longest after %.2f s; %d frames came through" %
-          (count, longest, server.items.frames[0]), flush=True)
+          (count, longest, server.items.frame_counts[0]), flush=True)
     server.close()
     status, fault, _, _ = gateway.end()
     check("the run ends with the server", (status, fault) in [(6, "rtspgate: upstream: " + why) for why in ENDS], (status, fault))

@@ -25,30 +25,17 @@ class QuickItems(Items):
 
     def __init__(self):
         super().__init__()
-        self.frames = collections.Counter()
+        self.frame_counts = collections.Counter()
 
-    def feed(self, piece):
-        """The messages that are whole now."""
-        data, at = self.left + piece, 0
-        while True:
-            at = self.behind_frames(data, at)
-            self.left = data[at:]
-            message, size = (None, 0) if self.left[:1] in (b"$", b"") else self.first_message()
-            if message is None:
-                return
-            at += size
-            yield message
-
-    def behind_frames(self, data, at):
-        """Counts the frames that begin at a place of these bytes; the place behind them."""
-        size = len(data)
+    def frames(self):
+        data, at, size = self.left, 0, len(self.left)
         while size - at >= 4 and data[at] == 36:
             end = at + 4 + (data[at + 2] << 8 | data[at + 3])
             if end > size:
                 break
-            self.frames[data[at + 1]] += 1
+            self.frame_counts[data[at + 1]] += 1
             at = end
-        return at
+        return (), at
 
 
 class Pace:
@@ -171,7 +158,7 @@ class QuietPlayer(Player):
 
     def count(self):
         """How many frames came."""
-        return sum(self.items.frames.values())
+        return sum(self.items.frame_counts.values())
 
     def read_beside(self):
         """Reads to the end in a thread of its own."""
