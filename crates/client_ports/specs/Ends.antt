@@ -7,7 +7,7 @@ use Rattle.crossbeam_queue.specs.Fifo.{Held}
 use Rattle.client_ports.specs.declared.parcel.Parcel.{Parcel}
 use Rattle.client_ports.specs.declared.putter.Putter.{Putter}
 use Rattle.client_ports.specs.declared.taker.Taker.{Taker}
-use Rattle.client_ports.specs.Rule.{BeginsIn, EndsIn}
+use Rattle.client_ports.specs.Rule.{BeginsIn, EndsPast}
 
 -- the parcels that were put, the oldest first
 abbrev pub put_of : Putter → List Parcel
@@ -20,6 +20,10 @@ taken_of taker = (view taker.pass).taken
 -- the parcels that the taker was told of: the first of those that were put
 abbrev pub told_of : Taker → List Parcel
 told_of taker = (view taker.pass).told
+
+-- the parcels that the putter was told were taken: the first of those that were
+abbrev pub heard_of : Putter → List Parcel
+heard_of putter = (view putter.pass).heard
 
 -- how often the port was full for the putter
 abbrev pub fulls_of : Putter → ℕ
@@ -49,13 +53,21 @@ pub record KeepsPutter (old new : Putter) : Type 0 where
 pub record IsSamePutter (old new : Putter) : Type 0 where
   pub end : KeepsPutter old new
   pub put : put_of new ≡ put_of old
+  pub heard : heard_of new ≡ heard_of old
   pub fulls : fulls_of new ≡ fulls_of old
 
--- The queue held so many parcels at one moment of a call: the last of those that were put.
-abbrev pub HeldLast : ℕ → Putter → Type 0
-HeldLast count putter = Held count (EndsIn (put_of putter))
+-- The taker stands as it did.
+pub record IsSameTaker (old new : Taker) : Type 0 where
+  pub port : takers_port new ≡ takers_port old
+  pub taken : taken_of new ≡ taken_of old
+  pub told : told_of new ≡ told_of old
 
--- The queue was full at one moment of a call: it held as many parcels as it can, the last of those that were put.
+-- The queue held so many parcels at one moment of a call: the last of those that were put, and none that the putter was told
+-- was taken.
+abbrev pub HeldLast : ℕ → Putter → Type 0
+HeldLast count putter = Held count (EndsPast (heard_of putter) (put_of putter))
+
+-- The queue was full at one moment of a call: it held as many parcels as it can, which are such parcels.
 abbrev pub WasFull : Putter → Type 0
 WasFull putter = HeldLast (capacity_of putter) putter
 

@@ -1,6 +1,6 @@
 //! How a port is made, and how its two ends come together again.
 ghost use Rattle.std.specs.Prelude.{◌≡◌, ◌<◌, [], length, IfOk};
-ghost use Rattle.client_ports.specs.Ends.{put_of, taken_of, told_of, fulls_of, capacity_of, OfOnePort};
+ghost use Rattle.client_ports.specs.Ends.{put_of, taken_of, told_of, heard_of, fulls_of, capacity_of, OfOnePort};
 ghost use Rattle.client_ports.specs.Rule.{BeginsIn};
 
 use crate::rule::{Ends, Line, Whole};
@@ -23,6 +23,7 @@ pub fn port(alloc: Global, capacity: usize) -> Result<(Putter, Taker), Memory>
     requires { 0 < capacity }
     ensures one { IfOk result (λ ends. OfOnePort ends.0 ends.1) }
     ensures put { IfOk result (λ ends. put_of ends.0 ≡ []) }
+    ensures heard { IfOk result (λ ends. heard_of ends.0 ≡ []) }
     ensures fulls { IfOk result (λ ends. fulls_of ends.0 ≡ 0) }
     ensures capacity { IfOk result (λ ends. capacity_of ends.0 ≡ capacity) }
     ensures taken { IfOk result (λ ends. taken_of ends.1 ≡ []) }

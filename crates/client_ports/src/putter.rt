@@ -4,11 +4,11 @@ ghost use Rattle.std.specs.Arc.{arc_value};
 ghost use Rattle.crossbeam_queue.specs.Passes.{view, IsPassOf};
 ghost use Rattle.gate_outside.specs.Causes.{counted_on};
 
-use crate::rule::{EndPass, Line, Puts, Word};
-use crate::{Full, Parcel};
+use crate::rule::{EndPass, Line, PutWord, Puts, TakenWord};
+use crate::{Full, Parcel, Taker};
 use std::sync::{Arc, Wait};
 
-/// The end of a port that puts. It knows all that was put.
+/// The end of a port that puts. It knows all that was put, and of what was taken as much as it was told.
 #[derive(Drop)]
 pub struct Putter {
     pub(crate) queue: Arc<Line>,
@@ -21,7 +21,7 @@ pub struct Putter {
 }
 
 impl Putter {
-    ghost use Rattle.client_ports.specs.Ends.{put_of, fulls_of, capacity_of, KeepsPutter, IsSamePutter, HeldLast, WasFull};
+    ghost use Rattle.client_ports.specs.Ends.{put_of, heard_of, taken_of, fulls_of, capacity_of, OfOnePort, KeepsPutter, IsSamePutter, IsSameTaker, HeldLast, WasFull};
     ghost use Rattle.client_ports.specs.Rule.{knows};
 
     /// The end of this queue whose pass has put nothing.
@@ -41,10 +41,11 @@ impl Putter {
         }
     }
 
-    /// Puts a parcel behind those that were put. Where the port holds as many as it can, it is handed back, and counted
-    /// as one that found it full. It takes no memory.
+    /// Puts a parcel behind those that were put. Where the port holds as many as it can, and none of them is one that the
+    /// putter was told was taken, it is handed back, and counted as one that found it full. It takes no memory.
     pub fn put<R: Wait>(&mut self, rt: &R, parcel: Parcel) -> Result<(), Full>
         ensures end { KeepsPutter self.old self.new }
+        ensures heard { heard_of self.new ≡ heard_of self.old }
         ensures put { OnOk result (put_of self.new ≡ put_of self.old ++ parcel ∷ []) }
         ensures ok { OnOk result (fulls_of self.new ≡ fulls_of self.old) }
         ensures back { IfErr result (λ full. full.parcel ≡ parcel) }
@@ -69,7 +70,21 @@ impl Putter {
         }
     }
 
-    /// How many parcels waited at one moment of the call: the last of those that were put, which were not taken yet.
+    /// Tells the putter of all that the taker of its port has taken so far.
+    pub fn hear(&mut self, taker: &mut Taker)
+        requires { OfOnePort self.old taker.old }
+        ensures end { KeepsPutter self.old self.new }
+        ensures put { put_of self.new ≡ put_of self.old }
+        ensures heard { heard_of self.new ≡ taken_of taker.old }
+        ensures fulls { fulls_of self.new ≡ fulls_of self.old }
+        ensures taker { IsSameTaker taker.old taker.new }
+    {
+        let word = taker.word();
+        self.queue.absorb::<TakenWord>(&mut self.pass, word);
+    }
+
+    /// How many parcels waited at one moment of the call: the last of those that were put, which were not taken yet, and so
+    /// none that the putter was told was taken.
     pub fn waiting<R: Wait>(&mut self, rt: &R) -> usize
         ensures same { IsSamePutter self.old self.new }
         ensures held { HeldLast result self.old }
@@ -89,9 +104,9 @@ impl Putter {
     pub(crate) fn word(&mut self) -> EndPass
         ensures putter { IsSamePutter self.old self.new }
         ensures queue { IsPassOf (arc_value self.old.queue) result }
-        ensures knows { view result ≡ knows false false [] [] (put_of self.old) }
+        ensures knows { view result ≡ knows false false [] [] (put_of self.old) [] }
     {
-        self.queue.another::<Word>(&mut self.pass)
+        self.queue.another::<PutWord>(&mut self.pass)
     }
 
     /// How many parcels were put.

@@ -17,6 +17,8 @@ pub struct Knowledge {
     pub taken: LinkedList<Parcel>,
     /// The first of the parcels that were put, as far as the pass was told of them.
     pub told: LinkedList<Parcel>,
+    /// The first of the parcels that were taken, as far as the pass was told of them.
+    pub heard: LinkedList<Parcel>,
 }
 
 /// What was put is what was taken, followed by what the queue holds.
@@ -28,7 +30,7 @@ impl Protocol<Parcel, Knowledge> for InLine {
 
     ghost holds = { InLine };
 
-    ghost first = { knows true true [] [] [] };
+    ghost first = { knows true true [] [] [] [] };
 }
 
 /// A new pass takes, and this one puts. At first neither knows of a parcel.
@@ -38,55 +40,77 @@ impl Split<Knowledge> for Ends {
     ghost use Rattle.std.specs.Prelude.{true, false, []};
     ghost use Rattle.client_ports.specs.Rule.{knows};
 
-    ghost left = { λ v. knows true false v.put [] [] };
+    ghost left = { λ v. knows true false v.put [] [] [] };
 
-    ghost right = { λ v. knows false true [] v.taken [] };
+    ghost right = { λ v. knows false true [] v.taken [] [] };
 }
 
 impl Join<Knowledge> for Ends {
     ghost use Rattle.std.specs.Prelude.{true, false, []};
     ghost use Rattle.client_ports.specs.Rule.{knows};
 
-    ghost both = { λ v w. knows true true v.put w.taken [] };
+    ghost both = { λ v w. knows true true v.put w.taken [] [] };
 
-    ghost spent = { knows false false [] [] [] };
+    ghost spent = { knows false false [] [] [] [] };
 }
 
 /// A new pass knows what this one has put, and another takes that in.
-pub struct Word;
+pub struct PutWord;
 
-impl Split<Knowledge> for Word {
+impl Split<Knowledge> for PutWord {
     ghost use Rattle.std.specs.Prelude.{false, []};
     ghost use Rattle.client_ports.specs.Rule.{knows};
 
     ghost left = { λ v. v };
 
-    ghost right = { λ v. knows false false [] [] v.put };
+    ghost right = { λ v. knows false false [] [] v.put [] };
 }
 
-impl Join<Knowledge> for Word {
+impl Join<Knowledge> for PutWord {
     ghost use Rattle.std.specs.Prelude.{false, []};
     ghost use Rattle.client_ports.specs.Rule.{knows};
 
-    ghost both = { λ v w. knows v.puts v.takes v.put v.taken w.told };
+    ghost both = { λ v w. knows v.puts v.takes v.put v.taken w.told v.heard };
 
-    ghost spent = { knows false false [] [] [] };
+    ghost spent = { knows false false [] [] [] [] };
 }
 
-/// A parcel is put at the end. Where the queue is full, it holds the last parcels that were put.
+/// A new pass knows what this one has taken, and another takes that in.
+pub struct TakenWord;
+
+impl Split<Knowledge> for TakenWord {
+    ghost use Rattle.std.specs.Prelude.{false, []};
+    ghost use Rattle.client_ports.specs.Rule.{knows};
+
+    ghost left = { λ v. v };
+
+    ghost right = { λ v. knows false false [] [] [] v.taken };
+}
+
+impl Join<Knowledge> for TakenWord {
+    ghost use Rattle.std.specs.Prelude.{false, []};
+    ghost use Rattle.client_ports.specs.Rule.{knows};
+
+    ghost both = { λ v w. knows v.puts v.takes v.put v.taken v.told w.heard };
+
+    ghost spent = { knows false false [] [] [] [] };
+}
+
+/// A parcel is put at the end. Where the queue is full, it holds the last parcels that were put, and none that the pass was
+/// told was taken.
 pub struct Puts;
 
 impl Outcome<Parcel, Knowledge> for Puts {
     ghost use Rattle.std.specs.Prelude.{◌≡◌, [], ◌∷◌, ◌++◌};
     ghost use Rattle.client_ports.specs.Rule.{knows};
 
-    ghost then = { λ v parcel w. w ≡ knows v.puts v.takes (v.put ++ parcel ∷ []) v.taken v.told };
+    ghost then = { λ v parcel w. w ≡ knows v.puts v.takes (v.put ++ parcel ∷ []) v.taken v.told v.heard };
 }
 
 impl Lesson<Parcel, Knowledge> for Puts {
-    ghost use Rattle.client_ports.specs.Rule.{EndsIn};
+    ghost use Rattle.client_ports.specs.Rule.{EndsPast};
 
-    ghost fact = { λ v items. EndsIn v.put items };
+    ghost fact = { λ v items. EndsPast v.heard v.put items };
 }
 
 /// The first parcel is taken. Where the queue is empty, none that the pass was told of is left in it.
@@ -96,7 +120,7 @@ impl Outcome<Parcel, Knowledge> for Takes {
     ghost use Rattle.std.specs.Prelude.{◌≡◌, [], ◌∷◌, ◌++◌};
     ghost use Rattle.client_ports.specs.Rule.{knows};
 
-    ghost then = { λ v parcel w. w ≡ knows v.puts v.takes v.put (v.taken ++ parcel ∷ []) v.told };
+    ghost then = { λ v parcel w. w ≡ knows v.puts v.takes v.put (v.taken ++ parcel ∷ []) v.told v.heard };
 }
 
 impl Lesson<Parcel, Knowledge> for Takes {

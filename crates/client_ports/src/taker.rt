@@ -1,9 +1,9 @@
 //! The end of a port that takes.
-ghost use Rattle.std.specs.Prelude.{◌≡◌, true, [], ◌∷◌, ◌++◌, length, IfSome, IfNone};
+ghost use Rattle.std.specs.Prelude.{◌≡◌, true, false, [], ◌∷◌, ◌++◌, length, IfSome, IfNone};
 ghost use Rattle.std.specs.Arc.{arc_value};
 ghost use Rattle.crossbeam_queue.specs.Passes.{view, IsPassOf};
 
-use crate::rule::{EndPass, Line, Takes, Word};
+use crate::rule::{EndPass, Line, PutWord, TakenWord, Takes};
 use crate::{Parcel, Putter};
 use std::sync::{Arc, Wait};
 
@@ -19,7 +19,8 @@ pub struct Taker {
 }
 
 impl Taker {
-    ghost use Rattle.client_ports.specs.Ends.{put_of, taken_of, told_of, takers_port, OfOnePort, IsSamePutter, WasEmpty};
+    ghost use Rattle.client_ports.specs.Ends.{put_of, taken_of, told_of, takers_port, OfOnePort, IsSamePutter, IsSameTaker, WasEmpty};
+    ghost use Rattle.client_ports.specs.Rule.{knows};
 
     /// The end of this queue whose pass has taken nothing.
     pub(crate) fn new(queue: Arc<Line>, pass: EndPass) -> Taker
@@ -64,7 +65,16 @@ impl Taker {
         ensures putter { IsSamePutter putter.old putter.new }
     {
         let word = putter.word();
-        self.queue.absorb::<Word>(&mut self.pass, word);
+        self.queue.absorb::<PutWord>(&mut self.pass, word);
+    }
+
+    /// A new pass that knows what was taken so far, and neither puts nor takes.
+    pub(crate) fn word(&mut self) -> EndPass
+        ensures taker { IsSameTaker self.old self.new }
+        ensures queue { IsPassOf (arc_value self.old.queue) result }
+        ensures knows { view result ≡ knows false false [] [] [] (taken_of self.old) }
+    {
+        self.queue.another::<TakenWord>(&mut self.pass)
     }
 
     /// How many parcels were taken.
