@@ -16,9 +16,11 @@ use Rattle.hub_places.specs.Closes.{lags_here, lagged}
 use Rattle.gateway_hub.specs.Endings.{cut_short, stopped_noting, fell_full, is_stopped}
 use Rattle.hub_places.specs.Places.{IsRefused, IsSeated}
 use Rattle.gateway_hub.specs.Kept.{ArePortsSettled, EndsRightly, KeepsOwing, is_excused}
-use Rattle.gateway_hub.specs.Taking.{IsReadyToTake, owes, TakesOneEvent, is_late, AreLate, SettlesOwed, HasInHand, TakesHubEvent}
+use Rattle.gateway_hub.specs.Taking.{may_hand, IsReadyToTake, owes, TakesOneEvent, is_late, AreLate, SettlesOwed, HasInHand, TakesHubEvent}
 use Rattle.gateway_hub.proofs.HistoryLemmas.{entry, dead_more}
+use Rattle.gateway_hub.specs.Ends.{EachLine, PutsNothing, PutsFor}
 use Rattle.gateway_hub.proofs.OweLemmas.{underway_idle, ends_later, settle_client}
+use Rattle.gateway_hub.proofs.PutLemmas.{nothings_put}
 
 or_none_right : (b : Bool) → (b || false) ≡ b
 or_none_right true = refl
@@ -91,6 +93,7 @@ late_twice (e ∷ later) earlier first next = (first.0, late_twice later earlier
 record Lagged (stands : List Entry → Type 0) (tells : Option (List Noted)) (faults : ℕ) (delivery : Delivery) (before mid : Desk) (next : List Entry) : Type 0 where
   keeps : KeepsOwing None delivery.server stands tells faults mid next
   seats : (i : ℕ) → IsSeated i before.places.items → IsSeated i mid.places.items
+  unlanded : delivery.landed ≡ None
 
 lag_step : (stood between : List Entry → Type 0) (told tells_between : Option (List Noted)) (faults mid_faults : ℕ) (before mid : Desk) (conn : ℕ) (delivery : Delivery) → is_stopped before.ending ≡ false
     → (one : TakesOneEvent (lags conn) delivery stood between told tells_between before mid) → faults ≤ mid_faults → (T : List Entry) → KeepsOwing (Some conn) false stood told faults before T → Lagged between tells_between mid_faults delivery before mid (entry (lags conn) one.outcome ∷ T)
@@ -110,12 +113,14 @@ lag_step stood between told tells_between faults mid_faults before mid conn deli
         owed_up = λ full. (s.open_still (inl full) ∙ none_kept faults (length before.places.items) before.ending T going (s.still_stands (inl full)) k.cause, s.server full);
       };
       seats = s.seats;
+      unlanded = s.unlanded refl;
     }
 
 -- What was owed after it is settled.
 pub lag_taken : (stood between stands : List Entry → Type 0) (told tells_between tells : Option (List Noted)) (faults mid_faults later : ℕ) (before mid now : Desk) (conn : ℕ) (delivery : Delivery) → is_stopped before.ending ≡ false
-    → TakesOneEvent (lags conn) delivery stood between told tells_between before mid → faults ≤ mid_faults → SettlesOwed None delivery.server None false between stands tells_between tells mid_faults later mid now → SettlesOwed (Some conn) false None false stood stands told tells faults later before now
-lag_taken stood between stands told tells_between tells faults mid_faults later before mid now conn delivery going one more rest = record {
+    → TakesOneEvent (lags conn) delivery stood between told tells_between before mid → faults ≤ mid_faults → PutsFor delivery.landed before.places.items mid.places.items → SettlesOwed None delivery.server None false between stands tells_between tells mid_faults later mid now
+    → SettlesOwed (Some conn) false None false stood stands told tells faults later before now
+lag_taken stood between stands told tells_between tells faults mid_faults later before mid now conn delivery going one more puts rest = record {
   later = rest.later ++ entry (lags conn) one.outcome ∷ [];
   late = late_twice rest.later (entry (lags conn) one.outcome ∷ []) rest.late (refl, tt);
   keeps = λ T k.
@@ -124,6 +129,9 @@ lag_taken stood between stands told tells_between tells faults mid_faults later 
   seats = λ T k i s.
       let l = lag_step stood between told tells_between faults mid_faults before mid conn delivery going one more T k in
       rest.seats (entry (lags conn) one.outcome ∷ T) l.keeps i (l.seats i s);
+  unhanded = λ T k.
+      let l = lag_step stood between told tells_between faults mid_faults before mid conn delivery going one more T k in
+      nothings_put before.places.items mid.places.items now.places.items (subst (λ (o : Option ℕ). PutsFor o before.places.items mid.places.items) l.unlanded puts) (rest.unhanded (entry (lags conn) one.outcome ∷ T) l.keeps);
 }
 
 -- The event itself.
@@ -172,6 +180,7 @@ some_conn refused conn is = ap (λ (r : Option ℕ). is_some r) is
 record Began (stands : List Entry → Type 0) (tells : Option (List Noted)) (faults : ℕ) (delivery : Delivery) (h : Happening) (before mid : Desk) (next : List Entry) : Type 0 where
   keeps : KeepsOwing delivery.client delivery.server stands tells faults mid next
   seats : (i : ℕ) → IsSeated i before.places.items → IsSeated i mid.places.items
+  unlanded : may_hand h ≡ false → delivery.landed ≡ None
   dies : (conn : ℕ) → h ≡ ends conn → is_alive conn next ≡ false
 
 begin_step : (h : Happening) (stood one_stands : List Entry → Type 0) (told one_tells : Option (List Noted)) (faults one_faults : ℕ) (before one_desk : Desk) (delivery : Delivery) (one : TakesOneEvent h delivery stood one_stands told one_tells before one_desk) → faults ≤ one_faults
@@ -189,6 +198,7 @@ begin_step h stood one_stands told one_tells faults one_faults before one_desk d
         owed_up = λ full. (s.open_still (inl full) ∙ k.still_open, s.server full);
       };
       seats = s.seats;
+      unlanded = s.unlanded;
       dies = λ conn is. s.dies conn is (open_standing faults (length before.places.items) before.ending T k.still_open k.cause);
     }
 
@@ -198,11 +208,11 @@ late_dead [] T i late dead = dead
 late_dead (e ∷ later) T i late dead = dead_more i (later ++ T) e.happening e.outcome (no_late_entering i e.happening late.0) (late_dead later T i late.1 dead)
 
 pub event_taken : (h : Happening) (stood one_stands end_stands stands : List Entry → Type 0) (told one_tells end_tells tells : Option (List Noted)) (faults one_faults end_faults later : ℕ) (before one_desk end_desk now : Desk) (delivery : Delivery)
-    → TakesOneEvent h delivery stood one_stands told one_tells before one_desk → faults ≤ one_faults
+    → TakesOneEvent h delivery stood one_stands told one_tells before one_desk → faults ≤ one_faults → PutsFor delivery.landed before.places.items one_desk.places.items
     → SettlesOwed delivery.client delivery.server delivery.client false one_stands end_stands one_tells end_tells one_faults end_faults one_desk end_desk
     → SettlesOwed delivery.client false None false end_stands stands end_tells tells end_faults later end_desk now
     → TakesHubEvent h stood stands told tells faults later before now
-event_taken h stood one_stands end_stands stands told one_tells end_tells tells faults one_faults end_faults later before one_desk end_desk now delivery one more end lag = record {
+event_taken h stood one_stands end_stands stands told one_tells end_tells tells faults one_faults end_faults later before one_desk end_desk now delivery one more puts end lag = record {
   outcome = one.outcome;
   later = lag.later ++ end.later;
   late = late_twice lag.later end.later lag.late end.late;
@@ -213,6 +223,10 @@ event_taken h stood one_stands end_stands stands told one_tells end_tells tells 
   seats = λ T k i s.
       let b = begin_step h stood one_stands told one_tells faults one_faults before one_desk delivery one more T k in
       lag.seats (end.later ++ entry h one.outcome ∷ T) (end.keeps (entry h one.outcome ∷ T) b.keeps) i (end.seats (entry h one.outcome ∷ T) b.keeps i (b.seats i s));
+  unhanded = λ T k quiet.
+      let b = begin_step h stood one_stands told one_tells faults one_faults before one_desk delivery one more T k in
+      nothings_put before.places.items one_desk.places.items now.places.items (subst (λ (o : Option ℕ). PutsFor o before.places.items one_desk.places.items) (b.unlanded quiet) puts)
+      (nothings_put one_desk.places.items end_desk.places.items now.places.items (end.unhanded (entry h one.outcome ∷ T) b.keeps) (lag.unhanded (end.later ++ entry h one.outcome ∷ T) (end.keeps (entry h one.outcome ∷ T) b.keeps)));
   dies = λ T k conn is.
       let b = begin_step h stood one_stands told one_tells faults one_faults before one_desk delivery one more T k in
       late_dead (lag.later ++ end.later) (entry h one.outcome ∷ T) conn (late_twice lag.later end.later lag.late end.late) (b.dies conn is);

@@ -16,6 +16,7 @@ pub mod PutLemmas
 pub mod ReceiptLemmas
 pub mod RetireLemmas
 pub mod SettleLemmas
+pub mod ShownLemmas
 pub mod StepLemmas
 pub mod TakeLemmas
 pub mod UpLemmas

@@ -26,6 +26,7 @@ use Rattle.gateway_hub.specs.declared.desk.Desk.{Desk}
 use Rattle.gateway_hub.specs.declared.desk.Delivery.{Delivery}
 use Rattle.hub_places.specs.Closes.{lagged, close_in, fall_close}
 use Rattle.gateway_hub.specs.Desks.{ending_by}
+use Rattle.gateway_hub.specs.Ends.{EachLine, PutsNothing, PutsFor}
 use Rattle.gateway_hub.specs.Endings.{cut_short, stopped_noting, fell_full, is_note_stop, is_stopped}
 use Rattle.gateway_hub.specs.Notes.{StillTells}
 use Rattle.hub_places.specs.Parcels.{waiting, arrival_here, arrivals, heard_here, heard_items, coming}
@@ -34,6 +35,7 @@ use Rattle.gateway_hub.specs.Kept.{TookItems, TookServerItems, IsHanded, IsHande
 use Rattle.gateway_hub.specs.Taking.{IsReadyToTake, owes, TakesOneEvent, IsUntaken, Stops, stop_of, SettlesOwed}
 use Rattle.gateway_hub.proofs.HistoryLemmas.{entry}
 use Rattle.gateway_hub.proofs.SettleLemmas.{cut_stays, stop_stays}
+use Rattle.gateway_hub.proofs.PutLemmas.{nothing_put}
 
 -- Nothing comes: the items that came are the same.
 took_idle : (places : List Place) (T : List Entry) (h : Happening) → ((i : ℕ) → arrival_here i h ≡ []) → TookItems places T → TookItems places (coming h ∷ T)
@@ -133,8 +135,8 @@ none_fault : (faults count : ℕ) (ending : Option Ending) (T : List Entry) → 
 none_fault faults count ending T is cause = subst (λ (e : Option Ending). EndsRightly faults count e T) is cause
 
 pub end_taken : (stood stands : List Entry → Type 0) (told tells : Option (List Noted)) (faults later : ℕ) (before now : Desk) (delivery : Delivery) → TakesOneEvent (up_ends whys.UpFull) delivery stood stands told tells before now → faults ≤ later
-    → (client : Option ℕ) → SettlesOwed client true client false stood stands told tells faults later before now
-end_taken stood stands told tells faults later before now delivery one more client = record {
+    → PutsFor delivery.landed before.places.items now.places.items → (client : Option ℕ) → SettlesOwed client true client false stood stands told tells faults later before now
+end_taken stood stands told tells faults later before now delivery one more puts client = record {
   later = entry (up_ends whys.UpFull) one.outcome ∷ [];
   late = (refl, tt);
   keeps = λ T k.
@@ -152,6 +154,9 @@ end_taken stood stands told tells faults later before now delivery one more clie
         owed_up = λ is. absurd (cc);
       };
   seats = λ T k. (one.steps T (ready_to_end client stood told faults before T k) (underway_idle stood told before T (up_ends whys.UpFull) (λ i. refl) refl k.underway)).seats;
+  unhanded = λ T k.
+      let s = one.steps T (ready_to_end client stood told faults before T k) (underway_idle stood told before T (up_ends whys.UpFull) (λ i. refl) refl k.underway) in
+      subst (λ (l : Option ℕ). PutsFor l before.places.items now.places.items) (s.unlanded refl) puts;
 }
 
 -- An event that could not be noted: the hub is stopped.
@@ -276,6 +281,9 @@ open_stop fault before now stop none = ap stopped_noting stop.ending ∙ ap (λ 
 refused_stopped : (i : ℕ) (before now : Desk) (why : StopWhy) → Stops why before now → IsRefused i before.places.items → IsRefused i now.places.items
 refused_stopped i before now why stop = subst (λ (l : List Place). IsRefused i l) (sym (ap (λ (v : Vec Place). v.items) stop.places))
 
+pub unhanded_stopped : (before now : Desk) (why : StopWhy) → Stops why before now → EachLine PutsNothing before.places.items now.places.items
+unhanded_stopped before now why stop = nothing_put before.places.items now.places.items (ap (λ (v : Vec Place). v.items) stop.places)
+
 pub seated_stopped : (i : ℕ) (before now : Desk) (why : StopWhy) → Stops why before now → IsSeated i before.places.items → IsSeated i now.places.items
 seated_stopped i before now why stop = subst (λ (l : List Place). IsSeated i l) (sym (ap (λ (v : Vec Place). v.items) stop.places))
 
@@ -300,6 +308,7 @@ end_untaken fault stood stands told tells faults later before mid now untaken mo
             owed_up = λ is. absurd (cc);
           };
       seats = λ T k i. seated_stopped i before now (stop_of fault) stop;
+      unhanded = λ T k. unhanded_stopped before now (stop_of fault) stop;
     }
 
 pub lag_untaken : (fault : NoteFault) (stood stands : List Entry → Type 0) (told tells : Option (List Noted)) (faults later : ℕ) (before mid now : Desk) → IsUntaken fault stood stands told tells faults later before mid → faults ≤ later → Stops (stop_of fault) mid now
@@ -319,11 +328,12 @@ lag_untaken fault stood stands told tells faults later before mid now untaken mo
             owed_up = λ is. absurd (cc);
           };
       seats = λ T k i. seated_stopped i before now (stop_of fault) stop;
+      unhanded = λ T k. unhanded_stopped before now (stop_of fault) stop;
     }
 
 -- Nothing is owed, or the hub was stopped: nothing is taken.
 pub none_owed : (client : Option ℕ) (stands : List Entry → Type 0) (told : Option (List Noted)) (faults : ℕ) (desk : Desk) → SettlesOwed client false client false stands stands told told faults faults desk desk
-none_owed client stands told faults desk = record { later = []; late = tt; keeps = λ T k. k; seats = λ T k i s. s }
+none_owed client stands told faults desk = record { later = []; late = tt; keeps = λ T k. k; seats = λ T k i s. s; unhanded = λ T k. nothing_put desk.places.items desk.places.items refl }
 
 pub lag_stopped : (stands : List Entry → Type 0) (told : Option (List Noted)) (faults : ℕ) (desk : Desk) (conn : ℕ) → is_stopped desk.ending ≡ true → SettlesOwed (Some conn) false None false stands stands told told faults faults desk desk
 lag_stopped stands told faults desk conn stopped = record {
@@ -337,6 +347,7 @@ lag_stopped stands told faults desk conn stopped = record {
     owed_up = λ is. absurd (cc);
   };
   seats = λ T k i s. s;
+  unhanded = λ T k. nothing_put desk.places.items desk.places.items refl;
 }
 
 -- The port was full.

@@ -41,6 +41,9 @@ kept_more before between now kept next = by kept.outward.put.0 kept.outward.put.
 pub nothing_put : (places now : List Place) → now ≡ places → PutsFor None places now
 nothing_put places now same = each_same PutsNothing (λ l. refl) places now same
 
+pub nothings_put : (before between now : List Place) → EachLine PutsNothing before between → EachLine PutsNothing between now → EachLine PutsNothing before now
+nothings_put before between now first next = each_twice PutsNothing PutsNothing PutsNothing nothing_twice before between now first next
+
 -- Something is put, and then something more.
 pub puts_twice : (first next : Option ℕ) (before between now : List Place) → EachLine KeepsLine before between → PutsFor first before between → PutsFor next between now → PutsFor (option_or next first) before now
 puts_twice None None before between now kept was is = each_twice PutsNothing PutsNothing PutsNothing nothing_twice before between now was is

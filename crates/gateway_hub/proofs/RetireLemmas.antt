@@ -17,13 +17,16 @@ use Rattle.hub_places.specs.declared.line.Place.TheVariants.{Retired}
 use Rattle.hub_places.specs.declared.server.Server.{Server}
 use Rattle.gateway_hub.specs.declared.desk.Desk.{Desk}
 use Rattle.hub_places.specs.Closes.{fall_close}
-use Rattle.hub_places.specs.Places.{line_of, receipt_of, line_at, receipt_at, IsSeated}
+use Rattle.client_ports.specs.declared.parcel.Parcel.{Parcel}
+use Rattle.hub_places.specs.Places.{line_of, receipt_of, line_at, receipt_at, Changes, IsSeated}
 use Rattle.gateway_hub.specs.Kept.{TookServerItems, IsHandedUp, TellsLife, IsReceipt, AreNumbered, EndsRightly, Keeps, is_excused, is_server_excused, close_why, by_upstream_of}
+use Rattle.gateway_hub.specs.Ends.{EachLine, PutsNothing}
 use Rattle.gateway_hub.specs.Retiring.{receipt_for, stranger_receipt, RetiresBy, RetiresPlace, IsUnended, EndsFirst, RetiresLine, IsSameDesk, RetiresSo}
 use Rattle.hub_places.proofs.PlaceLemmas.{found_here, found_other}
 use Rattle.gateway_hub.proofs.IdleLemmas.{moved_keeps, idle_in_hand}
 use Rattle.gateway_hub.proofs.TakeLemmas.{living_line}
-use Rattle.gateway_hub.proofs.OweLemmas.{stop_keeps, stopped_since, seated_stopped, rose_some, is_failed, not_spent}
+use Rattle.gateway_hub.proofs.OweLemmas.{stop_keeps, stopped_since, seated_stopped, unhanded_stopped, rose_some, is_failed, not_spent}
+use Rattle.gateway_hub.proofs.PutLemmas.{nothing_put}
 use Rattle.gateway_hub.proofs.HistoryLemmas.{entry}
 use Rattle.gateway_hub.specs.Taking.{HasInHand, TakesHubEvent, IsUntaken, Stops, stop_of}
 use Rattle.gate_transcript.specs.declared.recorder.NoteFault.{NoteFault}
@@ -127,6 +130,7 @@ retired_so conn pushed taken receipt (Some line) stands told faults before now T
         ap receipt_of here,
         ap (λ (r : Receipt). r.pushed) retires.1,
         ap (λ (r : Receipt). r.taken) retires.1,
+        ap (λ (r : Receipt). r.handed) retires.1 ∙ line.outward.counted,
         ap (λ (r : Receipt). r.ending) retires.1 ∙ sym ending,
       ),
     )
@@ -140,6 +144,7 @@ ends_kept conn stands told faults desk some = record {
   kept_so = λ T k. k;
   over = λ T k none. let no_ending : is_some desk.ending ≡ false = ap (λ (e : Option Ending). is_some e) none in absurd (cc);
   seats = λ T k s. s;
+  unhanded = λ T k. nothing_put desk.places.items desk.places.items refl;
   none = λ T k at. (refl, refl);
 }
 
@@ -151,6 +156,7 @@ ends_dead conn stands told faults desk dead = record {
   kept_so = λ T k. k;
   over = λ T k none. dead T k.underway.stood;
   seats = λ T k s. s;
+  unhanded = λ T k. nothing_put desk.places.items desk.places.items refl;
   none = λ T k at. (refl, refl);
 }
 
@@ -181,6 +187,7 @@ ends_taken conn stood stands told tells faults later before now unended alive e 
       kept_so = λ T k. subst (λ (l : List Entry). Keeps stands tells later now l) (sym (append_assoc e.later (entry (ends conn) e.outcome ∷ []) T)) (e.keeps T (hand T k));
       over = λ T k still. subst (λ (l : List Entry). is_alive conn l ≡ false) (sym (append_assoc e.later (entry (ends conn) e.outcome ∷ []) T)) (e.dies T (hand T k) conn refl);
       seats = λ T k. e.seats T (hand T k) conn;
+      unhanded = λ T k. e.unhanded T (hand T k) refl;
       none = λ T k at. absurd (alive_line conn stood told faults before T none (alive T k.underway.stood) k at);
     }
 
@@ -201,6 +208,7 @@ ends_untaken conn fault stood stands told tells faults later before mid now unen
           let some : now.ending ≡ Some (Stopped (stop_of fault)) = stop.ending ∙ ap (λ (e : Option Ending). option_or e (Some (Stopped (stop_of fault)))) none in
           absurd (cc);
       seats = λ T k. seated_stopped conn before now (stop_of fault) stop;
+      unhanded = λ T k. unhanded_stopped before now (stop_of fault) stop;
       none = λ T k at. absurd (alive_line conn stood told faults before T none (alive T k.underway.stood) k at);
     }
 
@@ -218,14 +226,24 @@ taken_by conn pushed taken fall ending receipt before now None r = ap (λ (x : R
 taken_by conn pushed taken fall ending receipt before now (Some line) r = ap (λ (x : Receipt). x.taken) r.1
 
 line_by : (conn pushed taken : ℕ) (receipt : Receipt) (stands : List Entry → Type 0) (told : Option (List Noted)) (faults : ℕ) (before mid now : Desk) (T : List Entry) → RetiresPlace conn pushed taken mid.fall mid.ending receipt mid.places.items now.places.items
-    → (mid.ending ≡ None → is_alive conn T ≡ false) → now.server ≡ mid.server → now.fall ≡ mid.fall → now.ending ≡ mid.ending → (IsSeated conn before.places.items → IsSeated conn mid.places.items) → (line_at before.places.items conn ≡ None → mid ≡ before)
+    → (mid.ending ≡ None → is_alive conn T ≡ false) → now.server ≡ mid.server → now.fall ≡ mid.fall → now.ending ≡ mid.ending → (IsSeated conn before.places.items → IsSeated conn mid.places.items) → EachLine PutsNothing before.places.items mid.places.items → (line_at before.places.items conn ≡ None → mid ≡ before)
     → Keeps stands told faults mid T → (line : Option Line) → line_at before.places.items conn ≡ line → RetiresLine conn pushed taken line receipt now
-line_by conn pushed taken receipt stands told faults before mid now T retires over server fall ending seats none k None at =
+line_by conn pushed taken receipt stands told faults before mid now T retires over server fall ending seats unhanded none k None at =
     let same : line_at mid.places.items conn ≡ None = ap (λ (d : Desk). line_at d.places.items conn) (none at) ∙ at in
     (retired_so conn pushed taken receipt None stands told faults mid now T same (subst (RetiresBy conn pushed taken mid.fall mid.ending receipt mid.places.items now.places.items) same retires) (λ n s. over n) server fall ending k).1
-line_by conn pushed taken receipt stands told faults before mid now T retires over server fall ending seats none k (Some line) at =
+line_by conn pushed taken receipt stands told faults before mid now T retires over server fall ending seats unhanded none k (Some line) at =
     let there = seats (line, at) in
+    line_as there.0 line (put_same there.0 line there.1 (subst (λ (o : Option Line). Changes true PutsNothing o (line_at mid.places.items conn)) at (unhanded conn)))
     (retired_so conn pushed taken receipt (Some there.0) stands told faults mid now T there.1 (subst (RetiresBy conn pushed taken mid.fall mid.ending receipt mid.places.items now.places.items) there.1 retires) (λ n s. over n) server fall ending k).1
+  where
+    put_same : (there was : Line) → line_at mid.places.items conn ≡ Some there → Changes true PutsNothing (Some was) (line_at mid.places.items conn) → put_of there.outward ≡ put_of was.outward
+    put_same there was is changed =
+        let found : line_at mid.places.items conn ≡ Some changed.0 = changed.1 in
+        let same : there ≡ changed.0 = cc in
+        ap (λ (l : Line). put_of l.outward) same ∙ changed.2
+
+    line_as : (there was : Line) → put_of there.outward ≡ put_of was.outward → RetiresLine conn pushed taken (Some there) receipt now → RetiresLine conn pushed taken (Some was) receipt now
+    line_as there was same r = (r.0, r.1, r.2, r.3 ∙ ap (λ (l : List Parcel). length l) same, r.4)
 
 same_by : (conn pushed taken : ℕ) (receipt : Receipt) (before mid now : Desk) → line_at before.places.items conn ≡ None → mid ≡ before → RetiresPlace conn pushed taken mid.fall mid.ending receipt mid.places.items now.places.items
     → now.server ≡ mid.server → now.fall ≡ mid.fall → now.ending ≡ mid.ending → IsSameDesk before now
@@ -248,7 +266,7 @@ retires_all conn pushed taken receipt stood stands told tells faults later befor
   idle = e.idle;
   stranger = λ T k at. let n = e.none T k at in (same_by conn pushed taken receipt before mid now at n.0 retires server fall ending, n.1);
   keeps_so = λ T k. (retired_so conn pushed taken receipt (line_at mid.places.items conn) stands tells later mid now (e.more ++ T) refl retires (λ n s. e.over T k n) server fall ending (e.kept_so T k)).0;
-  receipt_so = λ T k. line_by conn pushed taken receipt stands tells later before mid now (e.more ++ T) retires (e.over T k) server fall ending (e.seats T k) (λ at. (e.none T k at).0) (e.kept_so T k) (line_at before.places.items conn) refl;
+  receipt_so = λ T k. line_by conn pushed taken receipt stands tells later before mid now (e.more ++ T) retires (e.over T k) server fall ending (e.seats T k) (e.unhanded T k) (λ at. (e.none T k at).0) (e.kept_so T k) (line_at before.places.items conn) refl;
   number = numbered_by conn pushed taken mid.fall mid.ending receipt mid.places.items now.places.items (line_at mid.places.items conn) retires;
   all_pushed = pushed_by conn pushed taken mid.fall mid.ending receipt mid.places.items now.places.items (line_at mid.places.items conn) retires;
   all_taken = taken_by conn pushed taken mid.fall mid.ending receipt mid.places.items now.places.items (line_at mid.places.items conn) retires;

@@ -41,7 +41,7 @@ use Rattle.gate_transcript.specs.declared.recorder.NoteFault.TheVariants.{Failed
 use Rattle.gate_transcript.specs.Notes.{NotesSo}
 use Rattle.hub_places.specs.Parcels.{items_in, waiting, coming, heard_items, up_parcels}
 use Rattle.hub_places.specs.Places.{line_of, receipt_of, line_at, receipt_at, Changes, LineChanges, Counts, Closes, PutsBytes, ClosesOne, HandsOut, told_full, PutsAll, IsRefused}
-use Rattle.gateway_hub.specs.Desks.{CountsOne, HandsAll, ending_by}
+use Rattle.gateway_hub.specs.Desks.{CountsOne, HandsAll, addressee_of, landed_for, ending_by}
 use Rattle.gateway_hub.specs.Kept.{Underway, AreNumbered, IsReceipt, EndsRightly, TookServerItems, is_excused, is_server_excused}
 use Rattle.gateway_hub.specs.Taking.{may_hand, IsReadyToTake, owes, StepsOn, TakesOneEvent}
 use Rattle.gateway_hub.proofs.OrderLemmas.{Orders, past, falls_down, goes_on, ordered, handed_living, asked_nothing, ended_full}
@@ -199,6 +199,11 @@ quiet_by : (piece : Option ToClient) (refused : Option ℕ) (before after : List
 quiet_by None refused before after is out = out.0
 quiet_by (Some piece) refused before after is out = absurd (cc)
 
+unlanded_by : (piece : Option ToClient) (refused landed : Option ℕ) → piece ≡ None → landed ≡ landed_for (addressee_of piece) refused → landed ≡ None
+unlanded_by None None landed is told = told
+unlanded_by None (Some conn) landed is told = told
+unlanded_by (Some piece) refused landed is told = absurd (cc)
+
 no_piece : (T : List Entry) (h : Happening) (o : Outcome) → Orders T h o → may_hand h ≡ false → (piece : Option ToClient) → o.to_client ≡ piece → piece ≡ None
 no_piece T h o orders quiet None is = refl
 no_piece T h o orders quiet (Some piece) is = let may = (handed_living T h o piece is orders).1 in absurd (cc)
@@ -300,6 +305,7 @@ take_steps stood stands told tells before now delivery T h o orderly stood_now n
             (up_excused_more delivery.server server (up_parcels o.to_up) before.server.outward now.server.outward before.ending (ending_by o.fault) T h o hands.up.outward s.up some);
       };
       quiet = λ q. quiet_by o.to_client delivery.client hands.closed now.places.items (no_piece T h o orders q o.to_client refl) hands.hands;
+      unlanded = λ q. unlanded_by o.to_client delivery.client delivery.landed (no_piece T h o orders q o.to_client refl) hands.landed;
       unasked = λ q. hands.up.outward.none (ap up_parcels (asked_nothing T h o q orders));
       ended = λ is standing. ap (λ (f : Option UpCause). fell_full (option_or f o.fault)) standing ∙ ap (λ (f : Option UpCause). fell_full f) (ended_full T h o is standing orders);
       client = found_full o.to_client delivery.client hands.closed now.places.items T hands.hands there;

@@ -1,5 +1,6 @@
 -- Why a hub takes no more events (this project's own).
-use Rattle.std.specs.Prelude.{Bool, true, false, Option, Some, None}
+use Rattle.std.specs.Prelude.{◌≡◌, ◌⊎◌, ℕ, Bool, true, false, Option, Some, None, Result, IfErr}
+use Rattle.gate_outside.specs.Causes.{Rose}
 use Rattle.mux_history.specs.declared.event.UpCause.{UpCause}
 use Rattle.mux_history.specs.declared.event.UpCause.TheVariants as causes
 use Rattle.hub_places.specs.declared.ending.Ending.{Ending}
@@ -53,3 +54,11 @@ abbrev pub is_stopped : Option Ending → Bool
 is_stopped None = false
 is_stopped (Some (Upstream cause)) = false
 is_stopped (Some (Stopped why)) = true
+
+-- Where the hub is stopped since its recorder failed, it was before, or the recorder's count of faults rose since then.
+abbrev pub ShowsFault : Option Ending → Option Ending → ℕ → ℕ → Type 0
+ShowsFault before now faults_before faults_now = now ≡ Some (Stopped stops.Record) → (before ≡ Some (Stopped stops.Record)) ⊎ Rose faults_before faults_now
+
+-- A call answered that the recorder failed only where the recorder's count of faults rose.
+abbrev pub FailsShown : {A : Type 0} → Result A HubFault → ℕ → ℕ → Type 0
+FailsShown result faults_before faults_now = IfErr result (λ fault. fault ≡ faults.RecordFault → Rose faults_before faults_now)

@@ -1,8 +1,9 @@
 -- A connection is retired (this project's own).
-use Rattle.std.specs.Prelude.{◌≡◌, ◌⊎◌, ℕ, Bool, true, false, is_some, List, [], ◌∷◌, ◌++◌, Option, Some, None}
+use Rattle.std.specs.Prelude.{◌≡◌, ◌⊎◌, ℕ, Bool, true, false, is_some, List, [], ◌∷◌, ◌++◌, length, Option, Some, None}
 use Rattle.std.specs.Prelude.{slice_set}
 use Rattle.std.specs.Option.{option_or}
 use Rattle.gate_machine.specs.declared.why.CloseWhy.TheVariants as whys
+use Rattle.client_ports.specs.Ends.{put_of}
 use Rattle.mux_history.specs.declared.event.Outcome.{Outcome}
 use Rattle.mux_history.specs.Happenings.{ends, Entry, is_alive}
 use Rattle.hub_places.specs.declared.ending.Ending.{Ending}
@@ -12,6 +13,7 @@ use Rattle.hub_places.specs.declared.line.Place.{Place}
 use Rattle.hub_places.specs.declared.line.Place.TheVariants.{Retired}
 use Rattle.gateway_hub.specs.declared.desk.Desk.{Desk}
 use Rattle.gateway_hub.specs.Calls.{HubHistories}
+use Rattle.gateway_hub.specs.Ends.{EachLine, PutsNothing}
 use Rattle.hub_places.specs.Closes.{fall_close}
 use Rattle.gateway_hub.specs.Kept.{close_why, by_upstream_of}
 use Rattle.hub_places.specs.Places.{IsSeated, line_at, receipt_at}
@@ -58,7 +60,7 @@ AddsEnd conn more = (more ≡ []) ⊎ EndsConnection conn more
 abbrev pub IsUnended : ℕ → Option Ending → List Entry → Type 0
 IsUnended conn ending history = (is_some ending ≡ true) ⊎ (is_alive conn history ≡ false)
 
--- A connection that is alive was ended first, unless an ending was kept.
+-- A connection that is alive was ended first, unless an ending was kept. No client was handed anything.
 pub record EndsFirst (conn : ℕ) (kept keeps : HubHistories) (before now : Desk) : Type 0 where
   pub more : List Entry
   pub adds : AddsEnd conn more
@@ -66,13 +68,14 @@ pub record EndsFirst (conn : ℕ) (kept keeps : HubHistories) (before now : Desk
   pub kept_so : (history : List Entry) → kept history → keeps (more ++ history)
   pub over : (history : List Entry) → kept history → now.ending ≡ None → is_alive conn (more ++ history) ≡ false
   pub seats : (history : List Entry) → kept history → IsSeated conn before.places.items → IsSeated conn now.places.items
+  pub unhanded : (history : List Entry) → kept history → EachLine PutsNothing before.places.items now.places.items
   pub none : (history : List Entry) → kept history → line_at before.places.items conn ≡ None → (now ≡ before) × (more ≡ [])
 
--- A connection was retired. Where it had a line, its receipt tells what is so, and is kept; where it had none, the receipt
--- tells of its ends alone, and nothing is kept.
+-- A connection was retired. Where it had a line, its receipt tells what is so, and is kept: it was handed as many parcels as
+-- the hub's end of its line has put. Where it had none, the receipt tells of its ends alone, and nothing is kept.
 abbrev pub RetiresLine : ℕ → ℕ → ℕ → Option Line → Receipt → Desk → Type 0
 RetiresLine conn pushed taken None receipt now = receipt ≡ stranger_receipt conn pushed taken now.ending
-RetiresLine conn pushed taken (Some line) receipt now = (receipt_at now.places.items conn ≡ Some receipt) × (receipt.pushed ≡ pushed) × (receipt.taken ≡ taken) × (receipt.ending ≡ now.ending)
+RetiresLine conn pushed taken (Some line) receipt now = (receipt_at now.places.items conn ≡ Some receipt) × (receipt.pushed ≡ pushed) × (receipt.taken ≡ taken) × (receipt.handed ≡ length (put_of line.outward)) × (receipt.ending ≡ now.ending)
 
 -- Nothing changed.
 pub record IsSameDesk (before now : Desk) : Type 0 where

@@ -13,6 +13,7 @@ use Rattle.gateway_hub.specs.declared.desk.Delivery.{Delivery}
 use Rattle.hub_places.specs.declared.line.Line.{Line}
 use Rattle.hub_places.specs.Closes.{lags_here}
 use Rattle.gateway_hub.specs.Desks.{ending_by}
+use Rattle.gateway_hub.specs.Ends.{EachLine, PutsNothing}
 use Rattle.gateway_hub.specs.Endings.{fell_full}
 use Rattle.gateway_hub.specs.Notes.{StillTells}
 use Rattle.hub_places.specs.Parcels.{arrival_here, coming}
@@ -62,6 +63,7 @@ pub record StepsOn (happening : Happening) (outcome : Outcome) (delivery : Deliv
   pub settled : (client : Option ℕ) (server : Bool) → (client ≡ None) ⊎ (delivery.client ≡ None) → ArePortsSettled client server before history
       → ArePortsSettled (owes delivery.client client) (delivery.server || server) now (record { happening = happening; outcome = outcome } ∷ history)
   pub quiet : may_hand happening ≡ false → delivery.client ≡ None
+  pub unlanded : may_hand happening ≡ false → delivery.landed ≡ None
   pub unasked : may_ask happening ≡ false → delivery.server ≡ false
   pub ended : happening ≡ up_ends whys.UpFull → fault_in history ≡ None → fell_full (fault_in (record { happening = happening; outcome = outcome } ∷ history)) ≡ true
   pub client : (conn : ℕ) → delivery.client ≡ Some conn → IsRefused conn now.places.items
@@ -119,12 +121,13 @@ abbrev pub AreLate : List Entry → Type 0
 AreLate [] = Unit {0}
 AreLate (entry ∷ earlier) = (is_late entry.happening ≡ true) × AreLate earlier
 
--- What was owed is settled, by events that a full port asks for.
+-- What was owed is settled, by events that a full port asks for. They hand nothing to a client.
 pub record SettlesOwed (client : Option ℕ) (server : Bool) (client_now : Option ℕ) (server_now : Bool) (stood stands : List Entry → Type 0) (told tells : Option (List Noted)) (faults_before faults_now : ℕ) (before now : Desk) : Type 0 where
   pub later : List Entry
   pub late : AreLate later
   pub keeps : (history : List Entry) → KeepsOwing client server stood told faults_before before history → KeepsOwing client_now server_now stands tells faults_now now (later ++ history)
   pub seats : (history : List Entry) → KeepsOwing client server stood told faults_before before history → (i : ℕ) → IsSeated i before.places.items → IsSeated i now.places.items
+  pub unhanded : (history : List Entry) → KeepsOwing client server stood told faults_before before history → EachLine PutsNothing before.places.items now.places.items
 
 -- What stands when an event is about to be taken: the hub keeps what it keeps, and the event is in hand.
 pub record HasInHand (happening : Happening) (stands : List Entry → Type 0) (told : Option (List Noted)) (faults : ℕ) (desk : Desk) (history : List Entry) : Type 0 where
@@ -142,4 +145,5 @@ pub record TakesHubEvent (happening : Happening) (stood stands : List Entry → 
   pub late : AreLate later
   pub keeps : (history : List Entry) → HasInHand happening stood told faults_before before history → KeepsOwing None false stands tells faults_now now (later ++ record { happening = happening; outcome = outcome } ∷ history)
   pub seats : (history : List Entry) → HasInHand happening stood told faults_before before history → (i : ℕ) → IsSeated i before.places.items → IsSeated i now.places.items
+  pub unhanded : (history : List Entry) → HasInHand happening stood told faults_before before history → may_hand happening ≡ false → EachLine PutsNothing before.places.items now.places.items
   pub dies : (history : List Entry) → HasInHand happening stood told faults_before before history → (conn : ℕ) → happening ≡ ends conn → is_alive conn (later ++ record { happening = happening; outcome = outcome } ∷ history) ≡ false

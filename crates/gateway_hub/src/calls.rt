@@ -1,6 +1,7 @@
 //! The calls of a hub that take events.
 ghost use Rattle.std.specs.Prelude.{◌≡◌, ◌≤◌, false};
 ghost use Rattle.gateway_hub.specs.Calls.{TakesFirst, TakesFirstUp, Shuts, ShutsUp};
+ghost use Rattle.gateway_hub.specs.Endings.{ShowsFault};
 ghost use Rattle.gateway_hub.specs.Ends.{KeepsEnds};
 ghost use Rattle.gateway_hub.specs.Kept.{Keeps};
 ghost use Rattle.hub_places.specs.Places.{line_at};
@@ -24,6 +25,7 @@ impl<M: Core, R: Recorder> State<M, R> {
         ensures last { self.new.last ≡ self.old.last }
         ensures bases { M.bases self.new.core ≡ M.bases self.old.core }
         ensures later { R.faults self.old.recorder ≤ R.faults self.new.recorder }
+        ensures shown { ShowsFault self.old.desk.ending self.new.desk.ending (R.faults self.old.recorder) (R.faults self.new.recorder) }
     {
         if let Some(ending) = self.desk.ending {
             return Err(HubFault::from(ending));
@@ -56,6 +58,7 @@ impl<M: Core, R: Recorder> State<M, R> {
         ensures last { RemembersLast result self.old.last self.new.last self.old.desk.places.items self.new.desk.places.items }
         ensures bases { M.bases self.new.core ≡ M.bases self.old.core }
         ensures later { R.faults self.old.recorder ≤ R.faults self.new.recorder }
+        ensures shown { ShowsFault self.old.desk.ending self.new.desk.ending (R.faults self.old.recorder) (R.faults self.new.recorder) }
     {
         if let Some(ending) = self.desk.ending {
             return Err(HubFault::from(ending));
@@ -84,6 +87,7 @@ impl<M: Core, R: Recorder> State<M, R> {
         ensures last { self.new.last ≡ self.old.last }
         ensures bases { M.bases self.new.core ≡ M.bases self.old.core }
         ensures later { R.faults self.old.recorder ≤ R.faults self.new.recorder }
+        ensures shown { ShowsFault self.old.desk.ending self.new.desk.ending (R.faults self.old.recorder) (R.faults self.new.recorder) }
     {
         if let Some(ending) = self.desk.ending {
             return Err(HubFault::from(ending));
@@ -107,6 +111,7 @@ impl<M: Core, R: Recorder> State<M, R> {
         ensures last { self.new.last ≡ self.old.last }
         ensures bases { M.bases self.new.core ≡ M.bases self.old.core }
         ensures later { R.faults self.old.recorder ≤ R.faults self.new.recorder }
+        ensures shown { ShowsFault self.old.desk.ending self.new.desk.ending (R.faults self.old.recorder) (R.faults self.new.recorder) }
     {
         if let Some(ending) = self.desk.ending {
             return Err(HubFault::from(ending));

@@ -1,5 +1,6 @@
 //! How a hub begins, and how a connection enters.
 ghost use Rattle.std.specs.Prelude.{◌≡◌, ◌≤◌, [], None, length};
+ghost use Rattle.gateway_hub.specs.Endings.{ShowsFault};
 ghost use Rattle.gateway_hub.specs.Ends.{KeepsOtherEnds};
 ghost use Rattle.gateway_hub.specs.Entering.{Enters};
 ghost use Rattle.gateway_hub.specs.Kept.{Keeps, KeepsSome};
@@ -46,6 +47,7 @@ impl<M: Core, R: Recorder> State<M, R> {
         ensures last { self.new.last ≡ self.old.last }
         ensures bases { M.bases self.new.core ≡ M.bases self.old.core }
         ensures later { R.faults self.old.recorder ≤ R.faults self.new.recorder }
+        ensures shown { ShowsFault self.old.desk.ending self.new.desk.ending (R.faults self.old.recorder) (R.faults self.new.recorder) }
     {
         if let Some(ending) = self.desk.ending {
             return Err(HubFault::from(ending));

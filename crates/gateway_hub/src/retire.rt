@@ -4,6 +4,7 @@ ghost use Rattle.std.specs.Option.{option_or, option_map};
 ghost use Rattle.hub_places.specs.Places.{line_at};
 ghost use Rattle.client_ports.specs.Ends.{put_of, taken_of};
 ghost use Rattle.hub_places.specs.Closes.{fall_close};
+ghost use Rattle.gateway_hub.specs.Endings.{ShowsFault};
 ghost use Rattle.gateway_hub.specs.Ends.{KeepsEnds, KeepsOtherEnds};
 ghost use Rattle.gateway_hub.specs.Kept.{Keeps, close_why, by_upstream_of};
 ghost use Rattle.gateway_hub.specs.Retiring.{EndsFirst, RetiresPlace, RetiresSo, receipt_for, stranger_receipt};
@@ -135,6 +136,7 @@ impl<M: Core, R: Recorder> State<M, R> {
         ensures last { self.new.last ≡ self.old.last }
         ensures bases { M.bases self.new.core ≡ M.bases self.old.core }
         ensures later { R.faults self.old.recorder ≤ R.faults self.new.recorder }
+        ensures shown { ShowsFault self.old.desk.ending self.new.desk.ending (R.faults self.old.recorder) (R.faults self.new.recorder) }
     {
         if self.desk.ending.is_some() {
             return;
@@ -164,6 +166,7 @@ impl<M: Core, R: Recorder> State<M, R> {
         ensures last { self.new.last ≡ self.old.last }
         ensures bases { M.bases self.new.core ≡ M.bases self.old.core }
         ensures later { R.faults self.old.recorder ≤ R.faults self.new.recorder }
+        ensures shown { ShowsFault self.old.desk.ending self.new.desk.ending (R.faults self.old.recorder) (R.faults self.new.recorder) }
     {
         self.end_first(alloc, rt, conn);
         let pushed = inward.count();

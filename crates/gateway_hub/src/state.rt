@@ -1,6 +1,7 @@
 //! The core, the recorder and the desk of a hub, and how one event is taken.
 ghost use Rattle.std.specs.Prelude.{◌≡◌, ◌≤◌, ℕ, false, Option, None, IfOk, IfErr, OnOk};
 ghost use Rattle.mux_history.specs.Happenings.{happening_of};
+ghost use Rattle.gateway_hub.specs.Endings.{ShowsFault};
 ghost use Rattle.gateway_hub.specs.Ends.{KeepsEnds, PutsFor};
 ghost use Rattle.gateway_hub.specs.Taking.{TakesOneEvent, IsUntaken, SettlesOwed, TakesHubEvent, stop_of};
 
@@ -62,6 +63,7 @@ impl<M: Core, R: Recorder> State<M, R> {
         ensures last { self.new.last ≡ self.old.last }
         ensures bases { M.bases self.new.core ≡ M.bases self.old.core }
         ensures later { R.faults self.old.recorder ≤ R.faults self.new.recorder }
+        ensures shown { ShowsFault self.old.desk.ending self.new.desk.ending (R.faults self.old.recorder) (R.faults self.new.recorder) }
     {
         let plan = match self.core.plan(alloc, &event) {
             Ok(plan) => plan,
@@ -89,6 +91,7 @@ impl<M: Core, R: Recorder> State<M, R> {
         ensures last { self.new.last ≡ self.old.last }
         ensures bases { M.bases self.new.core ≡ M.bases self.old.core }
         ensures later { R.faults self.old.recorder ≤ R.faults self.new.recorder }
+        ensures shown { ShowsFault self.old.desk.ending self.new.desk.ending (R.faults self.old.recorder) (R.faults self.new.recorder) }
     {
         if !full {
             return None;
@@ -111,6 +114,7 @@ impl<M: Core, R: Recorder> State<M, R> {
         ensures last { self.new.last ≡ self.old.last }
         ensures bases { M.bases self.new.core ≡ M.bases self.old.core }
         ensures later { R.faults self.old.recorder ≤ R.faults self.new.recorder }
+        ensures shown { ShowsFault self.old.desk.ending self.new.desk.ending (R.faults self.old.recorder) (R.faults self.new.recorder) }
     {
         let Some(conn) = client else { return None };
         if self.desk.is_stopped() {
@@ -145,6 +149,7 @@ impl<M: Core, R: Recorder> State<M, R> {
         ensures last { self.new.last ≡ self.old.last }
         ensures bases { M.bases self.new.core ≡ M.bases self.old.core }
         ensures later { R.faults self.old.recorder ≤ R.faults self.new.recorder }
+        ensures shown { ShowsFault self.old.desk.ending self.new.desk.ending (R.faults self.old.recorder) (R.faults self.new.recorder) }
     {
         let delivery = self.take_one(alloc, rt, event)?;
         let next = self.end_if_full(alloc, rt, delivery.server);

@@ -1,11 +1,12 @@
 //! The calls of a hub. Each is lent what the lock guards.
-ghost use Rattle.std.specs.Prelude.{◌≡◌, ◌≢◌, List, [], None, false, length, IfOk};
+ghost use Rattle.std.specs.Prelude.{◌≡◌, ◌≢◌, List, [], None, false, length, IfOk, IfErr};
 ghost use Rattle.client_ports.specs.Ends.{OfOnePort, capacity_of, put_of, taken_of};
 ghost use Rattle.mux_history.specs.Happenings.{Entry};
 ghost use Rattle.hub_places.specs.declared.ending.StopWhy.TheVariants as stops;
 ghost use Rattle.hub_places.specs.declared.limits.TheConstants.{SERVER_INWARD_CAPACITY, SERVER_CAPACITY};
 ghost use Rattle.gateway_hub.specs.Calls.{TakesFirst, TakesFirstUp, Shuts, ShutsUp, Stays};
 ghost use Rattle.gateway_hub.specs.Closing.{TellsOver, is_open_by};
+ghost use Rattle.gateway_hub.specs.Endings.{ShowsFault, FailsShown};
 ghost use Rattle.gateway_hub.specs.Ends.{KeepsEnds, KeepsOtherEnds};
 ghost use Rattle.gateway_hub.specs.Entering.{IsFreshDesk, Enters};
 ghost use Rattle.gateway_hub.specs.Kept.{Keeps};
@@ -33,7 +34,7 @@ use std::sync::Wait;
 
 impl<M: Core, R: Recorder> Hub<M, R> {
     /// A hub to which nothing happened, over a core and a recorder to which nothing happened either; with the server's end
-    /// that puts what it says, and the one that takes what it is handed.
+    /// that puts what it says, and the one that takes what it is handed. After want of memory both come back as they were.
     pub fn new(
         alloc: Global,
         core: M,
@@ -51,6 +52,7 @@ impl<M: Core, R: Recorder> Hub<M, R> {
         ensures taken { IfOk result (λ made. taken_of made.2 ≡ []) }
         ensures inward_capacity { IfOk result (λ made. capacity_of made.1 ≡ SERVER_INWARD_CAPACITY) }
         ensures outward_capacity { IfOk result (λ made. capacity_of made.0.state.desk.server.outward ≡ SERVER_CAPACITY) }
+        ensures back { IfErr result (λ back. (back.0 ≡ core) × (back.1 ≡ recorder)) }
     {
         let (inward, items) = match port(alloc, SERVER_INWARD_CAPACITY) {
             Ok(ends) => ends,
@@ -80,6 +82,8 @@ impl<M: Core, R: Recorder> Hub<M, R> {
         ensures ends { KeepsOtherEnds (length self.old.state.desk.places.items) self.old.state.desk self.new.state.desk }
         ensures last { self.new.state.last ≡ self.old.state.last }
         ensures bases { M.bases self.new.state.core ≡ M.bases self.old.state.core }
+        ensures shown { ShowsFault self.old.state.desk.ending self.new.state.desk.ending (R.faults self.old.state.recorder) (R.faults self.new.state.recorder) }
+        ensures failed { FailsShown result (R.faults self.old.state.recorder) (R.faults self.new.state.recorder) }
     {
         self.state.enter(alloc)
     }
@@ -93,6 +97,8 @@ impl<M: Core, R: Recorder> Hub<M, R> {
         ensures ends { KeepsEnds self.old.state.desk self.new.state.desk }
         ensures last { self.new.state.last ≡ self.old.state.last }
         ensures bases { M.bases self.new.state.core ≡ M.bases self.old.state.core }
+        ensures shown { ShowsFault self.old.state.desk.ending self.new.state.desk.ending (R.faults self.old.state.recorder) (R.faults self.new.state.recorder) }
+        ensures failed { FailsShown result (R.faults self.old.state.recorder) (R.faults self.new.state.recorder) }
     {
         self.state.take(alloc, rt, seat.conn)
     }
@@ -106,6 +112,8 @@ impl<M: Core, R: Recorder> Hub<M, R> {
         ensures ends { KeepsEnds self.old.state.desk self.new.state.desk }
         ensures last { RemembersLast result self.old.state.last self.new.state.last self.old.state.desk.places.items self.new.state.desk.places.items }
         ensures bases { M.bases self.new.state.core ≡ M.bases self.old.state.core }
+        ensures shown { ShowsFault self.old.state.desk.ending self.new.state.desk.ending (R.faults self.old.state.recorder) (R.faults self.new.state.recorder) }
+        ensures failed { FailsShown result (R.faults self.old.state.recorder) (R.faults self.new.state.recorder) }
     {
         self.state.take_up(alloc, rt)
     }
@@ -168,6 +176,8 @@ impl<M: Core, R: Recorder> Hub<M, R> {
         ensures ends { KeepsEnds self.old.state.desk self.new.state.desk }
         ensures last { self.new.state.last ≡ self.old.state.last }
         ensures bases { M.bases self.new.state.core ≡ M.bases self.old.state.core }
+        ensures shown { ShowsFault self.old.state.desk.ending self.new.state.desk.ending (R.faults self.old.state.recorder) (R.faults self.new.state.recorder) }
+        ensures failed { FailsShown result (R.faults self.old.state.recorder) (R.faults self.new.state.recorder) }
     {
         self.state.shut(alloc, rt, seat.conn)
     }
@@ -181,6 +191,8 @@ impl<M: Core, R: Recorder> Hub<M, R> {
         ensures ends { KeepsEnds self.old.state.desk self.new.state.desk }
         ensures last { self.new.state.last ≡ self.old.state.last }
         ensures bases { M.bases self.new.state.core ≡ M.bases self.old.state.core }
+        ensures shown { ShowsFault self.old.state.desk.ending self.new.state.desk.ending (R.faults self.old.state.recorder) (R.faults self.new.state.recorder) }
+        ensures failed { FailsShown result (R.faults self.old.state.recorder) (R.faults self.new.state.recorder) }
     {
         self.state.shut_up(alloc, rt, why)
     }
@@ -202,6 +214,7 @@ impl<M: Core, R: Recorder> Hub<M, R> {
         ensures ends { KeepsOtherEnds seat.conn self.old.state.desk self.new.state.desk }
         ensures last { self.new.state.last ≡ self.old.state.last }
         ensures bases { M.bases self.new.state.core ≡ M.bases self.old.state.core }
+        ensures shown { ShowsFault self.old.state.desk.ending self.new.state.desk.ending (R.faults self.old.state.recorder) (R.faults self.new.state.recorder) }
     {
         self.state.retire(alloc, rt, seat.conn, inward, outward)
     }

@@ -1,7 +1,8 @@
-use Rattle.std.proofs.Common.{sym, ◌∙◌}
+use Rattle.std.proofs.Common.{refl, sym, ◌∙◌}
 use Rattle.gateway_hub.proofs.RetireLemmas.{ends_kept, ends_dead, ends_taken, ends_untaken}
 use Rattle.gateway_hub.proofs.OweLemmas.{stops_as}
 use Rattle.gateway_hub.proofs.EndLemmas.{ends_here, ends_twice, stop_ends}
+use Rattle.gateway_hub.proofs.ShownLemmas.{shown_same, shown_untaken}
 use Rattle.gateway_hub.proofs.state.State.end_first.Goals as goal
 
 pub returns-then-is_some-clause-ends : goal.returns-then-is_some-clause-ends
@@ -36,3 +37,16 @@ returns-then-is_some-clause-in_place g c = ends_here c.args.self.now.desk
 
 pub returns-then-not-alive-clause-in_place : goal.returns-then-not-alive-clause-in_place
 returns-then-not-alive-clause-in_place g c = ends_here c.args.self.now.desk
+
+pub returns-in-Err-clause-shown : goal.returns-in-Err-clause-shown
+returns-in-Err-clause-shown g c =
+    let old = c.args.self.now in
+    let new = c.take_event.new.self in
+    shown_untaken c.in-Err.refused.fault (g.M.Core.stands old.core) (g.M.Core.stands new.core) (g.R.Recorder.entries old.recorder) (g.R.Recorder.entries new.recorder) (g.R.Recorder.faults old.recorder) (g.R.Recorder.faults new.recorder) old.desk new.desk c.stop.new.self
+    c.in-Err.ensures.err.1 (stops_as c.stop_of.result c.in-Err.refused.fault new.desk c.stop.new.self c.stop_of.ensures c.stop.ensures)
+
+pub returns-then-is_some-clause-shown : goal.returns-then-is_some-clause-shown
+returns-then-is_some-clause-shown g c = shown_same _ _ _ _ refl
+
+pub returns-then-not-alive-clause-shown : goal.returns-then-not-alive-clause-shown
+returns-then-not-alive-clause-shown g c = shown_same _ _ _ _ refl

@@ -7,6 +7,7 @@ use Rattle.std.proofs.Common.{ap, ◌∙◌}
 use Rattle.gateway_hub.specs.declared.desk.Desk.{Desk}
 use Rattle.std.specs.Global.{Vec}
 use Rattle.hub_places.specs.declared.line.Place.{Place}
+use Rattle.gateway_hub.proofs.ShownLemmas.{shown_same, shown_untaken}
 use Rattle.gateway_hub.proofs.state.State.end_if_full.Goals as goal
 
 pub returns-in-Ok-clause-settles : goal.returns-in-Ok-clause-settles
@@ -15,7 +16,7 @@ returns-in-Ok-clause-settles g c = λ client.
     let new = c.take_one.new.self in
     full_as c.args.full c.if-not-full.false client (g.M.Core.stands old.core) (g.M.Core.stands new.core) (g.R.Recorder.entries old.recorder) (g.R.Recorder.entries new.recorder) (g.R.Recorder.faults old.recorder) (g.R.Recorder.faults new.recorder) old.desk new.desk
     (end_taken (g.M.Core.stands old.core) (g.M.Core.stands new.core) (g.R.Recorder.entries old.recorder) (g.R.Recorder.entries new.recorder) (g.R.Recorder.faults old.recorder) (g.R.Recorder.faults new.recorder) old.desk new.desk c.in-Ok.delivery
-    c.in-Ok.ensures.ok c.take_one.ensures.later client)
+    c.in-Ok.ensures.ok c.take_one.ensures.later c.in-Ok.ensures.puts client)
 
 pub returns-in-Err-clause-settles : goal.returns-in-Err-clause-settles
 returns-in-Err-clause-settles g c = λ client.
@@ -42,3 +43,13 @@ returns-then-not-full-clause-puts g c = nothing_put _ _ refl
 
 pub returns-then-not-full-clause-ends : goal.returns-then-not-full-clause-ends
 returns-then-not-full-clause-ends g c = ends_here c.args.self.now.desk
+
+pub returns-in-Err-clause-shown : goal.returns-in-Err-clause-shown
+returns-in-Err-clause-shown g c =
+    let old = c.args.self.now in
+    let new = c.take_one.new.self in
+    shown_untaken c.in-Err.refused.fault (g.M.Core.stands old.core) (g.M.Core.stands new.core) (g.R.Recorder.entries old.recorder) (g.R.Recorder.entries new.recorder) (g.R.Recorder.faults old.recorder) (g.R.Recorder.faults new.recorder) old.desk new.desk c.stop.new.self
+    c.in-Err.ensures.err.1 (stops_as c.stop_of.result c.in-Err.refused.fault new.desk c.stop.new.self c.stop_of.ensures c.stop.ensures)
+
+pub returns-then-not-full-clause-shown : goal.returns-then-not-full-clause-shown
+returns-then-not-full-clause-shown g c = shown_same _ _ _ _ refl

@@ -18,6 +18,7 @@ use Rattle.gateway_hub.proofs.EnterLemmas.{entered_keeps, refused_enters, new_li
 use Rattle.gateway_hub.proofs.OweLemmas.{stop_keeps}
 use Rattle.gateway_hub.proofs.TakeLemmas.{notes_kept, failed_note}
 use Rattle.gateway_hub.proofs.EndLemmas.{other_ends, other_same, ends_same, ends_twice, stop_ends, refuse_ends, seat_ends}
+use Rattle.gateway_hub.proofs.ShownLemmas.{shown_same, shown_stop, shown_refuses}
 use Rattle.gateway_hub.proofs.state.State.enter.Goals as goal
 
 pub enter-requires : goal.enter-requires
@@ -136,3 +137,32 @@ pub returns-in_err-prepare-clause-ends : goal.returns-in_err-prepare-clause-ends
 returns-in_err-prepare-clause-ends g c =
     let old = c.args.self.now.desk in
     other_same (length old.places.items) old (record old { places = c.reserve.new.self }) refl c.reserve.ensures.items
+
+pub returns-then-len-ge-MOST_CONNECTIONS-clause-shown : goal.returns-then-len-ge-MOST_CONNECTIONS-clause-shown
+returns-then-len-ge-MOST_CONNECTIONS-clause-shown g c = shown_stop stops.Spent c.args.self.now.desk c.stop.new.self _ _ c.stop.ensures (λ is. absurd (cc))
+
+pub returns-in-Err-clause-shown : goal.returns-in-Err-clause-shown
+returns-in-Err-clause-shown g c =
+    let old = c.args.self.now in
+    shown_refuses c.in-Err.fault c.fault_of.result (record old.desk { places = c.reserve.new.self }) c.fault_of.new.self (g.R.Recorder.faults old.recorder) (g.R.Recorder.faults c.note.new.self) c.fault_of.ensures (λ is. c.in-Err.ensures.cause.failed (failed_note c.in-Err.fault is))
+
+pub returns-in-Some-clause-shown : goal.returns-in-Some-clause-shown
+returns-in-Some-clause-shown g c = shown_same _ _ _ _ refl
+
+pub returns-in_err-inward-clause-shown : goal.returns-in_err-inward-clause-shown
+returns-in_err-inward-clause-shown g c = shown_same _ _ _ _ refl
+
+pub returns-in_err-pieces-clause-shown : goal.returns-in_err-pieces-clause-shown
+returns-in_err-pieces-clause-shown g c = shown_same _ _ _ _ refl
+
+pub returns-in_default-new-clause-shown : goal.returns-in_default-new-clause-shown
+returns-in_default-new-clause-shown g c = shown_same _ _ _ _ refl
+
+pub returns-in_default-reserve-clause-shown : goal.returns-in_default-reserve-clause-shown
+returns-in_default-reserve-clause-shown g c = shown_same _ _ _ _ refl
+
+pub returns-in_err-prepare-clause-shown : goal.returns-in_err-prepare-clause-shown
+returns-in_err-prepare-clause-shown g c = shown_same _ _ _ _ refl
+
+pub returns-clause-shown : goal.returns-clause-shown
+returns-clause-shown g c = shown_same _ _ _ _ refl

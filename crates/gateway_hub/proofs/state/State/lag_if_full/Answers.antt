@@ -10,6 +10,7 @@ use Rattle.std.proofs.Common.{ap, refl, ◌∙◌}
 use Rattle.gateway_hub.specs.declared.desk.Desk.{Desk}
 use Rattle.std.specs.Global.{Vec}
 use Rattle.hub_places.specs.declared.line.Place.{Place}
+use Rattle.gateway_hub.proofs.ShownLemmas.{shown_same, shown_twice, shown_untaken}
 use Rattle.gateway_hub.proofs.state.State.lag_if_full.Goals as goal
 
 pub returns-then-is_stopped-clause-settles : goal.returns-then-is_stopped-clause-settles
@@ -25,7 +26,7 @@ returns-in-Ok-clause-settles g c =
     let new = c.end_if_full-later.new.self in
     client_as c.args.client c.in-Some.conn c.in-Some.is (g.M.Core.stands old.core) (g.M.Core.stands new.core) (g.R.Recorder.entries old.recorder) (g.R.Recorder.entries new.recorder) (g.R.Recorder.faults old.recorder) (g.R.Recorder.faults new.recorder) old.desk new.desk
     (lag_taken (g.M.Core.stands old.core) (g.M.Core.stands mid.core) (g.M.Core.stands new.core) (g.R.Recorder.entries old.recorder) (g.R.Recorder.entries mid.recorder) (g.R.Recorder.entries new.recorder) (g.R.Recorder.faults old.recorder) (g.R.Recorder.faults mid.recorder) (g.R.Recorder.faults new.recorder)
-    old.desk mid.desk new.desk c.in-Some.conn c.in-Ok.delivery (sym c.if-is_stopped.ensures) c.in-Ok.ensures.ok c.take_one.ensures.later (c.end_if_full-later.ensures.settles None))
+    old.desk mid.desk new.desk c.in-Some.conn c.in-Ok.delivery (sym c.if-is_stopped.ensures) c.in-Ok.ensures.ok c.take_one.ensures.later c.in-Ok.ensures.puts (c.end_if_full-later.ensures.settles None))
 
 pub returns-in-Err-clause-settles : goal.returns-in-Err-clause-settles
 returns-in-Err-clause-settles g c =
@@ -65,3 +66,19 @@ returns-in_default-clause-ends g c = ends_here c.args.self.now.desk
 
 pub returns-then-is_stopped-clause-ends : goal.returns-then-is_stopped-clause-ends
 returns-then-is_stopped-clause-ends g c = ends_here c.args.self.now.desk
+
+pub returns-in-Ok-clause-shown : goal.returns-in-Ok-clause-shown
+returns-in-Ok-clause-shown g c = shown_twice _ _ _ _ _ _ c.take_one.ensures.later c.end_if_full-later.ensures.later c.take_one.ensures.shown c.end_if_full-later.ensures.shown
+
+pub returns-in-Err-clause-shown : goal.returns-in-Err-clause-shown
+returns-in-Err-clause-shown g c =
+    let old = c.args.self.now in
+    let new = c.take_one.new.self in
+    shown_untaken c.in-Err.refused.fault (g.M.Core.stands old.core) (g.M.Core.stands new.core) (g.R.Recorder.entries old.recorder) (g.R.Recorder.entries new.recorder) (g.R.Recorder.faults old.recorder) (g.R.Recorder.faults new.recorder) old.desk new.desk c.stop.new.self
+    c.in-Err.ensures.err.1 (stops_as c.stop_of.result c.in-Err.refused.fault new.desk c.stop.new.self c.stop_of.ensures c.stop.ensures)
+
+pub returns-in_default-clause-shown : goal.returns-in_default-clause-shown
+returns-in_default-clause-shown g c = shown_same _ _ _ _ refl
+
+pub returns-then-is_stopped-clause-shown : goal.returns-then-is_stopped-clause-shown
+returns-then-is_stopped-clause-shown g c = shown_same _ _ _ _ refl

@@ -6,6 +6,7 @@ use Rattle.gateway_hub.specs.Kept.{Keeps}
 use Rattle.hub_places.specs.Places.{line_at}
 use Rattle.gateway_hub.proofs.IdleLemmas.{idle_in_hand, idle_refused, shuts_line}
 use Rattle.gateway_hub.proofs.EndLemmas.{ends_here, ends_twice, refuse_ends}
+use Rattle.gateway_hub.proofs.ShownLemmas.{shown_same, shown_refused}
 use Rattle.gateway_hub.proofs.state.State.shut.Goals as goal
 
 pub returns-in-Ok-clause-shuts : goal.returns-in-Ok-clause-shuts
@@ -37,3 +38,17 @@ returns-in-Some-clause-ends g c = ends_here c.args.self.now.desk
 
 pub returns-then-not-is_seated-clause-ends : goal.returns-then-not-is_seated-clause-ends
 returns-then-not-is_seated-clause-ends g c = ends_here c.args.self.now.desk
+
+pub returns-in-Err-clause-shown : goal.returns-in-Err-clause-shown
+returns-in-Err-clause-shown g c =
+    let old = c.args.self.now in
+    let new = c.take_event.new.self in
+    let mid = old.desk in
+    shown_refused c.in-Err.refused.fault c.fault_of.result (g.M.Core.stands old.core) (g.M.Core.stands new.core) (g.R.Recorder.entries old.recorder) (g.R.Recorder.entries new.recorder) (g.R.Recorder.faults old.recorder) (g.R.Recorder.faults new.recorder)
+    mid new.desk new.desk c.fault_of.new.self c.in-Err.ensures.err.1 refl c.fault_of.ensures
+
+pub returns-in-Some-clause-shown : goal.returns-in-Some-clause-shown
+returns-in-Some-clause-shown g c = shown_same _ _ _ _ refl
+
+pub returns-then-not-is_seated-clause-shown : goal.returns-then-not-is_seated-clause-shown
+returns-then-not-is_seated-clause-shown g c = shown_same _ _ _ _ refl

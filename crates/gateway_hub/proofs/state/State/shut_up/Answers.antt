@@ -2,6 +2,7 @@ use Rattle.std.proofs.Common.{refl}
 use Rattle.mux_history.specs.Happenings.{up_ends}
 use Rattle.gateway_hub.proofs.IdleLemmas.{idle_in_hand, idle_refused}
 use Rattle.gateway_hub.proofs.EndLemmas.{ends_here, ends_twice, refuse_ends}
+use Rattle.gateway_hub.proofs.ShownLemmas.{shown_same, shown_refused}
 use Rattle.gateway_hub.proofs.state.State.shut_up.Goals as goal
 
 pub returns-in-Ok-clause-shuts : goal.returns-in-Ok-clause-shuts
@@ -29,3 +30,14 @@ returns-in-Err-clause-ends g c = ends_twice c.args.self.now.desk c.take_event.ne
 
 pub returns-in-Some-clause-ends : goal.returns-in-Some-clause-ends
 returns-in-Some-clause-ends g c = ends_here c.args.self.now.desk
+
+pub returns-in-Err-clause-shown : goal.returns-in-Err-clause-shown
+returns-in-Err-clause-shown g c =
+    let old = c.args.self.now in
+    let new = c.take_event.new.self in
+    let mid = old.desk in
+    shown_refused c.in-Err.refused.fault c.fault_of.result (g.M.Core.stands old.core) (g.M.Core.stands new.core) (g.R.Recorder.entries old.recorder) (g.R.Recorder.entries new.recorder) (g.R.Recorder.faults old.recorder) (g.R.Recorder.faults new.recorder)
+    mid new.desk new.desk c.fault_of.new.self c.in-Err.ensures.err.1 refl c.fault_of.ensures
+
+pub returns-in-Some-clause-shown : goal.returns-in-Some-clause-shown
+returns-in-Some-clause-shown g c = shown_same _ _ _ _ refl

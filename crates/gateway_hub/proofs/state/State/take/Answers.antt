@@ -2,6 +2,7 @@ use Rattle.std.proofs.Common.{Some, None, sym, ◌∙◌, refl}
 use Rattle.rtsp_head.specs.Shapes.{shape_of}
 use Rattle.gateway_hub.proofs.InwardLemmas.{in_hand, none_in_line, empty_line, client_refused}
 use Rattle.gateway_hub.proofs.EndLemmas.{ends_here, ends_twice, fetch_ends, back_ends, refuse_ends}
+use Rattle.gateway_hub.proofs.ShownLemmas.{shown_same, shown_refused}
 use Rattle.gateway_hub.proofs.state.State.take.Goals as goal
 
 pub returns-in_default-next_of-clause-takes : goal.returns-in_default-next_of-clause-takes
@@ -69,3 +70,23 @@ returns-then-not-alive-clause-ends g c = ends_here c.args.self.now.desk
 
 pub returns-then-busy-clause-ends : goal.returns-then-busy-clause-ends
 returns-then-busy-clause-ends g c = ends_here c.args.self.now.desk
+
+pub returns-in-Err-clause-shown : goal.returns-in-Err-clause-shown
+returns-in-Err-clause-shown g c =
+    let old = c.args.self.now in
+    let new = c.take_event.new.self in
+    let mid = record old.desk { places = c.next_of.new.places } in
+    shown_refused c.in-Err.refused.fault c.fault_of.result (g.M.Core.stands old.core) (g.M.Core.stands new.core) (g.R.Recorder.entries old.recorder) (g.R.Recorder.entries new.recorder) (g.R.Recorder.faults old.recorder) (g.R.Recorder.faults new.recorder)
+    mid new.desk c.give_back.new.self c.fault_of.new.self c.in-Err.ensures.err.1 c.give_back.ensures.ending c.fault_of.ensures
+
+pub returns-in_default-next_of-clause-shown : goal.returns-in_default-next_of-clause-shown
+returns-in_default-next_of-clause-shown g c = shown_same _ _ _ _ refl
+
+pub returns-in-Some-clause-shown : goal.returns-in-Some-clause-shown
+returns-in-Some-clause-shown g c = shown_same _ _ _ _ refl
+
+pub returns-then-not-alive-clause-shown : goal.returns-then-not-alive-clause-shown
+returns-then-not-alive-clause-shown g c = shown_same _ _ _ _ refl
+
+pub returns-then-busy-clause-shown : goal.returns-then-busy-clause-shown
+returns-then-busy-clause-shown g c = shown_same _ _ _ _ refl

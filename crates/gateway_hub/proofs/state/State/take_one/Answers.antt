@@ -6,6 +6,7 @@ use Rattle.mux_history.specs.Happenings.{happening_of}
 use Rattle.gateway_hub.proofs.TakeLemmas.{takes_one, notes_kept, failed_note}
 use Rattle.gateway_hub.proofs.EndLemmas.{ends_here, hand_ends}
 use Rattle.gateway_hub.proofs.PutLemmas.{hand_puts}
+use Rattle.gateway_hub.proofs.ShownLemmas.{shown_same, shown_fallen}
 use Rattle.gateway_hub.proofs.state.State.take_one.Goals as goal
 
 pub returns-clause-ok : goal.returns-clause-ok
@@ -40,3 +41,12 @@ returns-in-Err-clause-ends g c = ends_here c.args.self.now.desk
 
 pub returns-in-Err-note-clause-ends : goal.returns-in-Err-note-clause-ends
 returns-in-Err-note-clause-ends g c = ends_here c.args.self.now.desk
+
+pub returns-clause-shown : goal.returns-clause-shown
+returns-clause-shown g c = shown_fallen _ _ c.commit-outcome.result.fault _ _ c.take_outcome.ensures.ending
+
+pub returns-in-Err-clause-shown : goal.returns-in-Err-clause-shown
+returns-in-Err-clause-shown g c = shown_same _ _ _ _ refl
+
+pub returns-in-Err-note-clause-shown : goal.returns-in-Err-note-clause-shown
+returns-in-Err-note-clause-shown g c = shown_same _ _ _ _ refl

@@ -3,6 +3,7 @@ use Rattle.std.specs.Option.{option_or}
 use Rattle.rtsp_head.specs.Shapes.{shape_of}
 use Rattle.gateway_hub.proofs.IdleLemmas.{up_in_hand, up_refused}
 use Rattle.gateway_hub.proofs.EndLemmas.{ends_here, ends_twice, fetch_up_ends, back_ends, refuse_ends}
+use Rattle.gateway_hub.proofs.ShownLemmas.{shown_same, shown_refused}
 use Rattle.gateway_hub.proofs.state.State.take_up.Goals as goal
 
 pub returns-in-Ok-clause-takes : goal.returns-in-Ok-clause-takes
@@ -55,3 +56,17 @@ returns-in-Ok-clause-last g c = (c.in-Ok.landed, c.or-self.ensures ∙ ap (λ (o
 
 pub returns-in-Some-clause-ends : goal.returns-in-Some-clause-ends
 returns-in-Some-clause-ends g c = ends_here c.args.self.now.desk
+
+pub returns-in-Err-clause-shown : goal.returns-in-Err-clause-shown
+returns-in-Err-clause-shown g c =
+    let old = c.args.self.now in
+    let new = c.take_event.new.self in
+    let mid = record old.desk { server = c.next.new.self } in
+    shown_refused c.in-Err.refused.fault c.fault_of.result (g.M.Core.stands old.core) (g.M.Core.stands new.core) (g.R.Recorder.entries old.recorder) (g.R.Recorder.entries new.recorder) (g.R.Recorder.faults old.recorder) (g.R.Recorder.faults new.recorder)
+    mid new.desk c.give_back.new.self c.fault_of.new.self c.in-Err.ensures.err.1 c.give_back.ensures.ending c.fault_of.ensures
+
+pub returns-in_default-next-clause-shown : goal.returns-in_default-next-clause-shown
+returns-in_default-next-clause-shown g c = shown_same _ _ _ _ refl
+
+pub returns-in-Some-clause-shown : goal.returns-in-Some-clause-shown
+returns-in-Some-clause-shown g c = shown_same _ _ _ _ refl
