@@ -242,7 +242,9 @@ class Conversation(Words):
         is_wrong = self.seldom(self.spoils if player.is_alive else 0.2)
         wrong = self.one(("transport", "pair", "id", "id", "both")) if is_wrong else ""
         if wrong == "pair":
-            channels = self.one((channels[::-1], (channels[0], channels[0] + 2), (channels[0] + 2, channels[1] + 2)))
+            first, second = channels
+            channels = self.one(((second, first), (first, first + 2), (first, second + 2), (first + 2, second),
+                                 (first + 2, second + 2)))
         if wrong in ("transport", "both"):
             text = self.one(BAD_GRANTS + (None,))
         if wrong in ("id", "both"):
