@@ -14,7 +14,15 @@
 //! - `end` has the end wait too, which else comes behind what is said last, and `end never` has none come;
 //! - `idle CALL` has nothing more come from this call on, and `fail CALL` has this call fail, counted from 0: of the link
 //!   that was begun last, or of the door where none was;
+//! - `fail-write CALL` has this call of the link's outlet fail, and `stuck BODY` has it take nothing until the server was
+//!   handed so many bytes as the body means;
+//! - `want NOTE` has memory be wanting for the recorder's note with this number;
+//! - `brief` has nothing told of the run but how it ended;
 //! - `replay` has what was recorded replayed, and its records printed.
+//!
+//! A read waits for what is due, and until its link is shut, as that of a real link does: nobody looks again meanwhile. So what
+//! is not told to whoever waits for it is not found by chance. Only of a link with a line `idle` a read does not wait. One
+//! that waits for many times as long as a scene takes is let go, and `somebody waited in vain` is printed then.
 //!
 //! What is printed has a line for each message and each frame that one was handed, and for each record.
 #![tactic(auto)]
@@ -23,6 +31,8 @@ mod reading;
 mod rehearsing;
 mod scene;
 mod telling;
+mod waiting;
+mod world;
 
 use crate::rehearsing::rehearse_all;
 use std::io;
@@ -33,7 +43,7 @@ fn main(rt: HostRuntime) -> io::Result<ExitCode> {
     let alloc = rt.alloc();
     let mut script = Vec::new(alloc);
     rt.reader().read_to_end(&mut script)?;
-    match rehearse_all(&rt, alloc, script.as_slice()) {
+    match rehearse_all(&rt, rt, alloc, script.as_slice()) {
         Ok(text) => {
             io::writer(&rt).write_all(text.as_bytes())?;
             Ok(ExitCode::SUCCESS)

@@ -53,6 +53,14 @@ fn set(alloc: Global, scene: &mut Scene, word: &[u8], more: &[u8]) -> Result<(),
             scene.is_replayed = true;
             Ok(())
         }
+        "brief" => {
+            scene.is_brief = true;
+            Ok(())
+        }
+        "want" => {
+            scene.wanting = Some(number_in(more)?);
+            Ok(())
+        }
         "stations" => set_stations(scene, number_in(more)?),
         "idle" => {
             scene.idle_from(number_in(more)?);
@@ -78,6 +86,11 @@ fn speak(alloc: Global, role: &mut Role, word: &[u8], more: &[u8]) -> Result<(),
         "wait" => wait(alloc, role, more),
         "say" => Ok(role.say(meant(alloc, more)?)?),
         "end" => end(alloc, role, more),
+        "stuck" => {
+            role.stuck = meant(alloc, more)?.len() as u64;
+            Ok(())
+        }
+        "fail-write" => Ok(role.fail_write(number_in(more)?)?),
         _ => Err(CaseFault::Unreadable),
     }
 }

@@ -6,7 +6,8 @@ ghost use Rattle.gateway_run.specs.Serving.{AreSameAddresses, IsSameAddress};
 
 use crate::reading::read_scenes;
 use crate::scene::{Scene, calm, world_of};
-use crate::telling::{tell_name, tell_replay, tell_run};
+use crate::telling::{tell_end, tell_name, tell_replay, tell_run};
+use crate::world::SceneWorld;
 use case_text::{Answer, CaseFault, CasesFault};
 use gate_bytes::{Memory, Text};
 use gate_outside::MemorySink;
@@ -23,13 +24,14 @@ use std::time::Clock;
 /// Runs all scenes, and tells of each what everybody was handed.
 pub fn rehearse_all<R: Threads + Wait + Clock + Sync>(
     rt: &R,
+    host: HostRuntime,
     alloc: Global,
     script: &[u8],
 ) -> Result<Text, CasesFault> {
     let scenes = read_scenes(alloc, script)?;
     let mut answer = Answer::new(alloc);
     for scene in scenes {
-        rehearse(rt, alloc, scene, &mut answer);
+        rehearse(rt, host, alloc, scene, &mut answer);
         answer.push(b"\n");
     }
     match answer.done() {
@@ -38,9 +40,19 @@ pub fn rehearse_all<R: Threads + Wait + Clock + Sync>(
     }
 }
 
+/// What is told of a run.
+#[derive(Clone, Copy)]
+struct Telling {
+    /// Whether what was recorded is replayed.
+    is_replayed: bool,
+    /// Whether it is told of the run only how it ended.
+    is_brief: bool,
+}
+
 /// Runs a scene, and tells what everybody was handed.
 fn rehearse<R: Threads + Wait + Clock + Sync>(
     rt: &R,
+    host: HostRuntime,
     alloc: Global,
     scene: Scene,
     answer: &mut Answer,
@@ -49,12 +61,18 @@ fn rehearse<R: Threads + Wait + Clock + Sync>(
         name,
         stations,
         is_replayed,
+        is_brief,
+        wanting,
         door,
         roles,
     } = scene;
     tell_name(name.as_bytes(), answer);
-    match world_of(alloc, door, roles) {
-        Ok(mut world) => perform(rt, alloc, stations, is_replayed, &mut world, answer),
+    let telling = Telling {
+        is_replayed,
+        is_brief,
+    };
+    match world_of(host, alloc, door, roles, wanting) {
+        Ok(mut world) => perform(rt, alloc, stations, telling, &mut world, answer),
         Err(Memory) => answer.fail(CaseFault::Memory),
     }
 }
@@ -64,14 +82,14 @@ fn perform<R: Threads + Wait + Clock + Sync>(
     rt: &R,
     alloc: Global,
     stations: u8,
-    is_replayed: bool,
-    world: &mut MemoryWorld,
+    telling: Telling,
+    world: &mut SceneWorld,
     answer: &mut Answer,
 )
     requires { (0 < stations) × (stations ≤ MOST_STATIONS) }
 {
     match options(alloc, stations) {
-        Ok(options) => run(rt, alloc, &options, is_replayed, world, answer),
+        Ok(options) => run(rt, alloc, &options, telling, world, answer),
         Err(Memory) => answer.fail(CaseFault::Memory),
     }
 }
@@ -81,13 +99,13 @@ fn run<R: Threads + Wait + Clock + Sync>(
     rt: &R,
     alloc: Global,
     options: &ServeOptions,
-    is_replayed: bool,
-    world: &mut MemoryWorld,
+    telling: Telling,
+    world: &mut SceneWorld,
     answer: &mut Answer,
 ) {
-    run_once(rt, alloc, options, world, answer);
-    if is_replayed {
-        replay_again(alloc, &options.bases, world, answer);
+    run_once(rt, alloc, options, telling.is_brief, world, answer);
+    if telling.is_replayed {
+        replay_again(alloc, &options.bases, &world.world, answer);
     }
 }
 
@@ -96,11 +114,12 @@ fn run_once<R: Threads + Wait + Clock + Sync>(
     rt: &R,
     alloc: Global,
     options: &ServeOptions,
-    world: &mut MemoryWorld,
+    is_brief: bool,
+    world: &mut SceneWorld,
     answer: &mut Answer,
 ) {
     match core_between(alloc, &options.bases) {
-        Ok(core) => serve_with(rt, alloc, core, options, world, answer),
+        Ok(core) => serve_with(rt, alloc, core, options, is_brief, world, answer),
         Err(Memory) => answer.fail(CaseFault::Memory),
     }
 }
@@ -111,7 +130,8 @@ fn serve_with<R: Threads + Wait + Clock + Sync>(
     alloc: Global,
     core: Mux,
     options: &ServeOptions,
-    world: &mut MemoryWorld,
+    is_brief: bool,
+    world: &mut SceneWorld,
     answer: &mut Answer,
 )
     requires stands { Stands core [] }
@@ -119,7 +139,10 @@ fn serve_with<R: Threads + Wait + Clock + Sync>(
 {
     let mut report = MemorySink::new(alloc, calm(alloc));
     let status = serve(rt, alloc, core, options, world, &mut report);
-    tell_run(alloc, status, report.as_bytes(), world, answer);
+    tell_end(alloc, status, world.was_in_vain(), answer);
+    if !is_brief {
+        tell_run(alloc, report.as_bytes(), &world.world, answer);
+    }
 }
 
 /// Replays what was recorded through a new multiplexer, and tells what comes.

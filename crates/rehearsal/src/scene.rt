@@ -3,6 +3,8 @@ ghost use Rattle.std.specs.Prelude.{◌≡◌, ◌<◌, ◌≤◌, IfOk};
 ghost use Rattle.gate_outside.specs.MemoryDoors.{door_faults, door_ends};
 ghost use Rattle.gateway_words.specs.declared.options.TheConstants.{MOST_STATIONS};
 
+use crate::waiting::Manner;
+use crate::world::{Props, SceneWorld};
 use gate_bytes::{Memory, Text};
 use gate_outside::{
     Links, MemoryDoor, MemoryInlet, MemoryOutlet, NewLink, Numbers, Part, Parts, Script,
@@ -31,6 +33,10 @@ pub struct Role {
     pub parts: Parts,
     /// How the link's inlet behaves.
     pub script: Script,
+    /// How the link's outlet behaves.
+    pub writing: Script,
+    /// So many bytes the server has to have been handed before the link's outlet takes any.
+    pub stuck: u64,
     /// The outlet for which what is said next waits.
     outlet: u32,
     /// How many bytes it has to have been handed.
@@ -43,6 +49,8 @@ impl Role {
         Role {
             parts: Parts::new(alloc),
             script: calm(alloc),
+            writing: calm(alloc),
+            stuck: 0,
             outlet: 0,
             after: 0,
         }
@@ -76,10 +84,23 @@ impl Role {
         }
     }
 
+    /// Has this call of the outlet fail.
+    pub fn fail_write(&mut self, call: u64) -> Result<(), Memory> {
+        add(&mut self.writing, call)
+    }
+
+    /// How the link behaves: a read waits, unless nothing comes from some call on.
+    fn manner(&self) -> Manner {
+        Manner {
+            waits: self.script.idle.is_none(),
+            stuck: self.stuck,
+        }
+    }
+
     /// The link by which all that comes.
     fn into_link(self, alloc: Global) -> Result<NewLink, Memory> {
         let inlet = MemoryInlet::new(alloc, self.parts, self.script, u64::MAX)?;
-        let outlet = MemoryOutlet::new(alloc, calm(alloc))?;
+        let outlet = MemoryOutlet::new(alloc, self.writing)?;
         Ok(NewLink::new(inlet, outlet))
     }
 }
@@ -93,6 +114,10 @@ pub struct Scene {
     pub stations: u8,
     /// Whether what was recorded is replayed.
     pub is_replayed: bool,
+    /// Whether it is told of the run only how it ended.
+    pub is_brief: bool,
+    /// The number of the recorder's note for which memory is wanting.
+    pub wanting: Option<u64>,
     /// How the door behaves.
     pub door: Script,
     /// What comes by each link: the server's, and then the players'.
@@ -107,6 +132,8 @@ impl Scene {
             name,
             stations: 1,
             is_replayed: false,
+            is_brief: false,
+            wanting: None,
             door: calm(alloc),
             roles: Vec::new(alloc),
         }
@@ -137,8 +164,31 @@ fn add(script: &mut Script, call: u64) -> Result<(), Memory> {
     }
 }
 
-/// The world in which this is said, at a door that behaves so. What is said first is the server's.
-pub fn world_of(alloc: Global, door: Script, mut roles: Vec<Role>) -> Result<MemoryWorld, Memory> {
+/// The world in which this is said, at a door that behaves so, where memory is wanting for the note with this number. What is
+/// said first is the server's.
+pub fn world_of(
+    host: HostRuntime,
+    alloc: Global,
+    door: Script,
+    roles: Vec<Role>,
+    wanting: Option<u64>,
+) -> Result<SceneWorld, Memory> {
+    let manners = manners_of(alloc, roles.as_slice())?;
+    let world = memory_world(alloc, door, roles)?;
+    SceneWorld::new(host, alloc, world, Props { manners, wanting })
+}
+
+/// How the links of these roles behave.
+fn manners_of(alloc: Global, roles: &[Role]) -> Result<Vec<Manner>, Memory> {
+    let mut manners = Vec::new(alloc);
+    for role in roles {
+        manners.push(role.manner())?;
+    }
+    Ok(manners)
+}
+
+/// The world in memory in which this is said.
+fn memory_world(alloc: Global, door: Script, mut roles: Vec<Role>) -> Result<MemoryWorld, Memory> {
     let server = server_link(alloc, &mut roles)?;
     let door = door_of(alloc, door, roles)?;
     let recorder = MemoryRecorder::new(alloc, calm(alloc));

@@ -20,20 +20,21 @@ pub fn tell_name(name: &[u8], answer: &mut Answer) {
     answer.push(b"\n");
 }
 
-/// Tells how a run ended, its report, and what everybody was handed: the server, and the players in the order in which their
-/// links came back.
-pub fn tell_run(
-    alloc: Global,
-    status: Status,
-    report: &[u8],
-    world: &MemoryWorld,
-    answer: &mut Answer,
-) {
+/// Tells how a run ended, and whether somebody waited in vain.
+pub fn tell_end(alloc: Global, status: Status, was_in_vain: bool, answer: &mut Answer) {
     answer.push(b"ended with ");
     answer.push_number(u64::from(status.exit_code()));
     answer.push(b": ");
     answer.push_display(alloc, &status);
     answer.push(b"\n");
+    if was_in_vain {
+        answer.push(b"somebody waited in vain\n");
+    }
+}
+
+/// Tells the report of a run, and what everybody was handed: the server, and the players in the order in which their links came
+/// back.
+pub fn tell_run(alloc: Global, report: &[u8], world: &MemoryWorld, answer: &mut Answer) {
     answer.push(report);
     if let Some(link) = world.upstream() {
         tell_handed(alloc, b"server", link.outlet.as_bytes(), answer);
