@@ -74,13 +74,13 @@ fn tell_door<W: World<Door = TcpDoor, UpIn = TcpInlet, UpOut = TcpOutlet>>(
     world.close_door(door);
 }
 
-/// Whether a link is made to a door at this port, and carries.
+/// Whether a link is made to a door at this port, where the host is named in brackets, and carries.
 fn is_dialled<W: World<Door = TcpDoor, UpIn = TcpInlet, UpOut = TcpOutlet>>(
     world: &mut W,
     door: &mut TcpDoor,
     port: u16,
 ) -> bool {
-    match world.dial(b"127.0.0.1", port) {
+    match world.dial(b"[127.0.0.1]", port) {
         Ok((mut inlet, mut outlet)) => {
             let carried = is_carried(door, &mut inlet, &mut outlet);
             world.close_link(inlet, outlet);
