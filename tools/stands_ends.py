@@ -7,6 +7,8 @@ from stands_parts import QuietPlayer, QuietServer, await_true, can_trace, connec
 
 # Of some 130 threads, those of the first stations and of the server's side.
 REFUSED = (4, 6, 10, 12, 14)
+# The first is that which writes the recording, and the second that of the server's side.
+SIDE, SIDE_SECONDS = 2, 45
 CREW_SECONDS, LATE_SECONDS, GIVEN_BACK_SECONDS = 10, 3, 3
 EARLY_PLAYERS = 16
 # Frames on a channel that nobody has, and how many threads each may wake.
@@ -28,22 +30,33 @@ def started_with_players(program, folder, number):
     return run, players
 
 
-def refused_threads(program, folder):
-    """Whichever thread is refused, the run tells so and ends."""
+def refuse_each(program, folder, numbers, seconds):
+    """Runs of which each has another thread refused tell so and end in time, and none of the players entered."""
     if not can_trace():
         print("skipped: threads that are refused one by one, since strace can't refuse them here")
         return
-    runs = [(number, *started_with_players(program, folder, number)) for number in REFUSED]
-    end = time.monotonic() + CREW_SECONDS
+    runs = [(number, *started_with_players(program, folder, number)) for number in numbers]
+    end = time.monotonic() + seconds
     for number, run, _ in runs:
         name = "the thread %d, while players wait" % number
         try:
-            _, fault = run.communicate(timeout=max(0.1, end - time.monotonic()))
+            report, fault = run.communicate(timeout=max(0.1, end - time.monotonic()))
             check(name, (run.returncode, fault_lines(fault.decode())) == (9, "rtspgate: no crew"), (run.returncode, fault))
+            check(name + ": none of them entered", report == b"dials 1\n", report)
         except subprocess.TimeoutExpired:
-            check(name, False, "it did not end within %d seconds" % CREW_SECONDS)
+            check(name, False, "it did not end within %d seconds" % seconds)
             run.kill()
             run.communicate()
+
+
+def refused_threads(program, folder):
+    """Whichever thread is refused, the run tells so and ends."""
+    refuse_each(program, folder, REFUSED, CREW_SECONDS)
+
+
+def refused_side(program, folder):
+    """So it does where one side of the run has no thread: the other one waits for it half a minute."""
+    refuse_each(program, folder, (SIDE,), SIDE_SECONDS)
 
 
 def late_threads(program, folder):
