@@ -24,7 +24,8 @@ const MOST_PAUSES: u64 = 25_000;
 pub struct Manner {
     /// Whether a read waits for what is due, and until the link is shut. Else it tells that it has nothing for now.
     pub waits: bool,
-    /// So many bytes the server has to have been handed before the outlet takes any.
+    /// So many bytes the server has to have been handed before the outlet takes any. Its first offer tells that it takes none for
+    /// now, and the next one waits.
     pub stuck: u64,
 }
 
@@ -186,11 +187,12 @@ impl WaitingOutlet {
         ensures bound { IfOk result (λ count. count ≤ length piece.now) }
         ensures faults { self.new.faults ≡ self.old.faults }
     {
-        if self.shut.load(Ordering::SeqCst) {
-            return Err(Failed);
+        if self.is_stuck() && self.pauses == 0 {
+            self.pauses = 1;
+            return Ok(0);
         }
-        if self.is_stuck() {
-            return self.hold();
+        if !self.await_room() {
+            return Err(Failed);
         }
         let count = self.outlet.offer(piece)?;
         if self.is_server {
@@ -199,16 +201,23 @@ impl WaitingOutlet {
         Ok(count)
     }
 
-    /// Takes nothing for now, or fails once it has waited in vain.
-    fn hold(&mut self) -> Result<usize, Failed>
-        ensures none { IfOk result (λ count. count ≡ 0) }
+    /// Waits until it takes something. False where it is shut, or has waited in vain.
+    fn await_room(&mut self) -> bool
         ensures faults { self.new.faults ≡ self.old.faults }
     {
-        if !self.watch.pause(&self.host, self.pauses) {
-            return Err(Failed);
+        for _ in 0..=MOST_PAUSES {
+            if self.shut.load(Ordering::SeqCst) {
+                return false;
+            }
+            if !self.is_stuck() {
+                return true;
+            }
+            if !self.watch.pause(&self.host, self.pauses) {
+                return false;
+            }
+            self.pauses = self.pauses.saturating_add(1);
         }
-        self.pauses = self.pauses.saturating_add(1);
-        Ok(0)
+        false
     }
 }
 
