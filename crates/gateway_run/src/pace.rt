@@ -48,12 +48,19 @@ struct Room {
     parcels: usize,
 }
 
+/// For whom items handed something last, and how many of them in a row.
+#[derive(Clone, Copy)]
+struct Handed {
+    conn: u32,
+    items: usize,
+}
+
 /// How long which players were waited for, for whom bytes were put last, whose port was found to have the least room since the
 /// last wait, whose bells are to ring, how many parcels had been put for the server, and whether a player was found too slow.
 #[derive(Drop)]
 pub struct Pace {
     spent: Vec<Spent>,
-    handed: Option<u32>,
+    handed: Option<Handed>,
     least: Option<Room>,
     due: Due,
     asked: u64,
@@ -82,20 +89,33 @@ impl Pace {
         let Some(conn) = hub.last_handed() else {
             return;
         };
-        if self.handed != Some(conn) {
+        let items = self.items_for(conn);
+        if items == 0 {
             self.look(rt, hub);
-            self.handed = Some(conn);
+        }
+        self.handed = Some(Handed {
+            conn,
+            items: items.saturating_add(1),
+        });
+    }
+
+    /// How many of the last items handed something to this player, without another between them.
+    fn items_for(&self, conn: u32) -> usize {
+        match self.handed {
+            Some(handed) if handed.conn == conn => handed.items,
+            _ => 0,
         }
     }
 
-    /// Looks how much room the port has into which something was put last.
+    /// Looks how much room the port has into which something was put last. Where no more waits there than the last items have
+    /// put, all before was taken, and its player has its pauses back.
     pub fn look<M: Core, R: Recorder, W: Wait>(&mut self, rt: &W, hub: &mut Hub<M, R>) {
-        let Some(conn) = self.handed.take() else {
+        let Some(Handed { conn, items }) = self.handed.take() else {
             return;
         };
         self.due.add(conn);
         let parcels = hub.room(rt, conn);
-        if parcels == OUTWARD_CAPACITY {
+        if OUTWARD_CAPACITY.saturating_sub(parcels) <= items {
             self.forget(conn);
         }
         if self.least.is_none_or(|least| parcels < least.parcels) {

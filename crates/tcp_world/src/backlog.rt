@@ -12,12 +12,12 @@ use std::{io, mem};
 pub const QUEUE_BYTES: usize = 16_777_216;
 
 /// How many bytes a buffer has room for at first. One that has grown is made as small again.
-const FIRST_ROOM: usize = 1_048_576;
+const FIRST_ROOM: usize = 524_288;
 
 /// With so many bytes waiting, the thread that writes is late, unless it is writing (this project's own): more than mostly come
 /// between two of its looks, and few enough that both buffers stay in the processor's cache. Memory that was not touched before
 /// costs far more than to copy into it.
-const LATE_BYTES: usize = 524_288;
+const LATE_BYTES: usize = 262_144;
 
 /// How often whoever puts may pause until a late thread has come.
 const MOST_PAUSES: u32 = 100;
