@@ -1,6 +1,7 @@
 """Scenes of tools/check_stands: players that send too much, that take too little for a moment, and that take nothing."""
 import functools
 import multiprocessing
+import pathlib
 import re
 import select
 import threading
@@ -11,7 +12,9 @@ from serving import Gateway, check
 from stands_parts import FRAME_SIZE, QuietPlayer, QuietServer, await_true, frames, held
 
 SLOW_RATE, SLOW_ROOM, SMALL_FRAME = 1_000_000, 65_536, 104
-MOST_DELAY = 2.0
+# What the system holds for a socket at most: by its own settings some 4 MB, which a server at the slow rate takes for as long.
+SMALL_BUFFER, BUFFERS = 262_144, pathlib.Path("/proc/sys/net/ipv4/tcp_wmem")
+MOST_DELAY, MOST_DELAY_BEHIND_BUFFER = 2.0, 6.0
 # How a connection may end whose server has not read all.
 ENDS = ("Ended", "ReadFault", "WriteFault")
 BURST, BATCH = 8_000_000, 64
@@ -44,7 +47,7 @@ def answers_beside(player, seconds):
     """How often a player is answered for so long, the longest time that took, and the code that was no success."""
     longest, count, code, end = 0.0, 0, 200, time.monotonic() + seconds
     while time.monotonic() < end and code == 200:
-        code, lasted = player.ask_within(3 * MOST_DELAY, "DESCRIBE")
+        code, lasted = player.ask_within(2 * MOST_DELAY_BEHIND_BUFFER, "DESCRIBE")
         longest, count = max(longest, lasted), count + (code == 200)
         time.sleep(0.05)
     return count, longest, code
@@ -60,7 +63,8 @@ def beside_a_flood(program, folder, seconds, rate, size):
     process = beside(flood, flooding, seconds, size)
     count, longest, code = answers_beside(other, seconds)
     flooded = result_of(*process, 5) or 0.0
-    check("another player is answered within %d s" % MOST_DELAY, code == 200 and longest < MOST_DELAY,
+    most = MOST_DELAY_BEHIND_BUFFER if rate and int(BUFFERS.read_text().split()[2]) > SMALL_BUFFER else MOST_DELAY
+    check("another player is answered within %d s" % most, code == 200 and longest < most,
           "%s after %.2f s, behind %d answers" % (code, longest, count))
     check("whoever floods is not closed", flooded >= seconds, "it was after %.2f s" % flooded)
     print("       %d answers, the longest after %.2f s; %d frames came through" %
