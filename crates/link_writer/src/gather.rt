@@ -20,6 +20,14 @@ pub const MOST_HELD: usize = 4_194_304;
 /// The bytes that the buffer for such an outlet has room for.
 const LARGE_SIZE: usize = MOST_HELD + BUFFER_SIZE;
 
+/// Gives back the memory of a buffer. It is made small before that: a C library that was given back a large block whole keeps the
+/// memory of those that follow.
+fn give_back(buffer: Vec<u8>) {
+    let mut buffer = buffer;
+    buffer.clear();
+    buffer.shrink_to(1);
+}
+
 /// The bytes that were taken and are not written yet, in one buffer. Contracts see it as these bytes.
 #[derive(Drop)]
 pub struct Gather {
@@ -109,7 +117,9 @@ impl Gather {
     {
         if self.start > 0 {
             let size = self.bytes.capacity();
-            let _ = self.renew(size);
+            if let Ok(old) = self.renew(size) {
+                give_back(old);
+            }
         }
     }
 
@@ -122,7 +132,7 @@ impl Gather {
         }
     }
 
-    /// Takes a new buffer of this size, and gives back the old one.
+    /// Takes a new buffer of this size in place of the old one, which is answered.
     fn renew(&mut self, size: usize) -> Result<Vec<u8>, Memory>
         ensures { self.new ≡ self.old }
     {
@@ -148,7 +158,7 @@ impl Gather {
         ensures { self.new ≡ [] }
     {
         if let Some(small) = self.spare.take() {
-            self.bytes = small;
+            give_back(mem::replace(&mut self.bytes, small));
         }
         self.bytes.clear();
         self.start = 0;

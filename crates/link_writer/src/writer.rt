@@ -126,6 +126,13 @@ impl<O: Outlet> Writer<O> {
     {
         let mut writer = self;
         let failed = writer.finish();
-        (writer.ends.outlet, writer.ends.taker, failed)
+        let Ends {
+            outlet,
+            taker,
+            mut held,
+            ..
+        } = writer.ends;
+        held.clear();
+        (outlet, taker, failed)
     }
 }
