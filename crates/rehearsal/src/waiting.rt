@@ -240,6 +240,7 @@ impl Sink for WaitingOutlet {
 
 impl Outlet for WaitingOutlet {
     fn offer(&mut self, piece: &[u8]) -> Result<usize, Failed>
+        requires { 0 < length piece.now }
         ensures within { IfOk result (λ count. count ≤ length piece.now) }
         ensures cause { HasCause self.old.faults self.new.faults result }
     {

@@ -11,13 +11,14 @@ use std::{io, mem};
 /// many seconds of all players' media, and more than a disk mostly takes to answer.
 pub const QUEUE_BYTES: usize = 16_777_216;
 
-/// How many bytes a buffer has room for at first. One that has grown is made as small again.
-const FIRST_ROOM: usize = 524_288;
-
 /// With so many bytes waiting, the thread that writes is late, unless it is writing (this project's own): more than mostly come
 /// between two of its looks, and few enough that both buffers stay in the processor's cache. Memory that was not touched before
 /// costs far more than to copy into it.
-const LATE_BYTES: usize = 262_144;
+const LATE_BYTES: usize = 524_288;
+
+/// How many bytes a buffer has room for at first: those, and the longest entry behind them. One that has grown is made as small
+/// again.
+const FIRST_ROOM: usize = LATE_BYTES + 131_072;
 
 /// How often whoever puts may pause until a late thread has come.
 const MOST_PAUSES: u32 = 100;

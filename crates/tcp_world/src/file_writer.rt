@@ -28,7 +28,7 @@ pub const IDLE_MICROSECONDS: u64 = 10_000;
 const BUSY_MICROSECONDS: u64 = 1_000;
 
 /// The same where so much came that more would need larger buffers.
-const FLOOD_MICROSECONDS: u64 = 250;
+const FLOOD_MICROSECONDS: u64 = 300;
 
 /// How many bytes are so much.
 const FLOOD_BYTES: usize = 65_536;
