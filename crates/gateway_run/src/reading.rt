@@ -171,13 +171,13 @@ fn step_of<M: Core, R: Recorder, W: Wait + Clock>(
 ) -> Step
     ensures { result ≡ steps.Read → put ≡ puts.All }
 {
+    if line == Line::More || line == Line::Busy {
+        watch.silent = None;
+    }
     match (line, put) {
         (Line::Over, _) => Step::Over,
         (Line::Memory, _) => Step::Memory,
-        (Line::More, _) => {
-            watch.silent = None;
-            Step::Go
-        }
+        (Line::More, _) => Step::Go,
         (Line::Empty, Put::More) => Step::Go,
         (Line::Empty, Put::All) => Step::Read,
         (Line::Empty, Put::Held) => Step::Pause(CROWDED_MILLIS),
@@ -295,7 +295,8 @@ fn put_next<I: Inlet + Drop, M: Core, R: Recorder, W: Wait>(
     }
 }
 
-/// Has what is in line taken, under one lock, and wakes whoever may wait for what came of it.
+/// Has what is in line taken, under one lock, and wakes whoever may wait for what came of it. Where an item was taken and none
+/// is left, that is told as more, so that it is seen that the player said something.
 fn take_some<M: Core, R: Recorder, W: Wait>(common: &Common<'_, M, R, W>, seat: &Seat) -> Line {
     let mut hub = common.hub.lock(common.rt);
     let first = take_one(common, &mut hub, seat);
@@ -313,6 +314,9 @@ fn take_some<M: Core, R: Recorder, W: Wait>(common: &Common<'_, M, R, W>, seat: 
     } else if first == Line::More {
         common.signals.of(Some(seat.number())).ring(common.rt);
         common.signals.of(None).ring(common.rt);
+    }
+    if first == Line::More && line == Line::Empty {
+        return Line::More;
     }
     line
 }
