@@ -60,7 +60,7 @@ pub fn new_buffer(alloc: Global) -> Result<Vec<u8>, Memory>
 }
 
 /// Empties a buffer, which keeps its room unless that has grown.
-pub fn empty(buffer: &mut Vec<u8>)
+fn empty(buffer: &mut Vec<u8>)
     ensures { buffer.new.items ≡ [] }
 {
     buffer.clear();
@@ -107,12 +107,12 @@ impl Backlog {
         QUEUE_BYTES - (self.waiting.len() + self.taken)
     }
 
-    /// Takes all bytes that wait, and leaves an empty buffer for those that come.
+    /// Takes all bytes that wait, in place of those that the buffer has, and leaves it empty for those that come.
     pub fn take(&mut self, buffer: &mut Vec<u8>)
-        requires { buffer.now.items ≡ [] }
         ensures bytes { buffer.new.items ≡ self.old.waiting.items }
         ensures none { self.new.waiting.items ≡ [] }
     {
+        empty(buffer);
         mem::swap(&mut self.waiting, buffer);
         self.taken = buffer.len();
         self.pauses = 0;

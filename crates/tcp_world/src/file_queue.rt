@@ -1,7 +1,7 @@
 //! The queue between who notes and the thread that writes the file.
 ghost use Rattle.std.specs.Prelude.{◌≤◌, length};
 
-use crate::backlog::{Backlog, FileProgress, empty};
+use crate::backlog::{Backlog, FileProgress};
 use gate_bytes::Memory;
 use std::alloc::Global;
 use std::sync::{Mutex, MutexGuard};
@@ -189,7 +189,6 @@ impl FileQueue {
 
     /// The thread takes all that waits, in place of what it had.
     pub fn collect(&self, buffer: &mut Vec<u8>) -> Collected {
-        empty(buffer);
         let Some(mut backlog) = self.enter() else {
             return Collected::End;
         };
