@@ -5,7 +5,7 @@ use Rattle.std.proofs.lemmas.List.Elements.{filter-append}
 use Rattle.std.proofs.Math.Seq.{drop-append_seam}
 use Rattle.rtsp_head.specs.Items.{Shape, items_of}
 use Rattle.rtsp_frame.specs.Framing.{Held, Framed}
-use Rattle.drill_server.specs.Serving.{is_request_kind, requests_among, items_added, serving_fed, Desk, Serves, Serving, Moved}
+use Rattle.drill_server.specs.Serving.{is_request_kind, requests_among, items_added, serving_fed, Desk, IsDrained, Serves, Serving, Moved}
 
 pub moved_none : (held : Held) (waited : List Shape) → Moved held held waited waited
 moved_none held waited = record {
@@ -41,12 +41,12 @@ moved_all old mid new waited now moved ends stream given h =
     )
 
 -- a server that a piece came to
-pub serves_fed : (desk : Desk) (serving : Serving) (piece : List ℕ) (fed new : Held) (waiting : List Shape) → Serves desk serving
-    → ((stream : List ℕ) (given : List Shape) → Framed desk.framer stream given → Framed fed (stream ++ piece) given)
-    → ((stream : List ℕ) (given : List Shape) → Framed fed stream given → Framed new stream (items_of stream) × (waiting ≡ desk.waiting ++ requests_among (drop (length given) (items_of stream))))
+pub serves_fed : (desk : Desk) (serving : Serving) (piece : List ℕ) (new : Held) (waiting : List Shape) → Serves desk serving
+    → ((stream : List ℕ) (given : List Shape) → Framed desk.framer stream given
+    → Framed new (stream ++ piece) (items_of (stream ++ piece)) × (waiting ≡ desk.waiting ++ requests_among (drop (length given) (items_of (stream ++ piece)))))
     → Serves (record { framer = new; waiting = waiting; sessions = desk.sessions; tracks = desk.tracks; notifies = desk.notifies }) (serving_fed serving piece)
-serves_fed desk serving piece fed new waiting serves feeds moves =
-    let done = moves (serving.heard ++ piece) (items_of serving.heard) (feeds serving.heard (items_of serving.heard) serves.framed) in
+serves_fed desk serving piece new waiting serves moves =
+    let done = moves serving.heard (items_of serving.heard) serves.framed in
     record {
       framed = done.0;
       waiting = done.1 ∙ ap (λ (l : List Shape). l ++ requests_among (items_added serving.heard piece)) serves.waiting;
@@ -54,3 +54,25 @@ serves_fed desk serving piece fed new waiting serves feeds moves =
       tracks = serves.tracks;
       notifies = serves.notifies;
     }
+
+-- A framer that gave all its items, was fed and gave all again.
+pub drained_fed : (old new : Held) (piece : List ℕ) (waited now : List Shape) → IsDrained old
+    → ((stream : List ℕ) (given : List Shape) → Framed old stream given
+    → Framed new (stream ++ piece) (items_of (stream ++ piece)) × (now ≡ waited ++ requests_among (drop (length given) (items_of (stream ++ piece)))))
+    → IsDrained new
+drained_fed old new piece waited now drained moves = record {
+  stream = drained.stream ++ piece;
+  framed = (moves drained.stream (items_of drained.stream) drained.framed).0;
+}
+
+-- What was fed and what was given then.
+pub moved_fed : (old fed new : Held) (piece : List ℕ) (waited room now : List Shape) → room ≡ waited
+    → ((stream : List ℕ) (given : List Shape) → Framed old stream given → Framed fed (stream ++ piece) given)
+    → ((stream : List ℕ) (given : List Shape) → Framed fed stream given → Framed new stream (items_of stream) × (now ≡ room ++ requests_among (drop (length given) (items_of stream))))
+    → (stream : List ℕ) (given : List Shape) → Framed old stream given
+    → Framed new (stream ++ piece) (items_of (stream ++ piece)) × (now ≡ waited ++ requests_among (drop (length given) (items_of (stream ++ piece))))
+moved_fed old fed new piece waited room now same feeds moves stream given h =
+    let done = moves (stream ++ piece) given (feeds stream given h) in (
+      done.0,
+      done.1 ∙ ap (λ (l : List Shape). l ++ requests_among (drop (length given) (items_of (stream ++ piece)))) same,
+    )

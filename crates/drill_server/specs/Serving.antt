@@ -80,6 +80,11 @@ pub record Desk : Type 0 where
   pub tracks : List Track
   pub notifies : ℕ
 
+-- A framer was fed some stream, and gave all its items.
+pub record IsDrained (held : Held) : Type 0 where
+  pub stream : List ℕ
+  pub framed : Framed held stream (items_of stream)
+
 -- A server has what the definition says: its framer was fed all bytes, and gave all their items.
 pub record Serves (desk : Desk) (serving : Serving) : Type 0 where
   pub framed : Framed desk.framer serving.heard (items_of serving.heard)

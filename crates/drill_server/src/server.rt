@@ -1,10 +1,11 @@
 //! The server of a drill.
-ghost use Rattle.std.specs.Prelude.{◌≡◌, ◌<◌, ◌+◌, ◌++◌, ◌∷◌, ℕ, List, [], length, drop, IfOk, OnOk, OnErr};
+ghost use Rattle.std.specs.Prelude.{◌≡◌, ◌<◌, ◌≤◌, ◌+◌, ◌++◌, ◌∷◌, ℕ, List, [], length, drop, IfOk, OnOk, OnErr};
 ghost use Rattle.std.specs.Option.{option_to_list};
+ghost use Rattle.std.specs.VecDeque.{deque_len, deque_capacity};
 ghost use Rattle.rtsp_head.specs.Items.{Shape, items_of};
 ghost use Rattle.rtsp_head.specs.Shapes.{shape_of, shapes};
 ghost use Rattle.rtsp_frame.specs.Framing.{Framed};
-ghost use Rattle.drill_server.specs.Serving.{is_request_kind, requests_among, counted};
+ghost use Rattle.drill_server.specs.Serving.{IsDrained, is_request_kind, requests_among, counted};
 
 use crate::answer::{Answer, answer_item};
 use crate::track::Track;
@@ -28,11 +29,13 @@ pub struct DrillServer {
 
 impl Model for DrillServer {
     ghost use Rattle.rtsp_head.specs.Shapes.{shape_of, shapes};
-    ghost use Rattle.drill_server.specs.Serving.{Desk};
+    ghost use Rattle.drill_server.specs.Serving.{Desk, IsDrained};
 
     ghost Value = { Desk };
 
     ghost view = { λ s. record { framer = s.framer; waiting = shapes s.waiting.items; sessions = s.sessions; tracks = s.tracks.items; notifies = s.notifies } };
+
+    ghost invariant = { λ s. ∥ IsDrained s.framer ∥₁ };
 }
 
 impl DrillServer {
@@ -52,13 +55,12 @@ impl DrillServer {
     }
 
     /// Takes the next piece of what the gateway sends: the requests in it wait for an answer, and its other items are
-    /// passed over. After `Memory` a request of the piece may be lost.
+    /// passed over. After `Memory` nothing has changed.
     pub fn feed(&mut self, alloc: Global, piece: &[u8]) -> Result<(), Memory>
-        ensures { OnOk result ((serving : Serving) → Serves self.old serving → Serves self.new (serving_fed serving piece.now)) }
+        ensures ok { OnOk result ((serving : Serving) → Serves self.old serving → Serves self.new (serving_fed serving piece.now)) }
+        ensures err { OnErr result (self.new ≡ self.old) }
     {
-        self.framer.feed(alloc, piece)?;
-        take_requests(&mut self.framer, &mut self.waiting)?;
-        Ok(())
+        feed_requests(alloc, &mut self.framer, &mut self.waiting, piece)
     }
 
     /// How many requests wait for an answer.
@@ -126,23 +128,47 @@ fn is_request(item: &Item) -> bool
 }
 
 /// Moves an item behind those that wait, where it is a request.
-fn take_request(waiting: &mut VecDeque<Item>, item: Item) -> Result<(), Memory>
-    ensures { OnOk result (shapes waiting.new.items ≡ shapes waiting.old.items ++ requests_among (shape_of item ∷ [])) }
+fn take_request(waiting: &mut VecDeque<Item>, item: Item)
+    requires { deque_len waiting.old < deque_capacity waiting.old }
+    ensures waits { shapes waiting.new.items ≡ shapes waiting.old.items ++ requests_among (shape_of item ∷ []) }
+    ensures len { deque_len waiting.new ≤ deque_len waiting.old + 1 }
+    ensures capacity { deque_capacity waiting.new ≡ deque_capacity waiting.old }
 {
     if is_request(&item) {
-        waiting.push_back(item)?;
+        waiting.push_back_reserved(item);
     }
-    Ok(())
 }
 
-/// Moves all requests among the items that the framer can give behind those that wait.
-fn take_requests(framer: &mut Framer, waiting: &mut VecDeque<Item>) -> Result<(), Memory>
-    ensures { OnOk result ((stream : List ℕ) (given : List Shape) → Framed framer.old stream given →
+/// Moves all requests among the items that the framer can give behind those that wait, which has room for all items.
+fn take_requests(framer: &mut Framer, waiting: &mut VecDeque<Item>)
+    requires { deque_len waiting.old + length framer.old.waiting ≤ deque_capacity waiting.old }
+    ensures { (stream : List ℕ) (given : List Shape) → Framed framer.old stream given →
         Framed framer.new stream (items_of stream)
-        × (shapes waiting.new.items ≡ shapes waiting.old.items ++ requests_among (drop (length given) (items_of stream)))) }
+        × (shapes waiting.new.items ≡ shapes waiting.old.items ++ requests_among (drop (length given) (items_of stream))) }
 {
     while let Some(item) = framer.next() {
-        take_request(waiting, item)?;
+        take_request(waiting, item);
     }
+}
+
+/// Feeds a framer that gave all its items, and moves the requests of the piece behind those that wait. The room for them is
+/// made before: a piece ends no more items than it has bytes.
+fn feed_requests(
+    alloc: Global,
+    framer: &mut Framer,
+    waiting: &mut VecDeque<Item>,
+    piece: &[u8],
+) -> Result<(), Memory>
+    requires { ∥ IsDrained framer.old ∥₁ }
+    ensures drained { ∥ IsDrained framer.new ∥₁ }
+    ensures ok { OnOk result ((stream : List ℕ) (given : List Shape) → Framed framer.old stream given →
+        Framed framer.new (stream ++ piece.now) (items_of (stream ++ piece.now))
+        × (shapes waiting.new.items ≡ shapes waiting.old.items ++ requests_among (drop (length given) (items_of (stream ++ piece.now))))) }
+    ensures framer { OnErr result (framer.new ≡ framer.old) }
+    ensures waiting { OnErr result (waiting.new.items ≡ waiting.old.items) }
+{
+    waiting.reserve(piece.len())?;
+    framer.feed(alloc, piece)?;
+    take_requests(framer, waiting);
     Ok(())
 }
