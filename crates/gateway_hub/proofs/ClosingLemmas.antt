@@ -8,6 +8,8 @@ use Rattle.mux_history.specs.Happenings.{Entry, entered, is_alive}
 use Rattle.mux_history.specs.Cores.{ever_entered}
 use Rattle.mux_history.proofs.CoreLemmas.{never_part}
 use Rattle.hub_places.specs.declared.ending.Ending.{Ending}
+use Rattle.gateway_hub.specs.declared.desk.Fall.{Fall}
+use Rattle.gateway_hub.specs.Desks.{heard_of}
 use Rattle.hub_places.specs.declared.receipt.Close.{Close}
 use Rattle.hub_places.specs.declared.receipt.Receipt.{Receipt}
 use Rattle.hub_places.specs.declared.line.Place.{Place}
@@ -62,9 +64,9 @@ ever i T en = by (ever_entered i T) refl
     by false is = let never = never_part T i is in absurd (cc)
 
 -- It is told exactly whether all are over.
-pub tells_over : (told : Bool) (places : List Place) (ending : Option Ending) (T : List Entry) → AreNumbered (length places) T → ((i : ℕ) (receipt : Receipt) → receipt_at places i ≡ Some receipt → IsReceipt i receipt ending T)
+pub tells_over : (told : Bool) (places : List Place) (fall : Option Fall) (ending : Option Ending) (T : List Entry) → AreNumbered (length places) T → ((i : ℕ) (receipt : Receipt) → receipt_at places i ≡ Some receipt → IsReceipt i receipt fall ending T)
     → told ≡ list_all (is_place_over T) places → TellsOver told places T
-tells_over told places ending T numbered receipts is = record {
+tells_over told places fall ending T numbered receipts is = record {
   over = λ yes i en. over_by (sym is ∙ yes) i en (slice_get places i) refl;
   told_so = λ all. is ∙ from_each (is_place_over T) places (λ i place at. told_by all i place at);
 }
@@ -112,7 +114,7 @@ pub closes_with : (stands : List Entry → Type 0) (told : Option (List Noted)) 
 closes_with stands told faults desk T k = record {
   noted = k.underway.noted;
   each = λ i en. each_by i en (slice_get desk.places.items i) refl;
-  others = λ i never. ap (receipt_in i desk.fall desk.ending) (others_by i never (slice_get desk.places.items i) refl);
+  others = λ i never. ap (receipt_in i (heard_of desk.fall) desk.ending) (others_by i never (slice_get desk.places.items i) refl);
   count = refl;
   bound = k.underway.numbered.bound;
 }
@@ -125,14 +127,14 @@ closes_with stands told faults desk T k = record {
     each_by i en (Some (Seated line)) at =
         let here : line_at desk.places.items i ≡ Some line.value = ap line_of at in
         record {
-          receipt = receipt_for i line.value 0 0 desk.fall desk.ending;
-          here = ap (receipt_in i desk.fall desk.ending) at;
+          receipt = receipt_for i line.value 0 0 (heard_of desk.fall) desk.ending;
+          here = ap (receipt_in i (heard_of desk.fall) desk.ending) at;
           tells = life_so i 0 0 line.value stands told faults desk T here k;
           kept = inr (record { seated = (line.value, here); pushed = refl; taken = refl });
         }
     each_by i en (Some (Retired receipt)) at = record {
       receipt = receipt;
-      here = ap (receipt_in i desk.fall desk.ending) at;
+      here = ap (receipt_in i (heard_of desk.fall) desk.ending) at;
       tells = (k.underway.receipts i receipt (ap receipt_of at)).tells;
       kept = inl (ap receipt_of at);
     }

@@ -18,6 +18,8 @@ use Rattle.mux_history.specs.declared.event.UpCause.{UpCause}
 use Rattle.mux_history.specs.Happenings.{Entry, enters, entering, entered, fault_in, shut, is_alive, silent}
 use Rattle.mux_history.specs.Cores.{ever_entered}
 use Rattle.hub_places.specs.declared.ending.Ending.{Ending}
+use Rattle.gateway_hub.specs.declared.desk.Fall.{Fall}
+use Rattle.gateway_hub.specs.Desks.{heard_of}
 use Rattle.gateway_hub.specs.declared.fault.HubFault.{HubFault}
 use Rattle.gateway_hub.specs.declared.fault.HubFault.TheVariants as faults
 use Rattle.hub_places.specs.declared.ending.StopWhy.TheVariants as stops
@@ -37,9 +39,10 @@ use Rattle.gateway_hub.specs.Endings.{fell_full, stopped_noting}
 use Rattle.gateway_hub.specs.Notes.{note_of, TellsNotes}
 use Rattle.hub_places.specs.Parcels.{items_in, waiting, arrivals, heard_items, as_parcels, handed_up}
 use Rattle.hub_places.specs.Places.{line_of, receipt_of, line_at, receipt_at, Lacks}
-use Rattle.gateway_hub.specs.Kept.{IsHanded, IsHandedUp, IsReceipt, HadNothing, AreNumbered, EndsRightly, Keeps, is_excused, is_server_excused, close_why, by_upstream_of}
+use Rattle.gateway_hub.specs.Kept.{IsHanded, IsHandedUp, IsReceipt, HadNothing, AreNumbered, EndsRightly, Keeps, is_server_excused, close_why, by_upstream_of}
 use Rattle.gateway_hub.specs.Entering.{IsNewLine, IsFreshDesk, Seats, IsGiven, Enters}
 use Rattle.gateway_hub.proofs.HistoryLemmas.{or_none, fall_none}
+use Rattle.gateway_hub.proofs.SettleLemmas.{excused_as, receipt_as}
 use Rattle.gateway_hub.proofs.TakeLemmas.{notes_more}
 
 -- Nothing happened.
@@ -52,7 +55,7 @@ fresh_keeps stands told faults desk stood noted fresh = record {
     took_up = ap (λ f. waiting f) fresh.first ∙ ap items_in (sym fresh.taken);
     arrived = λ i line at. absurd (none_at i line at);
     closed = λ i line at. absurd (none_at i line at);
-    fell = fresh.fall;
+    fell = ap heard_of fresh.fall;
     handed = λ i line at. absurd (none_at i line at);
     up_handed = record { whole = λ z. fresh.put; cut = λ some. absurd (let z = fresh.fulls in omega arith); full = λ full. absurd (cc) };
     receipts = λ i receipt at. absurd (no_receipt i receipt at);
@@ -125,8 +128,8 @@ close_still i n T = or_none (close_in i T)
 handed_still : (i n : ℕ) (put : List Parcel) (fulls : ℕ) (T : List Entry) → IsHanded i put fulls T → IsHanded i put fulls (entering n ∷ T)
 handed_still i n put fulls T was = record { whole = was.whole; cut = was.cut; slow = was.slow }
 
-receipt_still : (i n : ℕ) (receipt : Receipt) (ending : Option Ending) (T : List Entry) → i < n → IsReceipt i receipt ending T → IsReceipt i receipt ending (entering n ∷ T)
-receipt_still i n receipt ending T less was = record {
+receipt_still : (i n : ℕ) (receipt : Receipt) (fall : Option Fall) (ending : Option Ending) (T : List Entry) → i < n → IsReceipt i receipt fall ending T → IsReceipt i receipt fall ending (entering n ∷ T)
+receipt_still i n receipt fall ending T less was = record {
   over = λ none. dead_still n i T less (was.over none);
   tells = record {
     conn = was.tells.conn;
@@ -154,7 +157,7 @@ entered_keeps stood stands told tells faults later before now line T few fresh s
     let was : (i : ℕ) (l : Line) → line_at now.places.items i ≡ Some l → (line_at before.places.items i ≡ Some l) ⊎ ((i ≡ n) × (l ≡ line)) = λ i l at. line_more before.places.items seats.place line i l seats.is_line (ap (λ (x : List Place). line_at x i) (sym seats.places) ∙ at) in
     let nothing : (i : ℕ) → i ≡ n → HadNothing i T = λ i is. u.numbered.none i (omega arith) in
     let standing : fault_in T ≡ None = subst (λ (e : Option Ending). EndsRightly faults n e T) none k.cause in
-    let unfallen : now.fall ≡ None = seats.fall ∙ u.fell ∙ fall_none T standing in
+    let unfallen : heard_of now.fall ≡ None = ap heard_of seats.fall ∙ u.fell ∙ fall_none T standing in
     let size : length now.places.items ≡ n + 1 = ap (λ (x : List Place). length x) seats.places ∙ length-append before.places.items (seats.place ∷ []) in
     let same_up : handed_up (entering n ∷ T) ≡ handed_up T = append-nil (handed_up T) in
     let up_same : IsHandedUp (put_of now.server.outward) (fulls_of now.server.outward) (entering n ∷ T) =
@@ -179,12 +182,12 @@ entered_keeps stood stands told tells faults later before now line T few fresh s
           | inr new ↦ ap (λ (x : Line). x.arrived) new.1 ∙ fresh.arrived ∙ ap (λ (x : List Shape). length x) (sym (append-nil (arrivals i T) ∙ (nothing i new.0).came))
         ];
         closed = λ i l at. close_still i n T ∙ elim (was i l at) [
-          | inl old ↦ u.closed i l old ∙ ap (λ (f : Option Bool). option_or l.close (fall_close f)) (sym seats.fall)
+          | inl old ↦ u.closed i l old ∙ ap (λ (f : Option Bool). option_or l.close (fall_close f)) (sym (ap heard_of seats.fall))
           | inr new ↦
               (nothing i new.0).closed
               ∙ ap (λ (f : Option Bool). fall_close f) (sym unfallen)
-              ∙ ap (λ (c : Option Close). option_or c (fall_close now.fall)) (sym fresh.close)
-              ∙ ap (λ (x : Line). option_or x.close (fall_close now.fall)) (sym new.1)
+              ∙ ap (λ (c : Option Close). option_or c (fall_close (heard_of now.fall))) (sym fresh.close)
+              ∙ ap (λ (x : Line). option_or x.close (fall_close (heard_of now.fall))) (sym new.1)
         ];
         fell = unfallen ∙ sym (ap (λ (f : Option Bool). option_or f None) (fall_none T standing));
         handed = λ i l at. elim (was i l at) [
@@ -198,7 +201,7 @@ entered_keeps stood stands told tells faults later before now line T few fresh s
         up_handed = up_same;
         receipts = λ i receipt at.
             let old : receipt_at before.places.items i ≡ Some receipt = receipt_same before.places.items seats.place line i receipt seats.is_line (ap (λ (l : List Place). receipt_at l i) (sym seats.places) ∙ at) in
-            subst (λ (e : Option Ending). IsReceipt i receipt e (entering n ∷ T)) (sym seats.ending) (receipt_still i n receipt before.ending T (receipt_within before.places.items i receipt old) (u.receipts i receipt old));
+            receipt_as i receipt before.fall now.fall before.ending now.ending (entering n ∷ T) seats.fall seats.ending (receipt_still i n receipt before.fall before.ending T (receipt_within before.places.items i receipt old) (u.receipts i receipt old));
         numbered = subst (λ (m : ℕ). AreNumbered m (entering n ∷ T)) (sym size) (record {
           bound = omega arith;
           old = λ i less. old_by n i T standing (u.numbered.old i) less (n == i) refl;
@@ -209,7 +212,7 @@ entered_keeps stood stands told tells faults later before now line T few fresh s
       };
       settled = record {
         clients = λ i l at some. elim (was i l at) [
-          | inl old ↦ subst (λ (e : Option Ending). is_excused i None e (entering n ∷ T) ≡ true) (sym seats.ending) (k.settled.clients i l old some)
+          | inl old ↦ excused_as i None before.fall now.fall before.ending now.ending (entering n ∷ T) seats.fall seats.ending (k.settled.clients i l old some)
           | inr new ↦ absurd (let z = fresh.fulls in let s : 0 < fulls_of line.outward = subst (λ (x : Line). 0 < fulls_of x.outward) new.1 some in omega arith)
         ];
         up = λ some. subst (λ (e : Option Ending). is_server_excused false e (entering n ∷ T) ≡ true) (sym seats.ending)

@@ -26,9 +26,11 @@ use Rattle.hub_places.specs.declared.line.Place.{Place}
 use Rattle.hub_places.specs.declared.server.Server.{Server}
 use Rattle.gateway_hub.specs.declared.desk.Desk.{Desk}
 use Rattle.hub_places.specs.Closes.{fall_close}
+use Rattle.gateway_hub.specs.Desks.{heard_of}
+use Rattle.gateway_hub.proofs.SettleLemmas.{excused_as, receipt_as}
 use Rattle.hub_places.specs.Parcels.{items_in, waiting, arrival_here, arrivals, heard_items, coming}
 use Rattle.hub_places.specs.Places.{line_at, receipt_at, Changes, LineChanges, FetchesLine, PutsFirst}
-use Rattle.gateway_hub.specs.Kept.{TookItems, TookServerItems, IsHanded, IsHandedUp, IsReceipt, AreNumbered, Underway, ArePortsSettled, EndsRightly, Keeps, is_excused, is_server_excused}
+use Rattle.gateway_hub.specs.Kept.{TookItems, TookServerItems, IsHanded, IsHandedUp, AreNumbered, Underway, ArePortsSettled, EndsRightly, Keeps, is_server_excused}
 use Rattle.gateway_hub.specs.Taking.{IsUntaken, HasInHand}
 use Rattle.gateway_hub.specs.Calls.{GivesBack, Refuses, Stays, Fails, IsEmptyLine}
 use Rattle.gateway_hub.proofs.LineLemmas.{was_before, KeepsPart, part_kept}
@@ -60,11 +62,11 @@ underway_inward stands told before now came coming_now T only took took_up u = r
   arrived = λ i line at. let w = only.arrived i line at in w.2 ∙ u.arrived i w.0 w.1;
   closed = λ i line at.
       let w = only.close i line at in
-      u.closed i w.0 w.1 ∙ ap (λ (c : Option Close). option_or c (fall_close before.fall)) (sym w.2) ∙ ap (λ (f : Option Bool). option_or line.close (fall_close f)) (sym only.fall);
-  fell = only.fall ∙ u.fell;
+      u.closed i w.0 w.1 ∙ ap (λ (c : Option Close). option_or c (fall_close (heard_of before.fall))) (sym w.2) ∙ ap (λ (f : Option Bool). option_or line.close (fall_close f)) (sym (ap heard_of only.fall));
+  fell = ap heard_of only.fall ∙ u.fell;
   handed = λ i line at. let w = only.outward i line at in subst (λ (p : List Parcel × ℕ). IsHanded i p.0 p.1 T) (sym w.2) (u.handed i w.0 w.1);
   up_handed = subst (λ (p : Putter). IsHandedUp (put_of p) (fulls_of p) T) (sym only.server) u.up_handed;
-  receipts = λ i receipt at. subst (λ (e : Option Ending). IsReceipt i receipt e T) (sym only.ending) (u.receipts i receipt (sym (only.receipts i) ∙ at));
+  receipts = λ i receipt at. receipt_as i receipt before.fall now.fall before.ending now.ending T only.fall only.ending (u.receipts i receipt (sym (only.receipts i) ∙ at));
   numbered = subst (λ (n : ℕ). AreNumbered n T) (sym only.size) u.numbered;
 }
 
@@ -72,7 +74,7 @@ pub settled_inward : (before now : Desk) (client : Option ℕ) (server : Bool) (
 settled_inward before now client server T only s = record {
   clients = λ i line at some.
       let w = only.outward i line at in
-      subst (λ (e : Option Ending). is_excused i client e T ≡ true) (sym only.ending) (s.clients i w.0 w.1 (subst (λ (p : List Parcel × ℕ). 0 < p.1) w.2 some));
+      excused_as i client before.fall now.fall before.ending now.ending T only.fall only.ending (s.clients i w.0 w.1 (subst (λ (p : List Parcel × ℕ). 0 < p.1) w.2 some));
   up = λ some. subst (λ (e : Option Ending). is_server_excused server e T ≡ true) (sym only.ending) (s.up (subst (λ (p : Putter). 0 < fulls_of p) only.server some));
 }
 
@@ -140,7 +142,7 @@ pub in_hand : (conn : ℕ) (item : Item) (stands : List Entry → Type 0) (told 
     → now.ending ≡ before.ending → before.ending ≡ None → is_alive conn T ≡ true → Keeps stands told faults before T → HasInHand (takes conn (shape_of item)) stands told faults now T
 in_hand conn item stands told faults before now T changes server fall ending still_open alive k =
     let only = next_inward conn (Some item) before now changes server fall ending in
-    let line = living_line before.places.items before.ending T conn k.underway.numbered (k.underway.receipts conn) still_open alive in
+    let line = living_line before.places.items before.fall before.ending T conn k.underway.numbered (k.underway.receipts conn) still_open alive in
     record {
       underway = underway_inward stands told before now T (coming (takes conn (shape_of item)) ∷ T) T only (took_next conn item before.places.items now.places.items T changes k.underway.took)
           (ap (λ (l : List Shape). l ++ waiting now.server.first) (append-nil (heard_items T)) ∙ subst (λ (s : Server). TookServerItems s T) (sym server) k.underway.took_up) k.underway;
@@ -175,7 +177,7 @@ fetched_line conn item before now changes line at =
 pub empty_line : (conn : ℕ) (stands : List Entry → Type 0) (told : Option (List Noted)) (faults : ℕ) (before now : Desk) (T : List Entry) → LineChanges conn (FetchesLine None) before.places.items now.places.items → before.ending ≡ None → is_alive conn T ≡ true
     → Keeps stands told faults before T → IsEmptyLine conn now.places.items
 empty_line conn stands told faults before now T changes still_open alive k =
-    let line = living_line before.places.items before.ending T conn k.underway.numbered (k.underway.receipts conn) still_open alive in
+    let line = living_line before.places.items before.fall before.ending T conn k.underway.numbered (k.underway.receipts conn) still_open alive in
     let new = line_forward conn conn (FetchesLine None) before.places.items now.places.items changes line.0 line.1 in
     let f = fetched_line conn None before.places.items now.places.items changes new.0 new.1 in
     record { line = new.0; at = new.1; none = f.1.fetches.none; empty = f.1.fetches.empty refl }

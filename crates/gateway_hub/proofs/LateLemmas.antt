@@ -11,6 +11,7 @@ use Rattle.mux_history.specs.Happenings.{Happening, Entry, enters, takes, ends, 
 use Rattle.hub_places.specs.declared.ending.Ending.{Ending}
 use Rattle.hub_places.specs.declared.ending.Ending.TheVariants.{Upstream, Stopped}
 use Rattle.gateway_hub.specs.declared.desk.Desk.{Desk}
+use Rattle.gateway_hub.specs.declared.desk.Fall.{Fall}
 use Rattle.gateway_hub.specs.declared.desk.Delivery.{Delivery}
 use Rattle.hub_places.specs.Closes.{lags_here, lagged}
 use Rattle.gateway_hub.specs.Endings.{cut_short, stopped_noting, fell_full, is_stopped}
@@ -18,7 +19,7 @@ use Rattle.hub_places.specs.Places.{IsRefused, IsSeated}
 use Rattle.gateway_hub.specs.Kept.{ArePortsSettled, EndsRightly, KeepsOwing, is_excused}
 use Rattle.gateway_hub.specs.Taking.{may_hand, IsReadyToTake, owes, TakesOneEvent, is_late, AreLate, SettlesOwed, HasInHand, TakesHubEvent}
 use Rattle.gateway_hub.proofs.HistoryLemmas.{entry, dead_more}
-use Rattle.gateway_hub.specs.Ends.{EachLine, PutsNothing, PutsFor}
+use Rattle.gateway_hub.specs.Ends.{PutsFor}
 use Rattle.gateway_hub.proofs.OweLemmas.{underway_idle, ends_later, settle_client}
 use Rattle.gateway_hub.proofs.PutLemmas.{nothings_put}
 
@@ -149,8 +150,8 @@ early_full h early is = let late : is_late h ≡ true = ap is_late is in cc
 open_desk : (ending : Option Ending) → ending ≡ None → is_stopped ending ≡ false
 open_desk ending is = ap is_stopped is
 
-never_cut : (i : ℕ) (ending : Option Ending) (T : List Entry) → ending ≡ None → is_excused i None ending T ≡ true → lagged i T ≡ true
-never_cut i ending T none is = by (lagged i T) (cut_short ending) (ap cut_short none) is
+never_cut : (i : ℕ) (fall : Option Fall) (ending : Option Ending) (T : List Entry) → ending ≡ None → is_excused i None fall ending T ≡ true → lagged i T ≡ true
+never_cut i fall ending T none is = by (lagged i T) (cut_short fall ending) (ap (cut_short fall) none) is
   where
     by : (a b : Bool) → b ≡ false → (a || (b || false)) ≡ true → a ≡ true
     by true b x y = refl
@@ -161,7 +162,7 @@ ready_in_hand : (h : Happening) (stands : List Entry → Type 0) (told : Option 
 ready_in_hand h stands told faults desk T k = record {
   open_or_over = inl k.still_open;
   clients = λ may i line at alive. zero_or (fulls_of line.outward) (λ some.
-      let lag = never_cut i desk.ending T k.still_open (k.settled.clients i line at some) in
+      let lag = never_cut i desk.fall desk.ending T k.still_open (k.settled.clients i line at some) in
       let dead = (k.underway.numbered.slow i lag).1 in
       cc);
   up = λ may standing. never_full None desk T (open_desk desk.ending k.still_open) standing k.settled;

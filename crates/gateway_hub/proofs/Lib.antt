@@ -3,6 +3,7 @@ pub mod ClosingLemmas
 pub mod EndLemmas
 pub mod EnterLemmas
 pub mod GoLemmas
+pub mod HaltLemmas
 pub mod HandLemmas
 pub mod HistoryLemmas
 pub mod IdleLemmas

@@ -1,6 +1,6 @@
 -- Events that full ports ask for, and what is owed before and after them.
 use Rattle.std.proofs.Common.{◌≡◌, ◌∙◌, ℕ, ◌<◌, ◌≤◌, Bool, true, false, ◌||◌, ◌==◌, List, [], ◌∷◌, ◌++◌, length, Option, Some, None, refl, sym, ap, subst, inl, inr, arith}
-use Rattle.std.specs.Prelude.{◌⊎◌}
+use Rattle.std.specs.Prelude.{◌⊎◌, is_some}
 use Rattle.std.specs.Option.{option_or}
 use Rattle.std.specs.Global.{Vec}
 use Rattle.std.proofs.lemmas.Bool.{eqb-true}
@@ -23,18 +23,21 @@ use Rattle.hub_places.specs.declared.line.Place.{Place}
 use Rattle.hub_places.specs.declared.receipt.Receipt.{Receipt}
 use Rattle.hub_places.specs.declared.server.Server.{Server}
 use Rattle.gateway_hub.specs.declared.desk.Desk.{Desk}
+use Rattle.gateway_hub.specs.declared.desk.Fall.{Fall}
 use Rattle.gateway_hub.specs.declared.desk.Delivery.{Delivery}
-use Rattle.hub_places.specs.Closes.{lagged, close_in, fall_close}
-use Rattle.gateway_hub.specs.Desks.{ending_by}
+use Rattle.hub_places.specs.Closes.{lagged, close_in, fall_close, fall_in}
+use Rattle.gateway_hub.specs.Desks.{LeavesOut, ending_by, heard_of, left_for}
 use Rattle.gateway_hub.specs.Ends.{EachLine, PutsNothing, PutsFor}
-use Rattle.gateway_hub.specs.Endings.{cut_short, stopped_noting, fell_full, is_note_stop, is_stopped}
+use Rattle.gateway_hub.specs.Endings.{cut_short, ends_short, stopped_noting, fell_full, is_note_stop, is_stopped}
 use Rattle.gateway_hub.specs.Notes.{StillTells}
 use Rattle.hub_places.specs.Parcels.{waiting, arrival_here, arrivals, heard_here, heard_items, coming}
 use Rattle.hub_places.specs.Places.{line_at, receipt_at, IsRefused, IsSeated}
 use Rattle.gateway_hub.specs.Kept.{TookItems, TookServerItems, IsHanded, IsHandedUp, IsReceipt, AreNumbered, Underway, ArePortsSettled, EndsRightly, KeepsOwing, MayOwe, is_owed, is_excused, is_server_excused}
 use Rattle.gateway_hub.specs.Taking.{IsReadyToTake, owes, TakesOneEvent, IsUntaken, Stops, stop_of, SettlesOwed}
+use Rattle.gateway_hub.proofs.HaltLemmas.{Halts, cut_as, halts, left_halts}
 use Rattle.gateway_hub.proofs.HistoryLemmas.{entry}
-use Rattle.gateway_hub.proofs.SettleLemmas.{cut_stays, stop_stays}
+use Rattle.gateway_hub.proofs.ReceiptLemmas.{fall_some}
+use Rattle.gateway_hub.proofs.SettleLemmas.{short_stays, stop_stays}
 use Rattle.gateway_hub.proofs.PutLemmas.{nothing_put}
 
 -- Nothing comes: the items that came are the same.
@@ -91,31 +94,31 @@ settle_up client server desk T reason s = record {
   ];
 }
 
-pub settle_client : (conn : ℕ) (server : Bool) (desk : Desk) (T : List Entry) → (lagged conn T ≡ true) ⊎ (cut_short desk.ending ≡ true) → ArePortsSettled (Some conn) server desk T → ArePortsSettled None server desk T
+pub settle_client : (conn : ℕ) (server : Bool) (desk : Desk) (T : List Entry) → (lagged conn T ≡ true) ⊎ (cut_short desk.fall desk.ending ≡ true) → ArePortsSettled (Some conn) server desk T → ArePortsSettled None server desk T
 settle_client conn server desk T reason s = record {
-  clients = λ i line at some. by i (or_cases (lagged i T) (cut_short desk.ending || (conn == i)) (s.clients i line at some));
+  clients = λ i line at some. by i (or_cases (lagged i T) (cut_short desk.fall desk.ending || (conn == i)) (s.clients i line at some));
   up = s.up;
 }
   where
-    cut : (i : ℕ) → cut_short desk.ending ≡ true → is_excused i None desk.ending T ≡ true
-    cut i is = or_next (lagged i T) (cut_short desk.ending || false) (or_first (cut_short desk.ending) false is)
+    cut : (i : ℕ) → cut_short desk.fall desk.ending ≡ true → is_excused i None desk.fall desk.ending T ≡ true
+    cut i is = or_next (lagged i T) (cut_short desk.fall desk.ending || false) (or_first (cut_short desk.fall desk.ending) false is)
 
-    here : (i : ℕ) → (conn == i) ≡ true → is_excused i None desk.ending T ≡ true
+    here : (i : ℕ) → (conn == i) ≡ true → is_excused i None desk.fall desk.ending T ≡ true
     here i is = elim reason [
-      | inl lag ↦ or_first (lagged i T) (cut_short desk.ending || false) (ap (λ n. lagged n T) (sym (eqb-true conn i is)) ∙ lag)
+      | inl lag ↦ or_first (lagged i T) (cut_short desk.fall desk.ending || false) (ap (λ n. lagged n T) (sym (eqb-true conn i is)) ∙ lag)
       | inr short ↦ cut i short
     ]
 
-    by : (i : ℕ) → (lagged i T ≡ true) ⊎ ((cut_short desk.ending || (conn == i)) ≡ true) → is_excused i None desk.ending T ≡ true
-    by i (inl lag) = or_first (lagged i T) (cut_short desk.ending || false) lag
-    by i (inr other) = elim (or_cases (cut_short desk.ending) (conn == i) other) [ inl short ↦ cut i short | inr same ↦ here i same ]
+    by : (i : ℕ) → (lagged i T ≡ true) ⊎ ((cut_short desk.fall desk.ending || (conn == i)) ≡ true) → is_excused i None desk.fall desk.ending T ≡ true
+    by i (inl lag) = or_first (lagged i T) (cut_short desk.fall desk.ending || false) lag
+    by i (inr other) = elim (or_cases (cut_short desk.fall desk.ending) (conn == i) other) [ inl short ↦ cut i short | inr same ↦ here i same ]
 
 -- The end of the connection to the server, which had been owed, was taken.
-full_cut : (before now : Option Ending) (fault : Option UpCause) (T : List Entry) → before ≡ None → now ≡ option_or before (ending_by fault) → fault_in T ≡ None → fell_full (option_or (fault_in T) fault) ≡ true → cut_short now ≡ true
+full_cut : (before now : Option Ending) (fault : Option UpCause) (T : List Entry) → before ≡ None → now ≡ option_or before (ending_by fault) → fault_in T ≡ None → fell_full (option_or (fault_in T) fault) ≡ true → ends_short now ≡ true
 full_cut before now fault T none is standing full =
-    ap cut_short (is ∙ ap (λ (e : Option Ending). option_or e (ending_by fault)) none) ∙ by fault (ap (λ (f : Option UpCause). fell_full (option_or f fault)) (sym standing) ∙ full)
+    ap ends_short (is ∙ ap (λ (e : Option Ending). option_or e (ending_by fault)) none) ∙ by fault (ap (λ (f : Option UpCause). fell_full (option_or f fault)) (sym standing) ∙ full)
   where
-    by : (f : Option UpCause) → fell_full f ≡ true → cut_short (ending_by f) ≡ true
+    by : (f : Option UpCause) → fell_full f ≡ true → ends_short (ending_by f) ≡ true
     by None is = cc
     by (Some cause) is = is
 
@@ -180,18 +183,18 @@ pub ends_stopped : (faults later count : ℕ) (ending : Option Ending) (why : St
 ends_stopped faults later count None why T more record_some spent is = (record_some, spent)
 ends_stopped faults later count (Some ending) why T more record_some spent is = ends_later faults later count (Some ending) T more is
 
-excused_stopped : (i : ℕ) (owed : Option ℕ) (ending more : Option Ending) (T : List Entry) → is_excused i owed ending T ≡ true → is_excused i owed (option_or ending more) T ≡ true
-excused_stopped i owed ending more T is = elim (or_cases (lagged i T) (cut_short ending || is_owed owed i) is) [
-  | inl lag ↦ or_first (lagged i T) (cut_short (option_or ending more) || is_owed owed i) lag
-  | inr other ↦ or_next (lagged i T) (cut_short (option_or ending more) || is_owed owed i) (elim (or_cases (cut_short ending) (is_owed owed i) other) [
-    | inl short ↦ or_first (cut_short (option_or ending more)) (is_owed owed i) (cut_stays ending more short)
-    | inr here ↦ or_next (cut_short (option_or ending more)) (is_owed owed i) here
+excused_stopped : (i : ℕ) (owed : Option ℕ) (why : StopWhy) (before now : Desk) (T : List Entry) → Halts why before now → is_excused i owed before.fall before.ending T ≡ true → is_excused i owed now.fall now.ending T ≡ true
+excused_stopped i owed why before now T stop is = elim (or_cases (lagged i T) (cut_short before.fall before.ending || is_owed owed i) is) [
+  | inl lag ↦ or_first (lagged i T) (cut_short now.fall now.ending || is_owed owed i) lag
+  | inr other ↦ or_next (lagged i T) (cut_short now.fall now.ending || is_owed owed i) (elim (or_cases (cut_short before.fall before.ending) (is_owed owed i) other) [
+    | inl short ↦ or_first (cut_short now.fall now.ending) (is_owed owed i) (stop.cut short)
+    | inr here ↦ or_next (cut_short now.fall now.ending) (is_owed owed i) here
   ])
 ]
 
-receipt_stopped : (i : ℕ) (receipt : Receipt) (ending more : Option Ending) (T : List Entry) → IsReceipt i receipt ending T → IsReceipt i receipt (option_or ending more) T
-receipt_stopped i receipt ending more T was = record {
-  over = λ none. was.over (none_first ending more none);
+receipt_stopped : (i : ℕ) (receipt : Receipt) (why : StopWhy) (before now : Desk) (T : List Entry) → Halts why before now → IsReceipt i receipt before.fall before.ending T → IsReceipt i receipt now.fall now.ending T
+receipt_stopped i receipt why before now T stop was = record {
+  over = λ none. was.over (none_first before.ending (Some (Stopped why)) (sym stop.ending ∙ none));
   tells = record {
     conn = was.tells.conn;
     arrived = was.tells.arrived;
@@ -199,7 +202,7 @@ receipt_stopped i receipt ending more T was = record {
     fulls = was.tells.fulls;
     handed = was.tells.handed;
     is_handed = was.tells.is_handed;
-    excused = λ some. excused_stopped i None ending more T (was.tells.excused some);
+    excused = λ some. excused_stopped i None why before now T stop (was.tells.excused some);
     why = was.tells.why;
     by_upstream = was.tells.by_upstream;
   };
@@ -219,7 +222,7 @@ server_stopped owed ending more T is = elim (or_cases (fell_full (fault_in T)) (
 ]
 
 -- All that stands while events are taken stands when the hub is stopped.
-underway_stopped : (stood stands : List Entry → Type 0) (told tells : Option (List Noted)) (before now : Desk) (why : StopWhy) (came T : List Entry) → stands T → StillTells told tells → Stops why before now → Underway stood told before came T → Underway stands tells now came T
+underway_stopped : (stood stands : List Entry → Type 0) (told tells : Option (List Noted)) (before now : Desk) (why : StopWhy) (came T : List Entry) → stands T → StillTells told tells → Halts why before now → Underway stood told before came T → Underway stands tells now came T
 underway_stopped stood stands told tells before now why came T stays same stop u =
     let places = ap (λ (v : Vec Place). v.items) stop.places in
     record {
@@ -228,30 +231,28 @@ underway_stopped stood stands told tells before now why came T stays same stop u
       took = subst (λ (l : List Place). TookItems l came) (sym places) u.took;
       took_up = subst (λ (x : Server). TookServerItems x came) (sym stop.server) u.took_up;
       arrived = subst (λ (l : List Place). (i : ℕ) (line : Line) → line_at l i ≡ Some line → line.arrived ≡ length (arrivals i T)) (sym places) u.arrived;
-      closed = subst (λ (l : List Place). (i : ℕ) (line : Line) → line_at l i ≡ Some line → close_in i T ≡ option_or line.close (fall_close now.fall)) (sym places)
-          (subst (λ (f : Option Bool). (i : ℕ) (line : Line) → line_at before.places.items i ≡ Some line → close_in i T ≡ option_or line.close (fall_close f)) (sym stop.fall) u.closed);
-      fell = stop.fall ∙ u.fell;
+      closed = subst (λ (l : List Place). (i : ℕ) (line : Line) → line_at l i ≡ Some line → close_in i T ≡ option_or line.close (fall_close (heard_of now.fall))) (sym places)
+          (subst (λ (f : Option Bool). (i : ℕ) (line : Line) → line_at before.places.items i ≡ Some line → close_in i T ≡ option_or line.close (fall_close f)) (sym stop.heard) u.closed);
+      fell = stop.heard ∙ u.fell;
       handed = subst (λ (l : List Place). (i : ℕ) (line : Line) → line_at l i ≡ Some line → IsHanded i (put_of line.outward) (fulls_of line.outward) T) (sym places) u.handed;
       up_handed = subst (λ (x : Server). IsHandedUp (put_of x.outward) (fulls_of x.outward) T) (sym stop.server) u.up_handed;
-      receipts = subst (λ (l : List Place). (i : ℕ) (receipt : Receipt) → receipt_at l i ≡ Some receipt → IsReceipt i receipt now.ending T) (sym places)
-          (subst (λ (e : Option Ending). (i : ℕ) (receipt : Receipt) → receipt_at before.places.items i ≡ Some receipt → IsReceipt i receipt e T) (sym stop.ending)
-          (λ i receipt at. receipt_stopped i receipt before.ending (Some (Stopped why)) T (u.receipts i receipt at)));
+      receipts = subst (λ (l : List Place). (i : ℕ) (receipt : Receipt) → receipt_at l i ≡ Some receipt → IsReceipt i receipt now.fall now.ending T) (sym places)
+          (λ i receipt at. receipt_stopped i receipt why before now T stop (u.receipts i receipt at));
       numbered = subst (λ (l : List Place). AreNumbered (length l) T) (sym places) u.numbered;
     }
 
-settled_stopped : (before now : Desk) (why : StopWhy) (client : Option ℕ) (server : Bool) (T : List Entry) → Stops why before now → ArePortsSettled client server before T → ArePortsSettled client server now T
+settled_stopped : (before now : Desk) (why : StopWhy) (client : Option ℕ) (server : Bool) (T : List Entry) → Halts why before now → ArePortsSettled client server before T → ArePortsSettled client server now T
 settled_stopped before now why client server T stop s =
     let places = ap (λ (v : Vec Place). v.items) stop.places in
     record {
-      clients = subst (λ (l : List Place). (i : ℕ) (line : Line) → line_at l i ≡ Some line → 0 < fulls_of line.outward → is_excused i client now.ending T ≡ true) (sym places)
-          (subst (λ (e : Option Ending). (i : ℕ) (line : Line) → line_at before.places.items i ≡ Some line → 0 < fulls_of line.outward → is_excused i client e T ≡ true) (sym stop.ending)
-          (λ i line at some. excused_stopped i client before.ending (Some (Stopped why)) T (s.clients i line at some)));
+      clients = subst (λ (l : List Place). (i : ℕ) (line : Line) → line_at l i ≡ Some line → 0 < fulls_of line.outward → is_excused i client now.fall now.ending T ≡ true) (sym places)
+          (λ i line at some. excused_stopped i client why before now T stop (s.clients i line at some));
       up = subst (λ (x : Server). 0 < fulls_of x.outward → is_server_excused server now.ending T ≡ true) (sym stop.server)
           (subst (λ (e : Option Ending). 0 < fulls_of before.server.outward → is_server_excused server e T ≡ true) (sym stop.ending)
           (λ some. server_stopped server before.ending (Some (Stopped why)) T (s.up some)));
     }
 
-cause_stopped : (faults later : ℕ) (before now : Desk) (why : StopWhy) (T : List Entry) → Stops why before now → faults ≤ later → (why ≡ stops.Record → 0 < later) → (why ≡ stops.Spent → 4294967295 ≤ length before.places.items)
+cause_stopped : (faults later : ℕ) (before now : Desk) (why : StopWhy) (T : List Entry) → Halts why before now → faults ≤ later → (why ≡ stops.Record → 0 < later) → (why ≡ stops.Spent → 4294967295 ≤ length before.places.items)
     → EndsRightly faults (length before.places.items) before.ending T → EndsRightly later (length now.places.items) now.ending T
 cause_stopped faults later before now why T stop more record_some spent is =
     subst (λ (l : List Place). EndsRightly later (length l) now.ending T) (sym (ap (λ (v : Vec Place). v.items) stop.places))
@@ -261,18 +262,18 @@ cause_stopped faults later before now why T stop more record_some spent is =
 pub stop_keeps : (stands : List Entry → Type 0) (told : Option (List Noted)) (faults : ℕ) (before now : Desk) (why : StopWhy) → Stops why before now → (why ≡ stops.Record → 0 < faults) → (why ≡ stops.Spent → 4294967295 ≤ length before.places.items)
     → (T : List Entry) → KeepsOwing None false stands told faults before T → KeepsOwing None false stands told faults now T
 stop_keeps stands told faults before now why stop record_some spent T k = record {
-  underway = underway_stopped stands stands told told before now why T T k.underway.stood (λ history is. is) stop k.underway;
-  settled = settled_stopped before now why None false T stop k.settled;
-  cause = cause_stopped faults faults before now why T stop (omega arith) record_some spent k.cause;
+  underway = underway_stopped stands stands told told before now why T T k.underway.stood (λ history is. is) (halts why before now stop) k.underway;
+  settled = settled_stopped before now why None false T (halts why before now stop) k.settled;
+  cause = cause_stopped faults faults before now why T (halts why before now stop) (omega arith) record_some spent k.cause;
   owed = λ conn is. absurd (cc);
   owed_up = λ is. absurd (cc);
 }
 
 -- the hub was stopped since an event could not be noted
-noted_stop : (fault : NoteFault) (before now : Desk) → Stops (stop_of fault) before now → MayOwe before.ending → cut_short now.ending ≡ true
-noted_stop fault before now stop may = ap cut_short stop.ending ∙ elim may [
-  | inl none ↦ ap (λ (e : Option Ending). cut_short (option_or e (Some (Stopped (stop_of fault))))) none ∙ stop_is_note fault
-  | inr short ↦ cut_stays before.ending (Some (Stopped (stop_of fault))) short
+noted_stop : (fault : NoteFault) (before now : Desk) → Stops (stop_of fault) before now → MayOwe before.ending → ends_short now.ending ≡ true
+noted_stop fault before now stop may = ap ends_short stop.ending ∙ elim may [
+  | inl none ↦ ap (λ (e : Option Ending). ends_short (option_or e (Some (Stopped (stop_of fault))))) none ∙ stop_is_note fault
+  | inr short ↦ short_stays before.ending (Some (Stopped (stop_of fault))) short
 ]
 
 open_stop : (fault : NoteFault) (before now : Desk) → Stops (stop_of fault) before now → before.ending ≡ None → stopped_noting now.ending ≡ true
@@ -295,15 +296,16 @@ pub end_untaken : (fault : NoteFault) (stood stands : List Entry → Type 0) (to
     → (client : Option ℕ) → SettlesOwed client true client false stood stands told tells faults later before now
 end_untaken fault stood stands told tells faults later before mid now untaken more stops_mid client =
     let stop = stopped_since fault stood stands told tells faults later before mid now untaken stops_mid in
+    let halt = halts (stop_of fault) before now stop in
     record {
       later = [];
       late = tt;
       keeps = λ T k.
           let none = (k.owed_up refl).0 in
           record {
-            underway = underway_stopped stood stands told tells before now (stop_of fault) T T (untaken.stays T k.underway.stood) untaken.notes stop k.underway;
-            settled = settle_up client true now T (inr (open_stop fault before now stop none)) (settled_stopped before now (stop_of fault) client true T stop k.settled);
-            cause = cause_stopped faults later before now (stop_of fault) T stop more (λ r. rose_some faults later (untaken.rose (is_failed fault r))) (λ x. absurd (not_spent fault x)) k.cause;
+            underway = underway_stopped stood stands told tells before now (stop_of fault) T T (untaken.stays T k.underway.stood) untaken.notes halt k.underway;
+            settled = settle_up client true now T (inr (open_stop fault before now stop none)) (settled_stopped before now (stop_of fault) client true T halt k.settled);
+            cause = cause_stopped faults later before now (stop_of fault) T halt more (λ r. rose_some faults later (untaken.rose (is_failed fault r))) (λ x. absurd (not_spent fault x)) k.cause;
             owed = λ conn is. let o = k.owed conn is in (refused_stopped conn before now (stop_of fault) stop o.0, inr (noted_stop fault before now stop (inl none)));
             owed_up = λ is. absurd (cc);
           };
@@ -311,29 +313,50 @@ end_untaken fault stood stands told tells faults later before mid now untaken mo
       unhanded = λ T k. unhanded_stopped before now (stop_of fault) stop;
     }
 
-pub lag_untaken : (fault : NoteFault) (stood stands : List Entry → Type 0) (told tells : Option (List Noted)) (faults later : ℕ) (before mid now : Desk) → IsUntaken fault stood stands told tells faults later before mid → faults ≤ later → Stops (stop_of fault) mid now
-    → (conn : ℕ) → SettlesOwed (Some conn) false None false stood stands told tells faults later before now
-lag_untaken fault stood stands told tells faults later before mid now untaken more stops_mid conn =
-    let stop = stopped_since fault stood stands told tells faults later before mid now untaken stops_mid in
+-- The note failed by which a client was to be found too slow.
+left_short : (fault : NoteFault) (fall : Option Fall) (ending : Option Ending) (T : List Entry) (faults count : ℕ) → MayOwe ending → heard_of fall ≡ fall_in T → EndsRightly faults count ending T
+    → cut_short (left_for fault fall) (option_or ending (Some (Stopped (stop_of fault)))) ≡ true
+left_short fault fall None T faults count may fell cause = stop_is_note fault
+left_short fault fall (Some (Upstream why)) T faults count may fell cause = by fall (ap (λ (f : Option Bool). is_some f) fell ∙ fall_some T (ap (λ (f : Option UpCause). is_some f) cause))
+  where
+    by : (f : Option Fall) → is_some (heard_of f) ≡ true → cut_short (left_for fault f) (Some (Upstream why)) ≡ true
+    by None is = cc
+    by (Some f) is = refl
+left_short fault fall (Some (Stopped why)) T faults count (inl none) fell cause = absurd (cc)
+left_short fault fall (Some (Stopped why)) T faults count (inr short) fell cause = short
+
+pub lag_untaken : (fault : NoteFault) (stood stands : List Entry → Type 0) (told tells : Option (List Noted)) (faults later : ℕ) (before mid left now : Desk) → IsUntaken fault stood stands told tells faults later before mid → faults ≤ later → LeavesOut fault mid left
+    → Stops (stop_of fault) left now → (conn : ℕ) → SettlesOwed (Some conn) false None false stood stands told tells faults later before now
+lag_untaken fault stood stands told tells faults later before mid left now untaken more leaves_mid stops_left conn =
+    let leaves = subst (λ (d : Desk). LeavesOut fault d left) untaken.same_desk leaves_mid in
+    let halt = left_halts fault before left now leaves stops_left in
+    let same = ap (λ (v : Vec Place). v.items) halt.places in
     record {
       later = [];
       late = tt;
       keeps = λ T k.
           let owed = k.owed conn refl in
+          let short = cut_as (left_for fault before.fall) now.fall (option_or before.ending (Some (Stopped (stop_of fault)))) now.ending (stops_left.fall ∙ leaves.fall) halt.ending
+          (left_short fault before.fall before.ending T faults (length before.places.items) owed.1 k.underway.fell k.cause) in
           record {
-            underway = underway_stopped stood stands told tells before now (stop_of fault) T T (untaken.stays T k.underway.stood) untaken.notes stop k.underway;
-            settled = settle_client conn false now T (inr (noted_stop fault before now stop owed.1)) (settled_stopped before now (stop_of fault) (Some conn) false T stop k.settled);
-            cause = cause_stopped faults later before now (stop_of fault) T stop more (λ r. rose_some faults later (untaken.rose (is_failed fault r))) (λ x. absurd (not_spent fault x)) k.cause;
+            underway = underway_stopped stood stands told tells before now (stop_of fault) T T (untaken.stays T k.underway.stood) untaken.notes halt k.underway;
+            settled = settle_client conn false now T (inr short) (settled_stopped before now (stop_of fault) (Some conn) false T halt k.settled);
+            cause = cause_stopped faults later before now (stop_of fault) T halt more (λ r. rose_some faults later (untaken.rose (is_failed fault r))) (λ x. absurd (not_spent fault x)) k.cause;
             owed = λ c is. absurd (cc);
             owed_up = λ is. absurd (cc);
           };
-      seats = λ T k i. seated_stopped i before now (stop_of fault) stop;
-      unhanded = λ T k. unhanded_stopped before now (stop_of fault) stop;
+      seats = λ T k i. subst (λ (l : List Place). IsSeated i l) (sym same);
+      unhanded = λ T k. nothing_put before.places.items now.places.items same;
     }
 
 -- Nothing is owed, or the hub was stopped: nothing is taken.
 pub none_owed : (client : Option ℕ) (stands : List Entry → Type 0) (told : Option (List Noted)) (faults : ℕ) (desk : Desk) → SettlesOwed client false client false stands stands told told faults faults desk desk
 none_owed client stands told faults desk = record { later = []; late = tt; keeps = λ T k. k; seats = λ T k i s. s; unhanded = λ T k. nothing_put desk.places.items desk.places.items refl }
+
+stopped_short : (fall : Option Fall) (ending : Option Ending) → is_stopped ending ≡ true → ends_short ending ≡ true → cut_short fall ending ≡ true
+stopped_short fall None stopped short = cc
+stopped_short fall (Some (Upstream cause)) stopped short = cc
+stopped_short fall (Some (Stopped why)) stopped short = short
 
 pub lag_stopped : (stands : List Entry → Type 0) (told : Option (List Noted)) (faults : ℕ) (desk : Desk) (conn : ℕ) → is_stopped desk.ending ≡ true → SettlesOwed (Some conn) false None false stands stands told told faults faults desk desk
 lag_stopped stands told faults desk conn stopped = record {
@@ -341,7 +364,7 @@ lag_stopped stands told faults desk conn stopped = record {
   late = tt;
   keeps = λ T k. record {
     underway = k.underway;
-    settled = settle_client conn false desk T (elim (k.owed conn refl).1 [ inl none ↦ let no : is_stopped desk.ending ≡ false = ap is_stopped none in absurd (cc) | inr short ↦ inr short ]) k.settled;
+    settled = settle_client conn false desk T (elim (k.owed conn refl).1 [ inl none ↦ let no : is_stopped desk.ending ≡ false = ap is_stopped none in absurd (cc) | inr short ↦ inr (stopped_short desk.fall desk.ending stopped short) ]) k.settled;
     cause = k.cause;
     owed = λ c is. absurd (cc);
     owed_up = λ is. absurd (cc);

@@ -18,6 +18,7 @@ use Rattle.mux_history.specs.Cores.{ever_entered, stays_alive}
 use Rattle.mux_history.specs.Orderly.{IsOrderlyEvent, IsOrderly}
 use Rattle.mux_history.proofs.CoreLemmas.{alive_after, entry_closed, never_part}
 use Rattle.hub_places.specs.declared.ending.Ending.{Ending}
+use Rattle.gateway_hub.specs.declared.desk.Fall.{Fall}
 use Rattle.hub_places.specs.declared.ending.Ending.TheVariants.{Upstream, Stopped}
 use Rattle.hub_places.specs.declared.receipt.Close.{Close}
 use Rattle.hub_places.specs.declared.receipt.Receipt.{Receipt}
@@ -80,10 +81,10 @@ over_or_dead : (i : ℕ) (T : List Entry) (ending : Option Ending) → (ending �
 over_or_dead i T ending dead (inl none) = inl (dead none)
 over_or_dead i T ending dead (inr ended) = inr ended
 
-pub receipt_more : (i : ℕ) (receipt : Receipt) (ending more : Option Ending) (T : List Entry) (h : Happening) (o : Outcome) → IsOrderly T (entry h o) → Orders T h o
+pub receipt_more : (i : ℕ) (receipt : Receipt) (fall falls : Option Fall) (ending more : Option Ending) (T : List Entry) (h : Happening) (o : Outcome) → IsOrderly T (entry h o) → Orders T h o
     → (ending ≡ None) ⊎ (is_some (fault_in T) ≡ true) → enters_here i h ≡ false → arrival_here i h ≡ [] → lags_here i h ≡ false
-    → IsReceipt i receipt ending T → IsReceipt i receipt (option_or ending more) (entry h o ∷ T)
-receipt_more i receipt ending more T h o orderly orders open_or_over stranger unasked unlagged was =
+    → IsReceipt i receipt fall ending T → IsReceipt i receipt (option_or fall falls) (option_or ending more) (entry h o ∷ T)
+receipt_more i receipt fall falls ending more T h o orderly orders open_or_over stranger unasked unlagged was =
     let rest = rests i T h o orderly orders (over_or_dead i T ending was.over open_or_over) in
     record {
       over = λ none. dead_more i T h o stranger (was.over (none_before ending more none));
@@ -94,7 +95,7 @@ receipt_more i receipt ending more T h o orderly orders open_or_over stranger un
         fulls = was.tells.fulls;
         handed = was.tells.handed;
         is_handed = handed_same i was.tells.put was.tells.fulls T h o rest.piece (λ l. absurd (cc)) was.tells.is_handed;
-        excused = λ some. excused_more i None None ending more T h o (λ x. x) (was.tells.excused some);
+        excused = λ some. excused_more i None None fall falls ending more T h o (λ x. x) (was.tells.excused some);
         why = was.tells.why ∙ ap close_why (sym rest.close);
         by_upstream = was.tells.by_upstream ∙ ap by_upstream_of (sym rest.close);
       };

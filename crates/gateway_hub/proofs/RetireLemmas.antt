@@ -19,7 +19,9 @@ use Rattle.gateway_hub.specs.declared.desk.Desk.{Desk}
 use Rattle.hub_places.specs.Closes.{fall_close}
 use Rattle.client_ports.specs.declared.parcel.Parcel.{Parcel}
 use Rattle.hub_places.specs.Places.{line_of, receipt_of, line_at, receipt_at, Changes, IsSeated}
-use Rattle.gateway_hub.specs.Kept.{TookServerItems, IsHandedUp, TellsLife, IsReceipt, AreNumbered, EndsRightly, Keeps, is_excused, is_server_excused, close_why, by_upstream_of}
+use Rattle.gateway_hub.specs.Desks.{heard_of}
+use Rattle.gateway_hub.specs.Kept.{TookServerItems, IsHandedUp, TellsLife, IsReceipt, AreNumbered, EndsRightly, Keeps, is_server_excused, close_why, by_upstream_of}
+use Rattle.gateway_hub.proofs.SettleLemmas.{excused_as, receipt_as}
 use Rattle.gateway_hub.specs.Ends.{EachLine, PutsNothing}
 use Rattle.gateway_hub.specs.Retiring.{receipt_for, stranger_receipt, RetiresBy, RetiresPlace, IsUnended, EndsFirst, RetiresLine, IsSameDesk, RetiresSo}
 use Rattle.hub_places.proofs.PlaceLemmas.{found_here, found_other}
@@ -53,7 +55,7 @@ receipt_was conn i receipt r before now here others at = by (conn == i) refl
 
 -- Its receipt tells what is so.
 pub life_so : (conn pushed taken : ℕ) (line : Line) (stands : List Entry → Type 0) (told : Option (List Noted)) (faults : ℕ) (desk : Desk) (T : List Entry) → line_at desk.places.items conn ≡ Some line
-    → Keeps stands told faults desk T → TellsLife conn (receipt_for conn line pushed taken desk.fall desk.ending) desk.ending T
+    → Keeps stands told faults desk T → TellsLife conn (receipt_for conn line pushed taken (heard_of desk.fall) desk.ending) desk.fall desk.ending T
 life_so conn pushed taken line stands told faults desk T at k = record {
   conn = refl;
   arrived = k.underway.arrived conn line at;
@@ -67,15 +69,15 @@ life_so conn pushed taken line stands told faults desk T at k = record {
 }
 
 receipt_so : (conn pushed taken : ℕ) (line : Line) (stands : List Entry → Type 0) (told : Option (List Noted)) (faults : ℕ) (desk : Desk) (T : List Entry) → line_at desk.places.items conn ≡ Some line → (desk.ending ≡ None → is_alive conn T ≡ false)
-    → Keeps stands told faults desk T → IsReceipt conn (receipt_for conn line pushed taken desk.fall desk.ending) desk.ending T
+    → Keeps stands told faults desk T → IsReceipt conn (receipt_for conn line pushed taken (heard_of desk.fall) desk.ending) desk.fall desk.ending T
 receipt_so conn pushed taken line stands told faults desk T at over k = record { tells = life_so conn pushed taken line stands told faults desk T at k; over = over }
 
 pub retire_keeps : (conn pushed taken : ℕ) (line : Line) (stands : List Entry → Type 0) (told : Option (List Noted)) (faults : ℕ) (before now : Desk) (T : List Entry) → line_at before.places.items conn ≡ Some line → (before.ending ≡ None → is_alive conn T ≡ false)
-    → slice_get now.places.items conn ≡ Some (Retired (receipt_for conn line pushed taken before.fall before.ending)) → ((j : ℕ) → conn ≢ j → slice_get now.places.items j ≡ slice_get before.places.items j) → length now.places.items ≡ length before.places.items
+    → slice_get now.places.items conn ≡ Some (Retired (receipt_for conn line pushed taken (heard_of before.fall) before.ending)) → ((j : ℕ) → conn ≢ j → slice_get now.places.items j ≡ slice_get before.places.items j) → length now.places.items ≡ length before.places.items
     → now.server ≡ before.server → now.fall ≡ before.fall → now.ending ≡ before.ending → Keeps stands told faults before T → Keeps stands told faults now T
 retire_keeps conn pushed taken line stands told faults before now T at over here others size server fall ending k =
     let u = k.underway in
-    let receipt = receipt_for conn line pushed taken before.fall before.ending in
+    let receipt = receipt_for conn line pushed taken (heard_of before.fall) before.ending in
     let was : (i : ℕ) (l : Line) → line_at now.places.items i ≡ Some l → line_at before.places.items i ≡ Some l = λ i l is. line_was conn i receipt before.places.items now.places.items l here others is in
     record {
       underway = record {
@@ -84,18 +86,18 @@ retire_keeps conn pushed taken line stands told faults before now T at over here
         took = λ i l is. u.took i l (was i l is);
         took_up = subst (λ (s : Server). TookServerItems s T) (sym server) u.took_up;
         arrived = λ i l is. u.arrived i l (was i l is);
-        closed = λ i l is. u.closed i l (was i l is) ∙ ap (λ (f : Option Bool). option_or l.close (fall_close f)) (sym fall);
-        fell = fall ∙ u.fell;
+        closed = λ i l is. u.closed i l (was i l is) ∙ ap (λ (f : Option Bool). option_or l.close (fall_close f)) (sym (ap heard_of fall));
+        fell = ap heard_of fall ∙ u.fell;
         handed = λ i l is. u.handed i l (was i l is);
         up_handed = subst (λ (s : Server). IsHandedUp (put_of s.outward) (fulls_of s.outward) T) (sym server) u.up_handed;
-        receipts = λ i r is. subst (λ (e : Option Ending). IsReceipt i r e T) (sym ending) (elim (receipt_was conn i receipt r before.places.items now.places.items here others is) [
-          | inl same ↦ subst (λ (n : ℕ). IsReceipt n r before.ending T) same.0 (subst (λ (x : Receipt). IsReceipt conn x before.ending T) (sym same.1) (receipt_so conn pushed taken line stands told faults before T at over k))
+        receipts = λ i r is. receipt_as i r before.fall now.fall before.ending now.ending T fall ending (elim (receipt_was conn i receipt r before.places.items now.places.items here others is) [
+          | inl same ↦ subst (λ (n : ℕ). IsReceipt n r before.fall before.ending T) same.0 (subst (λ (x : Receipt). IsReceipt conn x before.fall before.ending T) (sym same.1) (receipt_so conn pushed taken line stands told faults before T at over k))
           | inr old ↦ u.receipts i r old
         ]);
         numbered = subst (λ (n : ℕ). AreNumbered n T) (sym size) u.numbered;
       };
       settled = record {
-        clients = λ i l is some. subst (λ (e : Option Ending). is_excused i None e T ≡ true) (sym ending) (k.settled.clients i l (was i l is) some);
+        clients = λ i l is some. excused_as i None before.fall now.fall before.ending now.ending T fall ending (k.settled.clients i l (was i l is) some);
         up = λ some. subst (λ (e : Option Ending). is_server_excused false e T ≡ true) (sym ending) (k.settled.up (subst (λ (s : Server). 0 < fulls_of s.outward) server some));
       };
       cause = subst (λ (n : ℕ). EndsRightly faults n now.ending T) (sym size) (subst (λ (e : Option Ending). EndsRightly faults (length before.places.items) e T) (sym ending) k.cause);
@@ -116,7 +118,7 @@ set_others places conn j p apart = found_other places conn j p (ne_eqb conn j ap
 
 -- Retired by the code.
 pub retired_so : (conn pushed taken : ℕ) (receipt : Receipt) (line : Option Line) (stands : List Entry → Type 0) (told : Option (List Noted)) (faults : ℕ) (before now : Desk) (T : List Entry) → line_at before.places.items conn ≡ line
-    → RetiresBy conn pushed taken before.fall before.ending receipt before.places.items now.places.items line → (before.ending ≡ None → IsSeated conn before.places.items → is_alive conn T ≡ false)
+    → RetiresBy conn pushed taken (heard_of before.fall) before.ending receipt before.places.items now.places.items line → (before.ending ≡ None → IsSeated conn before.places.items → is_alive conn T ≡ false)
     → now.server ≡ before.server → now.fall ≡ before.fall → now.ending ≡ before.ending → Keeps stands told faults before T → Keeps stands told faults now T × RetiresLine conn pushed taken line receipt now
 retired_so conn pushed taken receipt None stands told faults before now T at retires over server fall ending k = (
   moved_keeps stands stands told told faults faults before now T (λ s. s) (λ n. n) (omega arith) server retires.0 fall ending k,
@@ -171,7 +173,7 @@ ended_not conn ending T unended alive (inr dead) = cc
 
 alive_line : (conn : ℕ) (stands : List Entry → Type 0) (told : Option (List Noted)) (faults : ℕ) (desk : Desk) (T : List Entry) → desk.ending ≡ None → is_alive conn T ≡ true → Keeps stands told faults desk T → line_at desk.places.items conn ≡ None → ⊥
 alive_line conn stands told faults desk T none alive k at =
-    let line = living_line desk.places.items desk.ending T conn k.underway.numbered (k.underway.receipts conn) none alive in
+    let line = living_line desk.places.items desk.fall desk.ending T conn k.underway.numbered (k.underway.receipts conn) none alive in
     let some : line_at desk.places.items conn ≡ Some line.0 = line.1 in
     cc
 
@@ -225,16 +227,16 @@ taken_by : (conn pushed taken : ℕ) (fall : Option Bool) (ending : Option Endin
 taken_by conn pushed taken fall ending receipt before now None r = ap (λ (x : Receipt). x.taken) r.1
 taken_by conn pushed taken fall ending receipt before now (Some line) r = ap (λ (x : Receipt). x.taken) r.1
 
-line_by : (conn pushed taken : ℕ) (receipt : Receipt) (stands : List Entry → Type 0) (told : Option (List Noted)) (faults : ℕ) (before mid now : Desk) (T : List Entry) → RetiresPlace conn pushed taken mid.fall mid.ending receipt mid.places.items now.places.items
+line_by : (conn pushed taken : ℕ) (receipt : Receipt) (stands : List Entry → Type 0) (told : Option (List Noted)) (faults : ℕ) (before mid now : Desk) (T : List Entry) → RetiresPlace conn pushed taken (heard_of mid.fall) mid.ending receipt mid.places.items now.places.items
     → (mid.ending ≡ None → is_alive conn T ≡ false) → now.server ≡ mid.server → now.fall ≡ mid.fall → now.ending ≡ mid.ending → (IsSeated conn before.places.items → IsSeated conn mid.places.items) → EachLine PutsNothing before.places.items mid.places.items → (line_at before.places.items conn ≡ None → mid ≡ before)
     → Keeps stands told faults mid T → (line : Option Line) → line_at before.places.items conn ≡ line → RetiresLine conn pushed taken line receipt now
 line_by conn pushed taken receipt stands told faults before mid now T retires over server fall ending seats unhanded none k None at =
     let same : line_at mid.places.items conn ≡ None = ap (λ (d : Desk). line_at d.places.items conn) (none at) ∙ at in
-    (retired_so conn pushed taken receipt None stands told faults mid now T same (subst (RetiresBy conn pushed taken mid.fall mid.ending receipt mid.places.items now.places.items) same retires) (λ n s. over n) server fall ending k).1
+    (retired_so conn pushed taken receipt None stands told faults mid now T same (subst (RetiresBy conn pushed taken (heard_of mid.fall) mid.ending receipt mid.places.items now.places.items) same retires) (λ n s. over n) server fall ending k).1
 line_by conn pushed taken receipt stands told faults before mid now T retires over server fall ending seats unhanded none k (Some line) at =
     let there = seats (line, at) in
     line_as there.0 line (put_same there.0 line there.1 (subst (λ (o : Option Line). Changes true PutsNothing o (line_at mid.places.items conn)) at (unhanded conn)))
-    (retired_so conn pushed taken receipt (Some there.0) stands told faults mid now T there.1 (subst (RetiresBy conn pushed taken mid.fall mid.ending receipt mid.places.items now.places.items) there.1 retires) (λ n s. over n) server fall ending k).1
+    (retired_so conn pushed taken receipt (Some there.0) stands told faults mid now T there.1 (subst (RetiresBy conn pushed taken (heard_of mid.fall) mid.ending receipt mid.places.items now.places.items) there.1 retires) (λ n s. over n) server fall ending k).1
   where
     put_same : (there was : Line) → line_at mid.places.items conn ≡ Some there → Changes true PutsNothing (Some was) (line_at mid.places.items conn) → put_of there.outward ≡ put_of was.outward
     put_same there was is changed =
@@ -245,11 +247,11 @@ line_by conn pushed taken receipt stands told faults before mid now T retires ov
     line_as : (there was : Line) → put_of there.outward ≡ put_of was.outward → RetiresLine conn pushed taken (Some there) receipt now → RetiresLine conn pushed taken (Some was) receipt now
     line_as there was same r = (r.0, r.1, r.2, r.3 ∙ ap (λ (l : List Parcel). length l) same, r.4)
 
-same_by : (conn pushed taken : ℕ) (receipt : Receipt) (before mid now : Desk) → line_at before.places.items conn ≡ None → mid ≡ before → RetiresPlace conn pushed taken mid.fall mid.ending receipt mid.places.items now.places.items
+same_by : (conn pushed taken : ℕ) (receipt : Receipt) (before mid now : Desk) → line_at before.places.items conn ≡ None → mid ≡ before → RetiresPlace conn pushed taken (heard_of mid.fall) mid.ending receipt mid.places.items now.places.items
     → now.server ≡ mid.server → now.fall ≡ mid.fall → now.ending ≡ mid.ending → IsSameDesk before now
 same_by conn pushed taken receipt before mid now at same retires server fall ending =
     let none : line_at mid.places.items conn ≡ None = ap (λ (d : Desk). line_at d.places.items conn) same ∙ at in
-    let by = subst (RetiresBy conn pushed taken mid.fall mid.ending receipt mid.places.items now.places.items) none retires in
+    let by = subst (RetiresBy conn pushed taken (heard_of mid.fall) mid.ending receipt mid.places.items now.places.items) none retires in
     record {
       server = server ∙ ap (λ (d : Desk). d.server) same;
       places = by.0 ∙ ap (λ (d : Desk). d.places.items) same;
@@ -258,7 +260,7 @@ same_by conn pushed taken receipt before mid now at same retires server fall end
     }
 
 pub retires_all : (conn pushed taken : ℕ) (receipt : Receipt) (stood stands : List Entry → Type 0) (told tells : Option (List Noted)) (faults later : ℕ) (before mid now : Desk) → EndsFirst conn (Keeps stood told faults before) (Keeps stands tells later mid) before mid
-    → RetiresPlace conn pushed taken mid.fall mid.ending receipt mid.places.items now.places.items → now.server ≡ mid.server → now.fall ≡ mid.fall → now.ending ≡ mid.ending
+    → RetiresPlace conn pushed taken (heard_of mid.fall) mid.ending receipt mid.places.items now.places.items → now.server ≡ mid.server → now.fall ≡ mid.fall → now.ending ≡ mid.ending
     → RetiresSo conn pushed taken receipt (Keeps stood told faults before) (Keeps stands tells later now) before now
 retires_all conn pushed taken receipt stood stands told tells faults later before mid now e retires server fall ending = record {
   more = e.more;
@@ -267,9 +269,9 @@ retires_all conn pushed taken receipt stood stands told tells faults later befor
   stranger = λ T k at. let n = e.none T k at in (same_by conn pushed taken receipt before mid now at n.0 retires server fall ending, n.1);
   keeps_so = λ T k. (retired_so conn pushed taken receipt (line_at mid.places.items conn) stands tells later mid now (e.more ++ T) refl retires (λ n s. e.over T k n) server fall ending (e.kept_so T k)).0;
   receipt_so = λ T k. line_by conn pushed taken receipt stands tells later before mid now (e.more ++ T) retires (e.over T k) server fall ending (e.seats T k) (e.unhanded T k) (λ at. (e.none T k at).0) (e.kept_so T k) (line_at before.places.items conn) refl;
-  number = numbered_by conn pushed taken mid.fall mid.ending receipt mid.places.items now.places.items (line_at mid.places.items conn) retires;
-  all_pushed = pushed_by conn pushed taken mid.fall mid.ending receipt mid.places.items now.places.items (line_at mid.places.items conn) retires;
-  all_taken = taken_by conn pushed taken mid.fall mid.ending receipt mid.places.items now.places.items (line_at mid.places.items conn) retires;
+  number = numbered_by conn pushed taken (heard_of mid.fall) mid.ending receipt mid.places.items now.places.items (line_at mid.places.items conn) retires;
+  all_pushed = pushed_by conn pushed taken (heard_of mid.fall) mid.ending receipt mid.places.items now.places.items (line_at mid.places.items conn) retires;
+  all_taken = taken_by conn pushed taken (heard_of mid.fall) mid.ending receipt mid.places.items now.places.items (line_at mid.places.items conn) retires;
 }
 
 -- What the code does, by the line.

@@ -1,6 +1,5 @@
 -- A hub is stopped by its recorder only where that failed.
-use Rattle.std.proofs.Common.{◌≡◌, ◌≢◌, ◌∙◌, ℕ, ◌≤◌, Bool, List, Option, Some, None, Result, Ok, Err, refl, sym, ap, subst, inl, inr, arith}
-use Rattle.std.specs.Prelude.{◌⊎◌}
+use Rattle.std.proofs.Common.{◌≡◌, ◌∙◌, ℕ, ◌≤◌, Bool, List, Option, Some, None, Result, Ok, Err, refl, sym, ap, subst, inl, inr, arith}
 use Rattle.std.specs.Option.{option_or}
 use Rattle.gate_outside.specs.Causes.{Rose}
 use Rattle.gate_transcript.specs.declared.entry.Entry.{Entry as Noted}
@@ -65,6 +64,13 @@ pub shown_untaken : (fault : NoteFault) (stood stands : List Entry → Type 0) (
     → ShowsFault before.ending now.ending faulted later
 shown_untaken fault stood stands told tells faulted later before mid now untaken stop =
     shown_stop (stop_of fault) before now faulted later (subst (λ (d : Desk). Stops (stop_of fault) d now) untaken.same_desk stop) (λ is. untaken.rose (is_failed fault is))
+
+-- A client's note failed, and the hub is stopped.
+pub shown_left : (fault : NoteFault) (stood stands : List Entry → Type 0) (told tells : Option (List Noted)) (faulted later : ℕ) (before mid left now : Desk) → IsUntaken fault stood stands told tells faulted later before mid → left.ending ≡ mid.ending
+    → Stops (stop_of fault) left now → ShowsFault before.ending now.ending faulted later
+shown_left fault stood stands told tells faulted later before mid left now untaken same stop =
+    subst (λ (e : Option Ending). ShowsFault e now.ending faulted later) (same ∙ ap (λ (d : Desk). d.ending) untaken.same_desk)
+    (shown_stop (stop_of fault) left now faulted later stop (λ is. untaken.rose (is_failed fault is)))
 
 -- A call answers that an event could not be planned or noted.
 pub shown_refuses : (fault : NoteFault) (answer : HubFault) (before now : Desk) (faulted later : ℕ) → Refuses fault answer before now → (fault ≡ Failed → Rose faulted later) → ShowsFault before.ending now.ending faulted later

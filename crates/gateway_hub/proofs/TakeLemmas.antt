@@ -41,8 +41,9 @@ use Rattle.gate_transcript.specs.declared.recorder.NoteFault.TheVariants.{Failed
 use Rattle.gate_transcript.specs.Notes.{NotesSo}
 use Rattle.hub_places.specs.Parcels.{items_in, waiting, coming, heard_items, up_parcels}
 use Rattle.hub_places.specs.Places.{line_of, receipt_of, line_at, receipt_at, Changes, LineChanges, Counts, Closes, PutsBytes, ClosesOne, HandsOut, told_full, PutsAll, IsRefused}
-use Rattle.gateway_hub.specs.Desks.{CountsOne, HandsAll, addressee_of, landed_for, ending_by}
-use Rattle.gateway_hub.specs.Kept.{Underway, AreNumbered, IsReceipt, EndsRightly, TookServerItems, is_excused, is_server_excused}
+use Rattle.gateway_hub.specs.declared.desk.Fall.{Fall}
+use Rattle.gateway_hub.specs.Desks.{CountsOne, HandsAll, addressee_of, landed_for, ending_by, heard_of, fallen}
+use Rattle.gateway_hub.specs.Kept.{Underway, AreNumbered, IsReceipt, EndsRightly, TookServerItems, is_server_excused}
 use Rattle.gateway_hub.specs.Taking.{may_hand, IsReadyToTake, owes, StepsOn, TakesOneEvent}
 use Rattle.gateway_hub.proofs.OrderLemmas.{Orders, past, falls_down, goes_on, ordered, handed_living, asked_nothing, ended_full}
 use Rattle.gateway_hub.proofs.HistoryLemmas.{entry, or_none}
@@ -50,7 +51,7 @@ use Rattle.gateway_hub.proofs.LineLemmas.{KeepsPart, part_twice, rest_twice, cou
 use Rattle.gateway_hub.proofs.StepLemmas.{incoming, took_same, arrived_more, closes_more}
 use Rattle.gateway_hub.proofs.HandLemmas.{outgoing, lines_same, hands_more}
 use Rattle.gateway_hub.proofs.UpLemmas.{ups_more}
-use Rattle.gateway_hub.proofs.SettleLemmas.{excuses_more, up_excused_more}
+use Rattle.gateway_hub.proofs.SettleLemmas.{excuses_more, up_excused_more, excused_as, receipt_as}
 use Rattle.gateway_hub.proofs.ReceiptLemmas.{receipt_more, numbered_more, ended_dead, fall_some, cause_more, end_dies}
 
 -- The recorder tells the longer history.
@@ -175,10 +176,16 @@ found_full (Some piece) refused before after T out there conn is = by out.0 out.
 none_beyond : (places : List Place) (i : ℕ) → slice_get places i ≡ None → length places ≤ i
 none_beyond places i is = elim (slice_get_cases places i).1 [ inl w ↦ let some : slice_get places i ≡ Some w.0 = w.2 in absurd (cc) | inr w ↦ w.0 ]
 
+-- whether an item of the server ended its connection, where that ends or did
+heard_or : (fall : Option Fall) (heard : Option Bool) → heard_of (option_or fall (fallen heard)) ≡ option_or (heard_of fall) heard
+heard_or None None = refl
+heard_or None (Some heard) = refl
+heard_or (Some fall) heard = refl
+
 -- Who is alive has a line, unless the connection to the server has ended.
-pub living_line : (places : List Place) (ending : Option Ending) (T : List Entry) (i : ℕ) → AreNumbered (length places) T → ((receipt : Receipt) → receipt_at places i ≡ Some receipt → IsReceipt i receipt ending T) → ending ≡ None → is_alive i T ≡ true
+pub living_line : (places : List Place) (fall : Option Fall) (ending : Option Ending) (T : List Entry) (i : ℕ) → AreNumbered (length places) T → ((receipt : Receipt) → receipt_at places i ≡ Some receipt → IsReceipt i receipt fall ending T) → ending ≡ None → is_alive i T ≡ true
     → (line : Line) × (line_at places i ≡ Some line)
-living_line places ending T i numbered receipts none alive = by (slice_get places i) refl
+living_line places fall ending T i numbered receipts none alive = by (slice_get places i) refl
   where
     by : (found : Option Place) → slice_get places i ≡ found → (line : Line) × (line_at places i ≡ Some line)
     by None is =
@@ -259,12 +266,14 @@ take_steps stood stands told tells before now delivery T h o orderly stood_now n
     let there : (p : ToClient) → o.to_client ≡ Some p → (line : Line) × (line_at hands.closed p.conn ≡ Some line) = λ p is.
     let standing = standing_piece T h o p orders is in
     let none : before.ending ≡ None = elim ready.open_or_over [ inl n ↦ n | inr ended ↦ absurd (cc) ] in
-    let line = living_line places before.ending T p.conn was.numbered (was.receipts p.conn) none (handed_living T h o p is orders).0 in
+    let line = living_line places before.fall before.ending T p.conn was.numbered (was.receipts p.conn) none (handed_living T h o p is orders).0 in
     let now = has p.conn (line.0, line.1, tt) in
     (now.0, now.1) in
     let refused_now : (i : ℕ) → IsRefused i places → IsRefused i now.places.items = λ i r. still_hand WasFullOnce o.to_client delivery.client i hands.closed now.places.items puts_full hands.hands (line_full i r) in
     let close_kept : KeepsPart (λ (l : Line). l.close) places hands.counted = count_part (λ (l : Line). l.close) (asker_noted h) places hands.counted (λ w n c. c.close) hands.counts in
     let same_ending = hands.ending in
+    let falls : heard_of now.fall ≡ option_or (heard_of before.fall) (fall_by (is_some o.fault) (is_heard h)) = ap heard_of hands.fall ∙ heard_or before.fall (fall_by (is_some o.fault) (is_heard h)) in
+    let fell = fallen (fall_by (is_some o.fault) (is_heard h)) in
     record {
       underway = record {
         stood = stood_now;
@@ -277,12 +286,12 @@ take_steps stood stands told tells before now delivery T h o orderly stood_now n
             w.2 ∙ arrived_more places hands.counted T h o was.took was.arrived hands.counts i w.0 w.1;
         closed = λ i line at.
             let w = hand_part (λ (l : Line). l.close) o.to_client delivery.client hands.closed now.places.items (λ b f w n c. c.close) hands.hands i line at in
-            closes_more hands.counted hands.closed before.fall now.fall T h o orders
+            closes_more hands.counted hands.closed (heard_of before.fall) (heard_of now.fall) T h o orders
             (λ j l there_now. let k = close_kept j l there_now in was.numbered.old j (place_within places j k.0 k.1)) was.fell
-            (λ j l there_now. let k = close_kept j l there_now in was.closed j k.0 k.1 ∙ ap (λ (c : Option Close). option_or c (fall_close before.fall)) (sym k.2))
-            hands.closes hands.fall i w.0 w.1
-            ∙ ap (λ (c : Option Close). option_or c (fall_close now.fall)) (sym w.2);
-        fell = hands.fall ∙ ap (λ (f : Option Bool). option_or f (fall_by (is_some o.fault) (is_heard h))) was.fell;
+            (λ j l there_now. let k = close_kept j l there_now in was.closed j k.0 k.1 ∙ ap (λ (c : Option Close). option_or c (fall_close (heard_of before.fall))) (sym k.2))
+            hands.closes falls i w.0 w.1
+            ∙ ap (λ (c : Option Close). option_or c (fall_close (heard_of now.fall))) (sym w.2);
+        fell = falls ∙ ap (λ (f : Option Bool). option_or f (fall_by (is_some o.fault) (is_heard h))) was.fell;
         handed = hands_more hands.closed now.places.items delivery.client T h o orders hands.hands (λ i l. (was.numbered.slow i l).1)
             (λ may i line at alive. let w = kept_out i line at in ap fulls_of w.2 ∙ ready.clients may i w.0 w.1 alive)
             (λ i line at lag. full_line hands.closed i line (line_full i (ready.slow i lag)) at)
@@ -290,16 +299,16 @@ take_steps stood stands told tells before now delivery T h o orderly stood_now n
         up_handed = ups_more delivery.server before.server.outward now.server.outward T h o orders hands.up.outward ready.up ready.full was.up_handed;
         receipts = λ i receipt is.
             let at : receipt_at places i ≡ Some receipt = sym (rest.receipts i) ∙ is in
-            subst (λ (e : Option Ending). IsReceipt i receipt e (entry h o ∷ T)) (sym same_ending)
-            (receipt_more i receipt before.ending (ending_by o.fault) T h o orderly orders ready.open_or_over (stranger i) (ready.seated i (no_line places i receipt at)) (not_lagging i h places receipt (ready.slow i) at) (was.receipts i receipt at));
+            receipt_as i receipt (option_or before.fall fell) now.fall (option_or before.ending (ending_by o.fault)) now.ending (entry h o ∷ T) hands.fall same_ending
+            (receipt_more i receipt before.fall fell before.ending (ending_by o.fault) T h o orderly orders ready.open_or_over (stranger i) (ready.seated i (no_line places i receipt at)) (not_lagging i h places receipt (ready.slow i) at) (was.receipts i receipt at));
         numbered = subst (λ (n : ℕ). AreNumbered n (entry h o ∷ T)) (sym rest.size)
             (numbered_more (length places) T h o orderly orders stranger (λ i beyond. ready.seated i (beyond_line places i beyond)) (λ i l. let r = ready.slow i l in place_within places i r.0 r.1)
-            (λ i l ended. let r = ready.slow i l in ended_dead i T before.fall r.0.close (was.numbered.old i (place_within places i r.0 r.1)) (subst (λ (f : Option Bool). is_some f ≡ true) (sym was.fell) (fall_some T ended)) (was.closed i r.0 r.1))
+            (λ i l ended. let r = ready.slow i l in ended_dead i T (heard_of before.fall) r.0.close (was.numbered.old i (place_within places i r.0 r.1)) (subst (λ (f : Option Bool). is_some f ≡ true) (sym was.fell) (fall_some T ended)) (was.closed i r.0 r.1))
             was.numbered);
       };
       settled = λ client server one s. record {
-        clients = λ i line at some. subst (λ (e : Option Ending). is_excused i (owes delivery.client client) e (entry h o ∷ T) ≡ true) (sym same_ending)
-            (excuses_more hands.closed now.places.items o.to_client delivery.client client before.ending (ending_by o.fault) T h o hands.hands one
+        clients = λ i line at some. excused_as i (owes delivery.client client) (option_or before.fall fell) now.fall (option_or before.ending (ending_by o.fault)) now.ending (entry h o ∷ T) hands.fall same_ending
+            (excuses_more hands.closed now.places.items o.to_client delivery.client client before.fall fell before.ending (ending_by o.fault) T h o hands.hands one
             (λ j l there_now full. let w = kept_out j l there_now in s.clients j w.0 w.1 (subst (λ (p : Putter). 0 < fulls_of p) w.2 full)) i line at some);
         up = λ some. subst (λ (e : Option Ending). is_server_excused (delivery.server || server) e (entry h o ∷ T) ≡ true) (sym same_ending)
             (up_excused_more delivery.server server (up_parcels o.to_up) before.server.outward now.server.outward before.ending (ending_by o.fault) T h o hands.up.outward s.up some);

@@ -7,7 +7,9 @@ use Rattle.mux_history.specs.declared.event.UpCause.{UpCause}
 use Rattle.hub_places.specs.declared.ending.Ending.{Ending}
 use Rattle.hub_places.specs.declared.ending.Ending.TheVariants.{Upstream}
 use Rattle.hub_places.specs.declared.line.Place.{Place}
+use Rattle.gate_transcript.specs.declared.recorder.NoteFault.{NoteFault}
 use Rattle.gateway_hub.specs.declared.desk.Desk.{Desk}
+use Rattle.gateway_hub.specs.declared.desk.Fall.{Fall}
 use Rattle.gateway_hub.specs.declared.desk.Delivery.{Delivery}
 use Rattle.hub_places.specs.Closes.{fall_by}
 use Rattle.hub_places.specs.Places.{LineChanges, Counts, ClosesOne, HandsOut}
@@ -22,11 +24,33 @@ abbrev pub ending_by : Option UpCause → Option Ending
 ending_by None = None
 ending_by (Some cause) = Some (Upstream cause)
 
+-- whether an item of the server ended its connection, where that ended
+abbrev pub heard_of : Option Fall → Option Bool
+heard_of None = None
+heard_of (Some fall) = Some fall.heard
+
+-- the end of the connection to the server, since which no note failed
+abbrev pub fallen : Option Bool → Option Fall
+fallen None = None
+fallen (Some heard) = Some (record { heard = heard; unnoted = None })
+
+-- the same, with why a client was left out since then
+abbrev pub left_for : NoteFault → Option Fall → Option Fall
+left_for fault None = None
+left_for fault (Some fall) = Some (record { heard = fall.heard; unnoted = Some fault })
+
+-- Why a client was left out is kept with the end of the connection to the server.
+pub record LeavesOut (fault : NoteFault) (before now : Desk) : Type 0 where
+  pub server : now.server ≡ before.server
+  pub places : now.places ≡ before.places
+  pub fall : now.fall ≡ left_for fault before.fall
+  pub ending : now.ending ≡ before.ending
+
 -- The end of the connection to the server is kept, where no ending was.
 pub record KeepsEnding (fault : Option UpCause) (heard : Bool) (before now : Desk) : Type 0 where
   pub server : now.server ≡ before.server
   pub places : now.places ≡ before.places
-  pub fall : now.fall ≡ option_or before.fall (fall_by (is_some fault) heard)
+  pub fall : now.fall ≡ option_or before.fall (fallen (fall_by (is_some fault) heard))
   pub ending : now.ending ≡ option_or before.ending (ending_by fault)
 
 -- the client that an outcome hands bytes to, and the one for whom they were put, which no full port has
@@ -47,5 +71,5 @@ pub record HandsAll (asker : Option ℕ) (heard : Bool) (outcome : Outcome) (del
   pub hands : HandsOut outcome.to_client delivery.client closed now.places.items
   pub landed : delivery.landed ≡ landed_for (addressee_of outcome.to_client) delivery.client
   pub up : HandsUp outcome.to_up delivery.server before.server now.server
-  pub fall : now.fall ≡ option_or before.fall (fall_by (is_some outcome.fault) heard)
+  pub fall : now.fall ≡ option_or before.fall (fallen (fall_by (is_some outcome.fault) heard))
   pub ending : now.ending ≡ option_or before.ending (ending_by outcome.fault)

@@ -1,10 +1,11 @@
 -- Why a hub takes no more events (this project's own).
-use Rattle.std.specs.Prelude.{◌≡◌, ◌⊎◌, ℕ, Bool, true, false, Option, Some, None, Result, IfErr}
+use Rattle.std.specs.Prelude.{◌≡◌, ◌⊎◌, ℕ, Bool, true, false, is_some, Option, Some, None, Result, IfErr}
 use Rattle.gate_outside.specs.Causes.{Rose}
 use Rattle.mux_history.specs.declared.event.UpCause.{UpCause}
 use Rattle.mux_history.specs.declared.event.UpCause.TheVariants as causes
 use Rattle.hub_places.specs.declared.ending.Ending.{Ending}
 use Rattle.hub_places.specs.declared.ending.Ending.TheVariants.{Upstream, Stopped}
+use Rattle.gateway_hub.specs.declared.desk.Fall.{Fall}
 use Rattle.gateway_hub.specs.declared.fault.HubFault.{HubFault}
 use Rattle.gateway_hub.specs.declared.fault.HubFault.TheVariants as faults
 use Rattle.hub_places.specs.declared.ending.StopWhy.{StopWhy}
@@ -42,12 +43,24 @@ fell_full (Some causes.Ended) = false
 fell_full (Some causes.ReadFault) = false
 fell_full (Some causes.WriteFault) = false
 
--- Whether an event that was owed may be missing: the hub was stopped since it could not be noted, or the connection to the
--- server ended before it.
-abbrev pub cut_short : Option Ending → Bool
-cut_short None = false
-cut_short (Some (Upstream cause)) = fell_full (Some cause)
-cut_short (Some (Stopped why)) = is_note_stop why
+-- Whether a client may still be owed to be found too slow: the hub was stopped since an event could not be noted, or the
+-- connection to the server ended since it was too slow too.
+abbrev pub ends_short : Option Ending → Bool
+ends_short None = false
+ends_short (Some (Upstream cause)) = fell_full (Some cause)
+ends_short (Some (Stopped why)) = is_note_stop why
+
+-- whether a note failed by which a client was to be found too slow after the end of the connection to the server
+abbrev pub leaves_out : Option Fall → Bool
+leaves_out None = false
+leaves_out (Some fall) = is_some fall.unnoted
+
+-- Whether a client that is too slow may not be found so: the hub was stopped since an event could not be noted, or the
+-- client's own note failed after the end of the connection to the server.
+abbrev pub cut_short : Option Fall → Option Ending → Bool
+cut_short fall None = false
+cut_short fall (Some (Upstream cause)) = leaves_out fall
+cut_short fall (Some (Stopped why)) = is_note_stop why
 
 -- whether the hub was stopped
 abbrev pub is_stopped : Option Ending → Bool

@@ -18,8 +18,10 @@ use Rattle.hub_places.specs.declared.line.Line.{Line}
 use Rattle.hub_places.specs.declared.line.Place.{Place}
 use Rattle.hub_places.specs.declared.server.Server.{Server}
 use Rattle.gateway_hub.specs.declared.desk.Desk.{Desk}
+use Rattle.gateway_hub.specs.declared.desk.Fall.{Fall}
 use Rattle.hub_places.specs.Closes.{close_in, fall_in, fall_close, lagged}
-use Rattle.gateway_hub.specs.Endings.{stopped_noting, fell_full, cut_short}
+use Rattle.gateway_hub.specs.Desks.{heard_of}
+use Rattle.gateway_hub.specs.Endings.{stopped_noting, fell_full, cut_short, ends_short}
 use Rattle.gateway_hub.specs.Notes.{TellsNotes}
 use Rattle.hub_places.specs.Parcels.{items_in, waiting, arrivals, heard_items, as_parcels, handed_up}
 use Rattle.hub_places.specs.Places.{line_at, receipt_at, Lacks, IsRefused}
@@ -54,34 +56,34 @@ abbrev pub by_upstream_of : Option Close → Bool
 by_upstream_of None = false
 by_upstream_of (Some close) = close.by_upstream
 
--- whether a full port of a client is accounted for: the client was found too slow, or nothing was noted any more, or it is
--- this client's turn to be found too slow
+-- whether a full port of a client is accounted for: the client was found too slow, or a note failed, by which the hub was
+-- stopped or which is kept with the end of the connection to the server, or it is this client's turn to be found too slow
 abbrev pub is_owed : Option ℕ → ℕ → Bool
 is_owed None i = false
 is_owed (Some conn) i = conn == i
 
-abbrev pub is_excused : ℕ → Option ℕ → Option Ending → List Entry → Bool
-is_excused i owed ending history = lagged i history || (cut_short ending || is_owed owed i)
+abbrev pub is_excused : ℕ → Option ℕ → Option Fall → Option Ending → List Entry → Bool
+is_excused i owed fall ending history = lagged i history || (cut_short fall ending || is_owed owed i)
 
 -- and one of the server
 abbrev pub is_server_excused : Bool → Option Ending → List Entry → Bool
 is_server_excused owed ending history = fell_full (fault_in history) || (stopped_noting ending || owed)
 
 -- What a receipt tells of what went through for connection i is so.
-pub record TellsLife (i : ℕ) (receipt : Receipt) (ending : Option Ending) (history : List Entry) : Type 0 where
+pub record TellsLife (i : ℕ) (receipt : Receipt) (fall : Option Fall) (ending : Option Ending) (history : List Entry) : Type 0 where
   pub conn : receipt.conn ≡ i
   pub arrived : receipt.arrived ≡ length (arrivals i history)
   pub put : List Parcel
   pub fulls : ℕ
   pub handed : receipt.handed ≡ length put
   pub is_handed : IsHanded i put fulls history
-  pub excused : 0 < fulls → is_excused i None ending history ≡ true
+  pub excused : 0 < fulls → is_excused i None fall ending history ≡ true
   pub why : receipt.why ≡ close_why (close_in i history)
   pub by_upstream : receipt.by_upstream ≡ by_upstream_of (close_in i history)
 
 -- And the connection is retired: it is not alive any more, unless an ending was kept.
-pub record IsReceipt (i : ℕ) (receipt : Receipt) (ending : Option Ending) (history : List Entry) : Type 0 where
-  pub tells : TellsLife i receipt ending history
+pub record IsReceipt (i : ℕ) (receipt : Receipt) (fall : Option Fall) (ending : Option Ending) (history : List Entry) : Type 0 where
+  pub tells : TellsLife i receipt fall ending history
   pub over : ending ≡ None → is_alive i history ≡ false
 
 -- Nothing came from a connection, nothing was handed to it, and it was not closed.
@@ -106,16 +108,16 @@ pub record Underway (stands : List Entry → Type 0) (told : Option (List Noted)
   pub took : TookItems desk.places.items came
   pub took_up : TookServerItems desk.server came
   pub arrived : (i : ℕ) (line : Line) → line_at desk.places.items i ≡ Some line → line.arrived ≡ length (arrivals i history)
-  pub closed : (i : ℕ) (line : Line) → line_at desk.places.items i ≡ Some line → close_in i history ≡ option_or line.close (fall_close desk.fall)
-  pub fell : desk.fall ≡ fall_in history
+  pub closed : (i : ℕ) (line : Line) → line_at desk.places.items i ≡ Some line → close_in i history ≡ option_or line.close (fall_close (heard_of desk.fall))
+  pub fell : heard_of desk.fall ≡ fall_in history
   pub handed : (i : ℕ) (line : Line) → line_at desk.places.items i ≡ Some line → IsHanded i (put_of line.outward) (fulls_of line.outward) history
   pub up_handed : IsHandedUp (put_of desk.server.outward) (fulls_of desk.server.outward) history
-  pub receipts : (i : ℕ) (receipt : Receipt) → receipt_at desk.places.items i ≡ Some receipt → IsReceipt i receipt desk.ending history
+  pub receipts : (i : ℕ) (receipt : Receipt) → receipt_at desk.places.items i ≡ Some receipt → IsReceipt i receipt desk.fall desk.ending history
   pub numbered : AreNumbered (length desk.places.items) history
 
 -- Each full port is accounted for, but for those that are owed.
 pub record ArePortsSettled (client : Option ℕ) (server : Bool) (desk : Desk) (history : List Entry) : Type 0 where
-  pub clients : (i : ℕ) (line : Line) → line_at desk.places.items i ≡ Some line → 0 < fulls_of line.outward → is_excused i client desk.ending history ≡ true
+  pub clients : (i : ℕ) (line : Line) → line_at desk.places.items i ≡ Some line → 0 < fulls_of line.outward → is_excused i client desk.fall desk.ending history ≡ true
   pub up : 0 < fulls_of desk.server.outward → is_server_excused server desk.ending history ≡ true
 
 -- An ending that is kept has its cause.
@@ -126,7 +128,7 @@ EndsRightly faults count (Some (Stopped why)) history = (why ≡ Record → 0 < 
 
 -- A client may be owed while events are taken, or where it will not be found too slow any more.
 abbrev pub MayOwe : Option Ending → Type 0
-MayOwe ending = (ending ≡ None) ⊎ (cut_short ending ≡ true)
+MayOwe ending = (ending ≡ None) ⊎ (ends_short ending ≡ true)
 
 -- What a hub keeps, where these full ports are still owed.
 pub record KeepsOwing (client : Option ℕ) (server : Bool) (stands : List Entry → Type 0) (told : Option (List Noted)) (faults : ℕ) (desk : Desk) (history : List Entry) : Type 0 where

@@ -12,6 +12,7 @@ use Rattle.hub_places.specs.declared.line.Place.{Place}
 use Rattle.hub_places.specs.declared.line.Place.TheVariants.{Seated, Retired}
 use Rattle.gateway_hub.specs.declared.desk.Desk.{Desk}
 use Rattle.hub_places.specs.declared.limits.TheConstants.{MOST_CONNECTIONS}
+use Rattle.gateway_hub.specs.Desks.{heard_of}
 use Rattle.gateway_hub.specs.Kept.{TellsLife}
 use Rattle.gateway_hub.specs.Notes.{TellsNotes}
 use Rattle.hub_places.specs.Places.{IsSeated, receipt_at}
@@ -19,7 +20,7 @@ use Rattle.gateway_hub.specs.Retiring.{receipt_for}
 
 -- the receipts of all connections of a desk
 abbrev pub receipts_of : Desk → Receipts
-receipts_of desk = record { places = desk.places; fall = desk.fall; ending = desk.ending }
+receipts_of desk = record { places = desk.places; fall = heard_of desk.fall; ending = desk.ending }
 
 abbrev pub receipt_count : Receipts → ℕ
 receipt_count receipts = length receipts.places.items
@@ -43,7 +44,7 @@ pub record IsUnretired (i : ℕ) (places : List Place) (receipt : Receipt) : Typ
 pub record HasReceipt (i : ℕ) (before : Desk) (receipts : Receipts) (history : List Entry) : Type 0 where
   pub receipt : Receipt
   pub here : last_receipt receipts i ≡ Some receipt
-  pub tells : TellsLife i receipt before.ending history
+  pub tells : TellsLife i receipt before.fall before.ending history
   pub kept : (receipt_at before.places.items i ≡ Some receipt) ⊎ IsUnretired i before.places.items receipt
 
 -- Each connection that entered has a receipt, and there are no others, nor more than there are numbers; and the history is that of the recorder's entries,

@@ -5,6 +5,7 @@ ghost use Rattle.mux_history.specs.Happenings.{Entry};
 ghost use Rattle.gateway_hub.specs.Closing.{is_place_over};
 ghost use Rattle.gateway_hub.specs.Receipts.{receipts_of};
 
+use crate::desk::heard_of;
 use crate::state::State;
 use crate::{Receipts, Recorder};
 use gateway_mux::Core;
@@ -52,7 +53,7 @@ impl<M: Core, R: Recorder> State<M, R> {
         } = self;
         let receipts = Receipts {
             places: desk.places,
-            fall: desk.fall,
+            fall: heard_of(desk.fall),
             ending: desk.ending,
         };
         (recorder, receipts)

@@ -1,6 +1,6 @@
 //! All that the hub keeps beside its core and its recorder.
 ghost use Rattle.std.specs.Prelude.{◌≡◌, Option};
-ghost use Rattle.gateway_hub.specs.Desks.{CountsOne, KeepsEnding, HandsAll, addressee_of, landed_for};
+ghost use Rattle.gateway_hub.specs.Desks.{CountsOne, KeepsEnding, HandsAll, LeavesOut, addressee_of, landed_for, heard_of, left_for};
 ghost use Rattle.gateway_hub.specs.Endings.{is_stopped};
 ghost use Rattle.gateway_hub.specs.Calls.{GivesBack, Refuses};
 ghost use Rattle.gateway_hub.specs.Taking.{Stops};
@@ -10,6 +10,15 @@ use gateway_mux::{Event, Outcome, ToClient, UpCause};
 use hub_places::{Place, Server, count_arrival, hand_out, note_close, put_first};
 use std::sync::Wait;
 
+/// How the connection to the server ended.
+#[derive(Clone, Copy)]
+pub struct Fall {
+    /// Whether an item of the server ended it.
+    pub heard: bool,
+    /// Why a client that was too slow was not found so any more, where its note failed.
+    pub unnoted: Option<NoteFault>,
+}
+
 /// All that the hub keeps beside its core and its recorder.
 #[derive(Drop)]
 pub struct Desk {
@@ -17,8 +26,8 @@ pub struct Desk {
     pub server: Server,
     /// The connections, by their numbers.
     pub places: Vec<Place>,
-    /// Whether an item of the server ended its connection, where that ended.
-    pub fall: Option<bool>,
+    /// How the connection to the server ended, where it did.
+    pub fall: Option<Fall>,
     /// Why no more events are taken.
     pub ending: Option<Ending>,
 }
@@ -60,6 +69,29 @@ fn landed_for(addressee: Option<u32>, full: Option<u32>) -> Option<u32>
     if full.is_some() { None } else { addressee }
 }
 
+/// Whether an item of the server ended its connection, where that ended.
+pub fn heard_of(fall: Option<Fall>) -> Option<bool>
+    ensures { result ≡ heard_of fall }
+{
+    match fall {
+        Some(fall) => Some(fall.heard),
+        None => None,
+    }
+}
+
+/// How the connection to the server ended, with why a client was left out since then.
+fn left_for(fault: NoteFault, fall: Option<Fall>) -> Option<Fall>
+    ensures { result ≡ left_for fault fall }
+{
+    match fall {
+        Some(fall) => Some(Fall {
+            heard: fall.heard,
+            unnoted: Some(fault),
+        }),
+        None => None,
+    }
+}
+
 impl Desk {
     /// Keeps the end of the connection to the server.
     fn keep_end(&mut self, fault: Option<UpCause>, heard: bool)
@@ -67,7 +99,10 @@ impl Desk {
     {
         let Some(cause) = fault else { return };
         if self.fall.is_none() {
-            self.fall = Some(heard);
+            self.fall = Some(Fall {
+                heard,
+                unnoted: None,
+            });
         }
         if self.ending.is_none() {
             self.ending = Some(Ending::Upstream(cause));
@@ -117,6 +152,13 @@ impl Desk {
         ensures { Stops why self.old self.new }
     {
         self.ending = self.ending.or(Some(Ending::Stopped(why)));
+    }
+
+    /// Keeps why a client that is too slow is not found so, where the connection to the server has ended.
+    pub fn leave_out(&mut self, fault: NoteFault)
+        ensures { LeavesOut fault self.old self.new }
+    {
+        self.fall = left_for(fault, self.fall);
     }
 
     /// Puts the item of an event that was not taken first in line again.

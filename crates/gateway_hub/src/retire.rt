@@ -9,6 +9,7 @@ ghost use Rattle.gateway_hub.specs.Ends.{KeepsEnds, KeepsOtherEnds};
 ghost use Rattle.gateway_hub.specs.Kept.{Keeps, close_why, by_upstream_of};
 ghost use Rattle.gateway_hub.specs.Retiring.{EndsFirst, RetiresPlace, RetiresSo, receipt_for, stranger_receipt};
 
+use crate::desk::heard_of;
 use crate::state::{State, stop_of};
 use crate::{Close, Ending, Receipt, Recorder};
 use client_ports::{Putter, Taker};
@@ -175,7 +176,7 @@ impl<M: Core, R: Recorder> State<M, R> {
             conn,
             pushed,
             taken,
-            fall: self.desk.fall,
+            fall: heard_of(self.desk.fall),
             ending: self.desk.ending,
         };
         retire_of(&mut self.desk.places, back)

@@ -106,7 +106,7 @@ impl<M: Core, R: Recorder> State<M, R> {
     }
 
     /// Finds the client too slow whose port was full, where one was, unless the hub was stopped. Where that can't be noted,
-    /// the hub is stopped. Tells for whom bytes were put.
+    /// the hub is stopped, or why is kept with the end of the connection to the server. Tells for whom bytes were put.
     fn lag_if_full<W: Wait>(&mut self, alloc: Global, rt: &W, client: Option<u32>) -> Option<u32>
         ensures settles { SettlesOwed client false None false (M.stands self.old.core) (M.stands self.new.core) (R.entries self.old.recorder) (R.entries self.new.recorder) (R.faults self.old.recorder) (R.faults self.new.recorder) self.old.desk self.new.desk }
         ensures ends { KeepsEnds self.old.desk self.new.desk }
@@ -127,6 +127,7 @@ impl<M: Core, R: Recorder> State<M, R> {
                 later.or(delivery.landed)
             }
             Err(refused) => {
+                self.desk.leave_out(refused.fault);
                 self.desk.stop(stop_of(refused.fault));
                 None
             }

@@ -4,13 +4,13 @@ use Rattle.gateway_hub.specs.Taking.{SettlesOwed}
 use Rattle.gateway_hub.proofs.OweLemmas.{lag_stopped, lag_untaken, client_as, none_owed, stops_as}
 use Rattle.gateway_hub.proofs.LateLemmas.{lag_taken}
 use Rattle.std.proofs.Common.{None, sym}
-use Rattle.gateway_hub.proofs.EndLemmas.{ends_here, ends_twice, stop_ends}
+use Rattle.gateway_hub.proofs.EndLemmas.{ends_here, ends_twice, ends_same}
 use Rattle.gateway_hub.proofs.PutLemmas.{nothing_put, puts_twice}
 use Rattle.std.proofs.Common.{ap, refl, ◌∙◌}
 use Rattle.gateway_hub.specs.declared.desk.Desk.{Desk}
 use Rattle.std.specs.Global.{Vec}
 use Rattle.hub_places.specs.declared.line.Place.{Place}
-use Rattle.gateway_hub.proofs.ShownLemmas.{shown_same, shown_twice, shown_untaken}
+use Rattle.gateway_hub.proofs.ShownLemmas.{shown_same, shown_twice, shown_left}
 use Rattle.gateway_hub.proofs.state.State.lag_if_full.Goals as goal
 
 pub returns-then-is_stopped-clause-settles : goal.returns-then-is_stopped-clause-settles
@@ -33,8 +33,8 @@ returns-in-Err-clause-settles g c =
     let old = c.args.self.now in
     let new = c.take_one.new.self in
     client_as c.args.client c.in-Some.conn c.in-Some.is (g.M.Core.stands old.core) (g.M.Core.stands new.core) (g.R.Recorder.entries old.recorder) (g.R.Recorder.entries new.recorder) (g.R.Recorder.faults old.recorder) (g.R.Recorder.faults new.recorder) old.desk c.stop.new.self
-    (lag_untaken c.in-Err.refused.fault (g.M.Core.stands old.core) (g.M.Core.stands new.core) (g.R.Recorder.entries old.recorder) (g.R.Recorder.entries new.recorder) (g.R.Recorder.faults old.recorder) (g.R.Recorder.faults new.recorder) old.desk new.desk c.stop.new.self
-    c.in-Err.ensures.err.1 c.take_one.ensures.later (stops_as c.stop_of.result c.in-Err.refused.fault new.desk c.stop.new.self c.stop_of.ensures c.stop.ensures) c.in-Some.conn)
+    (lag_untaken c.in-Err.refused.fault (g.M.Core.stands old.core) (g.M.Core.stands new.core) (g.R.Recorder.entries old.recorder) (g.R.Recorder.entries new.recorder) (g.R.Recorder.faults old.recorder) (g.R.Recorder.faults new.recorder) old.desk new.desk c.leave_out.new.self c.stop.new.self
+    c.in-Err.ensures.err.1 c.take_one.ensures.later c.leave_out.ensures (stops_as c.stop_of.result c.in-Err.refused.fault c.leave_out.new.self c.stop.new.self c.stop_of.ensures c.stop.ensures) c.in-Some.conn)
 
 pub returns-in_default-clause-settles : goal.returns-in_default-clause-settles
 returns-in_default-clause-settles g c =
@@ -50,10 +50,11 @@ returns-in-Ok-clause-puts g c = subst (λ (o : Option ℕ). PutsFor o c.args.sel
     (puts_twice c.in-Ok.delivery.landed c.end_if_full-later.result c.args.self.now.desk.places.items c.take_one.new.self.desk.places.items c.end_if_full-later.new.self.desk.places.items c.take_one.ensures.ends.lines c.in-Ok.ensures.puts c.end_if_full-later.ensures.puts)
 
 pub returns-in-Err-clause-ends : goal.returns-in-Err-clause-ends
-returns-in-Err-clause-ends g c = ends_twice c.args.self.now.desk c.take_one.new.self.desk c.stop.new.self c.take_one.ensures.ends (stop_ends _ _ _ c.stop.ensures)
+returns-in-Err-clause-ends g c = ends_twice c.args.self.now.desk c.take_one.new.self.desk c.stop.new.self c.take_one.ensures.ends
+    (ends_same c.take_one.new.self.desk c.stop.new.self (c.stop.ensures.server ∙ c.leave_out.ensures.server) (ap (λ (v : Vec Place). v.items) (c.stop.ensures.places ∙ c.leave_out.ensures.places)))
 
 pub returns-in-Err-clause-puts : goal.returns-in-Err-clause-puts
-returns-in-Err-clause-puts g c = nothing_put _ _ (ap (λ (v : Vec Place). v.items) c.stop.ensures.places ∙ ap (λ (d : Desk). d.places.items) c.in-Err.ensures.err.1.same_desk)
+returns-in-Err-clause-puts g c = nothing_put _ _ (ap (λ (v : Vec Place). v.items) (c.stop.ensures.places ∙ c.leave_out.ensures.places) ∙ ap (λ (d : Desk). d.places.items) c.in-Err.ensures.err.1.same_desk)
 
 pub returns-then-is_stopped-clause-puts : goal.returns-then-is_stopped-clause-puts
 returns-then-is_stopped-clause-puts g c = nothing_put _ _ refl
@@ -74,8 +75,8 @@ pub returns-in-Err-clause-shown : goal.returns-in-Err-clause-shown
 returns-in-Err-clause-shown g c =
     let old = c.args.self.now in
     let new = c.take_one.new.self in
-    shown_untaken c.in-Err.refused.fault (g.M.Core.stands old.core) (g.M.Core.stands new.core) (g.R.Recorder.entries old.recorder) (g.R.Recorder.entries new.recorder) (g.R.Recorder.faults old.recorder) (g.R.Recorder.faults new.recorder) old.desk new.desk c.stop.new.self
-    c.in-Err.ensures.err.1 (stops_as c.stop_of.result c.in-Err.refused.fault new.desk c.stop.new.self c.stop_of.ensures c.stop.ensures)
+    shown_left c.in-Err.refused.fault (g.M.Core.stands old.core) (g.M.Core.stands new.core) (g.R.Recorder.entries old.recorder) (g.R.Recorder.entries new.recorder) (g.R.Recorder.faults old.recorder) (g.R.Recorder.faults new.recorder) old.desk new.desk c.leave_out.new.self c.stop.new.self
+    c.in-Err.ensures.err.1 c.leave_out.ensures.ending (stops_as c.stop_of.result c.in-Err.refused.fault c.leave_out.new.self c.stop.new.self c.stop_of.ensures c.stop.ensures)
 
 pub returns-in_default-clause-shown : goal.returns-in_default-clause-shown
 returns-in_default-clause-shown g c = shown_same _ _ _ _ refl

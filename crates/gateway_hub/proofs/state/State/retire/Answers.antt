@@ -1,4 +1,5 @@
-use Rattle.std.proofs.Common.{ℕ, refl, subst}
+use Rattle.std.proofs.Common.{ℕ, Bool, Option, refl, subst}
+use Rattle.gateway_hub.specs.Desks.{heard_of}
 use Rattle.gateway_hub.specs.Retiring.{RetiresPlace}
 use Rattle.gateway_hub.proofs.RetireLemmas.{retires_all}
 use Rattle.client_ports.specs.Ends.{put_of, taken_of}
@@ -15,10 +16,11 @@ returns-clause-retires g c =
     let receipt = c.retire_of.result in
     retires_all conn (length (put_of c.args.inward)) (length (taken_of c.args.outward)) receipt (g.M.Core.stands old.core) (g.M.Core.stands mid.core) (g.R.Recorder.entries old.recorder) (g.R.Recorder.entries mid.recorder) (g.R.Recorder.faults old.recorder) (g.R.Recorder.faults mid.recorder)
     old.desk mid.desk now c.end_first.ensures.ends
-    (subst (λ (n : ℕ). RetiresPlace conn n (length (taken_of c.args.outward)) mid.desk.fall mid.desk.ending receipt mid.desk.places.items now.places.items) c.count-pushed.ensures
-    (subst (λ (n : ℕ). RetiresPlace conn c.count-pushed.result n mid.desk.fall mid.desk.ending receipt mid.desk.places.items now.places.items) c.count-taken.ensures c.retire_of.ensures)) refl refl refl
+    (subst (λ (n : ℕ). RetiresPlace conn n (length (taken_of c.args.outward)) (heard_of mid.desk.fall) mid.desk.ending receipt mid.desk.places.items now.places.items) c.count-pushed.ensures
+    (subst (λ (n : ℕ). RetiresPlace conn c.count-pushed.result n (heard_of mid.desk.fall) mid.desk.ending receipt mid.desk.places.items now.places.items) c.count-taken.ensures
+    (subst (λ (f : Option Bool). RetiresPlace conn c.count-pushed.result c.count-taken.result f mid.desk.ending receipt mid.desk.places.items now.places.items) c.heard_of.ensures c.retire_of.ensures))) refl refl refl
 
 pub returns-clause-ends : goal.returns-clause-ends
 returns-clause-ends g c =
     let mid = c.end_first.new.self.desk in
-    retire_ends c.args.conn c.count-pushed.result c.count-taken.result mid.fall mid.ending c.retire_of.result c.args.self.now.desk mid (record mid { places = c.retire_of.new.places }) c.end_first.ensures.in_place refl c.retire_of.ensures
+    retire_ends c.args.conn c.count-pushed.result c.count-taken.result c.heard_of.result mid.ending c.retire_of.result c.args.self.now.desk mid (record mid { places = c.retire_of.new.places }) c.end_first.ensures.in_place refl c.retire_of.ensures

@@ -1,4 +1,4 @@
-use Rattle.std.proofs.Common.{◌∙◌, ◌≤◌, ℕ, Option, sym, ap, subst, arith}
+use Rattle.std.proofs.Common.{◌∙◌, ℕ, Option, sym, ap, subst, arith}
 use Rattle.std.specs.Option.{option_or}
 use Rattle.gateway_hub.specs.Ends.{PutsFor}
 use Rattle.mux_history.specs.Happenings.{happening_of}
