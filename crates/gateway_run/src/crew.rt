@@ -2,79 +2,19 @@
 ghost use Rattle.std.specs.Prelude.{◌<◌, length};
 ghost use denote.Param.Send.{IsSend, IsSync};
 
-use crate::common::Common;
-use crate::gate::Gate;
-use crate::stations::station;
-use crate::taking::{Taking, take_on};
-use crate::upstream::{UpBack, Upstream, run_upstream};
-use crate::writing::write_from;
-use gate_bytes::Memory;
 use gate_outside::{Door, Inlet, Outlet};
 use gateway_hub::{Recorder, StopWhy};
 use gateway_mux::Core;
+use hub_workers::{Common, write_from};
+use link_halves::ReadBuffer;
 use link_writer::Desk;
-use std::alloc::Global;
+use player_stations::{Gate, station};
+use server_link::{Taking, UpBack, Upstream, run_upstream, take_on};
 use std::sync::{Mutex, Wait};
 use std::thread;
 use std::thread::Threads;
 use std::time::Clock;
 use worker_signals::Meeting;
-
-/// How many bytes of a player are read at once.
-const PLAYER_READ_SIZE: usize = 16_384;
-
-/// How many bytes of the server are read at once.
-const SERVER_READ_SIZE: usize = 262_144;
-
-/// A buffer into which a link is read.
-#[derive(Drop)]
-pub struct ReadBuffer {
-    bytes: Vec<u8>,
-    ghost room: { 0 < length bytes.items },
-}
-
-impl ReadBuffer {
-    /// A buffer of so many bytes.
-    fn new(alloc: Global, size: usize) -> Result<ReadBuffer, Memory>
-        requires { 0 < size }
-    {
-        let mut bytes = Vec::new(alloc);
-        bytes.resize(size, 0)?;
-        Ok(ReadBuffer { bytes })
-    }
-}
-
-/// The desks at which writers are handed over, and the buffers of all readers. All memory of a run but the connections' own is
-/// taken here.
-#[derive(Drop)]
-pub struct Crew<O: Outlet + Drop, P: Outlet + Drop> {
-    /// A desk for each station.
-    pub desks: Vec<Desk<O>>,
-    /// The desk of the server's link.
-    pub server_desk: Desk<P>,
-    /// The buffer of each station.
-    pub buffers: Vec<ReadBuffer>,
-    /// The buffer of the server's link.
-    pub server_buffer: ReadBuffer,
-}
-
-impl<O: Outlet + Drop, P: Outlet + Drop> Crew<O, P> {
-    /// A crew of so many stations, whose threads have not begun.
-    pub fn new(alloc: Global, stations: u8) -> Result<Crew<O, P>, Memory> {
-        let mut desks = Vec::new(alloc);
-        let mut buffers = Vec::new(alloc);
-        for _ in 0..stations {
-            desks.push(Desk::new())?;
-            buffers.push(ReadBuffer::new(alloc, PLAYER_READ_SIZE)?)?;
-        }
-        Ok(Crew {
-            desks,
-            server_desk: Desk::new(),
-            buffers,
-            server_buffer: ReadBuffer::new(alloc, SERVER_READ_SIZE)?,
-        })
-    }
-}
 
 /// What the threads of the stations work on: the gate, a desk for each of them, and their buffers.
 #[derive(Drop)]

@@ -6,25 +6,7 @@
 //! the same way. All events are taken under the lock of one hub.
 #![tactic(auto)]
 
-mod client;
-mod collecting;
-mod common;
 mod crew;
-mod gate;
-mod life;
-mod next;
-mod pace;
-mod reading;
 mod serving;
-mod stations;
-mod taking;
-mod upstream;
-mod writing;
 
-pub use client::{ClientWhy, Retired, run_client};
-pub use common::Common;
-pub use gate::Gate;
-pub use run_report::UpRun;
 pub use serving::serve;
-pub use stations::station;
-pub use upstream::{UpBack, Upstream, run_upstream};

@@ -7,23 +7,24 @@ ghost use Rattle.mux_history.specs.Happenings.{Entry};
 ghost use Rattle.gateway_run.specs.Serving.{HasShown, HasLeftNone, RanTo, SaysRan, OpensNothing, TakesBack, OpensOnce, ServeSays, AreSameAddresses, IsSameAddress, counted_refusal};
 ghost use Rattle.gate_outside.specs.Causes.{Rose};
 
-use crate::common::{Common, rest_for_ever};
-use crate::crew::{Crew, ServerPost, StationPost, work};
-use crate::gate::Gate;
-use crate::upstream::{UpBack, Upstream};
+use crate::crew::{ServerPost, StationPost, work};
 use gate_bytes::Memory;
 use gate_outside::{Door, Failed, Inlet, Outlet, Sink};
 use gate_world::World;
 use gateway_hub::{Hub, Recorder};
 use gateway_mux::{Base, Bases, Core, Status};
 use gateway_words::ServeOptions;
+use hub_workers::Common;
+use link_halves::Crew;
+use player_stations::Gate;
 use run_report::{Told, after_flush, after_report, write_report};
+use server_link::{UpBack, Upstream};
 use std::alloc::Global;
 use std::sync::{Mutex, Wait};
 use std::thread::Threads;
 use std::time::Clock;
 use text_pool::TextPool;
-use worker_signals::Signals;
+use worker_signals::{Signals, rest_for_ever};
 
 /// The port of a server that names none (RFC 7826, 20.2; RFC 2326, 3.2).
 const RTSP_PORT: u16 = 554;

@@ -6,12 +6,14 @@
 
 mod flow;
 mod meeting;
+mod rest;
 mod signals;
 mod stopwatch;
 mod turnstile;
 
 pub use flow::Flow;
 pub use meeting::Meeting;
+pub use rest::rest_for_ever;
 pub use signals::{Due, Signals};
 pub use stopwatch::Stopwatch;
 pub use turnstile::Turnstile;

@@ -1,0 +1,237 @@
+//! The server's connection, from its first byte to its end.
+ghost use Rattle.std.specs.Prelude.{◌≡◌, ℕ, ◌<◌, ◌≤◌, [], List, Option, Some, None, true, length};
+ghost use Rattle.gate_outside.specs.Causes.{Rose};
+ghost use Rattle.client_ports.specs.Ends.{put_of, taken_of};
+ghost use Rattle.link_reader.specs.Reading.{ReadsItems, ReadsFront, PutAll, PutAllSo};
+ghost use Rattle.link_writer.specs.Parcels.{HasWritten};
+ghost use Rattle.link_halves.specs.declared.reading.ReadEnd.TheVariants as ends;
+ghost use Rattle.link_halves.specs.declared.putting.Put.TheVariants as puts;
+ghost use Rattle.server_link.specs.declared.taking.Heard.TheVariants as heard;
+ghost use Rattle.link_reader.specs.Promise.{BeginsGiven};
+ghost use Rattle.std.specs.Option.{option_map};
+
+use crate::taking::{Heard, Taking, take_all, take_few};
+use client_ports::{Putter, Taker};
+use gate_outside::{Inlet, Outlet};
+use gateway_hub::{Recorder, StopWhy};
+use hub_workers::{Common, Life};
+use link_halves::{Put, ReadEnd, collect, put_some, read_reusing};
+use link_reader::Reader;
+use link_writer::{Desk, Writer};
+use mux_history::{Core, UpWhy};
+use run_report::UpRun;
+use std::sync::Wait;
+use std::thread;
+use std::time::{Clock, Duration};
+
+/// So many items, or fewer, are few. A read that is full has more frames of 1,400 bytes than this: where fewer came nothing was
+/// left behind, and the thread that read them takes them, since waking another one would take longer.
+const FEW_ITEMS: u32 = 184;
+
+/// How long the reader pauses where the server's port is full, in microseconds: for less than it takes to take what the port
+/// holds.
+const FULL_PAUSE_MICROS: u64 = 50;
+
+/// The server's link, and its ends of the hub's ports. It keeps that nothing was put, taken or written.
+#[derive(Drop)]
+pub struct Upstream<I: Inlet, O: Outlet> {
+    /// What comes in by it.
+    pub inlet: I,
+    /// What goes out by it.
+    pub outlet: O,
+    /// The end that puts what comes.
+    pub inward: Putter,
+    /// The end that takes what goes out.
+    pub outward: Taker,
+    ghost none_put: { length (put_of inward) ≡ 0 },
+    ghost none_taken: { length (taken_of outward) ≡ 0 },
+    ghost none_written: { O.written outlet ≡ option_map (λ _. []) (O.written outlet) },
+}
+
+/// What is left of the server's connection: the two halves of its link, its ends of the hub's ports, and what was met. It
+/// keeps that what was met shows in the counts of the two halves.
+#[derive(Drop)]
+pub struct UpBack<I: Inlet, O: Outlet> {
+    /// What came in by it.
+    pub inlet: I,
+    /// What went out by it.
+    pub outlet: O,
+    /// The end that put what came.
+    pub inward: Putter,
+    /// The end that took what went out.
+    pub outward: Taker,
+    /// What its reader and its writer met.
+    pub run: UpRun,
+    ghost read: { run.read_failed ≡ true → 0 < I.faults inlet },
+    ghost write: { run.write_failed ≡ true → 0 < O.faults outlet },
+    ghost end: { run.ended ≡ true → 0 < I.ends inlet },
+}
+
+/// Serves the server's connection until an ending is kept: reads what it says and has it taken, while the writer of this desk
+/// writes what it is handed, and a thread beside this one takes where much comes. Nothing was read from the inlet
+/// or written to the outlet before.
+pub fn run_upstream<I: Inlet + Drop, O: Outlet + Drop, M: Core, R: Recorder, W: Wait + Clock>(
+    common: &Common<'_, M, R, W>,
+    desk: &Desk<O>,
+    taking: &Taking,
+    upstream: Upstream<I, O>,
+    buffer: &mut [u8],
+) -> UpBack<I, O>
+    requires { 0 < length buffer.old }
+    ensures put { BeginsGiven (I.rest upstream.inlet) (I.rest result.inlet) (put_of result.inward) }
+    ensures read { result.run.read_failed ≡ true → Rose (I.faults upstream.inlet) (I.faults result.inlet) }
+    ensures end { result.run.ended ≡ true → Rose (I.ends upstream.inlet) (I.ends result.inlet) }
+    ensures all { result.run.ended ≡ true → PutAllSo (I.rest upstream.inlet) (I.rest result.inlet) (put_of result.inward) }
+    ensures wrote { HasWritten (O.written result.outlet) (taken_of result.outward) result.run.write_failed }
+    ensures write { result.run.write_failed ≡ true → 0 < O.faults result.outlet }
+{
+    let Upstream {
+        inlet,
+        outlet,
+        inward,
+        outward,
+    } = upstream;
+    let mut reader = Reader::new(common.alloc, inlet, inward);
+    let writer = Writer::new(common.alloc, None, outlet, outward);
+    let (end, writer) = hear_link(common, desk, taking, &mut reader, writer, buffer);
+    let (inlet, inward) = reader.into_ends();
+    let (outlet, outward, failed) = writer.into_ends();
+    let run = run_of(end, failed);
+    UpBack {
+        inlet,
+        outlet,
+        inward,
+        outward,
+        run,
+    }
+}
+
+/// What was met, by how reading ended and whether writing has failed.
+fn run_of(end: ReadEnd, write_failed: bool) -> UpRun
+    ensures read { result.read_failed ≡ true → end ≡ ends.Failed }
+    ensures end { result.ended ≡ true → end ≡ ends.Ended }
+    ensures write { result.write_failed ≡ write_failed }
+{
+    UpRun {
+        read_failed: matches!(end, ReadEnd::Failed),
+        write_failed,
+        ended: matches!(end, ReadEnd::Ended),
+    }
+}
+
+/// Hands the writer to its thread, reads the server's link to its end, and waits until the writer comes back.
+fn hear_link<I: Inlet + Drop, O: Outlet + Drop, M: Core, R: Recorder, W: Wait + Clock>(
+    common: &Common<'_, M, R, W>,
+    desk: &Desk<O>,
+    taking: &Taking,
+    reader: &mut Reader<I>,
+    writer: Writer<O>,
+    buffer: &mut [u8],
+) -> (ReadEnd, Writer<O>)
+    requires { 0 < length buffer.old }
+    ensures front { (first : Option (List ℕ)) → ReadsFront I.rest first reader.old → ReadsFront I.rest first reader.new }
+    ensures end { result.0 ≡ ends.Ended → Rose (I.ends reader.old.inlet) (I.ends reader.new.inlet) }
+    ensures all { result.0 ≡ ends.Ended → (first : Option (List ℕ)) → ReadsItems I.rest first reader.old → PutAll I.rest first reader.new }
+    ensures failed { result.0 ≡ ends.Failed → Rose (I.faults reader.old.inlet) (I.faults reader.new.inlet) }
+{
+    match desk.hand(common.rt, writer) {
+        Ok(()) => {}
+        // Nobody writes.
+        Err(writer) => return (ReadEnd::Over, writer),
+    }
+    let end = hear_on(common, desk, taking, reader, buffer);
+    tell_end(common, end);
+    (end, collect(common.rt, desk, reader))
+}
+
+/// Tells the hub why the server's link is read no more, and wakes all workers.
+fn tell_end<M: Core, R: Recorder, W: Wait>(common: &Common<'_, M, R, W>, end: ReadEnd) {
+    match end {
+        ReadEnd::Ended => common.end_server(UpWhy::Ended),
+        ReadEnd::Failed => common.end_server(UpWhy::ReadFault),
+        ReadEnd::Over => common.tell_over(),
+        ReadEnd::Memory => common.stop(StopWhy::Memory),
+    }
+}
+
+/// Reads what the server says, and has it taken, until its link ends or an ending is kept.
+fn hear_on<I: Inlet + Drop, O: Outlet + Drop, M: Core, R: Recorder, W: Wait + Clock>(
+    common: &Common<'_, M, R, W>,
+    desk: &Desk<O>,
+    taking: &Taking,
+    reader: &mut Reader<I>,
+    buffer: &mut [u8],
+) -> ReadEnd
+    requires { 0 < length buffer.old }
+    ensures faults { I.faults reader.old.inlet ≤ I.faults reader.new.inlet }
+    ensures ends { I.ends reader.old.inlet ≤ I.ends reader.new.inlet }
+    ensures front { (first : Option (List ℕ)) → ReadsFront I.rest first reader.old → ReadsFront I.rest first reader.new }
+    ensures end { result ≡ ends.Ended → Rose (I.ends reader.old.inlet) (I.ends reader.new.inlet) }
+    ensures all { result ≡ ends.Ended → (first : Option (List ℕ)) → ReadsItems I.rest first reader.old → PutAll I.rest first reader.new }
+    ensures failed { result ≡ ends.Failed → Rose (I.faults reader.old.inlet) (I.faults reader.new.inlet) }
+{
+    let mut life = Life::new();
+    for _ in common.rt.forever() {
+        match put_all(common, taking, &mut life, reader) {
+            Heard::Empty => {}
+            Heard::Kept => return ReadEnd::Over,
+            Heard::Memory => return ReadEnd::Memory,
+        }
+        if let Some(end) = read_reusing(
+            common.rt,
+            common.alloc,
+            common.spent,
+            desk,
+            reader,
+            buffer,
+        ) {
+            return end_after_rest(common, taking, end);
+        }
+    }
+    unreachable!()
+}
+
+/// Puts all that came of the server, and has it taken: here where little came, and else by the thread beside this one.
+fn put_all<I: Inlet + Drop, M: Core, R: Recorder, W: Wait + Clock>(
+    common: &Common<'_, M, R, W>,
+    taking: &Taking,
+    life: &mut Life,
+    reader: &mut Reader<I>,
+) -> Heard
+    ensures inlet { reader.new.inlet ≡ reader.old.inlet }
+    ensures reads { (first : Option (List ℕ)) → ReadsItems I.rest first reader.old → ReadsItems I.rest first reader.new }
+    ensures front { (first : Option (List ℕ)) → ReadsFront I.rest first reader.old → ReadsFront I.rest first reader.new }
+    ensures all { result ≡ heard.Empty → (first : Option (List ℕ)) → ReadsItems I.rest first reader.old → PutAll I.rest first reader.new }
+{
+    if put_some(common.rt, reader, FEW_ITEMS, false) == Put::All {
+        return take_few(common, taking, life);
+    }
+    for _ in common.rt.forever() {
+        let put = put_some(common.rt, reader, u32::MAX, false);
+        taking.came.ring(common.rt);
+        if life.is_over(common, None) {
+            return Heard::Kept;
+        }
+        if put == Put::All {
+            return Heard::Empty;
+        }
+        thread::sleep(common.rt, Duration::from_micros(FULL_PAUSE_MICROS));
+    }
+    unreachable!()
+}
+
+/// Has all taken that was put, before it is told why the link is read no more.
+fn end_after_rest<M: Core, R: Recorder, W: Wait + Clock>(
+    common: &Common<'_, M, R, W>,
+    taking: &Taking,
+    end: ReadEnd,
+) -> ReadEnd
+    ensures end { result ≡ ends.Ended → end ≡ ends.Ended }
+    ensures failed { result ≡ ends.Failed → end ≡ ends.Failed }
+{
+    let heard = take_all(common, &mut taking.pace.lock(common.rt));
+    match heard {
+        Heard::Memory => ReadEnd::Memory,
+        Heard::Empty | Heard::Kept => end,
+    }
+}
