@@ -1,11 +1,11 @@
 //! Calls of a multiplexer.
 
 use crate::gateway::with_two_players;
+use crate::items::item_in;
 use crate::outcomes::tell_outcome;
 use case_text::{Answer, CaseFault, first_number, first_word, meant};
 use gateway_mux::{Event, Mux, Status, UpCause, UpWhy};
 use rtsp_frame::Framer;
-use rtsp_head::Item;
 use std::alloc::Global;
 use std::str;
 
@@ -19,7 +19,7 @@ use std::str;
 ///   is busy then;
 /// - `alive CONNECTION`, `next NUMBER` (the first connection from a number on that is alive), `dropped` (frames) and `ended`
 ///   (the cause).
-pub fn call(alloc: Global, mux: &mut Mux, line: &[u8], answer: &mut Answer) {
+pub fn call(alloc: Global, mux: &mut Box<Mux>, line: &[u8], answer: &mut Answer) {
     let (word, rest) = first_word(line);
     let (number, text) = first_number(rest).unwrap_or((0, b""));
     let conn = u32::try_from(number).unwrap_or(0);
@@ -29,6 +29,13 @@ pub fn call(alloc: Global, mux: &mut Mux, line: &[u8], answer: &mut Answer) {
         "U" => tell_said(alloc, mux, None, rest, answer),
         "E" => tell_event(alloc, mux, Event::End(conn), answer),
         "Z" => tell_event(alloc, mux, Event::UpEnd(UpWhy::ReadFault), answer),
+        word => look(alloc, mux, word, conn, text, answer),
+    }
+}
+
+/// Makes the call that a word is, which says nothing to the multiplexer but the item of a plan.
+fn look(alloc: Global, mux: &mut Mux, word: &str, conn: u32, text: &[u8], answer: &mut Answer) {
+    match word {
         "plan" => tell_plan(alloc, mux, conn, text, answer),
         "alive" => push_yes(mux.alive(conn), answer),
         "next" => push_next(mux.next_alive(conn), answer),
@@ -39,7 +46,7 @@ pub fn call(alloc: Global, mux: &mut Mux, line: &[u8], answer: &mut Answer) {
 }
 
 /// Another gateway.
-fn renew(alloc: Global, mux: &mut Mux, answer: &mut Answer) {
+fn renew(alloc: Global, mux: &mut Box<Mux>, answer: &mut Answer) {
     match with_two_players(alloc) {
         Ok(other) => *mux = other,
         Err(_memory) => answer.fail(CaseFault::Memory),
@@ -63,7 +70,7 @@ fn push_end(alloc: Global, cause: Option<UpCause>, answer: &mut Answer) {
 }
 
 /// Appends yes or no.
-fn push_yes(value: bool, answer: &mut Answer) {
+pub fn push_yes(value: bool, answer: &mut Answer) {
     answer.push(if value { b"yes".as_slice() } else { b"no" });
 }
 
@@ -124,11 +131,6 @@ fn tell_plan(alloc: Global, mux: &mut Mux, conn: u32, text: &[u8], answer: &mut 
     push_yes(before, answer);
     answer.push(b" ");
     push_yes(mux.busy(conn), answer);
-}
-
-/// The first item of the stream that a text means.
-fn item_in(alloc: Global, text: &[u8]) -> Result<Item, CaseFault> {
-    framer_of(alloc, text)?.next().ok_or(CaseFault::Unreadable)
 }
 
 /// Has an event planned and carried out, and tells what it hands out.

@@ -41,10 +41,10 @@ fn entered(alloc: Global, conn: u32) -> Result<Mux, Memory>
 }
 
 /// One that the connections 7 and 4 entered, in this order.
-pub fn with_two_players(alloc: Global) -> Result<Mux, Memory> {
+pub fn with_two_players(alloc: Global) -> Result<Box<Mux>, Memory> {
     let mut mux = entered(alloc, 7)?;
     match enter_fourth(alloc, &mut mux) {
-        Ok(()) => Ok(mux),
+        Ok(()) => Ok(Box::new(alloc, mux)?),
         Err(memory) => Err(memory),
     }
 }

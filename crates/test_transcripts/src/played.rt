@@ -7,6 +7,7 @@ use crate::gateway::with_two_players;
 use crate::recording::{tell_kept, tell_recorded};
 use crate::replaying::{Cuts, How, tell_pieces, tell_replay};
 use crate::statuses::tell_status;
+use crate::trial::Trial;
 use case_text::{
     Answer, CaseFault, CasesFault, Play, first_number, first_word, play_all, push_entry,
 };
@@ -22,8 +23,9 @@ use std::str;
 struct Played {
     transcript: Text,
     reader: EntryReader,
-    mux: Mux,
+    mux: Box<Mux>,
     server: DrillServer,
+    trial: Box<Trial>,
 }
 
 /// Plays all cases, and tells what came.
@@ -38,28 +40,54 @@ fn begun(alloc: Global) -> Result<Played, Memory> {
         mux: with_two_players(alloc)?,
         reader: EntryReader::new(alloc),
         server: DrillServer::new(alloc),
+        trial: Trial::new(alloc)?,
     })
 }
 
 impl Play for Played {
     fn play(&mut self, alloc: Global, line: &[u8], answer: &mut Answer) {
         let (word, rest) = first_word(line);
-        match str::from_utf8(word).unwrap_or("") {
+        if word.len() == 1 || word == b"raw".as_slice() {
+            keep(push_entry(alloc, &mut self.transcript, line), answer);
+        } else {
+            self.tell(alloc, str::from_utf8(word).unwrap_or(""), rest, answer);
+        }
+    }
+}
+
+impl Played {
+    /// Does what a word of a transcript and the rest of its line say, and tells what came.
+    fn tell(&mut self, alloc: Global, word: &str, rest: &[u8], answer: &mut Answer) {
+        match word {
             "magic" => begin(&mut self.transcript, rest, answer),
             "each" => keep(push_each(alloc, &mut self.transcript, rest), answer),
             "run" => {
                 run(alloc, self.transcript.as_bytes(), rest, answer);
                 begin(&mut self.transcript, b"1", answer);
             }
+            "mux" => call(alloc, &mut self.mux, rest, answer),
+            _ => self.call(alloc, word, rest, answer),
+        }
+    }
+
+    /// The same of a word that has to do with no transcript.
+    fn call(&mut self, alloc: Global, word: &str, rest: &[u8], answer: &mut Answer) {
+        match word {
             "reader" => call_reader(alloc, &mut self.reader, rest, answer),
             "reason" => tell_reason(alloc, rest, answer),
             "write" => tell_written(alloc, rest, answer),
-            "mux" => call(alloc, &mut self.mux, rest, answer),
             "status" => tell_status(alloc, rest, answer),
+            _ => self.drill(alloc, word, rest, answer),
+        }
+    }
+
+    /// The same of a word of drills or of one connection.
+    fn drill(&mut self, alloc: Global, word: &str, rest: &[u8], answer: &mut Answer) {
+        match word {
             "draw" => tell_draws(rest, answer),
             "server" => ask_server(alloc, &mut self.server, rest, answer),
             "drill" => tell_drill(alloc, rest, answer),
-            _ => keep(push_entry(alloc, &mut self.transcript, line), answer),
+            _ => self.trial.tell(alloc, word, rest, answer),
         }
     }
 }

@@ -40,11 +40,7 @@ impl Trial {
             "queue" => queue(alloc, &mut self.slot, rest, answer),
             "release" => self.slot.release(),
             "end" => end(&mut self.slot, rest),
-            "wait" => wait(alloc, &mut self.slot, rest, answer),
-            "next" => drop(self.slot.next_waiting()),
-            "close" => self.slot.close(),
-            "closing" => drop(self.slot.closing(number_in(rest))),
-            _ => ask(alloc, &mut self.slot, word, rest, answer),
+            _ => advance(alloc, &mut self.slot, word, rest, answer),
         }
         push_slot(alloc, &self.slot, answer);
     }
@@ -62,6 +58,17 @@ impl Trial {
             "closing" => show_closing(self.slot.closing(number_in(rest)), answer),
             _ => answer.unreadable(),
         }
+    }
+}
+
+/// The same of the other steps. Any word that is none is a method.
+fn advance(alloc: Global, slot: &mut Slot, word: &[u8], rest: &[u8], answer: &mut Answer) {
+    match str::from_utf8(word).unwrap_or("") {
+        "wait" => wait(alloc, slot, rest, answer),
+        "next" => drop(slot.next_waiting()),
+        "close" => slot.close(),
+        "closing" => drop(slot.closing(number_in(rest))),
+        _ => ask(alloc, slot, word, rest, answer),
     }
 }
 

@@ -1,5 +1,6 @@
 //! The connections that a gateway keeps.
 
+use crate::calls::push_yes;
 use crate::trial::Trial;
 use case_text::{Answer, CaseFault, first_word};
 use client_seats::Seats;
@@ -58,9 +59,4 @@ fn has_key(seats: &Seats, conn: u32) -> bool {
         Some(seat) => seats.at(seat.key).is_some(),
         None => false,
     }
-}
-
-/// Appends yes or no.
-fn push_yes(value: bool, answer: &mut Answer) {
-    answer.push(if value { b"yes".as_slice() } else { b"no" });
 }

@@ -1,18 +1,18 @@
-//! What cases are played at.
+//! What cases of one connection are played at.
 
 use crate::decisions::{tell_decision, tell_kept, tracks};
+use crate::gateway::bases;
 use crate::replies::tell_reply;
 use crate::states::{tell_after, tell_allowed};
-use case_text::{Answer, CaseFault, CasesFault, Play, first_word, play_all};
+use case_text::{Answer, CaseFault};
 use client_seats::Seats;
 use client_slot::Slot;
-use gate_bytes::{Memory, Text};
-use rtsp_uri::{Base, Bases, read_base};
+use gate_bytes::Memory;
+use rtsp_uri::Bases;
 use session_one::Track;
 use std::alloc::Global;
-use std::str;
 
-/// What cases are played at: one connection, and the number of the last request that went up from it; streams that other
+/// What cases of one connection are played at: this connection, and the number of the last request that went up from it; streams that other
 /// connections have set up; and the connections that a gateway keeps.
 #[derive(Drop)]
 pub struct Trial {
@@ -23,47 +23,34 @@ pub struct Trial {
     tracks: Vec<Track>,
 }
 
-/// Plays all cases, and tells what came.
-pub fn tell_all(alloc: Global, script: &[u8]) -> Result<Text, CasesFault> {
-    play_all(alloc, script, &mut begun(alloc)?)
-}
-
-/// What cases are played at first.
-fn begun(alloc: Global) -> Result<Trial, Memory> {
-    Ok(Trial {
-        bases: bases(alloc)?,
-        tracks: tracks(alloc)?,
-        slot: Slot::new(alloc)?,
-        number: 0,
-        seats: Seats::new(alloc),
-    })
-}
-
-/// The addresses of all cases.
-fn bases(alloc: Global) -> Result<Bases, Memory> {
-    Ok(Bases {
-        front: base(alloc, "rtsp://gate.example")?,
-        up: base(alloc, "rtsp://media.example")?,
-    })
-}
-
-/// The base that a word names.
-fn base(alloc: Global, word: &str) -> Result<Base, Memory> {
-    match read_base(alloc, word) {
-        Ok(base) => Ok(base),
-        Err(_fault) => Err(Memory),
+impl Trial {
+    /// A connection to which nothing has happened.
+    pub fn new(alloc: Global) -> Result<Box<Trial>, Memory> {
+        let trial = Trial {
+            bases: bases(alloc)?,
+            tracks: tracks(alloc)?,
+            slot: Slot::new(alloc)?,
+            number: 0,
+            seats: Seats::new(alloc),
+        };
+        Ok(Box::new(alloc, trial)?)
     }
-}
 
-impl Play for Trial {
-    fn play(&mut self, alloc: Global, line: &[u8], answer: &mut Answer) {
-        let (word, rest) = first_word(line);
-        match str::from_utf8(word).unwrap_or("") {
+    /// Does what a word and the rest of its line say, and tells what came.
+    pub fn tell(&mut self, alloc: Global, word: &str, rest: &[u8], answer: &mut Answer) {
+        match word {
             "decide" => tell_decision(alloc, &self.bases, &self.tracks, rest, answer),
             "keep" => tell_kept(alloc, &self.bases, &self.tracks, rest, answer),
             "reply" => tell_reply(alloc, &self.bases, rest, answer),
             "allowed" => tell_allowed(rest, answer),
             "after" => tell_after(alloc, rest, answer),
+            _ => self.change(alloc, word, rest, answer),
+        }
+    }
+
+    /// The same of a word that changes the connection, or tells it.
+    fn change(&mut self, alloc: Global, word: &str, rest: &[u8], answer: &mut Answer) {
+        match word {
             "step" => self.step(alloc, rest, answer),
             "show" => self.show(rest, answer),
             "event" => self.event(alloc, rest, answer),
@@ -71,9 +58,7 @@ impl Play for Trial {
             _ => answer.unreadable(),
         }
     }
-}
 
-impl Trial {
     /// Another connection enters.
     pub(crate) fn renew(&mut self, alloc: Global, answer: &mut Answer) {
         match Slot::new(alloc) {
