@@ -14,16 +14,25 @@ use gateway_mux::Status;
 use gateway_words::{
     Argument, Form, command_help, given_for, program_help, program_version, refusal_line, usage_for,
 };
+use std::alloc::AllocError;
+use std::env::{Env, FillError};
+use std::io::ErrorKind;
 use std::process::ExitCode;
-use std::{env, io};
+use std::{env, io, str};
 use tcp_world::TcpWorld;
 
-fn main(rt: HostRuntime) -> io::Result<ExitCode> {
-    let words = words_of(&rt)?;
+/// Where a word that is no UTF-8 is looked for, one of more bytes is told in its place: no word may have as many.
+const WORD_ROOM: usize = 256;
+
+fn main(rt: HostRuntime) -> ExitCode {
+    let words = match words_of(&rt) {
+        Ok(words) => words,
+        Err(status) => return tell_no_words(&rt, status),
+    };
     let words = words.as_slice();
     match request_in(words) {
-        Request::Help(form) => print_help(&rt, form),
-        Request::Version => print_version(&rt),
+        Request::Help(form) => print_text(&rt, help_of(&rt, form)),
+        Request::Version => print_text(&rt, program_version(rt.alloc())),
         Request::Run => {
             let mut world = TcpWorld::new(&rt, rt, rt.alloc()).for_players(players_in(words));
             let status = run_between(
@@ -50,13 +59,37 @@ enum Request {
     Run,
 }
 
+/// The words behind the program's name, or how a run ends that can't have them.
+fn words_of(rt: &HostRuntime) -> Result<Vec<String>, Status> {
+    match read_words_of(rt) {
+        Ok(words) => Ok(words),
+        Err(error) if error.kind() == ErrorKind::InvalidData => Err(Status::Usage {
+            place: place_of_no_text(rt),
+        }),
+        Err(_) => Err(Status::Memory),
+    }
+}
+
 /// The words behind the program's name.
-fn words_of(rt: &HostRuntime) -> io::Result<Vec<String>> {
+fn read_words_of(rt: &HostRuntime) -> io::Result<Vec<String>> {
     let mut words = Vec::new(rt.alloc());
     for word in env::args(rt)?.skip(1) {
         words.push(word)?;
     }
     Ok(words)
+}
+
+/// The place of the first word that is no UTF-8, or has more than [`WORD_ROOM`] bytes.
+fn place_of_no_text(rt: &HostRuntime) -> usize {
+    let mut word = [0u8; WORD_ROOM];
+    for place in 1..usize::MAX {
+        match rt.arg(place, &mut word) {
+            Ok(length) if str::from_utf8(&word[..length]).is_ok() => {}
+            Ok(_) | Err(FillError::TooLong) => return place - 1,
+            Err(FillError::NotPresent) => break,
+        }
+    }
+    0
 }
 
 /// What these words ask for. Help and the version are asked for by these words alone.
@@ -72,22 +105,25 @@ fn request_in(words: &[String]) -> Request {
     }
 }
 
-/// Prints what the program can do, or one command.
-fn print_help(rt: &HostRuntime, form: Option<Form>) -> io::Result<ExitCode> {
+/// What tells of a command, or of the program.
+fn help_of(rt: &HostRuntime, form: Option<Form>) -> Result<String, AllocError> {
     let end = end_of_help(rt.alloc(), form)?;
-    let help = match form {
-        Some(form) => command_help(rt.alloc(), form, end.as_str())?,
-        None => program_help(rt.alloc(), end.as_str())?,
-    };
-    print!(rt; "{help}")?;
-    Ok(ExitCode::SUCCESS)
+    match form {
+        Some(form) => command_help(rt.alloc(), form, end.as_str()),
+        None => program_help(rt.alloc(), end.as_str()),
+    }
 }
 
-/// Prints the program's version.
-fn print_version(rt: &HostRuntime) -> io::Result<ExitCode> {
-    let version = program_version(rt.alloc())?;
-    print!(rt; "{version}")?;
-    Ok(ExitCode::SUCCESS)
+/// Prints a text, where there was memory for it, and tells how that ended.
+fn print_text(rt: &HostRuntime, text: Result<String, AllocError>) -> ExitCode {
+    let status = match text {
+        Ok(text) => match print!(rt; "{text}") {
+            Ok(()) => Status::Done,
+            Err(_) => Status::SinkFault,
+        },
+        Err(_) => Status::Memory,
+    };
+    tell_end(rt, &[], status, None)
 }
 
 /// How many players these words have served at once, where they say so.
@@ -95,19 +131,38 @@ fn players_in(words: &[String]) -> Option<u8> {
     given_for(words, Argument::Stations)?.parse().ok()
 }
 
-/// The exit status of a run that ended so. Where it did not end well, standard error gets the fault line, and then what is
-/// known of it.
+/// The exit status of a run that can't have its words, which the fault line tells, and where one is no UTF-8 a line behind it.
+fn tell_no_words(rt: &HostRuntime, status: Status) -> ExitCode {
+    let _ = match status {
+        Status::Usage { place } => eprintln!(rt; "rtspgate: {status}\nword {place} is not UTF-8"),
+        _ => eprintln!(rt; "rtspgate: {status}"),
+    };
+    ExitCode::from(status.exit_code())
+}
+
+/// The exit status of a run that ended so, which stands also where standard error can't be written.
 fn tell_end(
     rt: &HostRuntime,
     words: &[String],
     status: Status,
     refusal: Option<io::Error>,
-) -> io::Result<ExitCode> {
-    if status != Status::Done {
-        eprintln!(rt; "rtspgate: {status}")?;
+) -> ExitCode {
+    let _ = tell_fault(rt, words, status, refusal);
+    ExitCode::from(status.exit_code())
+}
+
+/// Prints the fault line of a run that did not end well, and then what is known of it.
+fn tell_fault(
+    rt: &HostRuntime,
+    words: &[String],
+    status: Status,
+    refusal: Option<io::Error>,
+) -> io::Result<()> {
+    if status == Status::Done {
+        return Ok(());
     }
-    tell_more(rt, words, status, refusal)?;
-    Ok(ExitCode::from(status.exit_code()))
+    eprintln!(rt; "rtspgate: {status}")?;
+    tell_more(rt, words, status, refusal)
 }
 
 /// Prints what is known of an end beside its fault line: the word that is refused, or what could not be had, and why.
