@@ -37,11 +37,11 @@ def end_runs():
             run.communicate()
 
 
-def listener():
-    """A socket that listens at a port of its own."""
+def listener(port=0):
+    """A socket that listens at this port, or at one of its own."""
     one = socket.socket()
     one.setsockopt(socket.SOL_SOCKET, socket.SO_REUSEADDR, 1)
-    one.bind((HOST, 0))
+    one.bind((HOST, port))
     one.listen(128)
     return one
 
@@ -62,8 +62,8 @@ def free_port():
 class Server:
     """A server that answers each request at once, and grants what is asked for; what it was handed."""
 
-    def __init__(self):
-        self.door, self.heard, self.sessions, self.socket = listener(), b"", 0, None
+    def __init__(self, port=0):
+        self.door, self.heard, self.sessions, self.socket = listener(port), b"", 0, None
         self.url = "rtsp://%s:%d" % self.door.getsockname()
         self.sending = threading.Lock()
 

@@ -13,6 +13,12 @@ CREW_SECONDS, LATE_SECONDS, GIVEN_BACK_SECONDS = 10, 3, 3
 EARLY_PLAYERS = 16
 # Frames on a channel that nobody has, and how many threads each may wake.
 STRAYS, STRAY_CHANNEL, STRAY_SECONDS, MOST_WOKEN = 200, 254, 0.5, 16
+# So many players come one after the other, and how long all of them may take: some milliseconds each, where whoever waits is
+# woken, and else a tenth or a quarter of a second.
+VISITS, VISITS_SECONDS = 100, 4
+BREAKS, BREAKS_SECONDS = 30, 2
+# What no socket holds whose player takes nothing, and how long its writer may take to find that out.
+STUCK_COUNT, STUCK_SECONDS = 80, 0.05
 # A frame of which a player that reads at this rate takes 250 in 0.75 s.
 BIG_FRAME, BIG_COUNT, READ_RATE, READ_ROOM = 60_000, 250, 20_000_000, 65_536
 
@@ -142,6 +148,44 @@ def links_given_back(program, folder):
     await_true(lambda: len(descriptors(gateway.run)) <= at_rest, GIVEN_BACK_SECONDS)
     left = len(descriptors(gateway.run)) - at_rest
     check("their connections are closed within %d seconds" % GIVEN_BACK_SECONDS, left <= 0, "%d are left" % left)
+    server.close()
+    gateway.end()
+
+
+def visits_in_turn(program, folder):
+    """Players that come one after the other at one station: whoever waits for its writer is woken once that comes back."""
+    server = QuietServer()
+    gateway = Gateway(program, server, 1, folder)
+    begin = time.monotonic()
+    for _ in range(VISITS):
+        player = QuietPlayer(gateway.port)
+        player.ask("OPTIONS")
+        player.leave()
+    lasted = time.monotonic() - begin
+    check("%d leave within %d seconds" % (VISITS, VISITS_SECONDS), lasted < VISITS_SECONDS, "%.1f s" % lasted)
+    server.close()
+    gateway.end()
+
+
+def breaks_within_request(program, folder):
+    """Players that take nothing, and are gone while a request is open: whoever reads is woken once writing fails."""
+    server = QuietServer(leaves=("PLAY",))
+    gateway = Gateway(program, server, 1, folder)
+    lasted = 0.0
+    for number in range(BREAKS):
+        player = QuietPlayer(gateway.port, receive_room=4_096)
+        player.ask("SETUP", "/live/1", [("Transport", "RTP/AVP/TCP;unicast;interleaved=0-1")])
+        player.socket.sendall(b"PLAY rtsp://gate.example/live RTSP/1.0\r\nCSeq: 2\r\nSession: session%d\r\n\r\n" % (number + 1))
+        server.await_open(number + 1)
+        server.send(frames(2 * number, STUCK_COUNT, BIG_FRAME))
+        time.sleep(STUCK_SECONDS)
+        begin = time.monotonic()
+        reset(player.socket)
+        following = QuietPlayer(gateway.port)
+        following.ask("OPTIONS")
+        lasted += time.monotonic() - begin
+        following.leave()
+    check("%d give their station back within %d seconds" % (BREAKS, BREAKS_SECONDS), lasted < BREAKS_SECONDS, "%.1f s" % lasted)
     server.close()
     gateway.end()
 

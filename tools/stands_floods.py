@@ -21,6 +21,10 @@ BURST, BATCH = 8_000_000, 64
 BURST_COUNT = BURST // FRAME_SIZE // BATCH * BATCH
 TICK_SECONDS, TICKS, TICKS_BEFORE = 0.002, 600, 50
 QUIET_GAP = 0.02
+# What fills all that may wait for a player but some of its port, whatever the system holds for a socket (up to 3.5 MB), and the
+# burst after it, to a player that reads at a rate.
+FILLING_FRAME, FILLING_COUNT, FILLING_SECONDS = 60_000, 300, 0.5
+LATER_COUNT, LATER_RATE = 12_800, 20_000_000
 # Gaps of other players up to this are no failure.
 longest_gap = 0.2
 OTHERS = (2, 4, 6)
@@ -180,6 +184,28 @@ def burst_to_idle(program, folder):
 def burst_to_steady(program, folder):
     """A burst to a player that reads 20 MB a second."""
     burst(program, folder, "reads 20 MB a second", 0.0, 20_000_000)
+
+
+def burst_after_all_was_taken(program, folder):
+    """A player that used its pauses up and then took all has them back, and a burst does not close it."""
+    server = QuietServer()
+    gateway = Gateway(program, server, 4, folder)
+    player = QuietPlayer(gateway.port, LATER_RATE, SLOW_ROOM)
+    player.watch()
+    server.send(frames(0, FILLING_COUNT, FILLING_FRAME))
+    time.sleep(FILLING_SECONDS)
+    while player.count() < FILLING_COUNT and player.receive():
+        pass
+    check("what fills its port comes whole", player.count() == FILLING_COUNT, player.count())
+    reader = player.read_beside()
+    for _ in range(LATER_COUNT // BATCH):
+        server.send(frames(0, BATCH))
+    await_true(lambda: player.is_over or player.count() == FILLING_COUNT + LATER_COUNT, 10)
+    count = player.count() - FILLING_COUNT
+    check("the burst behind it comes whole", count == LATER_COUNT, "%d of %d" % (count, LATER_COUNT))
+    server.close()
+    gateway.end()
+    reader.join(10)
 
 
 def takers_of_nothing(program, folder):
