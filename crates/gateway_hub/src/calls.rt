@@ -10,8 +10,8 @@ ghost use Rattle.gateway_hub.specs.Taking.{is_full_reason};
 
 use crate::state::State;
 use crate::{HubFault, Recorder, Taken};
-use gateway_mux::{Core, Event, UpWhy};
 use hub_places::{is_seated, next_of};
+use mux_history::{Core, Event, UpWhy};
 use std::alloc::Global;
 use std::sync::Wait;
 

@@ -8,8 +8,8 @@ ghost use Rattle.gateway_hub.specs.Receipts.{receipts_of};
 use crate::desk::heard_of;
 use crate::state::State;
 use crate::{Receipts, Recorder};
-use gateway_mux::Core;
 use hub_places::Place;
+use mux_history::Core;
 
 /// Whether a connection is over, by its place: it is retired and not alive, and no more arrived than was pushed, and no more
 /// was taken than was handed.

@@ -6,8 +6,8 @@ ghost use Rattle.gateway_hub.specs.Calls.{GivesBack, Refuses};
 ghost use Rattle.gateway_hub.specs.Taking.{Stops};
 
 use crate::{Ending, HubFault, NoteFault, StopWhy};
-use gateway_mux::{Event, Outcome, ToClient, UpCause};
 use hub_places::{Place, Server, count_arrival, hand_out, note_close, put_first};
+use mux_history::{Event, Outcome, ToClient, UpCause};
 use std::sync::Wait;
 
 /// How the connection to the server ended.

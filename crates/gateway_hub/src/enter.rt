@@ -12,8 +12,8 @@ use crate::{
 };
 use client_ports::{Putter, Taker, port};
 use gate_transcript::EntryKind;
-use gateway_mux::Core;
 use hub_places::{Line, Place, Server};
+use mux_history::Core;
 use std::alloc::Global;
 
 /// A desk at which nothing happened, with the hub's ends of the server's two ports.

@@ -3,7 +3,7 @@ ghost use Rattle.gateway_hub.specs.Kept.{KeepsSome};
 
 use crate::Recorder;
 use crate::state::State;
-use gateway_mux::Core;
+use mux_history::Core;
 
 mod called;
 

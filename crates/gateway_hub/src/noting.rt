@@ -9,7 +9,7 @@ use crate::{NoteFault, Recorder};
 use gate_transcript::{
     ENDED_REASON, EntryKind, FULL_REASON, READ_FAULT_REASON, WRITE_FAULT_REASON,
 };
-use gateway_mux::{Event, UpWhy};
+use mux_history::{Event, UpWhy};
 use rtsp_head::Item;
 
 /// The byte of a reason.

@@ -13,8 +13,8 @@ use crate::desk::heard_of;
 use crate::state::{State, stop_of};
 use crate::{Close, Ending, Receipt, Recorder};
 use client_ports::{Putter, Taker};
-use gateway_mux::{CloseWhy, Core, Event};
 use hub_places::{Line, Place};
+use mux_history::{CloseWhy, Core, Event};
 use std::alloc::Global;
 use std::sync::Wait;
 

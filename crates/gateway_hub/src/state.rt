@@ -9,7 +9,7 @@ use crate::desk::{Delivery, Desk};
 use crate::noting::{asker_of, is_heard, note};
 use crate::{NoteFault, Recorder, StopWhy};
 use gate_bytes::Memory;
-use gateway_mux::{Core, Event, UpWhy};
+use mux_history::{Core, Event, UpWhy};
 use std::alloc::Global;
 use std::sync::Wait;
 

@@ -27,8 +27,8 @@ use crate::{
 };
 use client_ports::{Putter, Taker, port};
 use gate_bytes::Memory;
-use gateway_mux::{Bases, Core, UpWhy};
 use hub_places::room_of;
+use mux_history::{Bases, Core, UpWhy};
 use std::alloc::Global;
 use std::sync::Wait;
 
