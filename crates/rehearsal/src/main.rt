@@ -27,12 +27,8 @@
 //! What is printed has a line for each message and each frame that one was handed, and for each record.
 #![tactic(auto)]
 
-mod reading;
 mod rehearsing;
-mod scene;
 mod telling;
-mod waiting;
-mod world;
 
 use crate::rehearsing::rehearse_all;
 use std::io;

@@ -4,10 +4,7 @@ ghost use Rattle.gateway_words.specs.declared.options.TheConstants.{MOST_STATION
 ghost use Rattle.gateway_mux.specs.Stands.{Stands, bases_of};
 ghost use Rattle.gateway_run.specs.Serving.{AreSameAddresses, IsSameAddress};
 
-use crate::reading::read_scenes;
-use crate::scene::{Scene, calm, world_of};
 use crate::telling::{tell_end, tell_name, tell_replay, tell_run};
-use crate::world::SceneWorld;
 use case_text::{Answer, CaseFault, CasesFault};
 use gate_bytes::{Memory, Text};
 use gate_outside::MemorySink;
@@ -16,6 +13,7 @@ use gateway_mux::{Base, Bases, Mux};
 use gateway_run::serve;
 use gateway_words::ServeOptions;
 use rtsp_uri::read_base;
+use scene_world::{Scene, SceneWorld, calm, read_scenes, world_of};
 use std::alloc::Global;
 use std::sync::Wait;
 use std::thread::Threads;

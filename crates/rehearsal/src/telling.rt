@@ -2,7 +2,6 @@
 ghost use Rattle.std.specs.Prelude.{[]};
 ghost use Rattle.gateway_mux.specs.Stands.{Stands};
 
-use crate::scene::calm;
 use case_text::{Answer, CaseFault};
 use gate_bytes::{Memory, Text};
 use gate_outside::{MemorySink, MemorySource};
@@ -11,6 +10,7 @@ use gate_world::MemoryWorld;
 use gateway_mux::{Mux, Status};
 use gateway_replay::replay;
 use rtsp_frame::Framer;
+use scene_world::calm;
 use std::alloc::Global;
 
 /// Tells the name of a run.

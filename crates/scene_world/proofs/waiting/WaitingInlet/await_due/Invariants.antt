@@ -1,5 +1,5 @@
 use Rattle.std.proofs.Common.{◌≡◌, ◌<◌, ℕ, length}
-use Rattle.rehearsal.proofs.waiting.WaitingInlet.await_due.Given as goal
+use Rattle.scene_world.proofs.waiting.WaitingInlet.await_due.Given as goal
 
 -- the counts are as they were, and there is room for what comes
 abbrev pub invariant-loop : goal.invariant-loop

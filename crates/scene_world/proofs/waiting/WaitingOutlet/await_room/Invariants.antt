@@ -1,5 +1,5 @@
 use Rattle.std.proofs.Common.{◌≡◌}
-use Rattle.rehearsal.proofs.waiting.WaitingOutlet.await_room.Given as goal
+use Rattle.scene_world.proofs.waiting.WaitingOutlet.await_room.Given as goal
 
 -- the count of faults is as it was
 abbrev pub invariant-loop : goal.invariant-loop

@@ -1,5 +1,5 @@
 use Rattle.std.proofs.Common.{◌≤◌}
-use Rattle.rehearsal.proofs.waiting.WaitingOutletSink.write.Given as goal
+use Rattle.scene_world.proofs.waiting.WaitingOutletSink.write.Given as goal
 
 -- the count of faults has not fallen
 abbrev pub invariant-loop : goal.invariant-loop
