@@ -117,7 +117,7 @@ impl TcpDoor {
             Trouble::Host => mem::replace(&mut self.told_host, true),
         };
         if !told {
-            let _ = eprintln!(self.host; "rtspgate: accept: {error}; it is tried again");
+            let _ = eprintln!(self.host; "accept: {error}; it is tried again");
         }
     }
 }
