@@ -90,6 +90,10 @@ where
             } = post;
             let mut refused = !met;
             for desk in desks {
+                // A station waits until both sides have begun, and the other one may begin only once this one has ended.
+                if refused {
+                    break;
+                }
                 let Some(ReadBuffer { mut bytes }) = buffers.pop() else {
                     break;
                 };
