@@ -16,7 +16,8 @@
 //!   that was begun last, or of the door where none was;
 //! - `fail-write CALL` has this call of the link's outlet fail, and `stuck BODY` has it take nothing until the server was
 //!   handed so many bytes as the body means;
-//! - `want NOTE` has memory be wanting for the recorder's note with this number;
+//! - `want NOTE` has memory be wanting for the recorder's note with this number, and `fail-note NOTE` has it fail;
+//! - `closed WHAT` has the `door`, the `recording` or the `link` to the server not be opened;
 //! - `brief` has nothing told of the run but how it ended;
 //! - `replay` has what was recorded replayed, and its records printed.
 //!

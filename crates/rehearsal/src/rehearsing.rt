@@ -60,16 +60,14 @@ fn rehearse<R: Threads + Wait + Clock + Sync>(
         stations,
         is_replayed,
         is_brief,
-        wanting,
-        door,
-        roles,
+        setting,
     } = scene;
     tell_name(name.as_bytes(), answer);
     let telling = Telling {
         is_replayed,
         is_brief,
     };
-    match world_of(host, alloc, door, roles, wanting) {
+    match world_of(host, alloc, setting) {
         Ok(mut world) => perform(rt, alloc, stations, telling, &mut world, answer),
         Err(Memory) => answer.fail(CaseFault::Memory),
     }

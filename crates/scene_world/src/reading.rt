@@ -1,6 +1,7 @@
 //! Scenes are read.
 
-use crate::scene::{Role, Scene};
+use crate::scene::{Role, Scene, Setting};
+use crate::world::Opening;
 use case_text::{CaseFault, CasesFault, first_number, first_word, meant, next_line};
 use gate_bytes::Text;
 use gateway_words::MOST_STATIONS;
@@ -48,7 +49,6 @@ fn begin(alloc: Global, scenes: &mut Vec<Scene>, name: &[u8]) -> Result<(), Case
 /// Sets what a line says of a scene.
 fn set(alloc: Global, scene: &mut Scene, word: &[u8], more: &[u8]) -> Result<(), CaseFault> {
     match str::from_utf8(word).unwrap_or("") {
-        "link" => link(alloc, scene),
         "replay" => {
             scene.is_replayed = true;
             Ok(())
@@ -57,26 +57,54 @@ fn set(alloc: Global, scene: &mut Scene, word: &[u8], more: &[u8]) -> Result<(),
             scene.is_brief = true;
             Ok(())
         }
-        "want" => {
-            scene.wanting = Some(number_in(more)?);
-            Ok(())
-        }
         "stations" => set_stations(scene, number_in(more)?),
-        "idle" => {
-            scene.idle_from(number_in(more)?);
+        _ => arrange(alloc, &mut scene.setting, word, more),
+    }
+}
+
+/// Has a scene's world behave as a line says.
+fn arrange(
+    alloc: Global,
+    setting: &mut Setting,
+    word: &[u8],
+    more: &[u8],
+) -> Result<(), CaseFault> {
+    match str::from_utf8(word).unwrap_or("") {
+        "link" => link(alloc, setting),
+        "closed" => {
+            setting.closed = Some(opening_in(more)?);
             Ok(())
         }
-        "fail" => Ok(scene.fail_at(number_in(more)?)?),
-        _ => match scene.roles.last_mut() {
+        "want" => {
+            setting.wanting = Some(number_in(more)?);
+            Ok(())
+        }
+        "fail-note" => Ok(setting.fail_note(number_in(more)?)?),
+        "idle" => {
+            setting.idle_from(number_in(more)?);
+            Ok(())
+        }
+        "fail" => Ok(setting.fail_at(number_in(more)?)?),
+        _ => match setting.roles.last_mut() {
             Some(role) => speak(alloc, role, word, more),
             None => Err(CaseFault::Unreadable),
         },
     }
 }
 
+/// What a line names that can't be opened.
+fn opening_in(line: &[u8]) -> Result<Opening, CaseFault> {
+    match str::from_utf8(line).unwrap_or("") {
+        "door" => Ok(Opening::Door),
+        "recording" => Ok(Opening::Recording),
+        "link" => Ok(Opening::Link),
+        _ => Err(CaseFault::Unreadable),
+    }
+}
+
 /// Begins a link.
-fn link(alloc: Global, scene: &mut Scene) -> Result<(), CaseFault> {
-    scene.roles.push(Role::new(alloc))?;
+fn link(alloc: Global, setting: &mut Setting) -> Result<(), CaseFault> {
+    setting.roles.push(Role::new(alloc))?;
     Ok(())
 }
 

@@ -4,7 +4,7 @@ ghost use Rattle.gate_outside.specs.MemoryDoors.{door_faults, door_ends};
 ghost use Rattle.gateway_words.specs.declared.options.TheConstants.{MOST_STATIONS};
 
 use crate::waiting::Manner;
-use crate::world::{Props, SceneWorld};
+use crate::world::{Opening, Props, SceneWorld};
 use gate_bytes::{Memory, Text};
 use gate_outside::{
     Links, MemoryDoor, MemoryInlet, MemoryOutlet, NewLink, Numbers, Part, Parts, Script,
@@ -105,6 +105,21 @@ impl Role {
     }
 }
 
+/// How the world of a scene behaves.
+#[derive(Drop)]
+pub struct Setting {
+    /// How the door behaves.
+    pub door: Script,
+    /// How the recorder behaves.
+    pub recorder: Script,
+    /// The number of the recorder's note for which memory is wanting.
+    pub wanting: Option<u64>,
+    /// What can't be opened.
+    pub closed: Option<Opening>,
+    /// What comes by each link: the server's, and then the players'.
+    pub roles: Vec<Role>,
+}
+
 /// What everybody says in a run.
 #[derive(Drop)]
 pub struct Scene {
@@ -116,12 +131,8 @@ pub struct Scene {
     pub is_replayed: bool,
     /// Whether it is told of the run only how it ended.
     pub is_brief: bool,
-    /// The number of the recorder's note for which memory is wanting.
-    pub wanting: Option<u64>,
-    /// How the door behaves.
-    pub door: Script,
-    /// What comes by each link: the server's, and then the players'.
-    pub roles: Vec<Role>,
+    /// How its world behaves.
+    pub setting: Setting,
     pub ghost some: { (0 < stations) × (stations ≤ MOST_STATIONS) },
 }
 
@@ -133,12 +144,18 @@ impl Scene {
             stations: 1,
             is_replayed: false,
             is_brief: false,
-            wanting: None,
-            door: calm(alloc),
-            roles: Vec::new(alloc),
+            setting: Setting {
+                door: calm(alloc),
+                recorder: calm(alloc),
+                wanting: None,
+                closed: None,
+                roles: Vec::new(alloc),
+            },
         }
     }
+}
 
+impl Setting {
     /// Has nothing more come from this call on: of the link that was begun last, or of the door where none was.
     pub fn idle_from(&mut self, call: u64) {
         match self.roles.last_mut() {
@@ -154,6 +171,11 @@ impl Scene {
             None => add(&mut self.door, call),
         }
     }
+
+    /// Has the recorder's note with this number fail.
+    pub fn fail_note(&mut self, note: u64) -> Result<(), Memory> {
+        add(&mut self.recorder, note)
+    }
 }
 
 /// Has this call fail by a script.
@@ -164,18 +186,23 @@ fn add(script: &mut Script, call: u64) -> Result<(), Memory> {
     }
 }
 
-/// The world in which this is said, at a door that behaves so, where memory is wanting for the note with this number. What is
-/// said first is the server's.
-pub fn world_of(
-    host: HostRuntime,
-    alloc: Global,
-    door: Script,
-    roles: Vec<Role>,
-    wanting: Option<u64>,
-) -> Result<SceneWorld, Memory> {
+/// A world that behaves so. What is said first is the server's.
+pub fn world_of(host: HostRuntime, alloc: Global, setting: Setting) -> Result<SceneWorld, Memory> {
+    let Setting {
+        door,
+        recorder,
+        wanting,
+        closed,
+        roles,
+    } = setting;
     let manners = manners_of(alloc, roles.as_slice())?;
-    let world = memory_world(alloc, door, roles)?;
-    SceneWorld::new(host, alloc, world, Props { manners, wanting })
+    let world = memory_world(alloc, door, recorder, roles)?;
+    let props = Props {
+        manners,
+        wanting,
+        closed,
+    };
+    SceneWorld::new(host, alloc, world, props)
 }
 
 /// How the links of these roles behave.
@@ -188,10 +215,15 @@ fn manners_of(alloc: Global, roles: &[Role]) -> Result<Vec<Manner>, Memory> {
 }
 
 /// The world in memory in which this is said.
-fn memory_world(alloc: Global, door: Script, mut roles: Vec<Role>) -> Result<MemoryWorld, Memory> {
+fn memory_world(
+    alloc: Global,
+    door: Script,
+    recorder: Script,
+    mut roles: Vec<Role>,
+) -> Result<MemoryWorld, Memory> {
     let server = server_link(alloc, &mut roles)?;
     let door = door_of(alloc, door, roles)?;
-    let recorder = MemoryRecorder::new(alloc, calm(alloc));
+    let recorder = MemoryRecorder::new(alloc, recorder);
     MemoryWorld::new(alloc, door, server, recorder)
 }
 

@@ -15,7 +15,7 @@ use std::sync::Arc;
 /// The host of the server.
 const SERVER_HOST: &[u8] = b"media.example";
 
-/// The port of a server that names none.
+/// Its port, which its address does not name.
 const SERVER_PORT: u16 = 554;
 
 /// The place of the first player among all links.
@@ -116,6 +116,17 @@ impl Recorder for SceneRecorder {
     }
 }
 
+/// What a world may be asked to open.
+#[derive(Clone, Copy)]
+pub enum Opening {
+    /// The door.
+    Door,
+    /// The recording.
+    Recording,
+    /// The link to the server.
+    Link,
+}
+
 /// What a scene's world is made of, beside the world in memory.
 #[derive(Drop)]
 pub struct Props {
@@ -123,6 +134,8 @@ pub struct Props {
     pub manners: Vec<Manner>,
     /// The number of the note for which memory is wanting.
     pub wanting: Option<u64>,
+    /// What can't be opened.
+    pub closed: Option<Opening>,
 }
 
 /// The world of a scene.
@@ -137,6 +150,7 @@ pub struct SceneWorld {
     /// How the server's link and then the players' behave, until the door has it.
     manners: Vec<Manner>,
     wanting: Option<u64>,
+    closed: Option<Opening>,
     watch: Arc<Watch>,
     tally: Tally,
 }
@@ -158,6 +172,7 @@ impl SceneWorld {
             server,
             manners: props.manners,
             wanting: props.wanting,
+            closed: props.closed,
             watch,
             tally: Tally::new(),
         })
@@ -168,13 +183,16 @@ impl SceneWorld {
         self.watch.was_in_vain()
     }
 
-    /// The door of the world in memory.
+    /// The door of the world in memory, where it can be opened.
     fn open_door(&mut self) -> Result<SceneDoor, Failed>
         ensures tally { self.new.tally ≡ self.old.tally }
         ensures recorded { world_recorded self.new.world ≡ world_recorded self.old.world }
         ensures faults { IfOk result (λ door. door.faults ≡ 0) }
         ensures ends { IfOk result (λ door. door.ends ≡ 0) }
     {
+        if let Some(Opening::Door) = self.closed {
+            return Err(Failed);
+        }
         let door = self.world.listen(b"")?;
         let manners = mem::replace(&mut self.manners, Vec::new(self.alloc));
         let Ok(watch) = Arc::try_clone(&self.watch) else {
@@ -193,15 +211,21 @@ impl SceneWorld {
         })
     }
 
-    /// The link to the server.
-    fn open_link(&mut self) -> Result<(WaitingInlet, WaitingOutlet), Failed>
+    /// The link to the server, where it can be opened.
+    fn open_link(&mut self, host: &[u8], port: u16) -> Result<(WaitingInlet, WaitingOutlet), Failed>
         ensures tally { self.new.tally ≡ self.old.tally }
         ensures recorded { world_recorded self.new.world ≡ world_recorded self.old.world }
         ensures faults { IfOk result (λ link. link.0.faults ≡ 0) }
         ensures ends { IfOk result (λ link. link.0.ends ≡ 0) }
         ensures refusals { IfOk result (λ link. link.1.faults ≡ 0) }
     {
-        let halves = self.world.dial(b"", 0)?;
+        if let Some(Opening::Link) = self.closed {
+            return Err(Failed);
+        }
+        if host != SERVER_HOST || port != SERVER_PORT {
+            return Err(Failed);
+        }
+        let halves = self.world.dial(host, port)?;
         match waiting_link(
             self.host,
             self.alloc,
@@ -237,14 +261,17 @@ impl World for SceneWorld {
         door
     }
 
-    fn dial(&mut self, _host: &[u8], _port: u16) -> Result<(WaitingInlet, WaitingOutlet), Failed> {
-        let link = self.open_link();
+    fn dial(&mut self, host: &[u8], port: u16) -> Result<(WaitingInlet, WaitingOutlet), Failed> {
+        let link = self.open_link(host, port);
         self.tally.add_dial(link.is_ok());
         link
     }
 
     fn recorder(&mut self, name: &[u8]) -> Result<SceneRecorder, Failed> {
-        let recorder = self.world.recorder(name);
+        let recorder = match self.closed {
+            Some(Opening::Recording) => Err(Failed),
+            _ => self.world.recorder(name),
+        };
         self.tally.add_record(recorder.is_ok());
         match recorder {
             Ok(recorder) => Ok(SceneRecorder {
