@@ -8,7 +8,7 @@ from stands_parts import QuietPlayer, QuietServer, await_true, can_trace, connec
 # Of some 130 threads, those of the first stations and of the server's side.
 REFUSED = (4, 6, 10, 12, 14)
 # The first is that which writes the recording, and the second that of the server's side.
-SIDE, SIDE_SECONDS = 2, 45
+SIDE, SIDE_SECONDS = 2, 75
 CREW_SECONDS, LATE_SECONDS, GIVEN_BACK_SECONDS = 10, 3, 3
 EARLY_PLAYERS = 16
 # Frames on a channel that nobody has, and how many threads each may wake.
