@@ -50,9 +50,9 @@ def no_descriptors(program, folder):
     check("another player is served", code == 200, code)
     server.close()
     status, fault, _, _ = gateway.end()
-    lines = fault.splitlines()
-    check("it was told in one line", len(lines) == 2 and "accept" in lines[0], lines)
-    check("the run ends with the server", (status, lines[-1:]) == (6, ["rtspgate: upstream: Ended"]), (status, lines))
+    lines = [line for line in gateway.said.splitlines() if line.startswith("accept: ")]
+    check("it was told in one line", len(lines) == 1, gateway.said)
+    check("the run ends with the server", (status, fault) == (6, "rtspgate: upstream: Ended"), (status, fault))
 
 
 def failed_accepts(program, folder):
@@ -90,9 +90,7 @@ def accepts_that_fail_on(program, folder):
     lasted = time.monotonic() - begin
     server.close()
     status, fault, _, _ = gateway.end()
-    lines = fault.splitlines()
-    is_told = (status, lines[-1:]) == (12, ["rtspgate: accept failed"])
-    check("they end the run", is_told, (status, lines))
+    check("they end the run", (status, fault) == (12, "rtspgate: accept failed"), (status, fault))
     check("neither much earlier nor later", 55 < lasted < 70, "%.1f s" % lasted)
 
 
