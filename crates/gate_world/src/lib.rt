@@ -5,9 +5,11 @@
 #![tactic(auto)]
 
 mod memory_world;
+mod refusal;
 mod tally;
 mod world;
 
 pub use memory_world::MemoryWorld;
+pub use refusal::{Refusal, Refused, beside, start};
 pub use tally::Tally;
 pub use world::World;

@@ -7,11 +7,11 @@ ghost use Rattle.gate_outside.specs.MemoryDoors.{door_faults, door_ends, links_c
 ghost use Rattle.gate_outside.specs.MemoryLinks.{inlet_faults, inlet_ends, outlet_sink, IsUnused};
 ghost use Rattle.gate_outside.specs.NewLinks.{halves_of};
 ghost use Rattle.gate_transcript.specs.Recordings.{entries_recorded, note_faults};
-ghost use Rattle.gate_world.specs.NewThings.{IsNewMemoryDoor, IsNewMemoryRecorder};
+ghost use Rattle.gate_world.specs.NewThings.{IsNewMemoryDoor, IsNewMemoryRecorder, unless};
 ghost use Rattle.gate_world.specs.Tallies.{no_tally, after_listen, after_dial, after_record, after_refusal, after_door, after_link, after_recorder, CountsRecorder};
 ghost use Rattle.gate_world.specs.Worlds.{IsNewDoor, IsNewRecorder};
 
-use crate::{Tally, World};
+use crate::{Refusal, Tally, World};
 use gate_bytes::Memory;
 use gate_outside::{Failed, MemoryDoor, MemoryInlet, MemoryLink, MemoryOutlet, NewLink};
 use gate_transcript::MemoryRecorder;
@@ -33,7 +33,7 @@ pub struct MemoryWorld {
 }
 
 impl MemoryWorld {
-    ghost use Rattle.gate_world.specs.MemoryWorlds.{world_tally, world_recorded, door_ahead, link_ahead, recorder_ahead, door_back, link_back, recorder_back};
+    ghost use Rattle.gate_world.specs.MemoryWorlds.{world_tally, world_recorded, door_ahead, link_ahead, recorder_ahead, door_back, link_back, recorder_back, KeepsBack};
 
     /// A world of these, to which nothing has happened. The parts of the server's inlet and of the inlets of the door's
     /// links may wait for outlets: 0 is the server's, and n that of the door's nth link, counted from 1.
@@ -66,6 +66,25 @@ impl MemoryWorld {
         })
     }
 
+    /// The same world, of which these calls fail: what they would have handed out is not there.
+    pub fn failing(self, listen: bool, dial: bool, recorder: bool) -> MemoryWorld
+        ensures door { door_ahead result ≡ unless listen (door_ahead self) }
+        ensures link { link_ahead result ≡ unless dial (link_ahead self) }
+        ensures recorder { recorder_ahead result ≡ unless recorder (recorder_ahead self) }
+        ensures tally { world_tally result ≡ world_tally self }
+        ensures back { KeepsBack self result }
+    {
+        MemoryWorld {
+            tally: self.tally,
+            next_door: kept_unless(listen, self.next_door),
+            next_link: kept_unless(dial, self.next_link),
+            next_recorder: kept_unless(recorder, self.next_recorder),
+            door: self.door,
+            upstream: self.upstream,
+            transcript: self.transcript,
+        }
+    }
+
     /// What has happened to it.
     pub fn tally(&self) -> Tally
         ensures { result ≡ world_tally self.now }
@@ -93,6 +112,13 @@ impl MemoryWorld {
     {
         self.transcript.as_ref()
     }
+}
+
+/// This, or nothing where that is said.
+fn kept_unless<T: Drop>(gone: bool, thing: Option<T>) -> Option<T>
+    ensures { result ≡ unless gone thing }
+{
+    if gone { None } else { thing }
 }
 
 impl World for MemoryWorld {
@@ -161,7 +187,7 @@ impl World for MemoryWorld {
         recorder.ok_or(Failed)
     }
 
-    fn refuse(&mut self)
+    fn refuse(&mut self, _refusal: Refusal)
         ensures counts { world_tally self.new ≡ after_refusal (world_tally self.old) }
         ensures recorded { world_recorded self.new ≡ world_recorded self.old }
         ensures left { world_left self.new ≡ world_left self.old }

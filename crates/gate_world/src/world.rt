@@ -8,6 +8,7 @@ ghost use Rattle.gate_world.specs.declared.tally.Tally.{Tally};
 ghost use Rattle.gate_world.specs.Tallies.{after_listen, after_dial, after_record, after_refusal, after_door, after_link, CountsRecorder};
 ghost use Rattle.gate_world.specs.Worlds.{IsNewDoor, IsNewRecorder};
 
+use crate::Refusal;
 use gate_outside::{Door, Failed, Inlet, Outlet};
 use gate_transcript::Recorder;
 
@@ -56,8 +57,9 @@ pub trait World {
         ensures left { links_left self.new ≡ links_left self.old }
         ensures fresh { IfOk result (λ made. IsNewRecorder (Self.Rec.faults made) (Self.Rec.entries made)) };
 
-    /// Counts that a thread was refused.
-    fn refuse(&mut self)
+    /// Counts that a thread was refused. No other call changes that count, and only a thread that was refused gives what this
+    /// one asks for.
+    fn refuse(&mut self, refusal: Refusal)
         ensures counts { tally self.new ≡ after_refusal (tally self.old) }
         ensures recorded { recorded self.new ≡ recorded self.old }
         ensures left { links_left self.new ≡ links_left self.old };

@@ -7,6 +7,6 @@ mod waiting;
 mod world;
 
 pub use reading::read_scenes;
-pub use scene::{Role, Scene, Setting, calm, world_of};
+pub use scene::{Opening, Role, Scene, Setting, calm, world_of};
 pub use waiting::{Manner, WaitingInlet, WaitingOutlet};
-pub use world::{Opening, SceneDoor, SceneRecorder, SceneWorld};
+pub use world::{SceneDoor, SceneRecorder, SceneWorld};

@@ -1,7 +1,6 @@
 //! Scenes are read.
 
-use crate::scene::{Role, Scene, Setting};
-use crate::world::Opening;
+use crate::scene::{Opening, Role, Scene, Setting};
 use case_text::{CaseFault, CasesFault, first_number, first_word, meant, next_line};
 use gate_bytes::Text;
 use gateway_words::MOST_STATIONS;

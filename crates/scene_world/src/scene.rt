@@ -4,7 +4,7 @@ ghost use Rattle.gate_outside.specs.MemoryDoors.{door_faults, door_ends};
 ghost use Rattle.gateway_words.specs.declared.options.TheConstants.{MOST_STATIONS};
 
 use crate::waiting::Manner;
-use crate::world::{Opening, Props, SceneWorld};
+use crate::world::{Props, SceneWorld};
 use gate_bytes::{Memory, Text};
 use gate_outside::{
     Links, MemoryDoor, MemoryInlet, MemoryOutlet, NewLink, Numbers, Part, Parts, Script,
@@ -105,6 +105,17 @@ impl Role {
     }
 }
 
+/// What a world may be asked to open.
+#[derive(Clone, Copy)]
+pub enum Opening {
+    /// The door.
+    Door,
+    /// The recording.
+    Recording,
+    /// The link to the server.
+    Link,
+}
+
 /// How the world of a scene behaves.
 #[derive(Drop)]
 pub struct Setting {
@@ -196,13 +207,12 @@ pub fn world_of(host: HostRuntime, alloc: Global, setting: Setting) -> Result<Sc
         roles,
     } = setting;
     let manners = manners_of(alloc, roles.as_slice())?;
-    let world = memory_world(alloc, door, recorder, roles)?;
-    let props = Props {
-        manners,
-        wanting,
-        closed,
-    };
-    SceneWorld::new(host, alloc, world, props)
+    let world = memory_world(alloc, door, recorder, roles)?.failing(
+        matches!(closed, Some(Opening::Door)),
+        matches!(closed, Some(Opening::Link)),
+        matches!(closed, Some(Opening::Recording)),
+    );
+    SceneWorld::new(host, alloc, world, Props { manners, wanting })
 }
 
 /// How the links of these roles behave.

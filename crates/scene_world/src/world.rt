@@ -7,7 +7,7 @@ use crate::waiting::{Manner, WaitingInlet, WaitingOutlet, Watch, waiting_link};
 use gate_bytes::Memory;
 use gate_outside::{Arrived, Door, Failed, MemoryDoor};
 use gate_transcript::{EntryKind, MemoryRecorder, NoteFault, Recorder};
-use gate_world::{MemoryWorld, Tally, World};
+use gate_world::{MemoryWorld, Refusal, Tally, World};
 use std::alloc::Global;
 use std::mem;
 use std::sync::Arc;
@@ -116,17 +116,6 @@ impl Recorder for SceneRecorder {
     }
 }
 
-/// What a world may be asked to open.
-#[derive(Clone, Copy)]
-pub enum Opening {
-    /// The door.
-    Door,
-    /// The recording.
-    Recording,
-    /// The link to the server.
-    Link,
-}
-
 /// What a scene's world is made of, beside the world in memory.
 #[derive(Drop)]
 pub struct Props {
@@ -134,8 +123,6 @@ pub struct Props {
     pub manners: Vec<Manner>,
     /// The number of the note for which memory is wanting.
     pub wanting: Option<u64>,
-    /// What can't be opened.
-    pub closed: Option<Opening>,
 }
 
 /// The world of a scene.
@@ -150,7 +137,6 @@ pub struct SceneWorld {
     /// How the server's link and then the players' behave, until the door has it.
     manners: Vec<Manner>,
     wanting: Option<u64>,
-    closed: Option<Opening>,
     watch: Arc<Watch>,
     tally: Tally,
 }
@@ -172,7 +158,6 @@ impl SceneWorld {
             server,
             manners: props.manners,
             wanting: props.wanting,
-            closed: props.closed,
             watch,
             tally: Tally::new(),
         })
@@ -190,9 +175,6 @@ impl SceneWorld {
         ensures faults { IfOk result (λ door. door.faults ≡ 0) }
         ensures ends { IfOk result (λ door. door.ends ≡ 0) }
     {
-        if let Some(Opening::Door) = self.closed {
-            return Err(Failed);
-        }
         let door = self.world.listen(b"")?;
         let manners = mem::replace(&mut self.manners, Vec::new(self.alloc));
         let Ok(watch) = Arc::try_clone(&self.watch) else {
@@ -219,9 +201,6 @@ impl SceneWorld {
         ensures ends { IfOk result (λ link. link.0.ends ≡ 0) }
         ensures refusals { IfOk result (λ link. link.1.faults ≡ 0) }
     {
-        if let Some(Opening::Link) = self.closed {
-            return Err(Failed);
-        }
         if host != SERVER_HOST || port != SERVER_PORT {
             return Err(Failed);
         }
@@ -268,10 +247,7 @@ impl World for SceneWorld {
     }
 
     fn recorder(&mut self, name: &[u8]) -> Result<SceneRecorder, Failed> {
-        let recorder = match self.closed {
-            Some(Opening::Recording) => Err(Failed),
-            _ => self.world.recorder(name),
-        };
+        let recorder = self.world.recorder(name);
         self.tally.add_record(recorder.is_ok());
         match recorder {
             Ok(recorder) => Ok(SceneRecorder {
@@ -283,7 +259,7 @@ impl World for SceneWorld {
         }
     }
 
-    fn refuse(&mut self) {
+    fn refuse(&mut self, _refusal: Refusal) {
         self.tally.add_refusal();
     }
 

@@ -8,7 +8,7 @@ use crate::file_sink::FileSink;
 use crate::link::{TcpInlet, TcpOutlet, connect_within, halves};
 use gate_outside::Failed;
 use gate_transcript::TranscriptRecorder;
-use gate_world::{Tally, World};
+use gate_world::{Refusal, Tally, World};
 use std::alloc::Global;
 use std::net::{Net, TcpListener, TcpStream};
 use std::thread::Threads;
@@ -198,7 +198,7 @@ impl<'a, R: Net<Listener = TcpListener, Stream = TcpStream> + Threads> World for
         }
     }
 
-    fn refuse(&mut self) {
+    fn refuse(&mut self, _refusal: Refusal) {
         self.tally.add_refusal();
     }
 

@@ -189,8 +189,8 @@ fn tell_file(host: &HostRuntime, answer: &mut Answer) {
     }
 }
 
-/// Asks for a door, a link and a recorder that can't be, and has a thread refused. Which of the three were made is told, and
-/// how often each of the four was refused.
+/// Asks for a door, a link and a recorder that can't be. Which of the three were made is told, how often each was refused, and
+/// that no thread was.
 fn tell_refused<R: Net<Listener = TcpListener, Stream = TcpStream> + Threads>(
     rt: &R,
     host: HostRuntime,
@@ -203,7 +203,6 @@ fn tell_refused<R: Net<Listener = TcpListener, Stream = TcpStream> + Threads>(
         world.dial(b"[::1", 1).is_ok(),
         world.recorder(b"no/such/folder").is_ok(),
     ];
-    world.refuse();
     answer.push_debug(alloc, &made);
     let tally = world.tally();
     let refused = [
