@@ -18,4 +18,4 @@ pub use bell::Bell;
 pub use parcel::{Full, Parcel};
 pub use ports::{Met, meet, port};
 pub use putter::Putter;
-pub use taker::Taker;
+pub use taker::{TakenParcels, Taker};

@@ -18,8 +18,16 @@ pub struct Taker {
     ghost counted: { count ≡ length (view pass).taken },
 }
 
+/// What a taker had taken at one moment. Only [`Taker::taken`] makes one, and it neither puts nor takes; so what it tells of
+/// went through a port.
+#[derive(Drop)]
+pub struct TakenParcels {
+    pass: EndPass,
+}
+
 impl Taker {
     ghost use Rattle.client_ports.specs.Ends.{put_of, taken_of, told_of, takers_port, OfOnePort, IsSamePutter, IsSameTaker, WasEmpty};
+    ghost use Rattle.client_ports.specs.Takings.{taken_in, parcels_port};
     ghost use Rattle.client_ports.specs.Rule.{knows};
 
     /// The end of this queue whose pass has taken nothing.
@@ -66,6 +74,15 @@ impl Taker {
     {
         let word = putter.word();
         self.queue.absorb::<PutWord>(&mut self.pass, word);
+    }
+
+    /// What was taken so far. That is still told once the taker is given away.
+    pub fn taken(&mut self) -> TakenParcels
+        ensures taker { IsSameTaker self.old self.new }
+        ensures port { parcels_port result ≡ takers_port self.old }
+        ensures taken { taken_in result ≡ taken_of self.old }
+    {
+        TakenParcels { pass: self.word() }
     }
 
     /// A new pass that knows what was taken so far, and neither puts nor takes.
