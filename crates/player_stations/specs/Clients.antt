@@ -46,11 +46,9 @@ pub record CountsAll (first left : Option (List ℕ)) (pushed : ℕ) : Type 0 wh
   pub gave : GaveBytes first left given
   pub all : pushed ≡ length (items_of given)
 
--- What was written, where it is told, is the bytes of so many parcels that were taken; or the first of them, where the
--- outlet failed.
-pub record WroteTaken (written : Option (List ℕ)) (faults count : ℕ) : Type 0 where
-  pub taken : List Parcel
-  pub number : count ≡ length taken
+-- What was written, where it is told, is the bytes of these parcels that were taken; or the first of them, where the outlet
+-- failed.
+pub record WroteTaken (written : Option (List ℕ)) (faults : ℕ) (taken : List Parcel) : Type 0 where
   pub failed : Bool
   pub cause : failed ≡ true → 0 < faults
   pub told : HasWritten written taken failed

@@ -3,12 +3,13 @@ ghost use Rattle.std.specs.Prelude.{◌≡◌, ℕ, ◌<◌, List, [], Option, t
 ghost use Rattle.link_reader.specs.Reading.{ReadsItems, PutAll};
 ghost use Rattle.gate_outside.specs.Causes.{Rose};
 ghost use Rattle.client_ports.specs.Ends.{put_of, taken_of};
+ghost use Rattle.client_ports.specs.Takings.{taken_in};
 ghost use Rattle.player_stations.specs.declared.client.ClientWhy.TheVariants as whys;
 ghost use Rattle.link_halves.specs.declared.reading.ReadEnd.TheVariants as ends;
 ghost use Rattle.player_stations.specs.Clients.{GoesWithReceipt, IfGoesWithReceipt, CountsAll, WroteTaken};
 
 use crate::reading::read_on;
-use client_ports::{Putter, Taker};
+use client_ports::{Putter, TakenParcels, Taker};
 use gate_machine::CloseWhy;
 use gate_outside::{Inlet, Outlet};
 use gateway_hub::{Ending, Entered, HubFault, Receipt, Recorder, Seat, StopWhy};
@@ -45,13 +46,15 @@ pub enum ClientWhy {
     Memory,
 }
 
-/// What is left of a player's connection: the two halves of its link, its receipt, and why it ended.
+/// What is left of a player's connection: the two halves of its link, what its writer had taken, its receipt, and why it ended.
 #[derive(Drop)]
 pub struct Retired<I, O> {
     /// What came in by it.
     pub inlet: I,
     /// What went out by it.
     pub outlet: O,
+    /// What its writer had taken of its port.
+    pub taken: TakenParcels,
     /// The receipt that the hub gave.
     pub receipt: Receipt,
     /// Why it ended.
@@ -77,7 +80,8 @@ pub fn run_client<I: Inlet + Drop, O: Outlet + Drop, M: Core, R: Recorder, W: Wa
     ensures all { result.why ≡ whys.ClientEnd → CountsAll (I.rest inlet) (I.rest result.inlet) result.receipt.pushed }
     ensures read { result.why ≡ whys.ReadFault → Rose (I.faults inlet) (I.faults result.inlet) }
     ensures write { result.why ≡ whys.WriteFault → 0 < O.faults result.outlet }
-    ensures wrote { WroteTaken (O.written result.outlet) (O.faults result.outlet) result.receipt.taken }
+    ensures wrote { WroteTaken (O.written result.outlet) (O.faults result.outlet) (taken_in result.taken) }
+    ensures taken { result.receipt.taken ≡ length (taken_in result.taken) }
 {
     let Entered {
         seat,
@@ -88,12 +92,14 @@ pub fn run_client<I: Inlet + Drop, O: Outlet + Drop, M: Core, R: Recorder, W: Wa
     let writer = Writer::new(common.alloc, Some(seat.number()), outlet, outward);
     let (end, writer) = read_link(common, desk, &seat, &mut reader, writer, buffer);
     let (inlet, inward) = reader.into_ends();
-    let (outlet, outward, failed) = writer.into_ends();
+    let (outlet, mut outward, failed) = writer.into_ends();
+    let taken = outward.taken();
     let receipt = retire(common, seat, inward, outward);
     let why = why_of(end, failed, &receipt);
     Retired {
         inlet,
         outlet,
+        taken,
         receipt,
         why,
     }

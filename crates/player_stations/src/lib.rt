@@ -9,7 +9,8 @@ mod gate;
 mod next;
 mod reading;
 mod stations;
+mod threads;
 
 pub use client::{ClientWhy, Retired, run_client};
 pub use gate::Gate;
-pub use stations::station;
+pub use threads::{StationPost, work_stations};

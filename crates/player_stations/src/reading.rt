@@ -91,35 +91,53 @@ pub fn read_on<I: Inlet + Drop, O: Outlet + Drop, M: Core, R: Recorder, W: Wait 
     ensures all { result ≡ ends.Ended → (first : Option (List ℕ)) → ReadsItems I.rest first reader.old → PutAll I.rest first reader.new }
     ensures failed { result ≡ ends.Failed → Rose (I.faults reader.old.inlet) (I.faults reader.new.inlet) }
 {
-    let bell = common.signals.of(Some(seat.number()));
     let mut watch = Watch::new(common.rt);
     for _ in common.rt.forever() {
-        let seen = bell.rings(common.rt);
-        let put = put_some(
-            common.rt,
-            reader,
-            ITEMS_AT_ONCE,
-            common.signals.flow.is_crowded(),
-        );
-        let line = take_some(common, seat);
-        match step_of(common, &mut watch, line, put) {
-            Step::Go => {}
-            Step::Read => {
-                if let Some(end) = read_more(common, desk, reader, buffer, &watch) {
-                    return finish(common, desk, seat, end);
-                }
-            }
-            Step::Pause(millis) => {
-                if desk.is_back(common.rt) {
-                    return ReadEnd::Over;
-                }
-                bell.pause_within(common.rt, seen, Duration::from_millis(millis));
-            }
-            Step::Over => return ReadEnd::Over,
-            Step::Memory => return ReadEnd::Memory,
+        if let Some(end) = read_turn(common, desk, seat, reader, buffer, &mut watch) {
+            return finish(common, desk, seat, end);
         }
     }
     unreachable!()
+}
+
+/// Puts some of what came and has some taken, and reads once more or pauses where that is next. None where the link is to be
+/// read on.
+fn read_turn<I: Inlet + Drop, O: Outlet + Drop, M: Core, R: Recorder, W: Wait + Clock>(
+    common: &Common<'_, M, R, W>,
+    desk: &Desk<O>,
+    seat: &Seat,
+    reader: &mut Reader<I>,
+    buffer: &mut [u8],
+    watch: &mut Watch,
+) -> Option<ReadEnd>
+    requires { 0 < length buffer.old }
+    ensures faults { I.faults reader.old.inlet ≤ I.faults reader.new.inlet }
+    ensures ends { I.ends reader.old.inlet ≤ I.ends reader.new.inlet }
+    ensures on { result ≡ None → (first : Option (List ℕ)) → ReadsItems I.rest first reader.old → ReadsItems I.rest first reader.new }
+    ensures end { result ≡ Some ends.Ended → Rose (I.ends reader.old.inlet) (I.ends reader.new.inlet) }
+    ensures all { result ≡ Some ends.Ended → (first : Option (List ℕ)) → ReadsItems I.rest first reader.old → PutAll I.rest first reader.new }
+    ensures failed { result ≡ Some ends.Failed → Rose (I.faults reader.old.inlet) (I.faults reader.new.inlet) }
+{
+    let bell = common.signals.of(Some(seat.number()));
+    let seen = bell.rings(common.rt);
+    let put = put_some(
+        common.rt,
+        reader,
+        ITEMS_AT_ONCE,
+        common.signals.flow.is_crowded(),
+    );
+    let line = take_some(common, seat);
+    match step_of(common, watch, line, put) {
+        Step::Go => None,
+        Step::Read => read_more(common, desk, reader, buffer, watch),
+        Step::Pause(_) if desk.is_back(common.rt) => Some(ReadEnd::Over),
+        Step::Pause(millis) => {
+            bell.pause_within(common.rt, seen, Duration::from_millis(millis));
+            None
+        }
+        Step::Over => Some(ReadEnd::Over),
+        Step::Memory => Some(ReadEnd::Memory),
+    }
 }
 
 /// What a reader does next.

@@ -2,7 +2,7 @@
 ghost use Rattle.std.specs.Prelude.{◌≡◌, ◌<◌, [], length, IfSome};
 ghost use Rattle.client_ports.specs.Ends.{put_of, taken_of};
 
-use crate::client::run_client;
+use crate::client::{Retired, run_client};
 use crate::gate::{Gate, next_link};
 use crate::next::Next;
 use gate_outside::{Door, Inlet, Outlet};
@@ -55,8 +55,10 @@ fn serve_link<D: Door + Drop, M: Core, R: Recorder, W: Wait + Clock>(
 {
     let (inlet, outlet) = match enter(common) {
         Some(entered) => {
-            let retired = run_client(common, desk, entered, inlet, outlet, buffer);
-            (retired.inlet, retired.outlet)
+            let Retired { inlet, outlet, .. } = run_client(
+                common, desk, entered, inlet, outlet, buffer,
+            );
+            (inlet, outlet)
         }
         None => (inlet, outlet),
     };
@@ -65,21 +67,30 @@ fn serve_link<D: Door + Drop, M: Core, R: Recorder, W: Wait + Clock>(
     common.signals.turnstile.end_return();
 }
 
-/// A connection enters. Where it can't, the hub is stopped or was.
+/// A connection enters. Where it can't, the hub is stopped or was, and all workers are woken.
 fn enter<M: Core, R: Recorder, W: Wait>(common: &Common<'_, M, R, W>) -> Option<Entered>
+    ensures put { IfSome result (λ entered. put_of entered.inward ≡ []) }
+    ensures taken { IfSome result (λ entered. taken_of entered.outward ≡ []) }
+{
+    let entered = enter_hub(common);
+    if entered.is_none() {
+        common.tell_over();
+    }
+    entered
+}
+
+/// A connection enters, under the hub's lock. Where it can't, the hub is stopped or was.
+fn enter_hub<M: Core, R: Recorder, W: Wait>(common: &Common<'_, M, R, W>) -> Option<Entered>
     ensures put { IfSome result (λ entered. put_of entered.inward ≡ []) }
     ensures taken { IfSome result (λ entered. taken_of entered.outward ≡ []) }
 {
     let mut hub = common.hub.lock(common.rt);
     match hub.enter(common.alloc) {
         Ok(entered) => Some(entered),
-        Err(fault) => {
-            if fault == HubFault::Memory {
-                hub.stop(StopWhy::Memory);
-            }
-            drop(hub);
-            common.tell_over();
+        Err(HubFault::Memory) => {
+            hub.stop(StopWhy::Memory);
             None
         }
+        Err(HubFault::Ended(_) | HubFault::Stopped(_) | HubFault::RecordFault) => None,
     }
 }

@@ -6,8 +6,9 @@
 
 mod pace;
 mod taking;
+mod threads;
 mod upstream;
 
 pub use run_report::UpRun;
-pub use taking::{Taking, take_on};
+pub use threads::{ServerPost, work_server};
 pub use upstream::{UpBack, Upstream, run_upstream};

@@ -2,17 +2,9 @@
 
 use client_ports::Bell;
 use std::sync::{Mutex, Wait};
-use std::time::{Clock, Duration};
 
 /// How many sides there are: the stations and the server's.
 const SIDES: u32 = 2;
-
-/// How long one pause for the other side is at most, in milliseconds.
-const PAUSE_MILLIS: u64 = 20;
-
-/// For how many pauses the other side is waited for: some half a minute, so that a thread that is late is not taken for one that
-/// was refused.
-const MOST_PAUSES: u32 = 1_500;
 
 /// Where two sides tell that they have come so far.
 #[derive(Drop)]
@@ -53,20 +45,5 @@ impl Meeting {
             self.bell.pause(rt, seen);
         }
         unreachable!()
-    }
-
-    /// Comes, and waits for the other side, but not for ever. False where it did not come in time: the calls that run two
-    /// closures beside each other run them in turn where a thread is refused, and don't tell so.
-    pub fn meet<R: Wait + Clock>(&self, rt: &R) -> bool {
-        self.arrive(rt);
-        for _ in 0..MOST_PAUSES {
-            let seen = self.bell.rings(rt);
-            if self.is_complete(rt) {
-                return true;
-            }
-            self.bell
-                .pause_within(rt, seen, Duration::from_millis(PAUSE_MILLIS));
-        }
-        false
     }
 }

@@ -1,0 +1,73 @@
+//! The threads of the server's link.
+ghost use denote.Param.Send.{IsSend, IsSync};
+
+use crate::taking::{Taking, take_on};
+use crate::upstream::{UpBack, Upstream, run_upstream};
+use gate_outside::{Inlet, Outlet};
+use gate_world::{Refusal, start};
+use gateway_hub::{Recorder, StopWhy};
+use hub_workers::{Common, write_from};
+use link_halves::ReadBuffer;
+use link_writer::Desk;
+use mux_history::Core;
+use std::sync::Wait;
+use std::thread;
+use std::thread::Threads;
+use std::time::Clock;
+
+/// What the threads of the server's link work on: their desk, their buffer, and the link.
+#[derive(Drop)]
+pub struct ServerPost<'a, I: Inlet + Drop, P: Outlet + Drop> {
+    /// The desk.
+    pub desk: &'a Desk<P>,
+    /// The buffer.
+    pub buffer: ReadBuffer,
+    /// The link.
+    pub upstream: Upstream<I, P>,
+}
+
+/// Starts the writer of the server's link and the thread that takes what the server said, and serves the server's connection
+/// in this thread until it is over. Where a thread was refused the hub is stopped, and that is told.
+pub fn work_server<
+    I: Inlet + Drop,
+    P: Outlet + Drop,
+    M: Core,
+    R: Recorder,
+    W: Threads + Wait + Clock + Sync,
+>(common: &Common<'_, M, R, W>, post: ServerPost<'_, I, P>) -> (UpBack<I, P>, Option<Refusal>)
+where
+    M::Plan: Send,
+{
+    let taking = Taking::new(common.alloc);
+    let taking = &taking;
+    thread::scope(
+        thread::scope_env(),
+        common.rt,
+        move |scope| -> (UpBack<I, P>, Option<Refusal>)
+            requires { IsSync W.row × IsSend I.row × IsSend P.row × IsSend M.row × IsSend M.Plan.row × IsSend R.row }
+        {
+            let ServerPost {
+                desk,
+                buffer,
+                upstream,
+            } = post;
+            let ReadBuffer { mut bytes } = buffer;
+            let mut refused = None;
+            if let Err(refusal) = start(scope, move || write_from(common, desk)) {
+                refused = Some(refusal);
+                desk.close(common.rt);
+            }
+            if let Err(refusal) = start(scope, move || take_on(common, taking)) {
+                refused = Some(refusal);
+            }
+            if refused.is_some() {
+                common.stop(StopWhy::Crew);
+            }
+            common.signals.meeting.arrive(common.rt);
+            let back = run_upstream(common, desk, taking, upstream, bytes.as_mut_slice());
+            desk.close(common.rt);
+            taking.came.ring(common.rt);
+            (back, refused)
+        },
+    )
+}
