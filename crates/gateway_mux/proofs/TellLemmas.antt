@@ -1,5 +1,5 @@
 -- What the multiplexer tells of its connections is what its history tells.
-use Rattle.std.proofs.Common.{◌≡◌, ◌∙◌, ℕ, ◌^◌, ◌≤◌, ◌<◌, ◌&&◌, not, Bool, true, false, cond, List, Option, Some, None, refl, sym, ap}
+use Rattle.std.proofs.Common.{◌≡◌, ◌∙◌, ℕ, ◌^◌, ◌≤◌, ◌<◌, ◌&&◌, not, Bool, true, false, cond, List, [], ◌∷◌, length, Option, Some, None, refl, sym, ap}
 use Rattle.std.specs.Prelude.{is_some, is_none}
 use Rattle.std.specs.Option.{option_map}
 use Rattle.rtsp_uri.specs.declared.base.Bases.{Bases}
@@ -9,21 +9,23 @@ use Rattle.client_slot.specs.Renumbered.{purpose_under}
 use Rattle.gate_machine.specs.Alone.{is_live, is_empty_list}
 use Rattle.gate_machine.proofs.KeepLemmas.{live_unclosed}
 use Rattle.mux_history.specs.declared.event.UpCause.{UpCause}
-use Rattle.mux_history.specs.Happenings.{Entry, fault_in, entered, shut, is_alive}
+use Rattle.mux_history.specs.Happenings.{Entry, fault_in, standing, entered, shut, is_alive}
 use Rattle.mux_history.specs.Own.{books_of, own}
 use Rattle.mux_history.specs.Follows.{IsHistory}
 use Rattle.mux_history.specs.Shared.{shared}
-use Rattle.mux_history.specs.Tells.{IsFirstAlive, is_busy_private, is_busy}
+use Rattle.mux_history.specs.Tells.{IsFirstAlive, is_busy_private, is_busy, waiting_private, requests_waiting}
 use Rattle.mux_history.proofs.CaseLemmas.{not_over}
 use Rattle.mux_history.proofs.HistoryLemmas.{shut_as_alone}
 use Rattle.mux_history.proofs.JoinedLemmas.{alone}
 use Rattle.mux_history.proofs.OverLemmas.{faults_over}
+use Rattle.mux_history.proofs.WaitLemmas.{still_waiting, closed_waiting}
+use Rattle.gateway_mux.specs.Gone.{IsKeptUnlessGone}
 use Rattle.gateway_mux.specs.Pictures.{Picture, IsPictureOf}
 use Rattle.gateway_mux.specs.Stands.{Stands, picture_of, bases_of}
 use Rattle.gateway_mux.specs.declared.mux.Mux.{Mux}
-use Rattle.gateway_mux.proofs.OverLemmas.{kept_alive}
+use Rattle.gateway_mux.proofs.OverLemmas.{over_dead, kept_alive}
 use Rattle.gateway_mux.proofs.PictureLemmas.{none_in, kept_in}
-use Rattle.gateway_mux.proofs.StandLemmas.{open_picture}
+use Rattle.gateway_mux.proofs.StandLemmas.{standing_open, open_picture}
 
 -- whether a connection is alive or busy, where it entered
 abbrev pub is_alive_client : Option Client → Bool
@@ -114,3 +116,34 @@ told_busy mux T stands i = by mux.ended refl
     by (Some cause) e =
         busy_over (bases_of mux) T cause stands.is_history (sym stands.has_ended ∙ e) i
         ∙ sym (ap (λ (f : Option UpCause). is_none f && is_busy_client ((picture_of mux.connections).clients i)) e)
+
+-- How many requests of a connection wait: of one that is not kept, since it is over, none does.
+abbrev pub waiting_of : Option Client → ℕ
+waiting_of None = 0
+waiting_of (Some client) = length client.waiting
+
+kept_waiting : (one : Option Client) (its : Client) → IsKeptUnlessGone one (Some its) → (its.alive ≡ false → its.waiting ≡ []) → length its.waiting ≡ waiting_of one
+kept_waiting None its is none = ap length (none (over_dead its is))
+kept_waiting (Some client) its is none = ap waiting_of is
+
+pub waiting_in : (bases : Bases) (one : Picture) (T : List Entry) → IsPictureOf bases one T → (i : ℕ) → requests_waiting bases i T ≡ waiting_of (one.clients i)
+waiting_in bases one T is i = by (entered i T) refl
+  where
+    by : (t : Bool) → entered i T ≡ t → requests_waiting bases i T ≡ waiting_of (one.clients i)
+    by true e =
+        ap (λ t. waiting_private (cond t (Some (alone bases T i)) None)) e
+        ∙ kept_waiting (one.clients i) (shared (books_of T) i (alone bases T i).client) (kept_in bases one T is i e) (closed_waiting bases (own bases i T))
+    by false e = ap (λ t. waiting_private (cond t (Some (alone bases T i)) None)) e ∙ sym (ap waiting_of (none_in bases one T is i e))
+
+-- The entries before the end of the connection to the server tell it also after that end.
+standing_more : (bases : Bases) (T : List Entry) (e : Entry) (i : ℕ) (ended : Option UpCause) → IsHistory bases (e ∷ T) → fault_in (e ∷ T) ≡ ended → requests_waiting bases i (standing T) ≡ requests_waiting bases i T
+    → requests_waiting bases i (standing (e ∷ T)) ≡ requests_waiting bases i (e ∷ T)
+standing_more bases T e i None history is earlier = ap (requests_waiting bases i) (standing_open (e ∷ T) is)
+standing_more bases T e i (Some cause) history is earlier =
+    ap (λ (f : Option UpCause). let all : List Entry = e ∷ T in requests_waiting bases i (cond (is_some f) (standing T) all)) is
+    ∙ earlier
+    ∙ sym (still_waiting bases T e i history.0 history.1 (ap is_some is))
+
+pub waiting_standing : (bases : Bases) (T : List Entry) → IsHistory bases T → (i : ℕ) → requests_waiting bases i (standing T) ≡ requests_waiting bases i T
+waiting_standing bases [] history i = refl
+waiting_standing bases (e ∷ T) history i = standing_more bases T e i (fault_in (e ∷ T)) history refl (waiting_standing bases T history.0 i)

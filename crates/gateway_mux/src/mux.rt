@@ -2,7 +2,7 @@
 ghost use Rattle.std.specs.Prelude.{◌≡◌, true, false, IfOk, OnOk, IsOk, IsSome, IfErr, OnErr, [], List, ◌∷◌, ℕ, None};
 ghost use Rattle.mux_history.specs.Cores.{ever_entered};
 ghost use Rattle.mux_history.specs.Happenings.{Entry, entry_of, entering, standing, is_alive, fault_in, happening_of};
-ghost use Rattle.mux_history.specs.Tells.{dropped_frames, IsFirstAlive, is_busy, is_frame_item};
+ghost use Rattle.mux_history.specs.Tells.{dropped_frames, IsFirstAlive, is_busy, requests_waiting, is_frame_item};
 
 use crate::act::Act;
 use crate::connections::Connections;
@@ -139,6 +139,14 @@ impl Mux {
         ensures { (T : List Entry) → Stands self.now T → result ≡ is_busy (bases_of self.now) conn T }
     {
         self.ended.is_none() && self.connections.busy(conn)
+    }
+
+    /// How many requests of a connection wait: those that came while another one was open. Where the
+    /// connection to the server has ended, those that waited then.
+    pub fn waiting(&self, conn: u32) -> usize
+        ensures { (T : List Entry) → Stands self.now T → result ≡ requests_waiting (bases_of self.now) conn T }
+    {
+        self.connections.waiting(conn)
     }
 
     /// The first connection from this number on that is alive, or that was alive when the connection

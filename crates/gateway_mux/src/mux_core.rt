@@ -8,9 +8,9 @@ use std::alloc::Global;
 
 impl Core for Mux {
     ghost use Rattle.mux_history.specs.Follows.{Follows};
-    ghost use Rattle.mux_history.specs.Tells.{is_busy, dropped_frames};
+    ghost use Rattle.mux_history.specs.Tells.{is_busy, requests_waiting, dropped_frames};
     ghost use Rattle.gateway_mux.specs.Stands.{Stands, IsPlanFor, bases_of, is_prepared};
-    ghost use Rattle.gateway_mux.specs.CoreLaws.{stands_for_history, one_follows, follows_in_order};
+    ghost use Rattle.gateway_mux.specs.CoreLaws.{stands_for_history, one_follows, follows_in_order, waits_for_nothing, treats_at_once};
 
     type Plan = Act;
 
@@ -23,6 +23,8 @@ impl Core for Mux {
     ghost planned = { IsPlanFor };
 
     ghost is_busy = { is_busy };
+
+    ghost waits = { requests_waiting };
 
     ghost dropped = { dropped_frames };
 
@@ -52,6 +54,10 @@ impl Core for Mux {
         Mux::busy(self, conn)
     }
 
+    fn waiting(&self, conn: u32) -> usize {
+        Mux::waiting(self, conn)
+    }
+
     fn alive(&self, conn: u32) -> bool {
         Mux::alive(self, conn)
     }
@@ -73,4 +79,8 @@ impl Core for Mux {
     ghost one_next = { one_follows };
 
     ghost orderly = { follows_in_order };
+
+    ghost none_waits = { waits_for_nothing };
+
+    ghost none_waits_next = { treats_at_once };
 }

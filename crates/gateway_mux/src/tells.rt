@@ -1,7 +1,7 @@
 //! What can be told of the connections.
 ghost use Rattle.std.specs.Prelude.{◌≡◌, List};
 ghost use Rattle.mux_history.specs.Happenings.{Entry, is_alive};
-ghost use Rattle.mux_history.specs.Tells.{IsFirstAlive, is_busy};
+ghost use Rattle.mux_history.specs.Tells.{IsFirstAlive, is_busy, requests_waiting};
 
 use crate::connections::Connections;
 
@@ -25,6 +25,16 @@ impl Connections {
         match self.seats.slot(conn) {
             Some(slot) => slot.alive() && slot.busy(),
             None => false,
+        }
+    }
+
+    /// How many requests of a connection wait.
+    pub fn waiting(&self, conn: u32) -> usize
+        ensures { (T : List Entry) → IsPictureOf self.now.bases (picture self.now.seats self.now.upstream) T → result ≡ requests_waiting self.now.bases conn T }
+    {
+        match self.seats.slot(conn) {
+            Some(slot) => slot.waiting(),
+            None => 0,
         }
     }
 

@@ -28,3 +28,6 @@ pub mod AskedLemmas
 pub mod OnePlayerLemmas
 pub mod OrderLemmas
 pub mod SeenLemmas
+pub mod TidyLemmas
+pub mod TidyStepLemmas
+pub mod WaitLemmas

@@ -42,7 +42,7 @@ either_none : (b : Bool) → cond {A = Option UpCause} b None None ≡ None
 either_none true = refl
 either_none false = refl
 
-enters_quiet : (bases : Bases) (T : List Entry) (i : ℕ) (h : Happening) → enters_here i h ≡ true → breach bases T h ≡ None
+pub enters_quiet : (bases : Bases) (T : List Entry) (i : ℕ) (h : Happening) → enters_here i h ≡ true → breach bases T h ≡ None
 enters_quiet bases T i (enters conn) here = either_none (is_some (fault_in T))
 enters_quiet bases T i (takes conn shape) here = cc
 enters_quiet bases T i (ends conn) here = cc

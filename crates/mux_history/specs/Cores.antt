@@ -4,7 +4,7 @@ use Rattle.std.specs.Prelude.{◌≡◌, ℕ, Bool, false, ◌||◌, ◌&&◌, �
 use Rattle.rtsp_uri.specs.declared.base.Bases.{Bases}
 use Rattle.mux_history.specs.declared.event.Closed.{Closed}
 use Rattle.mux_history.specs.declared.event.Closed.TheVariants.{Nobody, One, All}
-use Rattle.mux_history.specs.Happenings.{Entry, enters_here}
+use Rattle.mux_history.specs.Happenings.{Happening, enters, takes, ends, lags, hears, up_ends, Entry, enters_here}
 
 -- each entry follows those before it
 abbrev pub IsCoreHistory : (Bases → List Entry → Entry → Type 0) → Bases → List Entry → Type 0
@@ -27,3 +27,16 @@ abbrev pub stays_alive : ℕ → Closed → Bool → Bool
 stays_alive i Nobody was = was
 stays_alive i (One conn why) was = not (conn == i) && was
 stays_alive i All was = false
+
+-- No request waits, of any connection.
+abbrev pub NoneWaits : (ℕ → List Entry → ℕ) → List Entry → Type 0
+NoneWaits waits history = (i : ℕ) → waits i history ≡ 0
+
+-- This is no item of a client that is busy, whose request would wait.
+abbrev pub IsTimely : (ℕ → List Entry → Bool) → List Entry → Happening → Type 0
+IsTimely busy history (enters conn) = Unit {0}
+IsTimely busy history (takes conn shape) = busy conn history ≡ false
+IsTimely busy history (ends conn) = Unit {0}
+IsTimely busy history (lags conn) = Unit {0}
+IsTimely busy history (hears shape) = Unit {0}
+IsTimely busy history (up_ends cause) = Unit {0}

@@ -1,6 +1,6 @@
--- What can be told of a history: which connections are alive or busy, and how many frames were dropped (this project's
--- own).
-use Rattle.std.specs.Prelude.{◌≡◌, ℕ, ◌+◌, ◌-◌, ◌^◌, ◌≤◌, ◌<◌, min, Bool, true, false, ◌&&◌, not, is_some, is_none, List, [], ◌∷◌, Option, Some, None, if◌then◌else◌}
+-- What can be told of a history: which connections are alive or busy, how many requests wait, and how many frames were
+-- dropped (this project's own).
+use Rattle.std.specs.Prelude.{◌≡◌, ℕ, ◌+◌, ◌-◌, ◌^◌, ◌≤◌, ◌<◌, min, Bool, true, false, ◌&&◌, not, is_some, is_none, List, [], ◌∷◌, length, Option, Some, None, if◌then◌else◌}
 use Rattle.rtsp_head.specs.declared.item.ItemKind.{ItemKind}
 use Rattle.rtsp_head.specs.declared.item.ItemKind.TheVariants.{Request, Response, Frame, Bad}
 use Rattle.rtsp_uri.specs.declared.base.Bases.{Bases}
@@ -21,6 +21,14 @@ is_busy_private (Some private) = not private.over && (private.client.alive && is
 
 abbrev pub is_busy : Bases → ℕ → List Entry → Bool
 is_busy bases i earlier = is_busy_private (private_in bases i earlier)
+
+-- How many requests of a connection wait. At the end of the server's connection that stays as it is.
+abbrev pub waiting_private : Option Private → ℕ
+waiting_private None = 0
+waiting_private (Some private) = length private.client.waiting
+
+abbrev pub requests_waiting : Bases → ℕ → List Entry → ℕ
+requests_waiting bases i earlier = waiting_private (private_in bases i earlier)
 
 abbrev pub is_frame : ItemKind → Bool
 is_frame Request = false

@@ -1,9 +1,9 @@
 //! What a core is: the thing behind a gateway, which takes the events of all connections, one after another, and hands
 //! out what each of them asks for.
-ghost use Rattle.std.specs.Prelude.{◌≡◌, ℕ, Bool, true, false, List, ◌∷◌, IfOk, IfErr, OnOk, OnErr, IsOk, IsSome};
+ghost use Rattle.std.specs.Prelude.{◌≡◌, ℕ, Bool, true, false, List, [], ◌∷◌, IfOk, IfErr, OnOk, OnErr, IsOk, IsSome};
 ghost use Rattle.rtsp_uri.specs.declared.base.Bases.{Bases};
 ghost use Rattle.mux_history.specs.Happenings.{Entry, entry_of, entering, is_alive, fault_in};
-ghost use Rattle.mux_history.specs.Cores.{IsCoreHistory, IsNewTo, ever_entered};
+ghost use Rattle.mux_history.specs.Cores.{IsCoreHistory, IsNewTo, IsTimely, NoneWaits, ever_entered};
 ghost use Rattle.mux_history.specs.Free.{needs_memory};
 ghost use Rattle.mux_history.specs.Orderly.{IsOrderly};
 ghost use Rattle.mux_history.specs.Short.{IsShort};
@@ -36,6 +36,9 @@ pub trait Core: Send + Drop {
 
     /// Whether a request of a connection would wait, between these addresses and after these entries.
     ghost is_busy: { Bases → ℕ → List Entry → Bool };
+
+    /// How many requests of a connection wait, between these addresses and after these entries.
+    ghost waits: { Bases → ℕ → List Entry → ℕ };
 
     /// How many frames were dropped in these entries.
     ghost dropped: { List Entry → ℕ };
@@ -89,6 +92,10 @@ pub trait Core: Send + Drop {
     fn busy(&self, conn: u32) -> bool
         ensures { (T : List Entry) → stands self.now T → result ≡ is_busy (bases self.now) conn T };
 
+    /// How many requests of a connection wait.
+    fn waiting(&self, conn: u32) -> usize
+        ensures { (T : List Entry) → stands self.now T → result ≡ waits (bases self.now) conn T };
+
     /// Whether a connection is alive: it entered while the connection to the server stood, and neither was closed nor has
     /// the connection to the server ended.
     fn alive(&self, conn: u32) -> bool
@@ -116,4 +123,11 @@ pub trait Core: Send + Drop {
     /// An entry that follows a history hands out and closes what an entry may.
     ghost orderly: { (between : Bases) (T : List Entry) (entry : Entry) → IsCoreHistory follows between T → follows between T entry
         → IsOrderly T entry };
+
+    /// None waits before anything happened.
+    ghost none_waits: { (between : Bases) → NoneWaits (waits between) [] };
+
+    /// Where none waits, an event other than an item of a busy client leaves none waiting.
+    ghost none_waits_next: { (between : Bases) (T : List Entry) (entry : Entry) → IsCoreHistory follows between T → follows between T entry
+        → IsTimely (is_busy between) T entry.happening → NoneWaits (waits between) T → NoneWaits (waits between) (entry ∷ T) };
 }
