@@ -21,4 +21,5 @@ pub mod ShownLemmas
 pub mod StepLemmas
 pub mod TakeLemmas
 pub mod UpLemmas
+pub mod WaitLemmas
 pub mod RoomLemmas

@@ -1,12 +1,13 @@
 -- What a hub keeps, with a history of its core (this project's own).
 use Rattle.std.specs.Prelude.{◌≡◌, ℕ, ◌<◌, ◌≤◌, ◌⊎◌, ◌++◌, ◌==◌, ◌||◌, Bool, true, false, List, [], ◌∷◌, length, Option, Some, None}
+use Rattle.rtsp_uri.specs.declared.base.Bases.{Bases}
 use Rattle.gate_machine.specs.declared.why.CloseWhy.{CloseWhy}
 use Rattle.gate_machine.specs.declared.why.CloseWhy.TheVariants as whys
 use Rattle.gate_transcript.specs.declared.entry.Entry.{Entry as Noted}
 use Rattle.client_ports.specs.declared.parcel.Parcel.{Parcel}
 use Rattle.client_ports.specs.Ends.{put_of, taken_of, fulls_of}
 use Rattle.mux_history.specs.Happenings.{Entry, entered, sent, is_alive, fault_in}
-use Rattle.mux_history.specs.Cores.{ever_entered}
+use Rattle.mux_history.specs.Cores.{NoneWaits, ever_entered}
 use Rattle.std.specs.Option.{option_or}
 use Rattle.hub_places.specs.declared.ending.Ending.{Ending}
 use Rattle.hub_places.specs.declared.ending.Ending.TheVariants.{Upstream, Stopped}
@@ -25,6 +26,12 @@ use Rattle.gateway_hub.specs.Endings.{stopped_noting, fell_full, cut_short, ends
 use Rattle.gateway_hub.specs.Notes.{TellsNotes}
 use Rattle.hub_places.specs.Parcels.{items_in, waiting, arrivals, heard_items, as_parcels, handed_up}
 use Rattle.hub_places.specs.Places.{line_at, receipt_at, Lacks, IsRefused}
+
+-- The core stands for this history, and no request of any connection waits in it. A hub takes an item of a client only where
+-- its connection is not busy, so what a client sends too early stays in its port.
+pub record StandsIdle {M : Type 0} (stands : M → List Entry → Type 0) (waits : Bases → ℕ → List Entry → ℕ) (bases_of : M → Bases) (core : M) (history : List Entry) : Type 0 where
+  pub stood : stands core history
+  pub none_waits : NoneWaits (waits (bases_of core)) history
 
 -- The items that were taken as events, and the one that is first in line, are those that the hub took of each port.
 abbrev pub TookItems : List Place → List Entry → Type 0

@@ -3,7 +3,7 @@ ghost use Rattle.std.specs.Prelude.{◌≡◌, ◌≤◌, false};
 ghost use Rattle.gateway_hub.specs.Calls.{TakesFirst, TakesFirstUp, Shuts, ShutsUp};
 ghost use Rattle.gateway_hub.specs.Endings.{ShowsFault};
 ghost use Rattle.gateway_hub.specs.Ends.{KeepsEnds};
-ghost use Rattle.gateway_hub.specs.Kept.{Keeps};
+ghost use Rattle.gateway_hub.specs.Kept.{Keeps, StandsIdle};
 ghost use Rattle.hub_places.specs.Places.{line_at};
 ghost use Rattle.gateway_hub.specs.Rooms.{RemembersLast};
 ghost use Rattle.gateway_hub.specs.Taking.{is_full_reason};
@@ -19,8 +19,8 @@ impl<M: Core, R: Recorder> State<M, R> {
     /// Takes the first item in line of a connection, as an event.
     pub fn take<W: Wait>(&mut self, alloc: Global, rt: &W, conn: u32) -> Result<Taken, HubFault>
         ensures takes { TakesFirst conn (M.is_busy (M.bases self.old.core) conn) result
-            (Keeps (M.stands self.old.core) (R.entries self.old.recorder) (R.faults self.old.recorder) self.old.desk)
-            (Keeps (M.stands self.new.core) (R.entries self.new.recorder) (R.faults self.new.recorder) self.new.desk) self.old.desk self.new.desk }
+            (Keeps (StandsIdle M.stands M.waits M.bases self.old.core) (R.entries self.old.recorder) (R.faults self.old.recorder) self.old.desk)
+            (Keeps (StandsIdle M.stands M.waits M.bases self.new.core) (R.entries self.new.recorder) (R.faults self.new.recorder) self.new.desk) self.old.desk self.new.desk }
         ensures ends { KeepsEnds self.old.desk self.new.desk }
         ensures last { self.new.last ≡ self.old.last }
         ensures bases { M.bases self.new.core ≡ M.bases self.old.core }
@@ -52,8 +52,8 @@ impl<M: Core, R: Recorder> State<M, R> {
     /// bytes were put then is kept as the last one.
     pub fn take_up<W: Wait>(&mut self, alloc: Global, rt: &W) -> Result<bool, HubFault>
         ensures takes { TakesFirstUp result
-            (Keeps (M.stands self.old.core) (R.entries self.old.recorder) (R.faults self.old.recorder) self.old.desk)
-            (Keeps (M.stands self.new.core) (R.entries self.new.recorder) (R.faults self.new.recorder) self.new.desk) self.old.desk self.new.desk }
+            (Keeps (StandsIdle M.stands M.waits M.bases self.old.core) (R.entries self.old.recorder) (R.faults self.old.recorder) self.old.desk)
+            (Keeps (StandsIdle M.stands M.waits M.bases self.new.core) (R.entries self.new.recorder) (R.faults self.new.recorder) self.new.desk) self.old.desk self.new.desk }
         ensures ends { KeepsEnds self.old.desk self.new.desk }
         ensures last { RemembersLast result self.old.last self.new.last self.old.desk.places.items self.new.desk.places.items }
         ensures bases { M.bases self.new.core ≡ M.bases self.old.core }
@@ -81,8 +81,8 @@ impl<M: Core, R: Recorder> State<M, R> {
     /// A connection ended. Where its number was never given, or is retired, nothing happens.
     pub fn shut<W: Wait>(&mut self, alloc: Global, rt: &W, conn: u32) -> Result<(), HubFault>
         ensures shuts { Shuts conn (line_at self.old.desk.places.items conn) result
-            (Keeps (M.stands self.old.core) (R.entries self.old.recorder) (R.faults self.old.recorder) self.old.desk)
-            (Keeps (M.stands self.new.core) (R.entries self.new.recorder) (R.faults self.new.recorder) self.new.desk) self.old.desk self.new.desk }
+            (Keeps (StandsIdle M.stands M.waits M.bases self.old.core) (R.entries self.old.recorder) (R.faults self.old.recorder) self.old.desk)
+            (Keeps (StandsIdle M.stands M.waits M.bases self.new.core) (R.entries self.new.recorder) (R.faults self.new.recorder) self.new.desk) self.old.desk self.new.desk }
         ensures ends { KeepsEnds self.old.desk self.new.desk }
         ensures last { self.new.last ≡ self.old.last }
         ensures bases { M.bases self.new.core ≡ M.bases self.old.core }
@@ -105,8 +105,8 @@ impl<M: Core, R: Recorder> State<M, R> {
     pub fn shut_up<W: Wait>(&mut self, alloc: Global, rt: &W, why: UpWhy) -> Result<(), HubFault>
         requires { is_full_reason why ≡ false }
         ensures shuts { ShutsUp why result
-            (Keeps (M.stands self.old.core) (R.entries self.old.recorder) (R.faults self.old.recorder) self.old.desk)
-            (Keeps (M.stands self.new.core) (R.entries self.new.recorder) (R.faults self.new.recorder) self.new.desk) self.old.desk self.new.desk }
+            (Keeps (StandsIdle M.stands M.waits M.bases self.old.core) (R.entries self.old.recorder) (R.faults self.old.recorder) self.old.desk)
+            (Keeps (StandsIdle M.stands M.waits M.bases self.new.core) (R.entries self.new.recorder) (R.faults self.new.recorder) self.new.desk) self.old.desk self.new.desk }
         ensures ends { KeepsEnds self.old.desk self.new.desk }
         ensures last { self.new.last ≡ self.old.last }
         ensures bases { M.bases self.new.core ≡ M.bases self.old.core }

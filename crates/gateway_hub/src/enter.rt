@@ -3,7 +3,7 @@ ghost use Rattle.std.specs.Prelude.{◌≡◌, ◌≤◌, [], None, length};
 ghost use Rattle.gateway_hub.specs.Endings.{ShowsFault};
 ghost use Rattle.gateway_hub.specs.Ends.{KeepsOtherEnds};
 ghost use Rattle.gateway_hub.specs.Entering.{Enters};
-ghost use Rattle.gateway_hub.specs.Kept.{Keeps, KeepsSome};
+ghost use Rattle.gateway_hub.specs.Kept.{Keeps, KeepsSome, StandsIdle};
 
 use crate::desk::Desk;
 use crate::state::State;
@@ -39,10 +39,10 @@ impl<M: Core, R: Recorder> State<M, R> {
     /// A connection enters: its ports are made, the core is prepared, the entering is noted, and then it enters. Its number
     /// is that of the connections before it.
     pub fn enter(&mut self, alloc: Global) -> Result<Entered, HubFault>
-        requires { ∥ KeepsSome (M.stands self.old.core) (R.entries self.old.recorder) (R.faults self.old.recorder) self.old.desk ∥₁ }
+        requires { ∥ KeepsSome (StandsIdle M.stands M.waits M.bases self.old.core) (R.entries self.old.recorder) (R.faults self.old.recorder) self.old.desk ∥₁ }
         ensures enters { Enters result
-            (Keeps (M.stands self.old.core) (R.entries self.old.recorder) (R.faults self.old.recorder) self.old.desk)
-            (Keeps (M.stands self.new.core) (R.entries self.new.recorder) (R.faults self.new.recorder) self.new.desk) self.old.desk self.new.desk }
+            (Keeps (StandsIdle M.stands M.waits M.bases self.old.core) (R.entries self.old.recorder) (R.faults self.old.recorder) self.old.desk)
+            (Keeps (StandsIdle M.stands M.waits M.bases self.new.core) (R.entries self.new.recorder) (R.faults self.new.recorder) self.new.desk) self.old.desk self.new.desk }
         ensures ends { KeepsOtherEnds (length self.old.desk.places.items) self.old.desk self.new.desk }
         ensures last { self.new.last ≡ self.old.last }
         ensures bases { M.bases self.new.core ≡ M.bases self.old.core }

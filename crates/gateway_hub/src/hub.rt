@@ -1,5 +1,5 @@
 //! The hub.
-ghost use Rattle.gateway_hub.specs.Kept.{KeepsSome};
+ghost use Rattle.gateway_hub.specs.Kept.{KeepsSome, StandsIdle};
 
 use crate::Recorder;
 use crate::state::State;
@@ -9,10 +9,10 @@ mod called;
 
 /// What all threads of the gateway share under one lock: a core, a recorder, and the hub's ends of the ports.
 ///
-/// It keeps that there is a history of the core, which is that of the recorder's entries where these are told, and that
-/// what was put and taken is what this history says.
+/// It keeps that there is a history of the core, in which no request of any connection waits, and which is that of the
+/// recorder's entries where these are told; and that what was put and taken is what this history says.
 #[derive(Drop)]
 pub struct Hub<M: Core, R: Recorder> {
     state: State<M, R>,
-    ghost keeps: { ∥ KeepsSome (M.stands state.core) (R.entries state.recorder) (R.faults state.recorder) state.desk ∥₁ },
+    ghost keeps: { ∥ KeepsSome (StandsIdle M.stands M.waits M.bases state.core) (R.entries state.recorder) (R.faults state.recorder) state.desk ∥₁ },
 }

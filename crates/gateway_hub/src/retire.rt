@@ -6,7 +6,7 @@ ghost use Rattle.client_ports.specs.Ends.{put_of, taken_of};
 ghost use Rattle.hub_places.specs.Closes.{fall_close};
 ghost use Rattle.gateway_hub.specs.Endings.{ShowsFault};
 ghost use Rattle.gateway_hub.specs.Ends.{KeepsEnds, KeepsOtherEnds};
-ghost use Rattle.gateway_hub.specs.Kept.{Keeps, close_why, by_upstream_of};
+ghost use Rattle.gateway_hub.specs.Kept.{Keeps, StandsIdle, close_why, by_upstream_of};
 ghost use Rattle.gateway_hub.specs.Retiring.{EndsFirst, RetiresPlace, RetiresSo, receipt_for, stranger_receipt};
 
 use crate::desk::heard_of;
@@ -131,8 +131,8 @@ impl<M: Core, R: Recorder> State<M, R> {
     /// Ends a connection that is alive, unless an ending was kept. Where that can't be noted, the hub is stopped.
     fn end_first<W: Wait>(&mut self, alloc: Global, rt: &W, conn: u32)
         ensures ends { EndsFirst conn
-            (Keeps (M.stands self.old.core) (R.entries self.old.recorder) (R.faults self.old.recorder) self.old.desk)
-            (Keeps (M.stands self.new.core) (R.entries self.new.recorder) (R.faults self.new.recorder) self.new.desk) self.old.desk self.new.desk }
+            (Keeps (StandsIdle M.stands M.waits M.bases self.old.core) (R.entries self.old.recorder) (R.faults self.old.recorder) self.old.desk)
+            (Keeps (StandsIdle M.stands M.waits M.bases self.new.core) (R.entries self.new.recorder) (R.faults self.new.recorder) self.new.desk) self.old.desk self.new.desk }
         ensures in_place { KeepsEnds self.old.desk self.new.desk }
         ensures last { self.new.last ≡ self.old.last }
         ensures bases { M.bases self.new.core ≡ M.bases self.old.core }
@@ -161,8 +161,8 @@ impl<M: Core, R: Recorder> State<M, R> {
         outward: Taker,
     ) -> Receipt
         ensures retires { RetiresSo conn (length (put_of inward)) (length (taken_of outward)) result
-            (Keeps (M.stands self.old.core) (R.entries self.old.recorder) (R.faults self.old.recorder) self.old.desk)
-            (Keeps (M.stands self.new.core) (R.entries self.new.recorder) (R.faults self.new.recorder) self.new.desk) self.old.desk self.new.desk }
+            (Keeps (StandsIdle M.stands M.waits M.bases self.old.core) (R.entries self.old.recorder) (R.faults self.old.recorder) self.old.desk)
+            (Keeps (StandsIdle M.stands M.waits M.bases self.new.core) (R.entries self.new.recorder) (R.faults self.new.recorder) self.new.desk) self.old.desk self.new.desk }
         ensures ends { KeepsOtherEnds conn self.old.desk self.new.desk }
         ensures last { self.new.last ≡ self.old.last }
         ensures bases { M.bases self.new.core ≡ M.bases self.old.core }

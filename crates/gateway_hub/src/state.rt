@@ -1,8 +1,10 @@
 //! The core, the recorder and the desk of a hub, and how one event is taken.
-ghost use Rattle.std.specs.Prelude.{◌≡◌, ◌≤◌, ℕ, false, Option, None, IfOk, IfErr, OnOk};
-ghost use Rattle.mux_history.specs.Happenings.{happening_of};
+ghost use Rattle.std.specs.Prelude.{◌≡◌, ◌≤◌, ℕ, false, List, Option, None, IfOk, IfErr, OnOk};
+ghost use Rattle.mux_history.specs.Happenings.{Entry, happening_of};
+ghost use Rattle.mux_history.specs.Cores.{IsTimely};
 ghost use Rattle.gateway_hub.specs.Endings.{ShowsFault};
 ghost use Rattle.gateway_hub.specs.Ends.{KeepsEnds, PutsFor};
+ghost use Rattle.gateway_hub.specs.Kept.{StandsIdle};
 ghost use Rattle.gateway_hub.specs.Taking.{TakesOneEvent, IsUntaken, SettlesOwed, TakesHubEvent, stop_of};
 
 use crate::desk::{Delivery, Desk};
@@ -50,14 +52,16 @@ pub fn stop_of(fault: NoteFault) -> StopWhy
 impl<M: Core, R: Recorder> State<M, R> {
     /// Takes one event: it is planned, noted and committed, and what it hands out is put, first to the client and then to
     /// the server. Tells for whom bytes were put, and whose ports were full. Where memory was wanting, or the note failed, nothing was taken.
+    /// It asks that the event is no item of a client whose connection is busy.
     pub fn take_one<W: Wait>(
         &mut self,
         alloc: Global,
         rt: &W,
         event: Event,
     ) -> Result<Delivery, Refused>
-        ensures ok { IfOk result (λ delivery. TakesOneEvent (happening_of event) delivery (M.stands self.old.core) (M.stands self.new.core) (R.entries self.old.recorder) (R.entries self.new.recorder) self.old.desk self.new.desk) }
-        ensures err { IfErr result (λ refused. (refused.event ≡ event) × IsUntaken refused.fault (M.stands self.old.core) (M.stands self.new.core) (R.entries self.old.recorder) (R.entries self.new.recorder) (R.faults self.old.recorder) (R.faults self.new.recorder) self.old.desk self.new.desk) }
+        requires { (T : List Entry) → M.stands self.old.core T → IsTimely (M.is_busy (M.bases self.old.core)) T (happening_of event) }
+        ensures ok { IfOk result (λ delivery. TakesOneEvent (happening_of event) delivery (StandsIdle M.stands M.waits M.bases self.old.core) (StandsIdle M.stands M.waits M.bases self.new.core) (R.entries self.old.recorder) (R.entries self.new.recorder) self.old.desk self.new.desk) }
+        ensures err { IfErr result (λ refused. (refused.event ≡ event) × IsUntaken refused.fault (StandsIdle M.stands M.waits M.bases self.old.core) (StandsIdle M.stands M.waits M.bases self.new.core) (R.entries self.old.recorder) (R.entries self.new.recorder) (R.faults self.old.recorder) (R.faults self.new.recorder) self.old.desk self.new.desk) }
         ensures ends { KeepsEnds self.old.desk self.new.desk }
         ensures puts { IfOk result (λ delivery. PutsFor delivery.landed self.old.desk.places.items self.new.desk.places.items) }
         ensures last { self.new.last ≡ self.old.last }
@@ -85,7 +89,7 @@ impl<M: Core, R: Recorder> State<M, R> {
     /// Ends the connection to the server since its port was full, where it was. Where that can't be noted, the hub is
     /// stopped. Tells for whom bytes were put.
     fn end_if_full<W: Wait>(&mut self, alloc: Global, rt: &W, full: bool) -> Option<u32>
-        ensures settles { (client : Option ℕ) → SettlesOwed client full client false (M.stands self.old.core) (M.stands self.new.core) (R.entries self.old.recorder) (R.entries self.new.recorder) (R.faults self.old.recorder) (R.faults self.new.recorder) self.old.desk self.new.desk }
+        ensures settles { (client : Option ℕ) → SettlesOwed client full client false (StandsIdle M.stands M.waits M.bases self.old.core) (StandsIdle M.stands M.waits M.bases self.new.core) (R.entries self.old.recorder) (R.entries self.new.recorder) (R.faults self.old.recorder) (R.faults self.new.recorder) self.old.desk self.new.desk }
         ensures ends { KeepsEnds self.old.desk self.new.desk }
         ensures puts { PutsFor result self.old.desk.places.items self.new.desk.places.items }
         ensures last { self.new.last ≡ self.old.last }
@@ -108,7 +112,7 @@ impl<M: Core, R: Recorder> State<M, R> {
     /// Finds the client too slow whose port was full, where one was, unless the hub was stopped. Where that can't be noted,
     /// the hub is stopped, or why is kept with the end of the connection to the server. Tells for whom bytes were put.
     fn lag_if_full<W: Wait>(&mut self, alloc: Global, rt: &W, client: Option<u32>) -> Option<u32>
-        ensures settles { SettlesOwed client false None false (M.stands self.old.core) (M.stands self.new.core) (R.entries self.old.recorder) (R.entries self.new.recorder) (R.faults self.old.recorder) (R.faults self.new.recorder) self.old.desk self.new.desk }
+        ensures settles { SettlesOwed client false None false (StandsIdle M.stands M.waits M.bases self.old.core) (StandsIdle M.stands M.waits M.bases self.new.core) (R.entries self.old.recorder) (R.entries self.new.recorder) (R.faults self.old.recorder) (R.faults self.new.recorder) self.old.desk self.new.desk }
         ensures ends { KeepsEnds self.old.desk self.new.desk }
         ensures puts { PutsFor result self.old.desk.places.items self.new.desk.places.items }
         ensures last { self.new.last ≡ self.old.last }
@@ -136,15 +140,16 @@ impl<M: Core, R: Recorder> State<M, R> {
 
     /// Takes one event, and then those that full ports ask for: the end of the connection to the server, and the client
     /// that is too slow. Tells for whom bytes were put last. Where the event itself can't be planned or noted, nothing is
-    /// taken.
+    /// taken. It asks that the event is no item of a client whose connection is busy.
     pub fn take_event<W: Wait>(
         &mut self,
         alloc: Global,
         rt: &W,
         event: Event,
     ) -> Result<Option<u32>, Refused>
-        ensures ok { OnOk result (TakesHubEvent (happening_of event) (M.stands self.old.core) (M.stands self.new.core) (R.entries self.old.recorder) (R.entries self.new.recorder) (R.faults self.old.recorder) (R.faults self.new.recorder) self.old.desk self.new.desk) }
-        ensures err { IfErr result (λ refused. (refused.event ≡ event) × IsUntaken refused.fault (M.stands self.old.core) (M.stands self.new.core) (R.entries self.old.recorder) (R.entries self.new.recorder) (R.faults self.old.recorder) (R.faults self.new.recorder) self.old.desk self.new.desk) }
+        requires { (T : List Entry) → M.stands self.old.core T → IsTimely (M.is_busy (M.bases self.old.core)) T (happening_of event) }
+        ensures ok { OnOk result (TakesHubEvent (happening_of event) (StandsIdle M.stands M.waits M.bases self.old.core) (StandsIdle M.stands M.waits M.bases self.new.core) (R.entries self.old.recorder) (R.entries self.new.recorder) (R.faults self.old.recorder) (R.faults self.new.recorder) self.old.desk self.new.desk) }
+        ensures err { IfErr result (λ refused. (refused.event ≡ event) × IsUntaken refused.fault (StandsIdle M.stands M.waits M.bases self.old.core) (StandsIdle M.stands M.waits M.bases self.new.core) (R.entries self.old.recorder) (R.entries self.new.recorder) (R.faults self.old.recorder) (R.faults self.new.recorder) self.old.desk self.new.desk) }
         ensures ends { KeepsEnds self.old.desk self.new.desk }
         ensures puts { IfOk result (λ landed. PutsFor landed self.old.desk.places.items self.new.desk.places.items) }
         ensures last { self.new.last ≡ self.old.last }

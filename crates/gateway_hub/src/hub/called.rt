@@ -9,7 +9,7 @@ ghost use Rattle.gateway_hub.specs.Closing.{TellsOver, is_open_by};
 ghost use Rattle.gateway_hub.specs.Endings.{ShowsFault, FailsShown};
 ghost use Rattle.gateway_hub.specs.Ends.{KeepsEnds, KeepsOtherEnds};
 ghost use Rattle.gateway_hub.specs.Entering.{IsFreshDesk, Enters};
-ghost use Rattle.gateway_hub.specs.Kept.{Keeps};
+ghost use Rattle.gateway_hub.specs.Kept.{Keeps, StandsIdle};
 ghost use Rattle.gateway_hub.specs.Notes.{TellsNotes};
 ghost use Rattle.hub_places.specs.Places.{line_at};
 ghost use Rattle.gateway_hub.specs.Receipts.{ClosesWith, ClosesSome};
@@ -43,7 +43,7 @@ impl<M: Core, R: Recorder> Hub<M, R> {
         requires core { M.stands core [] }
         requires recorder { TellsNotes (R.entries recorder) [] }
         ensures fresh { IfOk result (λ made. IsFreshDesk made.0.state.desk) }
-        ensures keeps { IfOk result (λ made. Keeps (M.stands made.0.state.core) (R.entries made.0.state.recorder) (R.faults made.0.state.recorder) made.0.state.desk []) }
+        ensures keeps { IfOk result (λ made. Keeps (StandsIdle M.stands M.waits M.bases made.0.state.core) (R.entries made.0.state.recorder) (R.faults made.0.state.recorder) made.0.state.desk []) }
         ensures bases { IfOk result (λ made. M.bases made.0.state.core ≡ M.bases core) }
         ensures last { IfOk result (λ made. made.0.state.last ≡ None) }
         ensures inward { IfOk result (λ made. OfOnePort made.1 made.0.state.desk.server.inward) }
@@ -77,8 +77,8 @@ impl<M: Core, R: Recorder> Hub<M, R> {
     /// After want of memory the core may be prepared, and all else is as before.
     pub fn enter(&mut self, alloc: Global) -> Result<Entered, HubFault>
         ensures enters { Enters result
-            (Keeps (M.stands self.old.state.core) (R.entries self.old.state.recorder) (R.faults self.old.state.recorder) self.old.state.desk)
-            (Keeps (M.stands self.new.state.core) (R.entries self.new.state.recorder) (R.faults self.new.state.recorder) self.new.state.desk) self.old.state.desk self.new.state.desk }
+            (Keeps (StandsIdle M.stands M.waits M.bases self.old.state.core) (R.entries self.old.state.recorder) (R.faults self.old.state.recorder) self.old.state.desk)
+            (Keeps (StandsIdle M.stands M.waits M.bases self.new.state.core) (R.entries self.new.state.recorder) (R.faults self.new.state.recorder) self.new.state.desk) self.old.state.desk self.new.state.desk }
         ensures ends { KeepsOtherEnds (length self.old.state.desk.places.items) self.old.state.desk self.new.state.desk }
         ensures last { self.new.state.last ≡ self.old.state.last }
         ensures bases { M.bases self.new.state.core ≡ M.bases self.old.state.core }
@@ -92,8 +92,8 @@ impl<M: Core, R: Recorder> Hub<M, R> {
     /// stays first in line.
     pub fn take<W: Wait>(&mut self, alloc: Global, rt: &W, seat: &Seat) -> Result<Taken, HubFault>
         ensures takes { TakesFirst seat.now.conn (M.is_busy (M.bases self.old.state.core) seat.now.conn) result
-            (Keeps (M.stands self.old.state.core) (R.entries self.old.state.recorder) (R.faults self.old.state.recorder) self.old.state.desk)
-            (Keeps (M.stands self.new.state.core) (R.entries self.new.state.recorder) (R.faults self.new.state.recorder) self.new.state.desk) self.old.state.desk self.new.state.desk }
+            (Keeps (StandsIdle M.stands M.waits M.bases self.old.state.core) (R.entries self.old.state.recorder) (R.faults self.old.state.recorder) self.old.state.desk)
+            (Keeps (StandsIdle M.stands M.waits M.bases self.new.state.core) (R.entries self.new.state.recorder) (R.faults self.new.state.recorder) self.new.state.desk) self.old.state.desk self.new.state.desk }
         ensures ends { KeepsEnds self.old.state.desk self.new.state.desk }
         ensures last { self.new.state.last ≡ self.old.state.last }
         ensures bases { M.bases self.new.state.core ≡ M.bases self.old.state.core }
@@ -107,8 +107,8 @@ impl<M: Core, R: Recorder> Hub<M, R> {
     /// connection for which bytes were put then.
     pub fn take_up<W: Wait>(&mut self, alloc: Global, rt: &W) -> Result<bool, HubFault>
         ensures takes { TakesFirstUp result
-            (Keeps (M.stands self.old.state.core) (R.entries self.old.state.recorder) (R.faults self.old.state.recorder) self.old.state.desk)
-            (Keeps (M.stands self.new.state.core) (R.entries self.new.state.recorder) (R.faults self.new.state.recorder) self.new.state.desk) self.old.state.desk self.new.state.desk }
+            (Keeps (StandsIdle M.stands M.waits M.bases self.old.state.core) (R.entries self.old.state.recorder) (R.faults self.old.state.recorder) self.old.state.desk)
+            (Keeps (StandsIdle M.stands M.waits M.bases self.new.state.core) (R.entries self.new.state.recorder) (R.faults self.new.state.recorder) self.new.state.desk) self.old.state.desk self.new.state.desk }
         ensures ends { KeepsEnds self.old.state.desk self.new.state.desk }
         ensures last { RemembersLast result self.old.state.last self.new.state.last self.old.state.desk.places.items self.new.state.desk.places.items }
         ensures bases { M.bases self.new.state.core ≡ M.bases self.old.state.core }
@@ -124,8 +124,8 @@ impl<M: Core, R: Recorder> Hub<M, R> {
         ensures cleared { self.new.state.last ≡ None }
         ensures same { self.new.state.desk ≡ self.old.state.desk }
         ensures ends { KeepsEnds self.old.state.desk self.new.state.desk }
-        ensures stays { Stays (Keeps (M.stands self.old.state.core) (R.entries self.old.state.recorder) (R.faults self.old.state.recorder) self.old.state.desk)
-            (Keeps (M.stands self.new.state.core) (R.entries self.new.state.recorder) (R.faults self.new.state.recorder) self.new.state.desk) }
+        ensures stays { Stays (Keeps (StandsIdle M.stands M.waits M.bases self.old.state.core) (R.entries self.old.state.recorder) (R.faults self.old.state.recorder) self.old.state.desk)
+            (Keeps (StandsIdle M.stands M.waits M.bases self.new.state.core) (R.entries self.new.state.recorder) (R.faults self.new.state.recorder) self.new.state.desk) }
         ensures bases { M.bases self.new.state.core ≡ M.bases self.old.state.core }
     {
         self.state.last.take()
@@ -138,8 +138,8 @@ impl<M: Core, R: Recorder> Hub<M, R> {
         ensures same { self.new.state.desk ≡ self.old.state.desk }
         ensures ends { KeepsEnds self.old.state.desk self.new.state.desk }
         ensures last { self.new.state.last ≡ self.old.state.last }
-        ensures stays { Stays (Keeps (M.stands self.old.state.core) (R.entries self.old.state.recorder) (R.faults self.old.state.recorder) self.old.state.desk)
-            (Keeps (M.stands self.new.state.core) (R.entries self.new.state.recorder) (R.faults self.new.state.recorder) self.new.state.desk) }
+        ensures stays { Stays (Keeps (StandsIdle M.stands M.waits M.bases self.old.state.core) (R.entries self.old.state.recorder) (R.faults self.old.state.recorder) self.old.state.desk)
+            (Keeps (StandsIdle M.stands M.waits M.bases self.new.state.core) (R.entries self.new.state.recorder) (R.faults self.new.state.recorder) self.new.state.desk) }
         ensures bases { M.bases self.new.state.core ≡ M.bases self.old.state.core }
     {
         let closed = self.state.closed;
@@ -159,8 +159,8 @@ impl<M: Core, R: Recorder> Hub<M, R> {
     pub fn room<W: Wait>(&mut self, rt: &W, conn: u32) -> usize
         ensures room { HasRoomFor result (line_at self.old.state.desk.places.items conn) }
         ensures looks { LooksAt conn self.old.state.desk self.new.state.desk }
-        ensures stays { Stays (Keeps (M.stands self.old.state.core) (R.entries self.old.state.recorder) (R.faults self.old.state.recorder) self.old.state.desk)
-            (Keeps (M.stands self.new.state.core) (R.entries self.new.state.recorder) (R.faults self.new.state.recorder) self.new.state.desk) }
+        ensures stays { Stays (Keeps (StandsIdle M.stands M.waits M.bases self.old.state.core) (R.entries self.old.state.recorder) (R.faults self.old.state.recorder) self.old.state.desk)
+            (Keeps (StandsIdle M.stands M.waits M.bases self.new.state.core) (R.entries self.new.state.recorder) (R.faults self.new.state.recorder) self.new.state.desk) }
         ensures ends { KeepsEnds self.old.state.desk self.new.state.desk }
         ensures last { self.new.state.last ≡ self.old.state.last }
         ensures bases { M.bases self.new.state.core ≡ M.bases self.old.state.core }
@@ -171,8 +171,8 @@ impl<M: Core, R: Recorder> Hub<M, R> {
     /// A connection ended. With a seat whose number the hub never gave, or has retired, nothing happens.
     pub fn shut<W: Wait>(&mut self, alloc: Global, rt: &W, seat: &Seat) -> Result<(), HubFault>
         ensures shuts { Shuts seat.now.conn (line_at self.old.state.desk.places.items seat.now.conn) result
-            (Keeps (M.stands self.old.state.core) (R.entries self.old.state.recorder) (R.faults self.old.state.recorder) self.old.state.desk)
-            (Keeps (M.stands self.new.state.core) (R.entries self.new.state.recorder) (R.faults self.new.state.recorder) self.new.state.desk) self.old.state.desk self.new.state.desk }
+            (Keeps (StandsIdle M.stands M.waits M.bases self.old.state.core) (R.entries self.old.state.recorder) (R.faults self.old.state.recorder) self.old.state.desk)
+            (Keeps (StandsIdle M.stands M.waits M.bases self.new.state.core) (R.entries self.new.state.recorder) (R.faults self.new.state.recorder) self.new.state.desk) self.old.state.desk self.new.state.desk }
         ensures ends { KeepsEnds self.old.state.desk self.new.state.desk }
         ensures last { self.new.state.last ≡ self.old.state.last }
         ensures bases { M.bases self.new.state.core ≡ M.bases self.old.state.core }
@@ -186,8 +186,8 @@ impl<M: Core, R: Recorder> Hub<M, R> {
     pub fn shut_up<W: Wait>(&mut self, alloc: Global, rt: &W, why: UpWhy) -> Result<(), HubFault>
         requires { is_full_reason why ≡ false }
         ensures shuts { ShutsUp why result
-            (Keeps (M.stands self.old.state.core) (R.entries self.old.state.recorder) (R.faults self.old.state.recorder) self.old.state.desk)
-            (Keeps (M.stands self.new.state.core) (R.entries self.new.state.recorder) (R.faults self.new.state.recorder) self.new.state.desk) self.old.state.desk self.new.state.desk }
+            (Keeps (StandsIdle M.stands M.waits M.bases self.old.state.core) (R.entries self.old.state.recorder) (R.faults self.old.state.recorder) self.old.state.desk)
+            (Keeps (StandsIdle M.stands M.waits M.bases self.new.state.core) (R.entries self.new.state.recorder) (R.faults self.new.state.recorder) self.new.state.desk) self.old.state.desk self.new.state.desk }
         ensures ends { KeepsEnds self.old.state.desk self.new.state.desk }
         ensures last { self.new.state.last ≡ self.old.state.last }
         ensures bases { M.bases self.new.state.core ≡ M.bases self.old.state.core }
@@ -209,8 +209,8 @@ impl<M: Core, R: Recorder> Hub<M, R> {
         outward: Taker,
     ) -> Receipt
         ensures retires { RetiresSo seat.conn (length (put_of inward)) (length (taken_of outward)) result
-            (Keeps (M.stands self.old.state.core) (R.entries self.old.state.recorder) (R.faults self.old.state.recorder) self.old.state.desk)
-            (Keeps (M.stands self.new.state.core) (R.entries self.new.state.recorder) (R.faults self.new.state.recorder) self.new.state.desk) self.old.state.desk self.new.state.desk }
+            (Keeps (StandsIdle M.stands M.waits M.bases self.old.state.core) (R.entries self.old.state.recorder) (R.faults self.old.state.recorder) self.old.state.desk)
+            (Keeps (StandsIdle M.stands M.waits M.bases self.new.state.core) (R.entries self.new.state.recorder) (R.faults self.new.state.recorder) self.new.state.desk) self.old.state.desk self.new.state.desk }
         ensures ends { KeepsOtherEnds seat.conn self.old.state.desk self.new.state.desk }
         ensures last { self.new.state.last ≡ self.old.state.last }
         ensures bases { M.bases self.new.state.core ≡ M.bases self.old.state.core }
@@ -224,8 +224,8 @@ impl<M: Core, R: Recorder> Hub<M, R> {
         requires spent { why ≢ stops.Spent }
         requires record_fault { why ≢ stops.Record }
         ensures stops { Stops why self.old.state.desk self.new.state.desk }
-        ensures stays { Stays (Keeps (M.stands self.old.state.core) (R.entries self.old.state.recorder) (R.faults self.old.state.recorder) self.old.state.desk)
-            (Keeps (M.stands self.new.state.core) (R.entries self.new.state.recorder) (R.faults self.new.state.recorder) self.new.state.desk) }
+        ensures stays { Stays (Keeps (StandsIdle M.stands M.waits M.bases self.old.state.core) (R.entries self.old.state.recorder) (R.faults self.old.state.recorder) self.old.state.desk)
+            (Keeps (StandsIdle M.stands M.waits M.bases self.new.state.core) (R.entries self.new.state.recorder) (R.faults self.new.state.recorder) self.new.state.desk) }
         ensures ends { KeepsEnds self.old.state.desk self.new.state.desk }
         ensures last { self.new.state.last ≡ self.old.state.last }
         ensures bases { M.bases self.new.state.core ≡ M.bases self.old.state.core }
@@ -242,7 +242,7 @@ impl<M: Core, R: Recorder> Hub<M, R> {
 
     /// Whether the connection with this number is open: it is alive, and no ending was kept.
     pub fn is_open(&self, conn: u32) -> bool
-        ensures { (T : List Entry) → Keeps (M.stands self.now.state.core) (R.entries self.now.state.recorder) (R.faults self.now.state.recorder) self.now.state.desk T → result ≡ is_open_by conn self.now.state.desk.ending T }
+        ensures { (T : List Entry) → Keeps (StandsIdle M.stands M.waits M.bases self.now.state.core) (R.entries self.now.state.recorder) (R.faults self.now.state.recorder) self.now.state.desk T → result ≡ is_open_by conn self.now.state.desk.ending T }
     {
         self.state.desk.ending.is_none() && self.state.core.alive(conn)
     }
@@ -250,7 +250,7 @@ impl<M: Core, R: Recorder> Hub<M, R> {
     /// Whether all connections that entered are over: each was retired and has its close in the history, and no more arrived
     /// from it than was pushed, and it took no more than was handed. No memory is taken.
     pub fn all_closed(&self) -> bool
-        ensures { (T : List Entry) → Keeps (M.stands self.now.state.core) (R.entries self.now.state.recorder) (R.faults self.now.state.recorder) self.now.state.desk T → TellsOver result self.now.state.desk.places.items T }
+        ensures { (T : List Entry) → Keeps (StandsIdle M.stands M.waits M.bases self.now.state.core) (R.entries self.now.state.recorder) (R.faults self.now.state.recorder) self.now.state.desk T → TellsOver result self.now.state.desk.places.items T }
     {
         self.state.all_closed()
     }
@@ -259,7 +259,7 @@ impl<M: Core, R: Recorder> Hub<M, R> {
     /// by the history of the core, which is that of the recorder's entries where these are told. No memory is taken.
     pub fn close(self) -> (R, Receipts)
         ensures recorder { result.0 ≡ self.state.recorder }
-        ensures receipts { (T : List Entry) → Keeps (M.stands self.state.core) (R.entries self.state.recorder) (R.faults self.state.recorder) self.state.desk T → ClosesWith (R.entries result.0) self.state.desk result.1 T }
+        ensures receipts { (T : List Entry) → Keeps (StandsIdle M.stands M.waits M.bases self.state.core) (R.entries self.state.recorder) (R.faults self.state.recorder) self.state.desk T → ClosesWith (R.entries result.0) self.state.desk result.1 T }
         ensures history { ∥ ClosesSome M.follows (M.bases self.state.core) (R.entries result.0) self.state.desk result.1 ∥₁ }
     {
         self.state.close()

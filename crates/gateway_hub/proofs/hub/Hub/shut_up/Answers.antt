@@ -1,22 +1,24 @@
 use Rattle.std.proofs.Math.Logic.{∥∥₁_map}
-use Rattle.gateway_hub.specs.Kept.{Keeps}
+use Rattle.gateway_hub.specs.Kept.{Keeps, StandsIdle}
 use Rattle.gateway_hub.proofs.GoLemmas.{shuts_up_go}
 use Rattle.gateway_hub.proofs.ShownLemmas.{shuts_up_shown}
 use Rattle.gateway_hub.proofs.hub.Hub.shut_up.Goals as goal
 
 pub invariant_of-self : goal.invariant_of-self
 invariant_of-self g c =
+    let stands = StandsIdle g.M.Core.stands g.M.Core.waits g.M.Core.bases in
     let old = c.args.self.now.state in
     let new = c.shut_up.new.self in
     record {
       keeps = ∥∥₁_map c.args.self.now.keeps (λ k.
-          let s = shuts_up_go c.args.why c.shut_up.result (Keeps (g.M.Core.stands old.core) (g.R.Recorder.entries old.recorder) (g.R.Recorder.faults old.recorder) old.desk) (Keeps (g.M.Core.stands new.core) (g.R.Recorder.entries new.recorder) (g.R.Recorder.faults new.recorder) new.desk) old.desk new.desk
+          let s = shuts_up_go c.args.why c.shut_up.result (Keeps (stands old.core) (g.R.Recorder.entries old.recorder) (g.R.Recorder.faults old.recorder) old.desk) (Keeps (stands new.core) (g.R.Recorder.entries new.recorder) (g.R.Recorder.faults new.recorder) new.desk) old.desk new.desk
           c.shut_up.ensures.shuts k.history k.keeps in
           record { history = s.0; keeps = s.1 });
     }
 
 pub returns-clause-failed : goal.returns-clause-failed
 returns-clause-failed g c =
+    let stands = StandsIdle g.M.Core.stands g.M.Core.waits g.M.Core.bases in
     let old = c.args.self.now.state in
     let new = c.shut_up.new.self in
-    shuts_up_shown c.args.why c.shut_up.result (Keeps (g.M.Core.stands old.core) (g.R.Recorder.entries old.recorder) (g.R.Recorder.faults old.recorder) old.desk) (Keeps (g.M.Core.stands new.core) (g.R.Recorder.entries new.recorder) (g.R.Recorder.faults new.recorder) new.desk) old.desk new.desk (g.R.Recorder.faults old.recorder) (g.R.Recorder.faults new.recorder) c.shut_up.ensures.shuts c.shut_up.ensures.shown
+    shuts_up_shown c.args.why c.shut_up.result (Keeps (stands old.core) (g.R.Recorder.entries old.recorder) (g.R.Recorder.faults old.recorder) old.desk) (Keeps (stands new.core) (g.R.Recorder.entries new.recorder) (g.R.Recorder.faults new.recorder) new.desk) old.desk new.desk (g.R.Recorder.faults old.recorder) (g.R.Recorder.faults new.recorder) c.shut_up.ensures.shuts c.shut_up.ensures.shown

@@ -1,5 +1,6 @@
 use Rattle.std.proofs.Common.{Bool, false, refl, sym, subst}
 use Rattle.gateway_hub.specs.Taking.{SettlesOwed}
+use Rattle.gateway_hub.specs.Kept.{StandsIdle}
 use Rattle.gateway_hub.proofs.OweLemmas.{end_taken, end_untaken, full_as, none_owed, stops_as}
 use Rattle.gateway_hub.proofs.EndLemmas.{ends_here, ends_twice, stop_ends}
 use Rattle.gateway_hub.proofs.PutLemmas.{nothing_put}
@@ -12,25 +13,28 @@ use Rattle.gateway_hub.proofs.state.State.end_if_full.Goals as goal
 
 pub returns-in-Ok-clause-settles : goal.returns-in-Ok-clause-settles
 returns-in-Ok-clause-settles g c = λ client.
+    let stands = StandsIdle g.M.Core.stands g.M.Core.waits g.M.Core.bases in
     let old = c.args.self.now in
     let new = c.take_one.new.self in
-    full_as c.args.full c.if-not-full.false client (g.M.Core.stands old.core) (g.M.Core.stands new.core) (g.R.Recorder.entries old.recorder) (g.R.Recorder.entries new.recorder) (g.R.Recorder.faults old.recorder) (g.R.Recorder.faults new.recorder) old.desk new.desk
-    (end_taken (g.M.Core.stands old.core) (g.M.Core.stands new.core) (g.R.Recorder.entries old.recorder) (g.R.Recorder.entries new.recorder) (g.R.Recorder.faults old.recorder) (g.R.Recorder.faults new.recorder) old.desk new.desk c.in-Ok.delivery
+    full_as c.args.full c.if-not-full.false client (stands old.core) (stands new.core) (g.R.Recorder.entries old.recorder) (g.R.Recorder.entries new.recorder) (g.R.Recorder.faults old.recorder) (g.R.Recorder.faults new.recorder) old.desk new.desk
+    (end_taken (stands old.core) (stands new.core) (g.R.Recorder.entries old.recorder) (g.R.Recorder.entries new.recorder) (g.R.Recorder.faults old.recorder) (g.R.Recorder.faults new.recorder) old.desk new.desk c.in-Ok.delivery
     c.in-Ok.ensures.ok c.take_one.ensures.later c.in-Ok.ensures.puts client)
 
 pub returns-in-Err-clause-settles : goal.returns-in-Err-clause-settles
 returns-in-Err-clause-settles g c = λ client.
+    let stands = StandsIdle g.M.Core.stands g.M.Core.waits g.M.Core.bases in
     let old = c.args.self.now in
     let new = c.take_one.new.self in
-    full_as c.args.full c.if-not-full.false client (g.M.Core.stands old.core) (g.M.Core.stands new.core) (g.R.Recorder.entries old.recorder) (g.R.Recorder.entries new.recorder) (g.R.Recorder.faults old.recorder) (g.R.Recorder.faults new.recorder) old.desk c.stop.new.self
-    (end_untaken c.in-Err.refused.fault (g.M.Core.stands old.core) (g.M.Core.stands new.core) (g.R.Recorder.entries old.recorder) (g.R.Recorder.entries new.recorder) (g.R.Recorder.faults old.recorder) (g.R.Recorder.faults new.recorder) old.desk new.desk c.stop.new.self
+    full_as c.args.full c.if-not-full.false client (stands old.core) (stands new.core) (g.R.Recorder.entries old.recorder) (g.R.Recorder.entries new.recorder) (g.R.Recorder.faults old.recorder) (g.R.Recorder.faults new.recorder) old.desk c.stop.new.self
+    (end_untaken c.in-Err.refused.fault (stands old.core) (stands new.core) (g.R.Recorder.entries old.recorder) (g.R.Recorder.entries new.recorder) (g.R.Recorder.faults old.recorder) (g.R.Recorder.faults new.recorder) old.desk new.desk c.stop.new.self
     c.in-Err.ensures.err.1 c.take_one.ensures.later (stops_as c.stop_of.result c.in-Err.refused.fault new.desk c.stop.new.self c.stop_of.ensures c.stop.ensures) client)
 
 pub returns-then-not-full-clause-settles : goal.returns-then-not-full-clause-settles
 returns-then-not-full-clause-settles g c = λ client.
+    let stands = StandsIdle g.M.Core.stands g.M.Core.waits g.M.Core.bases in
     let old = c.args.self.now in
-    subst (λ (b : Bool). SettlesOwed client b client false (g.M.Core.stands old.core) (g.M.Core.stands old.core) (g.R.Recorder.entries old.recorder) (g.R.Recorder.entries old.recorder) (g.R.Recorder.faults old.recorder) (g.R.Recorder.faults old.recorder) old.desk old.desk) (sym c.if-not-full.true)
-    (none_owed client (g.M.Core.stands old.core) (g.R.Recorder.entries old.recorder) (g.R.Recorder.faults old.recorder) old.desk)
+    subst (λ (b : Bool). SettlesOwed client b client false (stands old.core) (stands old.core) (g.R.Recorder.entries old.recorder) (g.R.Recorder.entries old.recorder) (g.R.Recorder.faults old.recorder) (g.R.Recorder.faults old.recorder) old.desk old.desk) (sym c.if-not-full.true)
+    (none_owed client (stands old.core) (g.R.Recorder.entries old.recorder) (g.R.Recorder.faults old.recorder) old.desk)
 
 pub returns-in-Err-clause-ends : goal.returns-in-Err-clause-ends
 returns-in-Err-clause-ends g c = ends_twice c.args.self.now.desk c.take_one.new.self.desk c.stop.new.self c.take_one.ensures.ends (stop_ends _ _ _ c.stop.ensures)
@@ -46,9 +50,10 @@ returns-then-not-full-clause-ends g c = ends_here c.args.self.now.desk
 
 pub returns-in-Err-clause-shown : goal.returns-in-Err-clause-shown
 returns-in-Err-clause-shown g c =
+    let stands = StandsIdle g.M.Core.stands g.M.Core.waits g.M.Core.bases in
     let old = c.args.self.now in
     let new = c.take_one.new.self in
-    shown_untaken c.in-Err.refused.fault (g.M.Core.stands old.core) (g.M.Core.stands new.core) (g.R.Recorder.entries old.recorder) (g.R.Recorder.entries new.recorder) (g.R.Recorder.faults old.recorder) (g.R.Recorder.faults new.recorder) old.desk new.desk c.stop.new.self
+    shown_untaken c.in-Err.refused.fault (stands old.core) (stands new.core) (g.R.Recorder.entries old.recorder) (g.R.Recorder.entries new.recorder) (g.R.Recorder.faults old.recorder) (g.R.Recorder.faults new.recorder) old.desk new.desk c.stop.new.self
     c.in-Err.ensures.err.1 (stops_as c.stop_of.result c.in-Err.refused.fault new.desk c.stop.new.self c.stop_of.ensures c.stop.ensures)
 
 pub returns-then-not-full-clause-shown : goal.returns-then-not-full-clause-shown

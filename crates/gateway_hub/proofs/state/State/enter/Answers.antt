@@ -11,9 +11,10 @@ use Rattle.std.proofs.Math.Logic.{∥∥₁_map}
 use Rattle.std.proofs.lemmas.Result.{err_from_is_err_and}
 use Rattle.gate_transcript.specs.Notes.{NotesSo}
 use Rattle.mux_history.specs.Happenings.{entering, enters}
-use Rattle.gateway_hub.specs.Kept.{Keeps}
+use Rattle.gateway_hub.specs.Kept.{Keeps, StandsIdle}
 use Rattle.gateway_hub.specs.Notes.{note_of}
 use Rattle.gateway_hub.proofs.IdleLemmas.{moved_keeps, entering_refused}
+use Rattle.gateway_hub.proofs.WaitLemmas.{idle_still, idle_next}
 use Rattle.gateway_hub.proofs.EnterLemmas.{entered_keeps, refused_enters, new_line, as_given}
 use Rattle.gateway_hub.proofs.OweLemmas.{stop_keeps}
 use Rattle.gateway_hub.proofs.TakeLemmas.{notes_kept, failed_note}
@@ -25,52 +26,61 @@ pub enter-requires : goal.enter-requires
 enter-requires g c = ∥∥₁_map c.requires (λ k.
     record {
       history = k.history;
-      stood = c.prepare.ensures.stands k.history k.keeps.underway.stood;
+      stood = c.prepare.ensures.stands k.history k.keeps.underway.stood.stood;
       never = k.keeps.underway.numbered.new c.len-conn.result (let e = c.len-conn.ensures in omega arith);
     })
 
 pub returns-then-len-ge-MOST_CONNECTIONS-clause-enters : goal.returns-then-len-ge-MOST_CONNECTIONS-clause-enters
 returns-then-len-ge-MOST_CONNECTIONS-clause-enters g c =
+    let stands = StandsIdle g.M.Core.stands g.M.Core.waits g.M.Core.bases in
     let old = c.args.self.now in
     let many : 4294967295 ≤ length old.desk.places.items = (let e = c.len.ensures in let t = c.if-len-ge-MOST_CONNECTIONS.true in omega arith) in (
       inl (c.in_default.is, many),
-      (λ T k. stop_keeps (g.M.Core.stands old.core) (g.R.Recorder.entries old.recorder) (g.R.Recorder.faults old.recorder) old.desk c.stop.new.self stops.Spent c.stop.ensures (λ is. absurd (cc)) (λ is. many) T k),
+      (λ T k. stop_keeps (stands old.core) (g.R.Recorder.entries old.recorder) (g.R.Recorder.faults old.recorder) old.desk c.stop.new.self stops.Spent c.stop.ensures (λ is. absurd (cc)) (λ is. many) T k),
       c.stop.ensures.ending ∙ ap (λ (e : Option Ending). option_or e (Some (Stopped stops.Spent))) c.in_default.is,
     )
 
 pub returns-in_default-reserve-clause-enters : goal.returns-in_default-reserve-clause-enters
 returns-in_default-reserve-clause-enters g c =
+    let stands = StandsIdle g.M.Core.stands g.M.Core.waits g.M.Core.bases in
     let old = c.args.self.now in (
       c.in_default.is,
-      (λ T k. moved_keeps (g.M.Core.stands old.core) (g.M.Core.stands old.core) (g.R.Recorder.entries old.recorder) (g.R.Recorder.entries old.recorder) (g.R.Recorder.faults old.recorder) (g.R.Recorder.faults old.recorder) old.desk (record old.desk { places = c.reserve.new.self }) T (λ s. s) (λ n. n) (omega arith)
+      (λ T k. moved_keeps (stands old.core) (stands old.core) (g.R.Recorder.entries old.recorder) (g.R.Recorder.entries old.recorder) (g.R.Recorder.faults old.recorder) (g.R.Recorder.faults old.recorder) old.desk (record old.desk { places = c.reserve.new.self }) T (λ s. s) (λ n. n) (omega arith)
           refl c.reserve.ensures.items refl refl k),
       c.in_default.is,
     )
 
 pub returns-in_err-prepare-clause-enters : goal.returns-in_err-prepare-clause-enters
 returns-in_err-prepare-clause-enters g c =
+    let stands = StandsIdle g.M.Core.stands g.M.Core.waits g.M.Core.bases in
     let old = c.args.self.now in
+    let still = idle_still g.M.Core.stands g.M.Core.waits g.M.Core.bases old.core c.prepare.new.self c.prepare.ensures.bases in
     let p = err_from_is_err_and c.from_residual-in_err-prepare.result c.from_residual-in_err-prepare.ensures.1 in
     rw (p.1, p.2) (
       c.in_default.is,
-      (λ T k. moved_keeps (g.M.Core.stands old.core) (g.M.Core.stands c.prepare.new.self) (g.R.Recorder.entries old.recorder) (g.R.Recorder.entries old.recorder) (g.R.Recorder.faults old.recorder) (g.R.Recorder.faults old.recorder) old.desk (record old.desk { places = c.reserve.new.self }) T (c.prepare.ensures.stands T)
+      (λ T k. moved_keeps (stands old.core) (stands c.prepare.new.self) (g.R.Recorder.entries old.recorder) (g.R.Recorder.entries old.recorder) (g.R.Recorder.faults old.recorder) (g.R.Recorder.faults old.recorder) old.desk (record old.desk { places = c.reserve.new.self }) T (still T (c.prepare.ensures.stands T))
           (λ n. n) (omega arith) refl c.reserve.ensures.items refl refl k),
       c.in_default.is,
     )
 
 pub returns-in-Err-clause-enters : goal.returns-in-Err-clause-enters
 returns-in-Err-clause-enters g c =
+    let stands = StandsIdle g.M.Core.stands g.M.Core.waits g.M.Core.bases in
     let old = c.args.self.now in
+    let still = idle_still g.M.Core.stands g.M.Core.waits g.M.Core.bases old.core c.prepare.new.self c.prepare.ensures.bases in
     let mid = record old.desk { places = c.reserve.new.self } in
-    refused_enters c.in-Err.fault c.fault_of.result (Keeps (g.M.Core.stands old.core) (g.R.Recorder.entries old.recorder) (g.R.Recorder.faults old.recorder) old.desk)
-    (Keeps (g.M.Core.stands c.prepare.new.self) (g.R.Recorder.entries c.note.new.self) (g.R.Recorder.faults c.note.new.self) c.fault_of.new.self) old.desk mid c.fault_of.new.self c.fault_of.ensures
-    (entering_refused c.in-Err.fault c.fault_of.result (g.M.Core.stands old.core) (g.M.Core.stands c.prepare.new.self) (g.R.Recorder.entries old.recorder) (g.R.Recorder.entries c.note.new.self) (g.R.Recorder.faults old.recorder) (g.R.Recorder.faults c.note.new.self) old.desk mid c.fault_of.new.self
-    c.prepare.ensures.stands (notes_kept (g.R.Recorder.entries old.recorder) (g.R.Recorder.entries c.note.new.self) (note_of (enters c.len-conn.result)) c.in-Err.fault c.in-Err.ensures.entries) c.note.ensures.cause.later (λ is. c.in-Err.ensures.cause.failed (failed_note c.in-Err.fault is))
+    refused_enters c.in-Err.fault c.fault_of.result (Keeps (stands old.core) (g.R.Recorder.entries old.recorder) (g.R.Recorder.faults old.recorder) old.desk)
+    (Keeps (stands c.prepare.new.self) (g.R.Recorder.entries c.note.new.self) (g.R.Recorder.faults c.note.new.self) c.fault_of.new.self) old.desk mid c.fault_of.new.self c.fault_of.ensures
+    (entering_refused c.in-Err.fault c.fault_of.result (stands old.core) (stands c.prepare.new.self) (g.R.Recorder.entries old.recorder) (g.R.Recorder.entries c.note.new.self) (g.R.Recorder.faults old.recorder) (g.R.Recorder.faults c.note.new.self) old.desk mid c.fault_of.new.self
+    (λ T. still T (c.prepare.ensures.stands T)) (notes_kept (g.R.Recorder.entries old.recorder) (g.R.Recorder.entries c.note.new.self) (note_of (enters c.len-conn.result)) c.in-Err.fault c.in-Err.ensures.entries) c.note.ensures.cause.later (λ is. c.in-Err.ensures.cause.failed (failed_note c.in-Err.fault is))
     refl c.reserve.ensures.items refl refl c.in_default.is c.fault_of.ensures)
 
 pub returns-clause-enters : goal.returns-clause-enters
 returns-clause-enters g c =
+    let laws = g.met.M.Core g.world.𝓛 g.world.𝓜 g.world.𝓡 ((λ s x. x), (λ x. x), (λ x. x), λ x. x) in
+    let stands = StandsIdle g.M.Core.stands g.M.Core.waits g.M.Core.bases in
     let old = c.args.self.now in
+    let still = idle_still g.M.Core.stands g.M.Core.waits g.M.Core.bases old.core c.prepare.new.self c.prepare.ensures.bases in
     let now = record old.desk { places = c.push_reserved.new.self } in
     let n = length old.desk.places.items in
     let line = c.new.result in
@@ -81,8 +91,9 @@ returns-clause-enters g c =
       c.in_default.is,
       below,
       e,
-      (λ T k. entered_keeps (g.M.Core.stands old.core) (g.M.Core.stands c.enter.new.self) (g.R.Recorder.entries old.recorder) (g.R.Recorder.entries c.note.new.self) (g.R.Recorder.faults old.recorder) (g.R.Recorder.faults c.note.new.self) old.desk now line T below fresh seats
-          (subst (λ (m : ℕ). g.M.Core.stands c.enter.new.self (entering m ∷ T)) e (c.in-Ok-enter.ensures.ok T (c.prepare.ensures.stands T k.underway.stood) (k.underway.numbered.new c.len-conn.result (omega arith))))
+      (λ T k. entered_keeps (stands old.core) (stands c.enter.new.self) (g.R.Recorder.entries old.recorder) (g.R.Recorder.entries c.note.new.self) (g.R.Recorder.faults old.recorder) (g.R.Recorder.faults c.note.new.self) old.desk now line T below fresh seats
+          (subst (λ (m : ℕ). stands c.enter.new.self (entering m ∷ T)) e (idle_next g.M.Core.stands g.M.Core.waits g.M.Core.bases g.M.Core.is_busy g.M.Core.follows laws.history laws.none_waits_next c.prepare.new.self c.enter.new.self c.enter.ensures.bases T (entering c.len-conn.result)
+          (λ s. c.in-Ok-enter.ensures.ok T s (k.underway.numbered.new c.len-conn.result (omega arith))) (λ s. tt) (still T (c.prepare.ensures.stands T) k.underway.stood)))
           (subst (λ (m : ℕ). NotesSo (g.R.Recorder.entries old.recorder) (g.R.Recorder.entries c.note.new.self) (note_of (enters m)) (Ok tt)) e c.in-Ok-note.ensures.entries) c.in_default.is k),
       (
         line,

@@ -1,6 +1,7 @@
 use Rattle.std.proofs.Common.{ℕ, Bool, Option, refl, subst}
 use Rattle.gateway_hub.specs.Desks.{heard_of}
 use Rattle.gateway_hub.specs.Retiring.{RetiresPlace}
+use Rattle.gateway_hub.specs.Kept.{StandsIdle}
 use Rattle.gateway_hub.proofs.RetireLemmas.{retires_all}
 use Rattle.client_ports.specs.Ends.{put_of, taken_of}
 use Rattle.std.proofs.Common.{length}
@@ -9,12 +10,13 @@ use Rattle.gateway_hub.proofs.state.State.retire.Goals as goal
 
 pub returns-clause-retires : goal.returns-clause-retires
 returns-clause-retires g c =
+    let stands = StandsIdle g.M.Core.stands g.M.Core.waits g.M.Core.bases in
     let old = c.args.self.now in
     let mid = c.end_first.new.self in
     let now = record mid.desk { places = c.retire_of.new.places } in
     let conn = c.args.conn in
     let receipt = c.retire_of.result in
-    retires_all conn (length (put_of c.args.inward)) (length (taken_of c.args.outward)) receipt (g.M.Core.stands old.core) (g.M.Core.stands mid.core) (g.R.Recorder.entries old.recorder) (g.R.Recorder.entries mid.recorder) (g.R.Recorder.faults old.recorder) (g.R.Recorder.faults mid.recorder)
+    retires_all conn (length (put_of c.args.inward)) (length (taken_of c.args.outward)) receipt (stands old.core) (stands mid.core) (g.R.Recorder.entries old.recorder) (g.R.Recorder.entries mid.recorder) (g.R.Recorder.faults old.recorder) (g.R.Recorder.faults mid.recorder)
     old.desk mid.desk now c.end_first.ensures.ends
     (subst (λ (n : ℕ). RetiresPlace conn n (length (taken_of c.args.outward)) (heard_of mid.desk.fall) mid.desk.ending receipt mid.desk.places.items now.places.items) c.count-pushed.ensures
     (subst (λ (n : ℕ). RetiresPlace conn c.count-pushed.result n (heard_of mid.desk.fall) mid.desk.ending receipt mid.desk.places.items now.places.items) c.count-taken.ensures

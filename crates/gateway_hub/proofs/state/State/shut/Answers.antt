@@ -2,7 +2,7 @@ use Rattle.std.proofs.Common.{◌≡◌, true, List, refl, sym, subst}
 use Rattle.std.specs.Prelude.{is_some}
 use Rattle.hub_places.specs.declared.line.Place.{Place}
 use Rattle.mux_history.specs.Happenings.{ends}
-use Rattle.gateway_hub.specs.Kept.{Keeps}
+use Rattle.gateway_hub.specs.Kept.{Keeps, StandsIdle}
 use Rattle.hub_places.specs.Places.{line_at}
 use Rattle.gateway_hub.proofs.IdleLemmas.{idle_in_hand, idle_refused, shuts_line}
 use Rattle.gateway_hub.proofs.EndLemmas.{ends_here, ends_twice, refuse_ends}
@@ -11,23 +11,25 @@ use Rattle.gateway_hub.proofs.state.State.shut.Goals as goal
 
 pub returns-in-Ok-clause-shuts : goal.returns-in-Ok-clause-shuts
 returns-in-Ok-clause-shuts g c =
+    let stands = StandsIdle g.M.Core.stands g.M.Core.waits g.M.Core.bases in
     let old = c.args.self.now in
     let new = c.take_event.new.self in
     let e = c.in-Ok.ensures.ok in
-    shuts_line c.args.conn (line_at old.desk.places.items c.args.conn) (subst (λ (l : List Place). is_some (line_at l c.args.conn) ≡ true) c.deref.ensures.value (sym c.if-not-is_seated.ensures)) (Keeps (g.M.Core.stands old.core) (g.R.Recorder.entries old.recorder) (g.R.Recorder.faults old.recorder) old.desk)
-    (Keeps (g.M.Core.stands new.core) (g.R.Recorder.entries new.recorder) (g.R.Recorder.faults new.recorder) new.desk) old.desk new.desk c.in_default.is
+    shuts_line c.args.conn (line_at old.desk.places.items c.args.conn) (subst (λ (l : List Place). is_some (line_at l c.args.conn) ≡ true) c.deref.ensures.value (sym c.if-not-is_seated.ensures)) (Keeps (stands old.core) (g.R.Recorder.entries old.recorder) (g.R.Recorder.faults old.recorder) old.desk)
+    (Keeps (stands new.core) (g.R.Recorder.entries new.recorder) (g.R.Recorder.faults new.recorder) new.desk) old.desk new.desk c.in_default.is
     (record {
       outcome = e.outcome;
       later = e.later;
       late = e.late;
-      grows = λ T k. e.keeps T (idle_in_hand (ends c.args.conn) (g.M.Core.stands old.core) (g.R.Recorder.entries old.recorder) (g.R.Recorder.faults old.recorder) old.desk T (λ i. refl) refl refl c.in_default.is k);
+      grows = λ T k. e.keeps T (idle_in_hand (ends c.args.conn) (stands old.core) (g.R.Recorder.entries old.recorder) (g.R.Recorder.faults old.recorder) old.desk T (λ i. refl) refl refl c.in_default.is k);
     })
 
 pub returns-in-Err-clause-shuts : goal.returns-in-Err-clause-shuts
 returns-in-Err-clause-shuts g c =
+    let stands = StandsIdle g.M.Core.stands g.M.Core.waits g.M.Core.bases in
     let old = c.args.self.now in
     let new = c.take_event.new.self in
-    idle_refused (ends c.args.conn) c.in-Err.refused.fault c.fault_of.result (g.M.Core.stands old.core) (g.M.Core.stands new.core) (g.R.Recorder.entries old.recorder) (g.R.Recorder.entries new.recorder) (g.R.Recorder.faults old.recorder) (g.R.Recorder.faults new.recorder)
+    idle_refused (ends c.args.conn) c.in-Err.refused.fault c.fault_of.result (stands old.core) (stands new.core) (g.R.Recorder.entries old.recorder) (g.R.Recorder.entries new.recorder) (g.R.Recorder.faults old.recorder) (g.R.Recorder.faults new.recorder)
     old.desk new.desk c.fault_of.new.self (λ i. refl) refl refl c.in_default.is c.in-Err.ensures.err.1 c.take_event.ensures.later c.fault_of.ensures
 
 pub returns-in-Err-clause-ends : goal.returns-in-Err-clause-ends
@@ -41,10 +43,11 @@ returns-then-not-is_seated-clause-ends g c = ends_here c.args.self.now.desk
 
 pub returns-in-Err-clause-shown : goal.returns-in-Err-clause-shown
 returns-in-Err-clause-shown g c =
+    let stands = StandsIdle g.M.Core.stands g.M.Core.waits g.M.Core.bases in
     let old = c.args.self.now in
     let new = c.take_event.new.self in
     let mid = old.desk in
-    shown_refused c.in-Err.refused.fault c.fault_of.result (g.M.Core.stands old.core) (g.M.Core.stands new.core) (g.R.Recorder.entries old.recorder) (g.R.Recorder.entries new.recorder) (g.R.Recorder.faults old.recorder) (g.R.Recorder.faults new.recorder)
+    shown_refused c.in-Err.refused.fault c.fault_of.result (stands old.core) (stands new.core) (g.R.Recorder.entries old.recorder) (g.R.Recorder.entries new.recorder) (g.R.Recorder.faults old.recorder) (g.R.Recorder.faults new.recorder)
     mid new.desk new.desk c.fault_of.new.self c.in-Err.ensures.err.1 refl c.fault_of.ensures
 
 pub returns-in-Some-clause-shown : goal.returns-in-Some-clause-shown

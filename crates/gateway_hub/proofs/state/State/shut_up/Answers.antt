@@ -1,5 +1,6 @@
 use Rattle.std.proofs.Common.{refl}
 use Rattle.mux_history.specs.Happenings.{up_ends}
+use Rattle.gateway_hub.specs.Kept.{StandsIdle}
 use Rattle.gateway_hub.proofs.IdleLemmas.{idle_in_hand, idle_refused}
 use Rattle.gateway_hub.proofs.EndLemmas.{ends_here, ends_twice, refuse_ends}
 use Rattle.gateway_hub.proofs.ShownLemmas.{shown_same, shown_refused}
@@ -7,6 +8,7 @@ use Rattle.gateway_hub.proofs.state.State.shut_up.Goals as goal
 
 pub returns-in-Ok-clause-shuts : goal.returns-in-Ok-clause-shuts
 returns-in-Ok-clause-shuts g c =
+    let stands = StandsIdle g.M.Core.stands g.M.Core.waits g.M.Core.bases in
     let old = c.args.self.now in
     let e = c.in-Ok.ensures.ok in (
       c.in_default.is,
@@ -14,15 +16,16 @@ returns-in-Ok-clause-shuts g c =
         outcome = e.outcome;
         later = e.later;
         late = e.late;
-        grows = λ T k. e.keeps T (idle_in_hand (up_ends c.args.why) (g.M.Core.stands old.core) (g.R.Recorder.entries old.recorder) (g.R.Recorder.faults old.recorder) old.desk T (λ i. refl) refl c.requires c.in_default.is k);
+        grows = λ T k. e.keeps T (idle_in_hand (up_ends c.args.why) (stands old.core) (g.R.Recorder.entries old.recorder) (g.R.Recorder.faults old.recorder) old.desk T (λ i. refl) refl c.requires c.in_default.is k);
       },
     )
 
 pub returns-in-Err-clause-shuts : goal.returns-in-Err-clause-shuts
 returns-in-Err-clause-shuts g c =
+    let stands = StandsIdle g.M.Core.stands g.M.Core.waits g.M.Core.bases in
     let old = c.args.self.now in
     let new = c.take_event.new.self in
-    idle_refused (up_ends c.args.why) c.in-Err.refused.fault c.fault_of.result (g.M.Core.stands old.core) (g.M.Core.stands new.core) (g.R.Recorder.entries old.recorder) (g.R.Recorder.entries new.recorder) (g.R.Recorder.faults old.recorder) (g.R.Recorder.faults new.recorder)
+    idle_refused (up_ends c.args.why) c.in-Err.refused.fault c.fault_of.result (stands old.core) (stands new.core) (g.R.Recorder.entries old.recorder) (g.R.Recorder.entries new.recorder) (g.R.Recorder.faults old.recorder) (g.R.Recorder.faults new.recorder)
     old.desk new.desk c.fault_of.new.self (λ i. refl) refl c.requires c.in_default.is c.in-Err.ensures.err.1 c.take_event.ensures.later c.fault_of.ensures
 
 pub returns-in-Err-clause-ends : goal.returns-in-Err-clause-ends
@@ -33,10 +36,11 @@ returns-in-Some-clause-ends g c = ends_here c.args.self.now.desk
 
 pub returns-in-Err-clause-shown : goal.returns-in-Err-clause-shown
 returns-in-Err-clause-shown g c =
+    let stands = StandsIdle g.M.Core.stands g.M.Core.waits g.M.Core.bases in
     let old = c.args.self.now in
     let new = c.take_event.new.self in
     let mid = old.desk in
-    shown_refused c.in-Err.refused.fault c.fault_of.result (g.M.Core.stands old.core) (g.M.Core.stands new.core) (g.R.Recorder.entries old.recorder) (g.R.Recorder.entries new.recorder) (g.R.Recorder.faults old.recorder) (g.R.Recorder.faults new.recorder)
+    shown_refused c.in-Err.refused.fault c.fault_of.result (stands old.core) (stands new.core) (g.R.Recorder.entries old.recorder) (g.R.Recorder.entries new.recorder) (g.R.Recorder.faults old.recorder) (g.R.Recorder.faults new.recorder)
     mid new.desk new.desk c.fault_of.new.self c.in-Err.ensures.err.1 refl c.fault_of.ensures
 
 pub returns-in-Some-clause-shown : goal.returns-in-Some-clause-shown

@@ -2,6 +2,7 @@ use Rattle.std.proofs.Common.{◌∙◌, ℕ, Option, sym, ap, subst, arith}
 use Rattle.std.specs.Option.{option_or}
 use Rattle.gateway_hub.specs.Ends.{PutsFor}
 use Rattle.mux_history.specs.Happenings.{happening_of}
+use Rattle.gateway_hub.specs.Kept.{StandsIdle}
 use Rattle.gateway_hub.proofs.LateLemmas.{event_taken}
 use Rattle.gateway_hub.proofs.EndLemmas.{ends_twice}
 use Rattle.gateway_hub.proofs.PutLemmas.{puts_twice}
@@ -10,11 +11,12 @@ use Rattle.gateway_hub.proofs.state.State.take_event.Goals as goal
 
 pub returns-clause-ok : goal.returns-clause-ok
 returns-clause-ok g c =
+    let stands = StandsIdle g.M.Core.stands g.M.Core.waits g.M.Core.bases in
     let old = c.args.self.now in
     let one = c.take_one.new.self in
     let end = c.end_if_full-next.new.self in
     let new = c.lag_if_full-last.new.self in
-    event_taken (happening_of c.args.event) (g.M.Core.stands old.core) (g.M.Core.stands one.core) (g.M.Core.stands end.core) (g.M.Core.stands new.core)
+    event_taken (happening_of c.args.event) (stands old.core) (stands one.core) (stands end.core) (stands new.core)
     (g.R.Recorder.entries old.recorder) (g.R.Recorder.entries one.recorder) (g.R.Recorder.entries end.recorder) (g.R.Recorder.entries new.recorder)
     (g.R.Recorder.faults old.recorder) (g.R.Recorder.faults one.recorder) (g.R.Recorder.faults end.recorder) (g.R.Recorder.faults new.recorder)
     old.desk one.desk end.desk new.desk c.in_ok-delivery.delivery c.in_ok-delivery.ensures.ok c.take_one.ensures.later c.in_ok-delivery.ensures.puts (c.end_if_full-next.ensures.settles c.in_ok-delivery.delivery.client) c.lag_if_full-last.ensures.settles

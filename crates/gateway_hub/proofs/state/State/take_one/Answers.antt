@@ -2,19 +2,25 @@ use Rattle.std.proofs.Common.{ℕ, Bool, Option, refl, subst}
 use Rattle.hub_places.specs.Closes.{is_heard}
 use Rattle.gateway_hub.specs.Notes.{note_of}
 use Rattle.gateway_hub.specs.Desks.{HandsAll}
-use Rattle.mux_history.specs.Happenings.{happening_of}
+use Rattle.mux_history.specs.Happenings.{happening_of, entry_of}
+use Rattle.gateway_hub.specs.Kept.{StandsIdle}
+use Rattle.gateway_hub.specs.Kept.{StandsIdle}
 use Rattle.gateway_hub.proofs.TakeLemmas.{takes_one, notes_kept, failed_note}
 use Rattle.gateway_hub.proofs.EndLemmas.{ends_here, hand_ends}
 use Rattle.gateway_hub.proofs.PutLemmas.{hand_puts}
+use Rattle.gateway_hub.proofs.WaitLemmas.{idle_next}
 use Rattle.gateway_hub.proofs.ShownLemmas.{shown_same, shown_fallen}
 use Rattle.gateway_hub.proofs.state.State.take_one.Goals as goal
 
 pub returns-clause-ok : goal.returns-clause-ok
 returns-clause-ok g c =
     let laws = g.met.M.Core g.world.𝓛 g.world.𝓜 g.world.𝓡 ((λ s x. x), (λ x. x), (λ x. x), λ x. x) in
+    let stands = StandsIdle g.M.Core.stands g.M.Core.waits g.M.Core.bases in
     let old = c.args.self.now in
-    takes_one g.M.Core.stands g.M.Core.bases g.M.Core.follows laws.history laws.orderly old.core c.commit-outcome.new.self c.args.event c.commit-outcome.result
-    (g.R.Recorder.entries old.recorder) (g.R.Recorder.entries c.note.new.recorder) old.desk c.take_outcome.new.self c.take_outcome.result c.commit-outcome.ensures.stands c.in-Ok-note.ensures.entries
+    takes_one stands g.M.Core.bases g.M.Core.follows (λ core T s. laws.history core T s.stood) laws.orderly old.core c.commit-outcome.new.self c.args.event c.commit-outcome.result
+    (g.R.Recorder.entries old.recorder) (g.R.Recorder.entries c.note.new.recorder) old.desk c.take_outcome.new.self c.take_outcome.result
+    (λ T. idle_next g.M.Core.stands g.M.Core.waits g.M.Core.bases g.M.Core.is_busy g.M.Core.follows laws.history laws.none_waits_next old.core c.commit-outcome.new.self c.commit-outcome.ensures.bases T
+    (entry_of c.args.event c.commit-outcome.result) (c.commit-outcome.ensures.stands T) (c.requires T)) c.in-Ok-note.ensures.entries
     (subst (λ (a : Option ℕ). HandsAll a (is_heard (happening_of c.args.event)) c.commit-outcome.result c.take_outcome.result old.desk c.take_outcome.new.self) c.asker_of-asker.ensures
     (subst (λ (b : Bool). HandsAll c.asker_of-asker.result b c.commit-outcome.result c.take_outcome.result old.desk c.take_outcome.new.self) c.is_heard-heard.ensures c.take_outcome.ensures))
 
