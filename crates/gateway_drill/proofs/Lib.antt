@@ -1,4 +1,5 @@
 pub mod CountLemmas
+pub mod EndLemmas
 pub mod FramingLemmas
 pub mod HeardLemmas
 pub mod PlayLemmas

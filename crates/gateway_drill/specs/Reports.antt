@@ -58,6 +58,12 @@ DrillSays made players number SinkFault before now = WritesDrillFront made playe
 DrillSays made players number Memory before now = now ≡ before
 DrillSays made players number other before now = ⊥
 
+-- How a drill ends where the sink does not fail: its text was written, or memory was wanting.
+abbrev pub EndsDrill : (List Entry → Type 0) → ℕ → ℕ → Status → Option (List ℕ) → Option (List ℕ) → Type 0
+EndsDrill made players number Done before now = WritesDrill made players number before now
+EndsDrill made players number Memory before now = now ≡ before
+EndsDrill made players number other before now = ⊥
+
 -- the addresses between which a drill is played
 abbrev pub drilled_front : List ℕ
 drilled_front = codes "gate.example"

@@ -4,6 +4,7 @@
 mod counts;
 mod drilling;
 mod items;
+mod laws;
 mod player;
 mod playing;
 mod report;
@@ -16,6 +17,7 @@ mod turn;
 pub use counts::Counts;
 pub use drilling::drill;
 pub use items::{handed_items, items_in_pieces};
+pub use laws::a_drill_is_written;
 pub use player::Player;
 pub use playing::Drill;
 pub use running::{MOST_TURNS, drill_on};

@@ -9,4 +9,5 @@ pub mod RunLemmas
 pub mod EnteredLemmas
 pub mod ReplayLemmas
 pub mod SourceLemmas
+pub mod SoundLemmas
 pub mod WatchLemmas

@@ -91,7 +91,7 @@ take_past n one other h =
     ap (λ (k : ℕ). take k (one ++ other)) sum ∙ take-append-add one other (n - length one)
 
 -- up to the limit a source ends as its transcript does
-within : (bytes : List ℕ) → length bytes ≤ limit → ends_as bytes ≡ ends_by (reading bytes).fault
+pub within : (bytes : List ℕ) → length bytes ≤ limit → ends_as bytes ≡ ends_by (reading bytes).fault
 within bytes short =
     ap (λ b. cond b (ends_by (reading bytes).fault) (cut_by_limit (reading (take limit bytes)).fault)) (le-leb (length bytes) limit short)
 

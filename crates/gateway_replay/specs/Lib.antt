@@ -5,6 +5,7 @@ pub mod OneTranscript
 pub mod Records
 pub mod Replays
 pub mod Runs
+pub mod Sound
 pub mod Stops
 pub mod Streams
 pub mod Watching

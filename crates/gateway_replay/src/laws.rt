@@ -1,16 +1,34 @@
-//! A law over the definitions of a replay. It holds by its contract alone: no call is made.
-ghost use Rattle.std.specs.Prelude.{◌≡◌, ℕ, List};
+//! Laws over the definitions of a replay. Each holds by its contract alone: no call is made.
+ghost use Rattle.std.specs.Prelude.{◌≡◌, ℕ, Option, Some, List};
+ghost use Rattle.gate_outside.specs.Causes.{Rose};
 ghost use Rattle.rtsp_uri.specs.declared.base.Bases.{Bases};
 ghost use Rattle.gate_transcript.specs.declared.entry.Entry.{Entry};
 ghost use Rattle.mux_history.specs.Happenings.{Entry as PastEntry, happened};
+ghost use Rattle.mux_history.specs.Cores.{IsCoreHistory};
 ghost use Rattle.mux_history.specs.Follows.{IsHistory};
 ghost use Rattle.mux_history.specs.OnePlayer.{HasAll};
+ghost use Rattle.gateway_mux.specs.declared.status.Status.{Status};
 ghost use Rattle.gateway_replay.specs.Events.{events_of};
 ghost use Rattle.gateway_replay.specs.OneTranscript.{EntersAlone};
+ghost use Rattle.gateway_replay.specs.Replays.{ReplaySays, FaultRose};
+ghost use Rattle.gateway_replay.specs.Sound.{IsSoundTranscript, EndsSoundReplay};
+
+use gateway_mux::Core;
 
 /// Where a transcript enters one connection, the history of what its entries tell is that
 /// connection's own, end to end. [`crate::replay`] writes the records of that history: so the bytes
 /// that it writes tell what a gateway for this player alone hands out on what the transcript tells.
 pub fn a_transcript_of_one_player_is_its_own()
     ensures { (bases : Bases) (entries : List Entry) (history : List PastEntry) (i : ℕ) → IsHistory bases history → happened history ≡ events_of entries → EntersAlone i entries → HasAll bases i history }
+{}
+
+/// A transcript without a fault, and no longer than the limit, is replayed whole, where the counts of
+/// the source's and of the sink's faults did not rise: the answer is `Done`, and what was written is
+/// the records of the history of all that its entries tell; or memory was wanting. The first two
+/// premises are what [`crate::replay`] ensures of its answer.
+pub fn a_sound_transcript_is_replayed<M: Core>()
+    ensures { (bases : Bases) (status : Status) (all : List ℕ) (left before now : Option (List ℕ)) (source_before source_now sink_before sink_now : ℕ)
+        → ReplaySays (IsCoreHistory M.follows) bases status (Some all) left before now → FaultRose status source_before source_now sink_before sink_now
+        → IsSoundTranscript all → (Rose source_before source_now → ⊥) → (Rose sink_before sink_now → ⊥)
+        → EndsSoundReplay (IsCoreHistory M.follows) bases status all left before now }
 {}

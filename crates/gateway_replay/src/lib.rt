@@ -13,5 +13,5 @@ mod run;
 mod streams;
 mod watched;
 
-pub use laws::a_transcript_of_one_player_is_its_own;
+pub use laws::{a_sound_transcript_is_replayed, a_transcript_of_one_player_is_its_own};
 pub use replaying::{LONGEST_TRANSCRIPT, READ_SIZE, replay};

@@ -1,3 +1,4 @@
 pub mod EndingLemmas
 pub mod LinkLemmas
 pub mod ReceiptLemmas
+pub mod UnhinderedLemmas

@@ -7,6 +7,8 @@
 #![tactic(auto)]
 
 mod crew;
+mod laws;
 mod serving;
 
+pub use laws::{a_run_that_nothing_hinders_ends_well, a_run_without_a_fault_is_done};
 pub use serving::serve;

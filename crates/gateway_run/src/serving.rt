@@ -1,24 +1,24 @@
 //! A whole run over real links.
-ghost use Rattle.std.specs.Prelude.{◌≡◌, ◌≤◌, true, [], List, length, IfSome, OnErr};
+ghost use Rattle.std.specs.Prelude.{◌≡◌, ◌≤◌, true, [], List, length, is_some, IfSome, OnErr};
 ghost use Rattle.std.specs.Option.{ForSome, option_map};
 ghost use Rattle.gateway_hub.specs.Closing.{TellsOver};
-ghost use Rattle.gateway_hub.specs.Kept.{Keeps};
+ghost use Rattle.gateway_hub.specs.Kept.{Keeps, StandsIdle};
 ghost use Rattle.mux_history.specs.Happenings.{Entry};
 ghost use Rattle.gateway_run.specs.Serving.{HasShown, HasLeftNone, RanTo, SaysRan, OpensNothing, TakesBack, OpensOnce, ServeSays, AreSameAddresses, IsSameAddress, counted_refusal};
 ghost use Rattle.gate_outside.specs.Causes.{Rose};
 
-use crate::crew::{ServerPost, StationPost, work};
+use crate::crew::work;
 use gate_bytes::Memory;
 use gate_outside::{Door, Failed, Inlet, Outlet, Sink};
-use gate_world::World;
+use gate_world::{Refusal, World};
 use gateway_hub::{Hub, Recorder};
 use gateway_mux::{Base, Bases, Core, Status};
 use gateway_words::ServeOptions;
 use hub_workers::Common;
 use link_halves::Crew;
-use player_stations::Gate;
+use player_stations::{Gate, StationPost};
 use run_report::{Told, after_flush, after_report, write_report};
-use server_link::{UpBack, Upstream};
+use server_link::{ServerPost, UpBack, Upstream};
 use std::alloc::Global;
 use std::sync::{Mutex, Wait};
 use std::thread::Threads;
@@ -81,14 +81,14 @@ struct Opened<D, I, O, R> {
     recorder: R,
 }
 
-/// Gives back to the world what it opened, and counts whether a thread was refused. What the recorder holds back is written
+/// Gives back to the world what it opened, and the refusal where a thread was refused. What the recorder holds back is written
 /// then, which may fail.
 fn give_back<W: World>(
     world: &mut W,
     opened: Opened<W::Door, W::UpIn, W::UpOut, W::Rec>,
-    refused: bool,
+    refused: Option<Refusal>,
 ) -> Result<(), Failed>
-    ensures counts { TakesBack refused (W.Door.faults opened.door) (W.Door.ends opened.door) (W.UpIn.faults opened.inlet) (W.UpOut.faults opened.outlet) (W.UpIn.ends opened.inlet) (W.Rec.faults opened.recorder) (W.tally world.old) (W.tally world.new) }
+    ensures counts { TakesBack (is_some refused) (W.Door.faults opened.door) (W.Door.ends opened.door) (W.UpIn.faults opened.inlet) (W.UpOut.faults opened.outlet) (W.UpIn.ends opened.inlet) (W.Rec.faults opened.recorder) (W.tally world.old) (W.tally world.new) }
     ensures recorded { W.recorded world.new ≡ W.Rec.entries opened.recorder }
     ensures left { W.links_left world.new ≡ option_map length (W.Door.links opened.door) }
     ensures cause { OnErr result (Rose (W.tally world.old).record_faults (W.tally world.new).record_faults) }
@@ -106,11 +106,11 @@ fn give_back<W: World>(
 }
 
 /// Counts that a thread was refused, where one was.
-fn count_refusal<W: World>(world: &mut W, refused: bool)
-    ensures counts { W.tally world.new ≡ counted_refusal refused (W.tally world.old) }
+fn count_refusal<W: World>(world: &mut W, refused: Option<Refusal>)
+    ensures counts { W.tally world.new ≡ counted_refusal (is_some refused) (W.tally world.old) }
 {
-    if refused {
-        world.refuse();
+    if let Some(refusal) = refused {
+        world.refuse(refusal);
     }
 }
 
@@ -137,7 +137,7 @@ where
     ensures sink_later { K.faults sink.old ≤ K.faults sink.new }
 {
     let Ok(crew) = Crew::new(alloc, options.stations) else {
-        let _ = give_back(world, opened, false);
+        let _ = give_back(world, opened, None);
         return Status::Memory;
     };
     let Opened {
@@ -155,7 +155,7 @@ where
                 outlet,
                 recorder,
             };
-            let _ = give_back(world, opened, false);
+            let _ = give_back(world, opened, None);
             return Status::Memory;
         }
     };
@@ -179,18 +179,18 @@ struct Ran<D: Door + Drop, I: Inlet, O: Outlet, M: Core, R: Recorder> {
     hub: Hub<M, R>,
     gate: Gate<D>,
     back: UpBack<I, O>,
-    refused: bool,
+    refused: Option<Refusal>,
 }
 
 impl<D: Door + Drop, I: Inlet, O: Outlet, M: Core, R: Recorder> Ran<D, I, O, M, R> {
     /// What it tells of how the run ended.
     fn told(&self) -> Told
         ensures ending { result.ending ≡ self.now.hub.state.desk.ending }
-        ensures over { (T : List Entry) → Keeps (M.stands self.now.hub.state.core) (R.entries self.now.hub.state.recorder) (R.faults self.now.hub.state.recorder) self.now.hub.state.desk T → TellsOver result.over self.now.hub.state.desk.places.items T }
+        ensures over { (T : List Entry) → Keeps (StandsIdle M.stands M.waits M.bases self.now.hub.state.core) (R.entries self.now.hub.state.recorder) (R.faults self.now.hub.state.recorder) self.now.hub.state.desk T → TellsOver result.over self.now.hub.state.desk.places.items T }
         ensures run { result.run ≡ self.now.back.run }
         ensures failed { result.failed ≡ self.now.gate.failed }
         ensures ended { result.ended ≡ self.now.gate.ended }
-        ensures refused { result.refused ≡ self.now.refused }
+        ensures refused { result.refused ≡ is_some self.now.refused }
     {
         Told {
             ending: self.hub.ending(),
@@ -198,7 +198,7 @@ impl<D: Door + Drop, I: Inlet, O: Outlet, M: Core, R: Recorder> Ran<D, I, O, M, 
             run: self.back.run,
             failed: self.gate.failed,
             ended: self.gate.ended,
-            refused: self.refused,
+            refused: self.refused.is_some(),
         }
     }
 }

@@ -1,4 +1,6 @@
+use Rattle.std.specs.Prelude.{is_some}
 use Rattle.std.proofs.Common.{refl, sym, ap, ◌∙◌}
+use Rattle.gateway_hub.specs.Kept.{StandsIdle}
 use Rattle.run_report.specs.Report.{report_text}
 use Rattle.run_report.specs.declared.met.UpRun.{UpRun}
 use Rattle.gateway_run.proofs.ReceiptLemmas.{few_receipts}
@@ -9,17 +11,17 @@ use Rattle.gateway_run.proofs.serving.report.Goals as goal
 pub write_report-written-requires : goal.write_report-written-requires
 write_report-written-requires g c =
     let hub = c.args.ran.hub in
-    few_receipts (g.M.Core.stands hub.state.core) (g.W.Rec.Recorder.entries hub.state.recorder) (g.W.Rec.Recorder.entries c.close-recorder.result.0) (g.W.Rec.Recorder.faults hub.state.recorder) hub.state.desk
+    few_receipts (StandsIdle g.M.Core.stands g.M.Core.waits g.M.Core.bases hub.state.core) (g.W.Rec.Recorder.entries hub.state.recorder) (g.W.Rec.Recorder.entries c.close-recorder.result.0) (g.W.Rec.Recorder.faults hub.state.recorder) hub.state.desk
     c.close-recorder.result.1 hub.keeps c.close-recorder.ensures.receipts
 
 pub returns-clause-says : goal.returns-clause-says
 returns-clause-says g c =
     let laws = g.met.M.Core g.world.𝓛 g.world.𝓜 g.world.𝓡 ((λ s x. x), (λ x. x), (λ x. x), λ x. x) in
     let hub = c.args.ran.hub in
-    ran_to g.M.Core.follows (g.M.Core.bases hub.state.core) c.args.bases.now (g.M.Core.stands hub.state.core) (g.W.Rec.Recorder.entries hub.state.recorder)
+    ran_to g.M.Core.follows (g.M.Core.bases hub.state.core) c.args.bases.now (StandsIdle g.M.Core.stands g.M.Core.waits g.M.Core.bases hub.state.core) (g.W.Rec.Recorder.entries hub.state.recorder)
     (g.W.World.recorded c.give_back-flushed.new.world) (g.W.Rec.Recorder.faults hub.state.recorder) hub.state.desk c.close-recorder.result.1 c.told-told.result c.in_ok-status.status c.after_flush.result
     c.after_report.result c.give_back-flushed.result c.write_report-written.result (g.K.Sink.written c.args.sink.now) (g.K.Sink.written c.write_report-written.new.sink)
-    (g.K.Sink.faults c.args.sink.now) (g.K.Sink.faults c.write_report-written.new.sink) hub.keeps (laws.history hub.state.core) ((rw c.bases.ensures at c.if-not-are_same_bases.ensures) refl)
+    (g.K.Sink.faults c.args.sink.now) (g.K.Sink.faults c.write_report-written.new.sink) hub.keeps (λ T s. laws.history hub.state.core T s.stood) ((rw c.bases.ensures at c.if-not-are_same_bases.ensures) refl)
     (λ T k. rw c.give_back-flushed.ensures.recorded (c.close-recorder.ensures.receipts T k)) c.told-told.ensures.over c.told-told.ensures.ending c.in_ok-status.ensures.goes
     c.after_flush.ensures.ok c.after_flush.ensures.err c.after_report.ensures.ok c.after_report.ensures.err
     (wrote_report (g.K.Sink.written c.args.sink.now) (g.K.Sink.written c.write_report-written.new.sink) (g.K.Sink.faults c.args.sink.now) (g.K.Sink.faults c.write_report-written.new.sink)
@@ -29,7 +31,7 @@ pub returns-clause-shown : goal.returns-clause-shown
 returns-clause-shown g c =
     let hub = c.args.ran.hub in
     let back = c.args.ran.back in
-    shown_last c.in_ok-status.status c.after_flush.result c.after_report.result c.told-told.result c.args.ran.refused (g.W.Door.Door.faults c.args.ran.gate.door) (g.W.Door.Door.ends c.args.ran.gate.door)
+    shown_last c.in_ok-status.status c.after_flush.result c.after_report.result c.told-told.result (is_some c.args.ran.refused) (g.W.Door.Door.faults c.args.ran.gate.door) (g.W.Door.Door.ends c.args.ran.gate.door)
     (g.W.UpIn.Inlet.faults back.inlet) (g.W.UpOut.Sink.faults back.outlet) (g.W.UpIn.Inlet.ends back.inlet) (g.W.Rec.Recorder.faults c.close-recorder.result.0)
     (g.W.World.tally c.args.world.now) (g.W.World.tally c.give_back-flushed.new.world) (g.K.Sink.faults c.args.sink.now) (g.K.Sink.faults c.write_report-written.new.sink)
     c.give_back-flushed.result c.write_report-written.result c.in_ok-status.ensures.goes
@@ -42,7 +44,7 @@ returns-clause-shown g c =
       refused_so = c.told-told.ensures.refused;
       recorder = λ kept.
           rw c.close-recorder.ensures.recorder
-          (recorder_failed (g.M.Core.stands hub.state.core) (g.W.Rec.Recorder.entries hub.state.recorder) (g.W.Rec.Recorder.faults hub.state.recorder) hub.state.desk hub.keeps
+          (recorder_failed (StandsIdle g.M.Core.stands g.M.Core.waits g.M.Core.bases hub.state.core) (g.W.Rec.Recorder.entries hub.state.recorder) (g.W.Rec.Recorder.faults hub.state.recorder) hub.state.desk hub.keeps
           (sym c.told-told.ensures.ending ∙ kept));
     }) c.give_back-flushed.ensures.counts
     c.after_flush.ensures.ok c.after_flush.ensures.err c.give_back-flushed.ensures.cause c.after_report.ensures.ok c.after_report.ensures.err c.write_report-written.ensures.cause.failed
