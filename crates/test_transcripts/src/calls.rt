@@ -17,8 +17,8 @@ use std::str;
 /// - `E CONNECTION`: a player's connection ends, and `Z R`: reading from the server fails;
 /// - `plan CONNECTION BYTES`: a player's first item, planned and carried out apart, and whether the player was busy before and
 ///   is busy then;
-/// - `alive CONNECTION`, `next NUMBER` (the first connection from a number on that is alive), `dropped` (frames) and `ended`
-///   (the cause).
+/// - `alive CONNECTION`, `waiting CONNECTION` (how many of its requests wait), `next NUMBER` (the first connection from a number
+///   on that is alive), `dropped` (frames) and `ended` (the cause).
 pub fn call(alloc: Global, mux: &mut Box<Mux>, line: &[u8], answer: &mut Answer) {
     let (word, rest) = first_word(line);
     let (number, text) = first_number(rest).unwrap_or((0, b""));
@@ -38,6 +38,7 @@ fn look(alloc: Global, mux: &mut Mux, word: &str, conn: u32, text: &[u8], answer
     match word {
         "plan" => tell_plan(alloc, mux, conn, text, answer),
         "alive" => push_yes(mux.alive(conn), answer),
+        "waiting" => answer.push_number(mux.waiting(conn) as u64),
         "next" => push_next(mux.next_alive(conn), answer),
         "dropped" => answer.push_number(mux.dropped()),
         "ended" => push_end(alloc, mux.ended(), answer),

@@ -15,6 +15,8 @@
 //!     which must make no difference; `refuse` does the same with a core that answers every request with 501;
 //!   - `pieces READ WRITE CALL CALL` replays it in pieces of so many bytes at most of the source and of the sink, of which this
 //!     call of the source and this one of the sink fail, counted from 0; `-` is no call;
+//!   - `failures SIZE` replays it in pieces of this size with each call of the source failing, one in a replay, and then with each
+//!     of the sink. How each ends is told, and how many of the first bytes of its records were written;
 //!   - `entries` tells its entries and its first fault. It is read whole and in pieces of 1, 2, 7, 9 and 100 bytes;
 //!   - `record CALL` notes its entries into a sink that takes 7 bytes in a call, and tells what the sink holds; `keep CALL`
 //!     notes them into a recorder in memory. The call with this number fails.

@@ -5,7 +5,7 @@ use crate::drilling::{ask_server, tell_draws, tell_drill};
 use crate::entries::{call_reader, tell_reason, tell_written};
 use crate::gateway::with_two_players;
 use crate::recording::{tell_kept, tell_recorded};
-use crate::replaying::{Cuts, How, tell_pieces, tell_replay};
+use crate::replaying::{Cuts, How, tell_failures, tell_pieces, tell_replay};
 use crate::statuses::tell_status;
 use crate::trial::Trial;
 use case_text::{
@@ -101,6 +101,7 @@ fn run(alloc: Global, transcript: &[u8], line: &[u8], answer: &mut Answer) {
         "refuse" => tell_pieces(alloc, How::Refuse, transcript, &[1, 7], answer),
         "entries" => tell_pieces(alloc, How::Read, transcript, &[1, 2, 7, 9, 100], answer),
         "pieces" => tell_replay(alloc, How::Replay, transcript, &Cuts::read(rest), answer),
+        "failures" => tell_failures(alloc, transcript, number_in(rest), answer),
         "record" => tell_recorded(alloc, transcript, number_in(rest), answer),
         "keep" => tell_kept(alloc, transcript, number_in(rest), answer),
         _ => answer.unreadable(),

@@ -153,7 +153,7 @@ fn answered(conn: u32, text: Option<Text>) -> Outcome
 }
 
 impl Core for Refuser {
-    ghost use Rattle.std.specs.Prelude.{◌≡◌, false, nat_eq};
+    ghost use Rattle.std.specs.Prelude.{◌≡◌, false, nat_eq, refl};
     ghost use Rattle.std.specs.HashSet.{contains};
     ghost use Rattle.test_transcripts.specs.Refusing.{StandsRefusing, FollowsRefusing, text_planned};
     ghost use Rattle.test_transcripts.specs.RefusingLaws.{one_refusal, refusals_orderly};
@@ -169,6 +169,8 @@ impl Core for Refuser {
     ghost planned = { λ core event plan. plan.text ≡ text_planned (λ i. contains nat_eq core.numbers i) event };
 
     ghost is_busy = { λ bases i T. false };
+
+    ghost waits = { λ bases i T. 0 };
 
     ghost dropped = { λ T. 0 };
 
@@ -219,6 +221,10 @@ impl Core for Refuser {
         false
     }
 
+    fn waiting(&self, conn: u32) -> usize {
+        0
+    }
+
     fn alive(&self, conn: u32) -> bool {
         self.numbers.contains(&conn)
     }
@@ -240,4 +246,8 @@ impl Core for Refuser {
     ghost one_next = { one_refusal };
 
     ghost orderly = { refusals_orderly };
+
+    ghost none_waits = { λ bases i. refl };
+
+    ghost none_waits_next = { λ bases T entry history follows timely none i. refl };
 }

@@ -14,6 +14,9 @@ use std::alloc::Global;
 /// The size of the pieces in which a transcript is read first.
 const LARGE_PIECE: u64 = 4096;
 
+/// So many calls of a source or of a sink are tried at most.
+const MOST_CALLS: u64 = 1_000;
+
 /// What is done with a transcript.
 #[derive(Clone, Copy)]
 pub enum How {
@@ -97,6 +100,94 @@ pub fn tell_replay(alloc: Global, how: How, transcript: &[u8], cuts: &Cuts, answ
         }
         Err(_memory) => answer.fail(CaseFault::Memory),
     }
+}
+
+/// Which calls fail.
+#[derive(Clone, Copy)]
+enum Failing {
+    /// Those of the source.
+    Reads,
+    /// Those of the sink.
+    Writes,
+}
+
+/// Replays a transcript in pieces of this size, with each call of the source failing, one in a replay, and then with each of
+/// the sink. Tells how each ends and how many of the first bytes of its records were written.
+pub fn tell_failures(alloc: Global, transcript: &[u8], size: u64, answer: &mut Answer) {
+    let none = Cuts {
+        read: size,
+        write: size,
+        failing_read: u64::MAX,
+        failing_write: u64::MAX,
+    };
+    match ends(alloc, transcript, &none) {
+        Ok((mut source, mut sink)) => {
+            let _done = replayed(alloc, How::Replay, &mut source, &mut sink);
+            let records = sink.as_bytes();
+            tell_failing(alloc, transcript, &none, Failing::Reads, records, answer);
+            tell_failing(alloc, transcript, &none, Failing::Writes, records, answer);
+        }
+        Err(_memory) => answer.fail(CaseFault::Memory),
+    }
+}
+
+/// The same of the calls of one of the two.
+fn tell_failing(
+    alloc: Global,
+    transcript: &[u8],
+    none: &Cuts,
+    failing: Failing,
+    records: &[u8],
+    answer: &mut Answer,
+) {
+    for number in 0..MOST_CALLS {
+        let mut cuts = *none;
+        match failing {
+            Failing::Reads => {
+                cuts.failing_read = number;
+                answer.push(b"read ");
+            }
+            Failing::Writes => {
+                cuts.failing_write = number;
+                answer.push(b"write ");
+            }
+        }
+        answer.push_number(number);
+        if !tell_failure(alloc, transcript, &cuts, records, answer) {
+            return;
+        }
+    }
+}
+
+/// Replays a transcript, and tells how that ends and how many of the first bytes of these records were written. Whether a call
+/// failed.
+fn tell_failure(
+    alloc: Global,
+    transcript: &[u8],
+    cuts: &Cuts,
+    records: &[u8],
+    answer: &mut Answer,
+) -> bool {
+    let Ok((mut source, mut sink)) = ends(alloc, transcript, cuts) else {
+        answer.fail(CaseFault::Memory);
+        return false;
+    };
+    let status = replayed(alloc, How::Replay, &mut source, &mut sink);
+    let written = sink.as_bytes();
+    if status == Status::Done {
+        answer.push(b" is not made\n");
+        return false;
+    }
+    answer.push(b": ");
+    answer.push_display(alloc, &status);
+    answer.push(b", ");
+    answer.push_number(written.len() as u64);
+    answer.push(if records.starts_with(written) {
+        b" bytes of its records\n"
+    } else {
+        b" bytes of something else\n"
+    });
+    true
 }
 
 /// Appends the fault line of a replay, where it has one.
