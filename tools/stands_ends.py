@@ -1,14 +1,14 @@
 """Scenes of tools/check_stands: threads that are refused or late, players that leave, and the server's end."""
+import random
 import subprocess
 import time
 
 from serving import HOST, Gateway, check, fault_lines, free_port
 from stands_parts import QuietPlayer, QuietServer, await_true, can_trace, connected, descriptors, frames, reset, switches, traced
 
-# Of some 130 threads, those of the first stations and of the server's side.
-REFUSED = (4, 6, 10, 12, 14)
-# The first is that which writes the recording, and the second that of the server's side.
-SIDE, SIDE_SECONDS = 2, 75
+# Of some 130 threads, that of the server's side, which is the second behind that which writes the recording, and some of the
+# first stations and of the server's link.
+REFUSED = (2, 4, 6, 10, 12, 14)
 CREW_SECONDS, LATE_SECONDS, GIVEN_BACK_SECONDS = 10, 3, 3
 EARLY_PLAYERS = 16
 # Frames on a channel that nobody has, and how many threads each may wake.
@@ -17,6 +17,8 @@ STRAYS, STRAY_CHANNEL, STRAY_SECONDS, MOST_WOKEN = 200, 254, 0.5, 16
 # woken, and else a tenth or a quarter of a second.
 VISITS, VISITS_SECONDS = 100, 4
 BREAKS, BREAKS_SECONDS = 30, 2
+# More frames than the thread that read them takes itself, how long behind them a reply comes at most, and how long it may take.
+BURSTS, BURST, MOST_BEHIND, BEHIND_SECONDS = 2_000, frames(0, 187), 0.001, 2
 # What no socket holds whose player takes nothing, and how long its writer may take to find that out.
 STUCK_COUNT, STUCK_SECONDS = 80, 0.05
 # A frame of which a player that reads at this rate takes 250 in 0.75 s.
@@ -36,13 +38,13 @@ def started_with_players(program, folder, number):
     return run, players
 
 
-def refuse_each(program, folder, numbers, seconds):
-    """Runs of which each has another thread refused tell so and end in time, and none of the players entered."""
+def refused_threads(program, folder):
+    """Whichever thread is refused, the run tells so and ends in time, and none of the players entered."""
     if not can_trace():
         print("skipped: threads that are refused one by one, since strace can't refuse them here")
         return
-    runs = [(number, *started_with_players(program, folder, number)) for number in numbers]
-    end = time.monotonic() + seconds
+    runs = [(number, *started_with_players(program, folder, number)) for number in REFUSED]
+    end = time.monotonic() + CREW_SECONDS
     for number, run, _ in runs:
         name = "the thread %d, while players wait" % number
         try:
@@ -50,19 +52,9 @@ def refuse_each(program, folder, numbers, seconds):
             check(name, (run.returncode, fault_lines(fault.decode())) == (9, "rtspgate: no crew"), (run.returncode, fault))
             check(name + ": none of them entered", report == b"dials 1\n", report)
         except subprocess.TimeoutExpired:
-            check(name, False, "it did not end within %d seconds" % seconds)
+            check(name, False, "it did not end within %d seconds" % CREW_SECONDS)
             run.kill()
             run.communicate()
-
-
-def refused_threads(program, folder):
-    """Whichever thread is refused, the run tells so and ends."""
-    refuse_each(program, folder, REFUSED, CREW_SECONDS)
-
-
-def refused_side(program, folder):
-    """So it does where one side of the run has no thread: the other one waits for it half a minute."""
-    refuse_each(program, folder, (SIDE,), SIDE_SECONDS)
 
 
 def late_threads(program, folder):
@@ -204,6 +196,32 @@ def items_for_nobody(program, folder):
         time.sleep(STRAY_SECONDS / STRAYS)
     each = (switches(gateway.run) - before - 2 * idle) / STRAYS
     check("each item wakes at most %d threads" % MOST_WOKEN, each <= MOST_WOKEN, "%.1f" % each)
+    server.close()
+    gateway.end()
+
+
+class BurstServer(QuietServer):
+    """A server that answers OPTIONS behind a burst of frames for the first player, a moment after it."""
+
+    def take(self, request):
+        if request.method != "OPTIONS":
+            super().take(request)
+            return
+        self.send(BURST)
+        end = time.monotonic() + random.uniform(0, MOST_BEHIND)
+        while time.monotonic() < end:
+            pass
+        self.send(self.answer(request))
+
+
+def few_behind_many(program, folder):
+    """What little comes while a thread takes the last of much that came is taken too, whichever moment it comes at."""
+    server = BurstServer()
+    gateway = Gateway(program, server, 1, folder)
+    player = QuietPlayer(gateway.port)
+    player.watch()
+    late = [number for number in range(BURSTS) if player.ask_within(BEHIND_SECONDS, "OPTIONS")[0] != 200]
+    check("the reply behind each of %d bursts comes within %d s" % (BURSTS, BEHIND_SECONDS), not late, late[:10])
     server.close()
     gateway.end()
 
