@@ -3,7 +3,7 @@ import random
 import subprocess
 import time
 
-from serving import HOST, Gateway, check, fault_lines, free_port
+from serving import HOST, STREAM, Gateway, check, fault_lines, free_port
 from stands_parts import QuietPlayer, QuietServer, await_true, can_trace, connected, descriptors, frames, reset, switches, traced
 
 # Of some 130 threads, that of the server's side, which is the second behind that which writes the recording, and some of the
@@ -18,7 +18,7 @@ STRAYS, STRAY_CHANNEL, STRAY_SECONDS, MOST_WOKEN = 200, 254, 0.5, 16
 VISITS, VISITS_SECONDS = 100, 4
 BREAKS, BREAKS_SECONDS = 30, 2
 # More frames than the thread that read them takes itself, how long behind them a reply comes at most, and how long it may take.
-BURSTS, BURST, MOST_BEHIND, BEHIND_SECONDS = 2_000, frames(0, 187), 0.001, 2
+BURSTS, BURST_COUNT, MOST_BEHIND, BEHIND_SECONDS = 2_000, 187, 0.001, 2
 # What no socket holds whose player takes nothing, and how long its writer may take to find that out.
 STUCK_COUNT, STUCK_SECONDS = 80, 0.05
 # A frame of which a player that reads at this rate takes 250 in 0.75 s.
@@ -201,13 +201,13 @@ def items_for_nobody(program, folder):
 
 
 class BurstServer(QuietServer):
-    """A server that answers OPTIONS behind a burst of frames for the first player, a moment after it."""
+    """A server that answers GET_PARAMETER behind a burst of frames for the first player, a moment after it."""
 
     def take(self, request):
-        if request.method != "OPTIONS":
+        if request.method != "GET_PARAMETER":
             super().take(request)
             return
-        self.send(BURST)
+        self.send(frames(0, BURST_COUNT))
         end = time.monotonic() + random.uniform(0, MOST_BEHIND)
         while time.monotonic() < end:
             pass
@@ -220,8 +220,11 @@ def few_behind_many(program, folder):
     gateway = Gateway(program, server, 1, folder)
     player = QuietPlayer(gateway.port)
     player.watch()
-    late = [number for number in range(BURSTS) if player.ask_within(BEHIND_SECONDS, "OPTIONS")[0] != 200]
-    check("the reply behind each of %d bursts comes within %d s" % (BURSTS, BEHIND_SECONDS), not late, late[:10])
+    asked = "GET_PARAMETER", STREAM, [("Session", player.session)]
+    codes = (player.ask_within(BEHIND_SECONDS, *asked)[0] for _ in range(BURSTS))
+    late = next((number for number, code in enumerate(codes) if code != 200), None)
+    check("the reply behind each of %d bursts comes within %d s" % (BURSTS, BEHIND_SECONDS), late is None, late)
+    check("each burst came before its reply", player.count() >= BURSTS * BURST_COUNT, player.count())
     server.close()
     gateway.end()
 
