@@ -20,6 +20,7 @@ pub record IsTable (table : List (Option Held)) : Type 0 where
 abbrev pub granted_now : Option Held → Option Held
 granted_now place = option_map (λ held. record { conn = held.conn; pair = held.pair; granted = true }) place
 
+-- whether nobody holds a pair
 abbrev pub is_free : Option Held → Bool
 is_free held = not (is_some held)
 

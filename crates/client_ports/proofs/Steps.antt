@@ -7,7 +7,7 @@ use Rattle.crossbeam_queue.specs.Fifo.{Pushes, Pops, Forks, Merges, Learns}
 use Rattle.crossbeam_queue.proofs.Lists.{at_set, at_snoc}
 use Rattle.client_ports.specs.declared.parcel.Parcel.{Parcel}
 use Rattle.client_ports.specs.declared.rule.Knowledge.{Knowledge}
-use Rattle.client_ports.specs.Rule.{knows, BeginsIn, EndsPast, KnowsRightly, InLine}
+use Rattle.client_ports.specs.Rule.{knows, BeginsIn, EndsPast, KnowsRightly, StandsInLine}
 use Rattle.client_ports.proofs.Views.{EachPass, each_set, at_end}
 
 -- what was the first of a list is the first of a longer one
@@ -23,11 +23,11 @@ first_right zero known e = subst (λ (u : Knowledge). KnowsRightly 0 0 [] [] 0 u
 first_right (suc pass) known e = absurd (some-ne-none known (sym e))
 
 -- a new port
-pub begins : InLine [] (knows true true [] [] [] [] ∷ [])
+pub begins : StandsInLine [] (knows true true [] [] [] [] ∷ [])
 begins = record { putter = 0; taker = 0; put = []; taken = []; order = refl; right = first_right }
 
 -- a put that lands
-pub puts_keep : (n pass : ℕ) (v : Knowledge) (x : Parcel) → v.puts ≡ true → Pushes InLine n pass v x (λ w. w ≡ knows v.puts v.takes (v.put ++ x ∷ []) v.taken v.told v.heard)
+pub puts_keep : (n pass : ℕ) (v : Knowledge) (x : Parcel) → v.puts ≡ true → Pushes StandsInLine n pass v x (λ w. w ≡ knows v.puts v.takes (v.put ++ x ∷ []) v.taken v.told v.heard)
 puts_keep n pass v x may items views room h at =
     let w : Knowledge = knows v.puts v.takes (v.put ++ x ∷ []) v.taken v.told v.heard in
     let mine = h.right pass v at in
@@ -59,13 +59,13 @@ puts_keep n pass v x may items views room h at =
     )
 
 -- a put that is refused: what the queue holds is the last of what was put, and none that the pass was told was taken
-pub puts_learn : (pass : ℕ) (v : Knowledge) → v.puts ≡ true → Learns InLine pass v (λ items. EndsPast v.heard v.put items)
+pub puts_learn : (pass : ℕ) (v : Knowledge) → v.puts ≡ true → Learns StandsInLine pass v (λ items. EndsPast v.heard v.put items)
 puts_learn pass v may items views h at =
     let mine = h.right pass v at in
     (h.taken, sym h.order ∙ sym (mine.puts may).1, mine.heard)
 
 -- a take that gives a parcel
-pub takes_keep : (pass : ℕ) (v : Knowledge) → v.takes ≡ true → Pops InLine pass v (λ x w. w ≡ knows v.puts v.takes v.put (v.taken ++ x ∷ []) v.told v.heard)
+pub takes_keep : (pass : ℕ) (v : Knowledge) → v.takes ≡ true → Pops StandsInLine pass v (λ x w. w ≡ knows v.puts v.takes v.put (v.taken ++ x ∷ []) v.told v.heard)
 takes_keep pass v may x items views h at =
     let w : Knowledge = knows v.puts v.takes v.put (v.taken ++ x ∷ []) v.told v.heard in
     let mine = h.right pass v at in
@@ -97,13 +97,13 @@ takes_keep pass v may x items views h at =
     )
 
 -- a take that finds nothing: what the pass was told of is the first of what it took and what the queue holds
-pub takes_learn : (pass : ℕ) (v : Knowledge) → v.takes ≡ true → Learns InLine pass v (λ items. BeginsIn v.told (v.taken ++ items))
+pub takes_learn : (pass : ℕ) (v : Knowledge) → v.takes ≡ true → Learns StandsInLine pass v (λ items. BeginsIn v.told (v.taken ++ items))
 takes_learn pass v may items views h at =
     let mine = h.right pass v at in
     (mine.told.0, mine.told.1 ∙ (h.order ∙ ap (λ (l : List Parcel). l ++ items) (sym (mine.takes may).1)))
 
 -- the two passes are made
-pub parts : (pass : ℕ) (v : Knowledge) → v.puts ≡ true → v.takes ≡ true → Forks InLine pass v (knows true false v.put [] [] []) (knows false true [] v.taken [] [])
+pub parts : (pass : ℕ) (v : Knowledge) → v.puts ≡ true → v.takes ≡ true → Forks StandsInLine pass v (knows true false v.put [] [] []) (knows false true [] v.taken [] [])
 parts pass v a b items views h at =
     let l : Knowledge = knows true false v.put [] [] [] in
     let r : Knowledge = knows false true [] v.taken [] [] in
@@ -131,7 +131,7 @@ parts pass v a b items views h at =
     }
 
 -- the two passes are brought together
-pub meets : (pass : ℕ) (v : Knowledge) (other : ℕ) (u : Knowledge) → v.puts ≡ true → u.takes ≡ true → Merges InLine pass v other u (knows true true v.put u.taken [] []) (knows false false [] [] [] [])
+pub meets : (pass : ℕ) (v : Knowledge) (other : ℕ) (u : Knowledge) → v.puts ≡ true → u.takes ≡ true → Merges StandsInLine pass v other u (knows true true v.put u.taken [] []) (knows false false [] [] [] [])
 meets pass v other u a b items views h at two at' =
     let both : Knowledge = knows true true v.put u.taken [] [] in
     let mine = h.right pass v at in
@@ -152,14 +152,14 @@ meets pass v other u a b items views h at two at' =
     }
 
 -- where one pass puts and takes, what it put is what it took and what the queue holds
-pub totals : (pass : ℕ) (v : Knowledge) → v.puts ≡ true → v.takes ≡ true → Learns InLine pass v (λ items. v.put ≡ v.taken ++ items)
+pub totals : (pass : ℕ) (v : Knowledge) → v.puts ≡ true → v.takes ≡ true → Learns StandsInLine pass v (λ items. v.put ≡ v.taken ++ items)
 totals pass v a b items views h at =
     let mine = h.right pass v at in
     (mine.puts a).1 ∙ (h.order ∙ ap (λ (l : List Parcel). l ++ items) (sym (mine.takes b).1))
 
 -- a new pass that neither puts nor takes is told something
 pub tells : (pass : ℕ) (v : Knowledge) (told heard : List Parcel) → ((put taken : List Parcel) (putter taker : ℕ) → KnowsRightly putter taker put taken pass v → BeginsIn told put × BeginsIn heard taken)
-    → Forks InLine pass v v (knows false false [] [] told heard)
+    → Forks StandsInLine pass v v (knows false false [] [] told heard)
 tells pass v told heard so items views h at =
     let r : Knowledge = knows false false [] [] told heard in
     let mine = h.right pass v at in
@@ -179,17 +179,17 @@ tells pass v told heard so items views h at =
     }
 
 -- a new pass is told what was put
-pub tells_put : (pass : ℕ) (v : Knowledge) → v.puts ≡ true → Forks InLine pass v v (knows false false [] [] v.put [])
+pub tells_put : (pass : ℕ) (v : Knowledge) → v.puts ≡ true → Forks StandsInLine pass v v (knows false false [] [] v.put [])
 tells_put pass v a = tells pass v v.put [] (λ put taken putter taker mine. (([], append-nil v.put ∙ (mine.puts a).1), (taken, refl)))
 
 -- a new pass is told what was taken
-pub tells_taken : (pass : ℕ) (v : Knowledge) → v.takes ≡ true → Forks InLine pass v v (knows false false [] [] [] v.taken)
+pub tells_taken : (pass : ℕ) (v : Knowledge) → v.takes ≡ true → Forks StandsInLine pass v v (knows false false [] [] [] v.taken)
 tells_taken pass v a = tells pass v [] v.taken (λ put taken putter taker mine. ((put, refl), ([], append-nil v.taken ∙ (mine.takes a).1)))
 
 -- a pass takes in what another was told
 pub hears : (pass : ℕ) (v : Knowledge) (other : ℕ) (u : Knowledge) (told heard : List Parcel)
     → ((put taken : List Parcel) (putter taker : ℕ) → KnowsRightly putter taker put taken pass v → KnowsRightly putter taker put taken other u → BeginsIn told put × BeginsIn heard taken)
-    → Merges InLine pass v other u (knows v.puts v.takes v.put v.taken told heard) (knows false false [] [] [] [])
+    → Merges StandsInLine pass v other u (knows v.puts v.takes v.put v.taken told heard) (knows false false [] [] [] [])
 hears pass v other u told heard so items views h at two at' =
     let both : Knowledge = knows v.puts v.takes v.put v.taken told heard in
     let mine = h.right pass v at in
@@ -208,9 +208,9 @@ hears pass v other u told heard so items views h at two at' =
     }
 
 -- a pass takes in what another was told of those that were put
-pub hears_put : (pass : ℕ) (v : Knowledge) (other : ℕ) (u : Knowledge) → Merges InLine pass v other u (knows v.puts v.takes v.put v.taken u.told v.heard) (knows false false [] [] [] [])
+pub hears_put : (pass : ℕ) (v : Knowledge) (other : ℕ) (u : Knowledge) → Merges StandsInLine pass v other u (knows v.puts v.takes v.put v.taken u.told v.heard) (knows false false [] [] [] [])
 hears_put pass v other u = hears pass v other u u.told v.heard (λ put taken putter taker mine theirs. (theirs.told, mine.heard))
 
 -- a pass takes in what another was told of those that were taken
-pub hears_taken : (pass : ℕ) (v : Knowledge) (other : ℕ) (u : Knowledge) → Merges InLine pass v other u (knows v.puts v.takes v.put v.taken v.told u.heard) (knows false false [] [] [] [])
+pub hears_taken : (pass : ℕ) (v : Knowledge) (other : ℕ) (u : Knowledge) → Merges StandsInLine pass v other u (knows v.puts v.takes v.put v.taken v.told u.heard) (knows false false [] [] [] [])
 hears_taken pass v other u = hears pass v other u v.told u.heard (λ put taken putter taker mine theirs. (mine.told, theirs.heard))

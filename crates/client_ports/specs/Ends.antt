@@ -37,6 +37,7 @@ capacity_of putter = ruled_capacity (arc_value putter.queue)
 abbrev pub putters_port : Putter → TableId
 putters_port putter = putter.pass.table_id
 
+-- the port of an end that takes
 abbrev pub takers_port : Taker → TableId
 takers_port taker = taker.pass.table_id
 

@@ -1,3 +1,3 @@
 pub mod Ends
 pub mod Rule
-pub mod Takings
+pub mod PortTakes

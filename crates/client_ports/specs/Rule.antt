@@ -27,7 +27,7 @@ pub record KnowsRightly (putter taker : ℕ) (put taken : List Parcel) (pass : �
   pub heard : BeginsIn known.heard taken
 
 -- What was put is what was taken, followed by what the queue holds, and each pass knows what is so.
-pub record InLine (items : List Parcel) (views : List Knowledge) : Type 0 where
+pub record StandsInLine (items : List Parcel) (views : List Knowledge) : Type 0 where
   pub putter : ℕ
   pub taker : ℕ
   pub put : List Parcel

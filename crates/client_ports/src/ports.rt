@@ -3,7 +3,7 @@ ghost use Rattle.std.specs.Prelude.{◌≡◌, ◌<◌, [], length, IfOk};
 ghost use Rattle.client_ports.specs.Ends.{put_of, taken_of, told_of, heard_of, fulls_of, capacity_of, OfOnePort};
 ghost use Rattle.client_ports.specs.Rule.{BeginsIn};
 
-use crate::rule::{Ends, Line, Whole};
+use crate::rule::{ParcelQueue, PassEnds, Whole};
 use crate::{Putter, Taker};
 use gate_bytes::Memory;
 use std::alloc::Global;
@@ -29,8 +29,8 @@ pub fn port(alloc: Global, capacity: usize) -> Result<(Putter, Taker), Memory>
     ensures taken { IfOk result (λ ends. taken_of ends.1 ≡ []) }
     ensures told { IfOk result (λ ends. told_of ends.1 ≡ []) }
 {
-    let (line, mut puts) = Line::ruled(alloc, capacity)?;
-    let takes = line.another::<Ends>(&mut puts);
+    let (line, mut puts) = ParcelQueue::ruled(alloc, capacity)?;
+    let takes = line.another::<PassEnds>(&mut puts);
     let line = Arc::new(alloc, line)?;
     let other = Arc::try_clone(&line)?;
     Ok((Putter::new(line, puts), Taker::new(other, takes)))
@@ -54,7 +54,7 @@ pub fn meet(putter: Putter, taker: Taker) -> Met
         pass: takes,
         count: taken,
     } = taker;
-    queue.absorb::<Ends>(&mut pass, takes);
+    queue.absorb::<PassEnds>(&mut pass, takes);
     queue.learn_as::<Whole>(&mut pass);
     Met { put, taken }
 }

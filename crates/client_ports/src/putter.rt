@@ -4,14 +4,14 @@ ghost use Rattle.std.specs.Arc.{arc_value};
 ghost use Rattle.crossbeam_queue.specs.Passes.{view, IsPassOf};
 ghost use Rattle.gate_outside.specs.Causes.{counted_on};
 
-use crate::rule::{EndPass, Line, PutWord, Puts, TakenWord};
+use crate::rule::{EndPass, ParcelQueue, PutWord, Puts, TakenWord};
 use crate::{Full, Parcel, Taker};
 use std::sync::{Arc, Wait};
 
 /// The end of a port that puts. It knows all that was put, and of what was taken as much as it was told.
 #[derive(Drop)]
 pub struct Putter {
-    pub(crate) queue: Arc<Line>,
+    pub(crate) queue: Arc<ParcelQueue>,
     pub(crate) pass: EndPass,
     pub(crate) count: u64,
     pub(crate) fulls: u64,
@@ -25,7 +25,7 @@ impl Putter {
     ghost use Rattle.client_ports.specs.Rule.{knows};
 
     /// The end of this queue whose pass has put nothing.
-    pub(crate) fn new(queue: Arc<Line>, pass: EndPass) -> Putter
+    pub(crate) fn new(queue: Arc<ParcelQueue>, pass: EndPass) -> Putter
         requires queue { IsPassOf (arc_value queue) pass }
         requires puts { (view pass).puts ≡ true }
         requires first { (view pass).put ≡ [] }

@@ -26,17 +26,17 @@ pub struct InLine;
 
 impl Protocol<Parcel, Knowledge> for InLine {
     ghost use Rattle.std.specs.Prelude.{true, []};
-    ghost use Rattle.client_ports.specs.Rule.{knows, InLine};
+    ghost use Rattle.client_ports.specs.Rule.{knows, StandsInLine};
 
-    ghost holds = { InLine };
+    ghost holds = { StandsInLine };
 
     ghost first = { knows true true [] [] [] [] };
 }
 
 /// A new pass takes, and this one puts. At first neither knows of a parcel.
-pub struct Ends;
+pub struct PassEnds;
 
-impl Split<Knowledge> for Ends {
+impl Split<Knowledge> for PassEnds {
     ghost use Rattle.std.specs.Prelude.{true, false, []};
     ghost use Rattle.client_ports.specs.Rule.{knows};
 
@@ -45,7 +45,7 @@ impl Split<Knowledge> for Ends {
     ghost right = { λ v. knows false true [] v.taken [] [] };
 }
 
-impl Join<Knowledge> for Ends {
+impl Join<Knowledge> for PassEnds {
     ghost use Rattle.std.specs.Prelude.{true, false, []};
     ghost use Rattle.client_ports.specs.Rule.{knows};
 
@@ -140,7 +140,7 @@ impl Lesson<Parcel, Knowledge> for Whole {
 }
 
 /// A queue of parcels under the rule.
-pub type Line = RuledArrayQueue<Parcel, Knowledge, InLine>;
+pub type ParcelQueue = RuledArrayQueue<Parcel, Knowledge, InLine>;
 
 /// The pass of one end.
 pub type EndPass = Pass<Parcel, Knowledge>;

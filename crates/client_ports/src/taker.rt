@@ -3,14 +3,14 @@ ghost use Rattle.std.specs.Prelude.{◌≡◌, true, false, [], ◌∷◌, ◌++
 ghost use Rattle.std.specs.Arc.{arc_value};
 ghost use Rattle.crossbeam_queue.specs.Passes.{view, IsPassOf};
 
-use crate::rule::{EndPass, Line, PutWord, TakenWord, Takes};
+use crate::rule::{EndPass, ParcelQueue, PutWord, TakenWord, Takes};
 use crate::{Parcel, Putter};
 use std::sync::{Arc, Wait};
 
 /// The end of a port that takes. It knows all that was taken.
 #[derive(Drop)]
 pub struct Taker {
-    pub(crate) queue: Arc<Line>,
+    pub(crate) queue: Arc<ParcelQueue>,
     pub(crate) pass: EndPass,
     pub(crate) count: u64,
     ghost of_queue: { IsPassOf (arc_value queue) pass },
@@ -27,11 +27,11 @@ pub struct TakenParcels {
 
 impl Taker {
     ghost use Rattle.client_ports.specs.Ends.{put_of, taken_of, told_of, takers_port, OfOnePort, IsSamePutter, IsSameTaker, WasEmpty};
-    ghost use Rattle.client_ports.specs.Takings.{taken_in, parcels_port};
+    ghost use Rattle.client_ports.specs.PortTakes.{taken_in, parcels_port};
     ghost use Rattle.client_ports.specs.Rule.{knows};
 
     /// The end of this queue whose pass has taken nothing.
-    pub(crate) fn new(queue: Arc<Line>, pass: EndPass) -> Taker
+    pub(crate) fn new(queue: Arc<ParcelQueue>, pass: EndPass) -> Taker
         requires queue { IsPassOf (arc_value queue) pass }
         requires takes { (view pass).takes ≡ true }
         requires first { (view pass).taken ≡ [] }

@@ -17,8 +17,8 @@ use Rattle.client_slot.specs.Session.{PlayerSession}
 use Rattle.client_slot.specs.SessionChanges.{when_granted, when_set_up, when_played, when_moved, when_ended}
 use Rattle.client_slot.specs.Client.{Client}
 use Rattle.client_slot.specs.Changes.{after_release, after_reply, after_note, after_closing, due_at, due_play, release_at, session_after, closing_at, closing_session, close_at}
-use Rattle.client_slot.specs.Closing.{closing_text, closing_request}
-use Rattle.client_slot.specs.Renumbered.{track_under, purpose_under, session_under, client_under, names_under, AreToldApart}
+use Rattle.client_slot.specs.ClosingRequest.{closing_text, closing_request}
+use Rattle.client_slot.specs.Renumber.{track_under, purpose_under, session_under, client_under, names_under, AreToldApart}
 
 -- streams and one more
 tracks_and_one : (pairs : ℕ → ℕ) (tracks : List Track) (track : Option Track)

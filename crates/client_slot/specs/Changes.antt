@@ -33,6 +33,7 @@ due_at None None queue = slice_get queue 0
 due_at None (Some number) queue = None
 due_at (Some purpose) running queue = None
 
+-- the PLAY that is due
 abbrev pub due_play : Client → Option Play
 due_play client = due_at client.pending client.session.running client.session.queue
 
@@ -41,6 +42,7 @@ abbrev pub release_at : Option Play → Client → Client
 release_at None client = client
 release_at (Some play) client = record client { session = record client.session { queue = drop 1 client.session.queue }; pending = Some (Released play) }
 
+-- the PLAY that is due goes up
 abbrev pub after_release : Client → Client
 after_release client = release_at (due_play client) client
 
@@ -51,6 +53,7 @@ session_after (Some (client_s asked track)) number code id session = when_answer
 session_after (Some (Released play)) number code id session = when_released number code play.uri session
 session_after (Some Closing) number code id session = when_left session
 
+-- a final reply settles the open request
 abbrev pub after_reply : ℕ → ℕ → Option (List ℕ) → Client → Client
 after_reply number code id client = record client { session = session_after client.pending number code id client.session; pending = None }
 
@@ -69,6 +72,7 @@ closing_at true pending id = None
 closing_at false (Some purpose) id = None
 closing_at false None id = id
 
+-- the session of which a closing TEARDOWN is due
 abbrev pub closing_session : Client → Option (List ℕ)
 closing_session client = closing_at client.alive client.pending client.session.id
 
@@ -77,5 +81,6 @@ abbrev pub close_at : Option (List ℕ) → Client → Client
 close_at None client = client
 close_at (Some id) client = record client { pending = Some Closing }
 
+-- the closing TEARDOWN goes up
 abbrev pub after_closing : Client → Client
 after_closing client = close_at (closing_session client) client

@@ -5,6 +5,7 @@ use Rattle.rtsp_head.specs.Items.{Shape}
 use Rattle.client_slot.specs.declared.purpose.Purpose.{Purpose}
 use Rattle.client_slot.specs.Session.{PlayerSession, new_session}
 
+-- all that is kept of a connection
 pub record Client : Type 0 where
   pub alive : Bool
   pub session : PlayerSession

@@ -1,9 +1,9 @@
 pub mod Bounds
 pub mod Client
-pub mod Closing
+pub mod ClosingRequest
 pub mod Changes
 pub mod Purposes
-pub mod Renumbered
+pub mod Renumber
 pub mod Session
 pub mod SessionChanges
 pub mod Teardown

@@ -7,8 +7,8 @@ ghost use Rattle.session_one.specs.declared.parts.Track.{Track};
 ghost use Rattle.session_two.specs.declared.names.Names.{Names};
 ghost use Rattle.client_slot.specs.Client.{Client};
 ghost use Rattle.client_slot.specs.Changes.{after_waiting, after_next, after_asking, after_queueing, after_release, after_reply, after_note, after_close, after_closing};
-ghost use Rattle.client_slot.specs.Closing.{closing_text};
-ghost use Rattle.client_slot.specs.Renumbered.{track_under, client_under, names_under, AreToldApart};
+ghost use Rattle.client_slot.specs.ClosingRequest.{closing_text};
+ghost use Rattle.client_slot.specs.Renumber.{track_under, client_under, names_under, AreToldApart};
 
 /// Each change is the same under every numbering of requests and of pairs of channels. Only the end
 /// of what plays asks that the numbering tells the request that is named from the one that runs.

@@ -7,16 +7,16 @@
 //! [`Waiting::new`].
 #![tactic(auto)]
 
-mod closing;
+mod closing_room;
 mod law;
 mod limits;
 mod purpose;
 mod session;
 mod slot;
-mod waiting;
+mod waiting_request;
 
 pub use law::changes_keep_any_numbering;
 pub use limits::{CLOSING_ROOM, LONGEST_URI, MOST_WAITING};
 pub use purpose::{Pending, Settled};
 pub use slot::Slot;
-pub use waiting::Waiting;
+pub use waiting_request::Waiting;

@@ -7,7 +7,7 @@ ghost use Rattle.client_slot.specs.declared.limits.TheConstants.{LONGEST_URI, CL
 
 mod changes;
 
-use crate::closing::ClosingRoom;
+use crate::closing_room::ClosingRoom;
 use gate_bytes::{Memory, Text};
 use play_queue::PlayQueue;
 use session_one::{MOST_TRACKS, Play, State, Track};
@@ -42,7 +42,7 @@ impl Model for Session {
 
 impl Session {
     ghost use Rattle.client_slot.specs.Session.{new_session};
-    ghost use Rattle.client_slot.specs.Closing.{closing_request};
+    ghost use Rattle.client_slot.specs.ClosingRequest.{closing_request};
 
     /// Nothing is set up, and room is made for all that may be.
     pub fn new(alloc: Global) -> Result<Session, Memory>

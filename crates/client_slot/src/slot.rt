@@ -6,7 +6,7 @@ ghost use Rattle.client_slot.specs.Purposes.{purpose_seen};
 
 mod changes;
 
-use crate::closing::ClosingRoom;
+use crate::closing_room::ClosingRoom;
 use crate::purpose::{Pending, Purpose};
 use crate::session::Session;
 use gate_bytes::Memory;

@@ -6,12 +6,12 @@ use Rattle.std.specs.Option.{unwrap_or}
 use Rattle.rtsp_head.specs.Items.{Shape, Cut, shape_at, first_extent, is_bad, behind, cut_with, cut_by, cut, items_of}
 use Rattle.rtsp_head.specs.Spellings.{AreItems}
 use Rattle.rtsp_head.specs.declared.item.Extent.{Extent}
-use Rattle.rtsp_frame.specs.Framing.{Held, Framed}
+use Rattle.rtsp_frame.specs.FramerState.{HeldBytes, Framed}
 use Rattle.rtsp_frame.proofs.ExtentLemmas.{first_is}
 use Rattle.rtsp_frame.proofs.CutLemmas.{joined_rest, cut_step, cut_append}
 use Rattle.rtsp_frame.proofs.SpellLemmas.{first_spelled}
 use Rattle.rtsp_frame.proofs.AreItemsLemmas.{items_are}
-use Rattle.drill_server.specs.Serving.{IsDrained}
+use Rattle.drill_server.specs.ServerSteps.{IsDrained}
 
 -- one item more at most, whether it is bad or not
 behind_few : (bad : Bool) (shape : Shape) (later : Cut) (n : ℕ) → length later.items ≤ n → length (behind bad shape later).items ≤ suc n
@@ -82,7 +82,7 @@ few_added stream piece =
     (few_by (cut stream).items (cut stream).rest piece (rest_holds_none stream))
 
 -- What a framer that gave all its items has to give once it was fed.
-pub few_waiting : (old new : Held) (piece : List ℕ) → IsDrained old → ((stream : List ℕ) (given : List Shape) → Framed old stream given → Framed new (stream ++ piece) given) → length new.waiting ≤ length piece
+pub few_waiting : (old new : HeldBytes) (piece : List ℕ) → IsDrained old → ((stream : List ℕ) (given : List Shape) → Framed old stream given → Framed new (stream ++ piece) given) → length new.waiting ≤ length piece
 few_waiting old new piece drained feeds =
     let fed = feeds drained.stream (items_of drained.stream) drained.framed in
     omega (arith, few_added drained.stream piece, ap length fed.items, length-append (items_of drained.stream) new.waiting)

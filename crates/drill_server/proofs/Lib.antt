@@ -1,2 +1,2 @@
-pub mod MovedLemmas
+pub mod MoveLemmas
 pub mod FewLemmas

@@ -1,5 +1,5 @@
 pub mod Draws
 pub mod Texts
-pub mod Asking
+pub mod AskedFields
 pub mod Answers
-pub mod Serving
+pub mod ServerSteps

@@ -9,9 +9,10 @@ use Rattle.rtsp_head.specs.Messages.{message_text}
 use Rattle.head_two.specs.Messages.{version_two}
 use Rattle.head_two.specs.Requests.{request_text}
 use Rattle.head_two.specs.declared.request.Request2.{Request2}
-use Rattle.drill_server.specs.declared.track.Track.{Track}
+use Rattle.drill_server.specs.declared.track.DrillTrack.{DrillTrack}
 use Rattle.drill_server.specs.declared.track.TheConstants.{ID_BASE}
 
+-- a header of an answer
 abbrev pub answer_field : List ℕ → List ℕ → Header
 answer_field name value = record { name = name; value = value }
 
@@ -32,11 +33,11 @@ abbrev pub frame_on : ℕ → List ℕ
 frame_on channel = dollar ∷ channel ∷ 0 ∷ 1 ∷ 0 ∷ []
 
 -- the frame of a track, where it is one of this session
-abbrev pub frame_in : List ℕ → Track → List ℕ
+abbrev pub frame_in : List ℕ → DrillTrack → List ℕ
 frame_in id track = if bytes_eq track.session id then frame_on track.channel else []
 
 -- a frame on the first channel of each track of a session, in their order
-abbrev pub frames_of : List ℕ → List Track → List ℕ
+abbrev pub frames_of : List ℕ → List DrillTrack → List ℕ
 frames_of id tracks = flat_map (frame_in id) tracks
 
 -- the value that tells which PLAY ended (RFC 7826, 18.45)

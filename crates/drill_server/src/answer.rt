@@ -3,12 +3,12 @@ ghost use Rattle.std.specs.Prelude.{◌≡◌, ◌+◌, IfOk, codes};
 ghost use Rattle.rtsp_head.specs.Shapes.{shape_of};
 ghost use Rattle.head_two.specs.Replies.{ask_of_item};
 ghost use Rattle.rtsp_small.specs.Methods.{method_of};
-ghost use Rattle.drill_server.specs.Asking.{uri_asked, field_asked, channel_asked};
+ghost use Rattle.drill_server.specs.AskedFields.{uri_asked, field_asked, channel_asked};
 ghost use Rattle.rtsp_head.specs.Headers.{field_of};
 ghost use Rattle.drill_server.specs.Answers.{answer_by, answer_read, setup_answer, setup_in, play_answer_text, play_answer, plain_answer, describe_answer, bare_answer, track_made};
 
 use crate::texts::{notify_text, one_field, push_frames, session_id, success};
-use crate::track::Track;
+use crate::track::DrillTrack;
 use gate_bytes::{Memory, Text};
 use head_two::{Ask2, TwoFault, read_ask};
 use rtsp_head::{Headers, Item, Start};
@@ -18,11 +18,11 @@ use std::alloc::Global;
 
 /// An answer, and what it changes.
 #[derive(Drop)]
-pub struct Answer {
+pub struct DrillAnswer {
     /// The reply, and what follows it.
     pub text: Text,
     /// The track that it makes.
-    pub track: Option<Track>,
+    pub track: Option<DrillTrack>,
     /// Whether it makes a session.
     pub session: bool,
     /// Whether it tells of an end.
@@ -30,10 +30,10 @@ pub struct Answer {
 }
 
 /// An answer that changes nothing.
-fn plain(text: Text) -> Answer
+fn plain(text: Text) -> DrillAnswer
     ensures { result ≡ plain_answer text }
 {
-    Answer {
+    DrillAnswer {
         text,
         track: None,
         session: false,
@@ -72,11 +72,11 @@ fn channel(transport: &[u8]) -> Option<u8>
 }
 
 /// The track that a SETUP makes on this channel.
-fn track(alloc: Global, id: &[u8], channel: Option<u8>) -> Result<Option<Track>, Memory>
+fn track(alloc: Global, id: &[u8], channel: Option<u8>) -> Result<Option<DrillTrack>, Memory>
     ensures { IfOk result (λ track. track ≡ track_made id.now channel) }
 {
     match channel {
-        Some(channel) => Ok(Some(Track {
+        Some(channel) => Ok(Some(DrillTrack {
             session: Text::copy(alloc, id)?,
             channel,
         })),
@@ -85,13 +85,13 @@ fn track(alloc: Global, id: &[u8], channel: Option<u8>) -> Result<Option<Track>,
 }
 
 /// The answer to a SETUP in this session.
-fn setup(alloc: Global, ask: &Ask2, id: &[u8], session: bool) -> Result<Answer, Memory>
+fn setup(alloc: Global, ask: &Ask2, id: &[u8], session: bool) -> Result<DrillAnswer, Memory>
     ensures { IfOk result (λ answer. answer ≡ setup_answer ask.now id.now session) }
 {
     let transport = field(ask, b"Transport");
     let mut fields = one_field(alloc, b"Session", id)?;
     fields.push_copy(alloc, b"Transport", Some(transport))?;
-    Ok(Answer {
+    Ok(DrillAnswer {
         text: success(alloc, ask.cseq, &fields, b"")?,
         track: track(alloc, id, channel(transport))?,
         session,
@@ -100,7 +100,7 @@ fn setup(alloc: Global, ask: &Ask2, id: &[u8], session: bool) -> Result<Answer, 
 }
 
 /// The answer to a SETUP: the session is the one that it names, or else a new one.
-fn setup_in(alloc: Global, sessions: u32, ask: &Ask2) -> Result<Answer, Memory>
+fn setup_in(alloc: Global, sessions: u32, ask: &Ask2) -> Result<DrillAnswer, Memory>
     ensures { IfOk result (λ answer. answer ≡ setup_in sessions ask.now (field_of ask.now.head.headers (codes "Session"))) }
 {
     match ask.head.field(b"Session") {
@@ -123,7 +123,7 @@ fn next_notify(notifies: u32) -> Result<u32, Memory>
 /// The reply to a PLAY, a frame on each track, and the notify of its end, which has its own number.
 fn play_text(
     alloc: Global,
-    tracks: &[Track],
+    tracks: &[DrillTrack],
     own: u32,
     ask: &Ask2,
     id: &[u8],
@@ -139,11 +139,16 @@ fn play_text(
 }
 
 /// The answer to a PLAY, which is over at once.
-fn play(alloc: Global, tracks: &[Track], notifies: u32, ask: &Ask2) -> Result<Answer, Memory>
+fn play(
+    alloc: Global,
+    tracks: &[DrillTrack],
+    notifies: u32,
+    ask: &Ask2,
+) -> Result<DrillAnswer, Memory>
     ensures { IfOk result (λ answer. answer ≡ play_answer tracks.now notifies ask.now (field_asked ask.now (codes "Session"))) }
 {
     let own = next_notify(notifies)?;
-    Ok(Answer {
+    Ok(DrillAnswer {
         text: play_text(alloc, tracks, own, ask, field(ask, b"Session"))?,
         track: None,
         session: false,
@@ -152,7 +157,7 @@ fn play(alloc: Global, tracks: &[Track], notifies: u32, ask: &Ask2) -> Result<An
 }
 
 /// The answer to a DESCRIBE.
-fn describe(alloc: Global, ask: &Ask2) -> Result<Answer, Memory>
+fn describe(alloc: Global, ask: &Ask2) -> Result<DrillAnswer, Memory>
     ensures { IfOk result (λ answer. answer ≡ describe_answer ask.now) }
 {
     let fields = one_field(alloc, b"Content-Type", b"application/sdp")?;
@@ -160,7 +165,7 @@ fn describe(alloc: Global, ask: &Ask2) -> Result<Answer, Memory>
 }
 
 /// The answer to a request that changes nothing.
-fn nothing_new(alloc: Global, ask: &Ask2) -> Result<Answer, Memory>
+fn nothing_new(alloc: Global, ask: &Ask2) -> Result<DrillAnswer, Memory>
     ensures { IfOk result (λ answer. answer ≡ bare_answer ask.now) }
 {
     let fields = Headers::new(alloc);
@@ -171,10 +176,10 @@ fn nothing_new(alloc: Global, ask: &Ask2) -> Result<Answer, Memory>
 fn answer_ask(
     alloc: Global,
     sessions: u32,
-    tracks: &[Track],
+    tracks: &[DrillTrack],
     notifies: u32,
     ask: &Ask2,
-) -> Result<Answer, Memory>
+) -> Result<DrillAnswer, Memory>
     ensures { IfOk result (λ answer. answer ≡ answer_by (method_of ask.now.method) sessions tracks.now notifies ask.now) }
 {
     match read_method(ask.method.as_bytes()) {
@@ -189,10 +194,10 @@ fn answer_ask(
 pub fn answer_item(
     alloc: Global,
     sessions: u32,
-    tracks: &[Track],
+    tracks: &[DrillTrack],
     notifies: u32,
     item: &Item,
-) -> Result<Answer, Memory>
+) -> Result<DrillAnswer, Memory>
     ensures { IfOk result (λ answer. answer ≡ answer_read sessions tracks.now notifies (ask_of_item (shape_of item.now))) }
 {
     match read_ask(alloc, item) {

@@ -7,7 +7,7 @@ mod server;
 mod texts;
 mod track;
 
-pub use answer::Answer;
+pub use answer::DrillAnswer;
 pub use draw::{Draw, INCREMENT, LOW_BITS, MULTIPLIER};
 pub use server::DrillServer;
-pub use track::{ID_BASE, Track};
+pub use track::{DrillTrack, ID_BASE};

@@ -4,11 +4,11 @@ ghost use Rattle.std.specs.Option.{option_to_list};
 ghost use Rattle.std.specs.VecDeque.{deque_len, deque_capacity};
 ghost use Rattle.rtsp_head.specs.Items.{Shape, items_of};
 ghost use Rattle.rtsp_head.specs.Shapes.{shape_of, shapes};
-ghost use Rattle.rtsp_frame.specs.Framing.{Framed};
-ghost use Rattle.drill_server.specs.Serving.{IsDrained, is_request_kind, requests_among, counted};
+ghost use Rattle.rtsp_frame.specs.FramerState.{Framed};
+ghost use Rattle.drill_server.specs.ServerSteps.{IsDrained, is_request_kind, requests_among, counted};
 
-use crate::answer::{Answer, answer_item};
-use crate::track::Track;
+use crate::answer::{DrillAnswer, answer_item};
+use crate::track::DrillTrack;
 use gate_bytes::{Memory, Text};
 use rtsp_frame::{Framer, Item, ItemKind};
 use std::alloc::Global;
@@ -23,15 +23,15 @@ pub struct DrillServer {
     framer: Framer,
     waiting: VecDeque<Item>,
     sessions: u32,
-    tracks: Vec<Track>,
+    tracks: Vec<DrillTrack>,
     notifies: u32,
 }
 
 impl Model for DrillServer {
     ghost use Rattle.rtsp_head.specs.Shapes.{shape_of, shapes};
-    ghost use Rattle.drill_server.specs.Serving.{Desk, IsDrained};
+    ghost use Rattle.drill_server.specs.ServerSteps.{ServerDesk, IsDrained};
 
-    ghost Value = { Desk };
+    ghost Value = { ServerDesk };
 
     ghost view = { λ s. record { framer = s.framer; waiting = shapes s.waiting.items; sessions = s.sessions; tracks = s.tracks.items; notifies = s.notifies } };
 
@@ -39,7 +39,7 @@ impl Model for DrillServer {
 }
 
 impl DrillServer {
-    ghost use Rattle.drill_server.specs.Serving.{Serving, Serves, idle_server, serving_fed, next_answer, serving_answered};
+    ghost use Rattle.drill_server.specs.ServerSteps.{Serving, Serves, idle_server, serving_fed, next_answer, serving_answered};
 
     /// A server to which nothing came. It takes no memory.
     pub fn new(alloc: Global) -> DrillServer
@@ -82,7 +82,7 @@ impl DrillServer {
         };
         let tracks = self.tracks.as_slice();
         let answer = answer_item(alloc, self.sessions, tracks, self.notifies, item)?;
-        let Answer {
+        let DrillAnswer {
             text,
             track,
             session,
@@ -110,7 +110,7 @@ fn counted(more: bool, count: u32) -> Result<u32, Memory>
 }
 
 /// Appends a track, where there is one.
-fn push_track(tracks: &mut Vec<Track>, track: Option<Track>) -> Result<(), Memory>
+fn push_track(tracks: &mut Vec<DrillTrack>, track: Option<DrillTrack>) -> Result<(), Memory>
     ensures ok { OnOk result (tracks.new.items ≡ tracks.old.items ++ option_to_list track) }
     ensures err { OnErr result (tracks.new.items ≡ tracks.old.items) }
 {

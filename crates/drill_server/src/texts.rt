@@ -2,7 +2,7 @@
 ghost use Rattle.std.specs.Prelude.{◌≡◌, ◌++◌, ◌∷◌, [], IfOk, OnOk};
 ghost use Rattle.drill_server.specs.Texts.{success_text, drill_session, frames_of, status_told, end_request, end_notify, answer_field};
 
-use crate::track::{ID_BASE, Track};
+use crate::track::{DrillTrack, ID_BASE};
 use gate_bytes::{Memory, Text, after, push_decimal};
 use head_two::{Request2, write_request};
 use rtsp_head::{Headers, push_message};
@@ -44,7 +44,7 @@ pub fn session_id(alloc: Global, number: u64) -> Result<Text, Memory>
 }
 
 /// Appends a frame on the channel of each track of a session.
-pub fn push_frames(text: &mut Text, id: &[u8], tracks: &[Track]) -> Result<(), Memory>
+pub fn push_frames(text: &mut Text, id: &[u8], tracks: &[DrillTrack]) -> Result<(), Memory>
     ensures { OnOk result (text.new ≡ text.old ++ frames_of id.now tracks.now) }
 {
     for track in tracks {

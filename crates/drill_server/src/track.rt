@@ -7,7 +7,7 @@ pub const ID_BASE: u64 = 10_000_000;
 
 /// A track of a session.
 #[derive(Drop)]
-pub struct Track {
+pub struct DrillTrack {
     /// The id of the session.
     pub session: Text,
     /// The channel of its media.

@@ -12,6 +12,7 @@ is_token_mark b =
     || b == asterisk || b == plus_sign || b == hyphen || b == dot || b == caret || b == underscore || b == backtick
     || b == vertical_bar || b == tilde
 
+-- a byte of a token (RFC 7826, 20.1)
 abbrev pub is_token_byte : ℕ → Bool
 is_token_byte b = is_ascii_alphanumeric b || is_token_mark b
 

@@ -9,9 +9,11 @@ use Rattle.gate_outside.specs.declared.script.Script.{Script}
 abbrev pub call_script : Calls → Script
 call_script calls = calls.script
 
+-- how many calls were made
 abbrev pub calls_made : Calls → ℕ
 calls_made calls = calls.made
 
+-- how many of them failed
 abbrev pub calls_failed : Calls → ℕ
 calls_failed calls = calls.failed
 
@@ -27,6 +29,7 @@ bytes_left source = drop source.at source.bytes
 abbrev pub read_script : MemorySource → Script
 read_script source = source.calls.script
 
+-- how often a source was read
 abbrev pub reads_made : MemorySource → ℕ
 reads_made source = source.calls.made
 
@@ -42,6 +45,7 @@ bytes_written sink = sink.bytes
 abbrev pub write_script : MemorySink → Script
 write_script sink = sink.calls.script
 
+-- how often a sink was written to
 abbrev pub writes_made : MemorySink → ℕ
 writes_made sink = sink.calls.made
 

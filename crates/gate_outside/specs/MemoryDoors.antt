@@ -17,6 +17,7 @@ links_coming door = all_halves door.coming.items
 abbrev pub links_returned : MemoryDoor → List MemoryLink
 links_returned door = door.returned.items
 
+-- how many links may be given back without memory
 abbrev pub room_for_returns : MemoryDoor → ℕ
 room_for_returns door = vec_capacity door.returned
 
@@ -24,6 +25,7 @@ room_for_returns door = vec_capacity door.returned
 abbrev pub door_script : MemoryDoor → Script
 door_script door = call_script door.calls
 
+-- how often a door was asked
 abbrev pub door_calls : MemoryDoor → ℕ
 door_calls door = calls_made door.calls
 
@@ -31,8 +33,10 @@ door_calls door = calls_made door.calls
 abbrev pub door_faults : MemoryDoor → ℕ
 door_faults door = calls_failed door.calls
 
+-- how often it had nothing yet
 abbrev pub door_waits : MemoryDoor → ℕ
 door_waits door = door.waits
 
+-- how often it told its end
 abbrev pub door_ends : MemoryDoor → ℕ
 door_ends door = door.ends

@@ -11,9 +11,11 @@ use Rattle.gate_outside.specs.Memories.{bytes_written, call_script, calls_made, 
 abbrev pub outlet_sink : MemoryOutlet → MemorySink
 outlet_sink outlet = outlet.sink
 
+-- what was written to an outlet
 abbrev pub bytes_sent : MemoryOutlet → List ℕ
 bytes_sent outlet = bytes_written outlet.sink
 
+-- whether an outlet was shut
 abbrev pub is_shut : MemoryOutlet → Bool
 is_shut outlet = outlet.shut
 
@@ -25,6 +27,7 @@ bytes_coming inlet = drop inlet.at inlet.bytes
 abbrev pub inlet_script : MemoryInlet → Script
 inlet_script inlet = call_script inlet.calls
 
+-- how often an inlet was read
 abbrev pub inlet_reads : MemoryInlet → ℕ
 inlet_reads inlet = calls_made inlet.calls
 
@@ -36,6 +39,7 @@ inlet_faults inlet = calls_failed inlet.calls + inlet.late
 abbrev pub inlet_waits : MemoryInlet → ℕ
 inlet_waits inlet = inlet.waits
 
+-- how often it told its end
 abbrev pub inlet_ends : MemoryInlet → ℕ
 inlet_ends inlet = inlet.ends
 
@@ -43,6 +47,7 @@ inlet_ends inlet = inlet.ends
 abbrev pub inlet_turns : MemoryInlet → ℕ
 inlet_turns inlet = inlet.turns
 
+-- how often it has held back what it has
 abbrev pub turns_held : MemoryInlet → ℕ
 turns_held inlet = inlet.held
 

@@ -8,6 +8,7 @@ use Rattle.gate_outside.specs.declared.new_link.NewLink.{NewLink}
 abbrev pub new_inlet : NewLink → MemoryInlet
 new_inlet link = link.inlet
 
+-- the outgoing half of a new link
 abbrev pub new_outlet : NewLink → MemoryOutlet
 new_outlet link = link.outlet
 

@@ -15,13 +15,13 @@ use Rattle.gate_transcript.specs.declared.entry.TheConstants.{ENTER_BYTE, CLIENT
 use Rattle.gate_transcript.specs.declared.fault.BadEntry.{BadEntry}
 use Rattle.gate_transcript.specs.declared.fault.BadEntryKind.{BadEntryKind}
 use Rattle.gate_transcript.specs.declared.fault.BadEntryKind.TheVariants.{Kind}
-use Rattle.gate_transcript.specs.declared.head.Head.{Head}
-use Rattle.gate_transcript.specs.Transcript.{magic, entry_kind, may_come, entry_head, sound_head, first_head, entry_with, Reading, reading_with, reading_by, reading_on, reading}
+use Rattle.gate_transcript.specs.declared.head.EntryHead.{EntryHead}
+use Rattle.gate_transcript.specs.Transcript.{magic, entry_kind, may_come, entry_head, sound_head, first_head, entry_with, TranscriptReading, reading_with, reading_by, reading_on, reading}
 use Rattle.gate_transcript.specs.Bodies.{may_have_length}
-use Rattle.gate_transcript.specs.Spelled.{kind_byte, entry_spelled, transcript_text, MayStand, AreEntries, AreBytes, IsLeftBehind, SpellsRead, IsReadBy, IsTranscript}
+use Rattle.gate_transcript.specs.EntryTexts.{kind_byte, entry_spelled, transcript_text, MayStand, AreEntries, AreBytes, IsLeftBehind, SpellsRead, IsReadBy, IsTranscript}
 use Rattle.gate_transcript.proofs.HeadLemmas.{IsFirst, first_parts, first_not_none}
-use Rattle.gate_transcript.proofs.ReadingLemmas.{among, after_magic, step_bad}
-use Rattle.gate_transcript.proofs.SpelledLemmas.{spelled_onward}
+use Rattle.gate_transcript.proofs.PieceReadLemmas.{among, after_magic, step_bad}
+use Rattle.gate_transcript.proofs.SpellLemmas.{spelled_onward}
 
 -- one case of a byte's kind
 named_here : (b byte : ℕ) (kind named : EntryKind) (more : Option EntryKind) → kind_byte named ≡ byte → cond (b == byte) (Some named) more ≡ Some kind
@@ -48,14 +48,14 @@ byte_of_kind b kind e =
     (λ e. named_here b UP_END_BYTE kind UpEnd None refl e (λ e. absurd (cc)))))))
 
 -- what a sound head is
-pub record IsSoundHead (has : ℕ → Bool) (b : ℕ) (bytes : List ℕ) (head : Head) : Type 0 where
+pub record IsSoundHead (has : ℕ → Bool) (b : ℕ) (bytes : List ℕ) (head : EntryHead) : Type 0 where
   pub byte : b ≡ kind_byte head.kind
   pub conn : head.conn ≡ from_be_bytes w32 (take 4 bytes)
   pub size : head.size ≡ from_be_bytes w32 (take 4 (drop 4 bytes))
   pub comes : may_come has head.kind head.conn ≡ true
   pub fits : may_have_length head.kind head.size ≡ true
 
-head_parts : (has : ℕ → Bool) (h head : Head) → sound_head has (Some h) ≡ Ok head → (h ≡ head) × ((may_come has h.kind h.conn ≡ true) × (may_have_length h.kind h.size ≡ true))
+head_parts : (has : ℕ → Bool) (h head : EntryHead) → sound_head has (Some h) ≡ Ok head → (h ≡ head) × ((may_come has h.kind h.conn ≡ true) × (may_have_length h.kind h.size ≡ true))
 head_parts has h head e =
     elim (cases_Bool (may_come has h.kind h.conn)) [
       | inl comes ↦ (let f = rw comes at e in
@@ -66,20 +66,20 @@ head_parts has h head e =
       | inr never ↦ (let f = rw never at e in absurd (cc))
     ]
 
-abbrev head_with : ℕ → ℕ → Option EntryKind → Option Head
+abbrev head_with : ℕ → ℕ → Option EntryKind → Option EntryHead
 head_with conn size kind = option_map (λ kind. record { kind = kind; conn = conn; size = size }) kind
 
-sound_by : (has : ℕ → Bool) (b : ℕ) (bytes : List ℕ) (kind : Option EntryKind) (head : Head) → entry_kind b ≡ kind
+sound_by : (has : ℕ → Bool) (b : ℕ) (bytes : List ℕ) (kind : Option EntryKind) (head : EntryHead) → entry_kind b ≡ kind
     → sound_head has (head_with (from_be_bytes w32 (take 4 bytes)) (from_be_bytes w32 (take 4 (drop 4 bytes))) kind) ≡ Ok head → IsSoundHead has b bytes head
 sound_by has b bytes None head named e =
     let fault : sound_head has None ≡ Err Kind = refl in
     absurd (cc)
 sound_by has b bytes (Some kind) head named e =
-    let h : Head = record { kind = kind; conn = from_be_bytes w32 (take 4 bytes); size = from_be_bytes w32 (take 4 (drop 4 bytes)) } in
+    let h : EntryHead = record { kind = kind; conn = from_be_bytes w32 (take 4 bytes); size = from_be_bytes w32 (take 4 (drop 4 bytes)) } in
     let parts = head_parts has h head e in
-    subst (λ (x : Head). IsSoundHead has b bytes x) parts.0 (record { byte = byte_of_kind b kind named; conn = refl; size = refl; comes = parts.1.0; fits = parts.1.1 })
+    subst (λ (x : EntryHead). IsSoundHead has b bytes x) parts.0 (record { byte = byte_of_kind b kind named; conn = refl; size = refl; comes = parts.1.0; fits = parts.1.1 })
 
-sound_parts : (has : ℕ → Bool) (b : ℕ) (bytes : List ℕ) (head : Head) → sound_head has (entry_head b bytes) ≡ Ok head → IsSoundHead has b bytes head
+sound_parts : (has : ℕ → Bool) (b : ℕ) (bytes : List ℕ) (head : EntryHead) → sound_head has (entry_head b bytes) ≡ Ok head → IsSoundHead has b bytes head
 sound_parts has b bytes head e = sound_by has b bytes (entry_kind b) head refl e
 
 -- a front of bytes is bytes, and so is what is behind it
@@ -102,7 +102,7 @@ number_written : (bytes : List ℕ) → AreBytes bytes → 4 ≤ length bytes �
 number_written bytes are long n e = be_bytes_4 (take 4 bytes) n (length-take-le 4 bytes long) (bytes_before 4 bytes are) e
 
 -- the entry that is first in the bytes
-text_first : (has : ℕ → Bool) (b : ℕ) (bytes : List ℕ) (head : Head) → AreBytes bytes → IsFirst has b bytes head
+text_first : (has : ℕ → Bool) (b : ℕ) (bytes : List ℕ) (head : EntryHead) → AreBytes bytes → IsFirst has b bytes head
     → b ∷ bytes ≡ entry_spelled head.kind head.conn (take head.size (drop 8 bytes)) ++ drop (8 + head.size) bytes
 text_first has b bytes head are first =
     let sound = sound_parts has b bytes head first.right in
@@ -124,7 +124,7 @@ text_first has b bytes head are first =
     ∙ ap (λ (l : List ℕ). to_be_bytes w32 head.conn ++ l) (sym (append_assoc (to_be_bytes w32 (length told)) told behind))
     ∙ sym (append_assoc (to_be_bytes w32 head.conn) (to_be_bytes w32 (length told) ++ told) behind))
 
-text_at : (entries : List Entry) (b : ℕ) (bytes : List ℕ) (head : Head) → AreBytes (b ∷ bytes) → first_head (among entries) (b ∷ bytes) ≡ Ok (Some head)
+text_at : (entries : List Entry) (b : ℕ) (bytes : List ℕ) (head : EntryHead) → AreBytes (b ∷ bytes) → first_head (among entries) (b ∷ bytes) ≡ Ok (Some head)
     → b ∷ bytes ≡ entry_spelled head.kind head.conn (entry_with head (b ∷ bytes)).body ++ drop (9 + head.size) (b ∷ bytes)
 text_at entries b bytes head are e =
     let one : 9 + head.size ≡ suc (8 + head.size) = omega arith in
@@ -140,7 +140,7 @@ small_number bytes are long =
     let four = front 3 in
     omega arith
 
-may_stand : (entries : List Entry) (b : ℕ) (bytes : List ℕ) (head : Head) → AreBytes (b ∷ bytes) → first_head (among entries) (b ∷ bytes) ≡ Ok (Some head) → MayStand (entry_with head (b ∷ bytes)) entries
+may_stand : (entries : List Entry) (b : ℕ) (bytes : List ℕ) (head : EntryHead) → AreBytes (b ∷ bytes) → first_head (among entries) (b ∷ bytes) ≡ Ok (Some head) → MayStand (entry_with head (b ∷ bytes)) entries
 may_stand entries b bytes head are e =
     let first = first_parts (among entries) b bytes head e in
     let long = first.long in
@@ -159,7 +159,7 @@ SpelledOn n = (entries : List Entry) (bytes : List ℕ) → length bytes ≤ n �
     → SpellsRead (transcript_text entries ++ bytes) (reading_by n (length (transcript_text entries)) entries bytes)
 
 spelled_turn : (n : ℕ) → SpelledOn n → (entries : List Entry) (b : ℕ) (bytes : List ℕ) → length bytes ≤ n → AreBytes (b ∷ bytes) → AreEntries entries
-    → (first : Result (Option Head) BadEntryKind) → first_head (among entries) (b ∷ bytes) ≡ first
+    → (first : Result (Option EntryHead) BadEntryKind) → first_head (among entries) (b ∷ bytes) ≡ first
     → SpellsRead (transcript_text entries ++ (b ∷ bytes)) (reading_with first (length (transcript_text entries)) entries (b ∷ bytes) (reading_by n))
 spelled_turn n later entries b bytes few are may (Ok None) e = absurd (first_not_none (among entries) (b ∷ bytes) (omega arith) e)
 spelled_turn n later entries b bytes few are may (Err bad) e =
@@ -196,7 +196,7 @@ spelled_by true bytes e are =
     let begins : bytes ≡ magic ++ drop 8 bytes = (starts_is Decides-eqb bytes magic (starts_with nat_eq bytes magic) refl).0 e in
     let read : reading bytes ≡ reading_on 8 [] (drop 8 bytes) = ap reading begins ∙ after_magic (drop 8 bytes) in
     subst (λ (l : List ℕ). SpellsRead l (reading bytes)) (sym begins)
-    (subst (λ (r : Reading). SpellsRead (magic ++ drop 8 bytes) r) (sym read) (spelled_on (length (drop 8 bytes)) [] (drop 8 bytes) (omega arith) (bytes_behind 8 bytes are) tt))
+    (subst (λ (r : TranscriptReading). SpellsRead (magic ++ drop 8 bytes) r) (sym read) (spelled_on (length (drop 8 bytes)) [] (drop 8 bytes) (omega arith) (bytes_behind 8 bytes are) tt))
 
 pub spelled_so : (bytes : List ℕ) → AreBytes bytes → IsTranscript bytes (reading bytes)
 spelled_so bytes are = spelled_by (starts_with nat_eq bytes magic) bytes refl are
@@ -206,15 +206,15 @@ left_read : (entries : List Entry) (left : List ℕ) (fault : Option BadEntry) �
 left_read entries left None ends = rw ends refl
 left_read entries left (Some bad) ends =
     step_bad (length (transcript_text entries)) entries left ends.kind ends.first
-    ∙ ap (λ (x : BadEntry). let r : Reading = record { entries = entries; fault = Some x } in r) (sym ends.fault)
+    ∙ ap (λ (x : BadEntry). let r : TranscriptReading = record { entries = entries; fault = Some x } in r) (sym ends.fault)
 
-read_spelled : (bytes : List ℕ) (read : Reading) → SpellsRead bytes read → reading bytes ≡ read
+read_spelled : (bytes : List ℕ) (read : TranscriptReading) → SpellsRead bytes read → reading bytes ≡ read
 read_spelled bytes read spells =
     ap reading spells.whole ∙ spelled_onward read.entries spells.entries spells.left ∙ left_read read.entries spells.left read.fault spells.ends
 
-read_by : (begins : Bool) (bytes : List ℕ) (read : Reading) → starts_with nat_eq bytes magic ≡ begins → IsReadBy begins bytes read → reading bytes ≡ read
+read_by : (begins : Bool) (bytes : List ℕ) (read : TranscriptReading) → starts_with nat_eq bytes magic ≡ begins → IsReadBy begins bytes read → reading bytes ≡ read
 read_by true bytes read e spells = read_spelled bytes read spells
 read_by false bytes read e is = rw e (sym is)
 
-pub read_so : (bytes : List ℕ) (read : Reading) → IsTranscript bytes read → reading bytes ≡ read
+pub read_so : (bytes : List ℕ) (read : TranscriptReading) → IsTranscript bytes read → reading bytes ≡ read
 read_so bytes read is = read_by (starts_with nat_eq bytes magic) bytes read refl is

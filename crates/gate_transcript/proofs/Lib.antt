@@ -1,8 +1,8 @@
 pub mod GrammarLemmas
 pub mod HeadLemmas
-pub mod ReadingLemmas
+pub mod PieceReadLemmas
 pub mod ReaderLemmas
 pub mod LessLemmas
 pub mod ProperLemmas
-pub mod SpelledLemmas
+pub mod SpellLemmas
 pub mod RecordingLemmas

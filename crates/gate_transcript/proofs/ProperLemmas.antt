@@ -3,11 +3,11 @@ use Rattle.std.proofs.Common.{◌≡◌, ℕ, zero, suc, ◌+◌, Bool, true, fa
 use Rattle.std.specs.List.{starts_with}
 use Rattle.gate_transcript.specs.declared.entry.Entry.{Entry}
 use Rattle.gate_transcript.specs.declared.fault.BadEntryKind.{BadEntryKind}
-use Rattle.gate_transcript.specs.declared.head.Head.{Head}
-use Rattle.gate_transcript.specs.declared.reader.Stage.{Stage}
-use Rattle.gate_transcript.specs.declared.reader.Stage.TheVariants.{Front, Entries, Stopped}
+use Rattle.gate_transcript.specs.declared.head.EntryHead.{EntryHead}
+use Rattle.gate_transcript.specs.declared.reader.ReaderStage.{ReaderStage}
+use Rattle.gate_transcript.specs.declared.reader.ReaderStage.TheVariants.{Front, Entries, Stopped}
 use Rattle.gate_transcript.specs.declared.reader.EntryReader.{EntryReader}
-use Rattle.gate_transcript.specs.Transcript.{magic, has_entered, may_come, sound_head, bad_entry, entry_head, first_head, entry_with, Reading, reading_with, reading_by, reading_on, reading}
+use Rattle.gate_transcript.specs.Transcript.{magic, has_entered, may_come, sound_head, bad_entry, entry_head, first_head, entry_with, TranscriptReading, reading_with, reading_by, reading_on, reading}
 use Rattle.gate_transcript.specs.Bodies.{may_have_length}
 use Rattle.gate_transcript.specs.Reads.{ReadsBy, ReadsSo}
 use Rattle.gate_transcript.proofs.HeadLemmas.{first_parts}
@@ -16,11 +16,11 @@ abbrev pub AreProper : List Entry → Type 0
 AreProper [] = Unit {0}
 AreProper (e ∷ entries) = (may_come (λ conn. has_entered conn entries) e.kind e.conn ≡ true) × AreProper entries
 
-sound_may : (has : ℕ → Bool) (found : Option Head) (head : Head) → sound_head has found ≡ Ok head → may_come has head.kind head.conn ≡ true
+sound_may : (has : ℕ → Bool) (found : Option EntryHead) (head : EntryHead) → sound_head has found ≡ Ok head → may_come has head.kind head.conn ≡ true
 sound_may has None head e = absurd (cc)
 sound_may has (Some h) head e = at (may_come has h.kind h.conn) refl e
   where
-    sized : Bool → Result Head BadEntryKind
+    sized : Bool → Result EntryHead BadEntryKind
     sized fits = cond fits (Ok h) (Err BadEntryKind.Length)
 
     at : (may : Bool) → may_come has h.kind h.conn ≡ may → cond may (sized (may_have_length h.kind h.size)) (Err BadEntryKind.Conn) ≡ Ok head
@@ -30,13 +30,13 @@ sound_may has (Some h) head e = at (may_come has h.kind h.conn) refl e
       where
         fits : (b : Bool) → sized b ≡ Ok head → may_come has head.kind head.conn ≡ true
         fits false g = absurd (cc)
-        fits true g = let one : h ≡ head = cc in subst (λ (x : Head). may_come has x.kind x.conn ≡ true) one same
+        fits true g = let one : h ≡ head = cc in subst (λ (x : EntryHead). may_come has x.kind x.conn ≡ true) one same
 
-first_may : (has : ℕ → Bool) (bytes : List ℕ) (head : Head) → first_head has bytes ≡ Ok (Some head) → may_come has head.kind head.conn ≡ true
+first_may : (has : ℕ → Bool) (bytes : List ℕ) (head : EntryHead) → first_head has bytes ≡ Ok (Some head) → may_come has head.kind head.conn ≡ true
 first_may has [] head e = absurd (cc)
 first_may has (b ∷ bytes) head e = sound_may has (entry_head b bytes) head (first_parts has b bytes head e).right
 
-proper_with : (n place : ℕ) (entries : List Entry) (bytes : List ℕ) (first : Result (Option Head) BadEntryKind)
+proper_with : (n place : ℕ) (entries : List Entry) (bytes : List ℕ) (first : Result (Option EntryHead) BadEntryKind)
     → first_head (λ conn. has_entered conn entries) bytes ≡ first → AreProper entries
     → ((p : ℕ) (es : List Entry) (bs : List ℕ) → AreProper es → AreProper (reading_by n p es bs).entries)
     → AreProper (reading_with first place entries bytes (reading_by n)).entries
@@ -58,13 +58,13 @@ reading_proper bytes = at (starts_with nat_eq bytes magic)
     at false = tt
 
 -- what a reader gave is proper
-given_proper : (stage : Stage) (reader : EntryReader) (stream : List ℕ) (given : List Entry) → ReadsBy stage reader stream given → AreProper given
+given_proper : (stage : ReaderStage) (reader : EntryReader) (stream : List ℕ) (given : List Entry) → ReadsBy stage reader stream given → AreProper given
 given_proper Front reader stream given r = subst (λ (es : List Entry). AreProper es) (sym r.none) tt
 given_proper Entries reader stream given r =
-    let all : (reading (r.taken ++ [])).entries ≡ given = ap (λ (x : Reading). x.entries) (r.onward []) in
+    let all : (reading (r.taken ++ [])).entries ≡ given = ap (λ (x : TranscriptReading). x.entries) (r.onward []) in
     subst (λ (es : List Entry). AreProper es) all (reading_proper (r.taken ++ []))
 given_proper (Stopped bad) reader stream given r =
-    let all : (reading (stream ++ [])).entries ≡ given = ap (λ (x : Reading). x.entries) (r.always []) in
+    let all : (reading (stream ++ [])).entries ≡ given = ap (λ (x : TranscriptReading). x.entries) (r.always []) in
     subst (λ (es : List Entry). AreProper es) all (reading_proper (stream ++ []))
 
 pub reads_proper : (reader : EntryReader) (stream : List ℕ) (given : List Entry) → ReadsSo reader stream given → AreProper given

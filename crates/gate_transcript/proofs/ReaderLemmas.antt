@@ -13,22 +13,22 @@ use Rattle.gate_transcript.specs.declared.fault.BadEntryKind.TheVariants.{Magic,
 use Rattle.gate_transcript.specs.declared.fault.BadEntry.{BadEntry}
 use Rattle.gate_transcript.specs.declared.fault.EntryFault.{EntryFault}
 use Rattle.gate_transcript.specs.declared.fault.EntryFault.TheVariants.{Bad, Memory}
-use Rattle.gate_transcript.specs.declared.head.Head.{Head}
-use Rattle.gate_transcript.specs.declared.reader.Stage.{Stage}
-use Rattle.gate_transcript.specs.declared.reader.Stage.TheVariants.{Front, Entries, Stopped}
+use Rattle.gate_transcript.specs.declared.head.EntryHead.{EntryHead}
+use Rattle.gate_transcript.specs.declared.reader.ReaderStage.{ReaderStage}
+use Rattle.gate_transcript.specs.declared.reader.ReaderStage.TheVariants.{Front, Entries, Stopped}
 use Rattle.gate_transcript.specs.declared.reader.EntryReader.{EntryReader}
 use Rattle.gate_transcript.specs.Connections.{has}
-use Rattle.gate_transcript.specs.Transcript.{magic, is_enter, has_entered, first_head, entry_with, bad_entry, Reading, reading_on, reading}
+use Rattle.gate_transcript.specs.Transcript.{magic, is_enter, has_entered, first_head, entry_with, bad_entry, TranscriptReading, reading_on, reading}
 use Rattle.gate_transcript.specs.Reads.{AtFront, InEntries, IsLasting, StopsAt, ReadsBy, ReadsSo, MayGoOn, GivenWhole, GivenFront, IsCutAfter, EndsBy, EndsSo, NextSays}
 use Rattle.gate_transcript.specs.Steps.{PassesMagic, IsSame, RemovesEntry, Steps, ending}
 use Rattle.gate_transcript.proofs.HeadLemmas.{IsFinal, front_len, bad_more, first_not_magic}
-use Rattle.gate_transcript.proofs.ReadingLemmas.{among, onward_more, step_bad, step_none, more_entries, after_magic}
+use Rattle.gate_transcript.proofs.PieceReadLemmas.{among, onward_more, step_bad, step_none, more_entries, after_magic}
 
 -- the test that a reader keeps is the one that the entries make
 pub one_test : (reader : EntryReader) (stream : List ℕ) (given : List Entry) → InEntries reader stream given → has reader.entered ≡ among given
 one_test reader stream given at = fun_ext (λ conn. at.who conn)
 
-first_at : (reader : EntryReader) (stream : List ℕ) (given : List Entry) (r : Result (Option Head) BadEntryKind) → InEntries reader stream given → first_head (has reader.entered) reader.left ≡ r → first_head (among given) reader.left ≡ r
+first_at : (reader : EntryReader) (stream : List ℕ) (given : List Entry) (r : Result (Option EntryHead) BadEntryKind) → InEntries reader stream given → first_head (has reader.entered) reader.left ≡ r → first_head (among given) reader.left ≡ r
 first_at reader stream given r at e = subst (λ (f : ℕ → Bool). first_head f reader.left ≡ r) (one_test reader stream given at) e
 
 -- the reading of the stream, and of more
@@ -40,12 +40,12 @@ onward_here : (reader : EntryReader) (stream : List ℕ) (given : List Entry) (a
 onward_here reader stream given at = ap reading at.whole ∙ at.onward reader.left
 
 -- an entry is taken
-who_more : (head : Head) (old new : EntryReader) (e : Entry) (given : List Entry) → RemovesEntry head old new e → ((conn : ℕ) → has old.entered conn ≡ has_entered conn given) → (conn : ℕ) → has new.entered conn ≡ has_entered conn (e ∷ given)
+who_more : (head : EntryHead) (old new : EntryReader) (e : Entry) (given : List Entry) → RemovesEntry head old new e → ((conn : ℕ) → has old.entered conn ≡ has_entered conn given) → (conn : ℕ) → has new.entered conn ≡ has_entered conn (e ∷ given)
 who_more head old new e given takes who conn =
     takes.who conn ∙ (ap (λ (b : Bool). (is_enter head.kind && head.conn == conn) || b) (who conn)
     ∙ ap (λ (x : Entry). (is_enter x.kind && x.conn == conn) || has_entered conn given) (sym takes.entry))
 
-pub entry_taken : (head : Head) (old new : EntryReader) (e : Entry) (stream : List ℕ) (given : List Entry) →
+pub entry_taken : (head : EntryHead) (old new : EntryReader) (e : Entry) (stream : List ℕ) (given : List Entry) →
     first_head (has old.entered) old.left ≡ Ok (Some head) → RemovesEntry head old new e → InEntries old stream given → InEntries new stream (e ∷ given)
 entry_taken head old new e stream given first takes at =
     let here = first_at old stream given (Ok (Some head)) at first in
@@ -83,7 +83,7 @@ fault_always : (reader : EntryReader) (stream : List ℕ) (given : List Entry) (
 fault_always reader stream given bad final first at more =
     let here = first_at reader stream given (Err bad) at first in
     let step = step_bad (length at.taken) given (reader.left ++ more) bad (bad_more (among given) reader.left more bad final here) in
-    onward_from reader stream more given at ∙ (step ∙ ap (λ (n : ℕ). let r : Reading = record { entries = given; fault = Some (record { place = n; kind = bad }) } in r) (sym at.place))
+    onward_from reader stream more given at ∙ (step ∙ ap (λ (n : ℕ). let r : TranscriptReading = record { entries = given; fault = Some (record { place = n; kind = bad }) } in r) (sym at.place))
 
 -- a fault stands
 pub fault_stands : (reader : EntryReader) (stream : List ℕ) (given : List Entry) (bad : BadEntryKind) → IsFinal bad →
@@ -95,7 +95,7 @@ fault_stands reader stream given bad final first at =
 pub nothing_next : (reader : EntryReader) (stream : List ℕ) (given : List Entry) → first_head (has reader.entered) reader.left ≡ Ok None → InEntries reader stream given → GivenWhole stream given
 nothing_next reader stream given first at =
     let r : reading stream ≡ record { entries = given; fault = None } = onward_here reader stream given at ∙ step_none (length at.taken) given reader.left (first_at reader stream given (Ok None) at first) in
-    record { entries = ap (λ (x : Reading). x.entries) r; unfinished = subst (λ (o : Option BadEntry). MayGoOn o stream) (sym (ap (λ (x : Reading). x.fault) r)) tt }
+    record { entries = ap (λ (x : TranscriptReading). x.entries) r; unfinished = subst (λ (o : Option BadEntry). MayGoOn o stream) (sym (ap (λ (x : TranscriptReading). x.fault) r)) tt }
 
 cut_here : (reader : EntryReader) (stream : List ℕ) (given : List Entry) (bad : BadEntryKind) → first_head (has reader.entered) reader.left ≡ Err bad → (at : InEntries reader stream given) → reading stream ≡ record { entries = given; fault = Some (bad_entry (length at.taken) bad) }
 cut_here reader stream given bad first at = onward_here reader stream given at ∙ step_bad (length at.taken) given reader.left bad (first_at reader stream given (Err bad) at first)
@@ -103,22 +103,22 @@ cut_here reader stream given bad first at = onward_here reader stream given at �
 pub cut_next : (reader : EntryReader) (stream : List ℕ) (given : List Entry) → first_head (has reader.entered) reader.left ≡ Err Cut → InEntries reader stream given → GivenWhole stream given
 cut_next reader stream given first at =
     let r = cut_here reader stream given Cut first at in
-    record { entries = ap (λ (x : Reading). x.entries) r; unfinished = subst (λ (o : Option BadEntry). MayGoOn o stream) (sym (ap (λ (x : Reading). x.fault) r)) tt }
+    record { entries = ap (λ (x : TranscriptReading). x.entries) r; unfinished = subst (λ (o : Option BadEntry). MayGoOn o stream) (sym (ap (λ (x : TranscriptReading). x.fault) r)) tt }
 
 -- the end of the stream
-still_to_come : (reader : EntryReader) (stream : List ℕ) (given : List Entry) (head : Head) → first_head (has reader.entered) reader.left ≡ Ok (Some head) → InEntries reader stream given → (reading stream).entries ≡ given → ⊥
+still_to_come : (reader : EntryReader) (stream : List ℕ) (given : List Entry) (head : EntryHead) → first_head (has reader.entered) reader.left ≡ Ok (Some head) → InEntries reader stream given → (reading stream).entries ≡ given → ⊥
 still_to_come reader stream given head first at same =
     let here = first_at reader stream given (Ok (Some head)) at first in
     let rest : List ℕ = drop (9 + head.size) reader.left in
     let next : List Entry = entry_with head reader.left ∷ given in
     let go : reading_on (length at.taken) given reader.left ≡ reading_on (length at.taken + 9 + head.size) next rest =
     ap (λ (l : List ℕ). reading_on (length at.taken) given l) (sym (take-append-drop (9 + head.size) reader.left)) ∙ onward_more (length at.taken) given reader.left rest head here in
-    let all = ap (λ (x : Reading). length x.entries) (onward_here reader stream given at ∙ go) in
+    let all = ap (λ (x : TranscriptReading). length x.entries) (onward_here reader stream given at ∙ go) in
     let more = more_entries (length rest) (length at.taken + 9 + head.size) next rest in
     let size = ap (λ (l : List Entry). length l) same in
     omega arith
 
-cut_after : (reader : EntryReader) (stream : List ℕ) (given : List Entry) (head : Head) → first_head (has reader.entered) reader.left ≡ Ok (Some head) → InEntries reader stream given → IsCutAfter (record { place = reader.place; kind = Cut }) stream given
+cut_after : (reader : EntryReader) (stream : List ℕ) (given : List Entry) (head : EntryHead) → first_head (has reader.entered) reader.left ≡ Ok (Some head) → InEntries reader stream given → IsCutAfter (record { place = reader.place; kind = Cut }) stream given
 cut_after reader stream given head first at =
     let enough : 9 + head.size ≤ length reader.left = front_len (has reader.entered) reader.left head first in record {
       front = at.taken;
@@ -129,7 +129,7 @@ cut_after reader stream given head first at =
       cut = ap (λ (n : ℕ). let bad : BadEntry = record { place = n; kind = Cut } in bad) at.place;
     }
 
-ends_by : (reader : EntryReader) (stream : List ℕ) (given : List Entry) (r : Result (Option Head) BadEntryKind) → first_head (has reader.entered) reader.left ≡ r → InEntries reader stream given → EndsSo stream given (ending r reader.place)
+ends_by : (reader : EntryReader) (stream : List ℕ) (given : List Entry) (r : Result (Option EntryHead) BadEntryKind) → first_head (has reader.entered) reader.left ≡ r → InEntries reader stream given → EndsSo stream given (ending r reader.place)
 ends_by reader stream given (Ok None) first at = onward_here reader stream given at ∙ step_none (length at.taken) given reader.left (first_at reader stream given (Ok None) at first)
 ends_by reader stream given (Ok (Some head)) first at = record {
   all = λ same. absurd (still_to_come reader stream given head first at same);
@@ -137,21 +137,21 @@ ends_by reader stream given (Ok (Some head)) first at = record {
 }
 ends_by reader stream given (Err kind) first at =
     let r = cut_here reader stream given kind first at in record {
-      all = λ same. ap (λ (x : Reading). x.fault) r ∙ ap (λ (n : ℕ). let o : Option BadEntry = Some (record { place = n; kind = kind }) in o) (sym at.place);
-      part = λ more. absurd (more (ap (λ (x : Reading). x.entries) r));
+      all = λ same. ap (λ (x : TranscriptReading). x.fault) r ∙ ap (λ (n : ℕ). let o : Option BadEntry = Some (record { place = n; kind = kind }) in o) (sym at.place);
+      part = λ more. absurd (more (ap (λ (x : TranscriptReading). x.entries) r));
     }
 
 pub entries_end : (reader : EntryReader) (stream : List ℕ) (given : List Entry) (result : Result (Unit {0}) BadEntry) → reader.stage ≡ Entries → result ≡ ending (first_head (has reader.entered) reader.left) reader.place → ReadsSo reader stream given → EndsSo stream given result
 entries_end reader stream given result stage answer reads =
     subst (λ (x : Result (Unit {0}) BadEntry). EndsSo stream given x) (sym answer)
-    (ends_by reader stream given (first_head (has reader.entered) reader.left) refl (subst (λ (s : Stage). ReadsBy s reader stream given) stage reads))
+    (ends_by reader stream given (first_head (has reader.entered) reader.left) refl (subst (λ (s : ReaderStage). ReadsBy s reader stream given) stage reads))
 
 pub stopped_ends : (reader : EntryReader) (bad : BadEntry) (stream : List ℕ) (given : List Entry) → reader.stage ≡ Stopped bad → ReadsSo reader stream given → EndsBy bad stream given
 stopped_ends reader bad stream given stage reads =
-    let stops : StopsAt bad stream given = subst (λ (s : Stage). ReadsBy s reader stream given) stage reads in
+    let stops : StopsAt bad stream given = subst (λ (s : ReaderStage). ReadsBy s reader stream given) stage reads in
     let r : reading stream ≡ record { entries = given; fault = Some bad } = ap reading (sym (append-nil stream)) ∙ stops.always [] in record {
-      all = λ same. ap (λ (x : Reading). x.fault) r;
-      part = λ more. absurd (more (ap (λ (x : Reading). x.entries) r));
+      all = λ same. ap (λ (x : TranscriptReading). x.fault) r;
+      part = λ more. absurd (more (ap (λ (x : TranscriptReading). x.entries) r));
     }
 
 short_not_magic : (bytes : List ℕ) → length bytes < 8 → starts_with nat_eq bytes magic ≡ false
@@ -164,19 +164,19 @@ short_not_magic bytes short =
 
 pub front_ends : (reader : EntryReader) (stream : List ℕ) (given : List Entry) → reader.stage ≡ Front → ReadsSo reader stream given → EndsBy (bad_entry 0 Magic) stream given
 front_ends reader stream given stage reads =
-    let at : AtFront reader stream given = subst (λ (s : Stage). ReadsBy s reader stream given) stage reads in
+    let at : AtFront reader stream given = subst (λ (s : ReaderStage). ReadsBy s reader stream given) stage reads in
     let wrong : starts_with nat_eq stream magic ≡ false = short_not_magic stream (subst (λ (l : List ℕ). length l < 8) (sym at.all_left) at.short) in
     let r : reading stream ≡ record { entries = []; fault = Some (bad_entry 0 Magic) } = rw wrong refl in record {
-      all = λ same. ap (λ (x : Reading). x.fault) r;
-      part = λ more. absurd (more (ap (λ (x : Reading). x.entries) r ∙ sym at.none));
+      all = λ same. ap (λ (x : TranscriptReading). x.fault) r;
+      part = λ more. absurd (more (ap (λ (x : TranscriptReading). x.entries) r ∙ sym at.none));
     }
 
 -- an answer of `next`
 in_entries : (reader : EntryReader) (stream : List ℕ) (given : List Entry) → reader.stage ≡ Entries → ReadsSo reader stream given → InEntries reader stream given
-in_entries reader stream given stage reads = subst (λ (s : Stage). ReadsBy s reader stream given) stage reads
+in_entries reader stream given stage reads = subst (λ (s : ReaderStage). ReadsBy s reader stream given) stage reads
 
 so_in_entries : (reader : EntryReader) (stream : List ℕ) (given : List Entry) → reader.stage ≡ Entries → InEntries reader stream given → ReadsSo reader stream given
-so_in_entries reader stream given stage at = subst (λ (s : Stage). ReadsBy s reader stream given) (sym stage) at
+so_in_entries reader stream given stage at = subst (λ (s : ReaderStage). ReadsBy s reader stream given) (sym stage) at
 
 same_reader : (old new : EntryReader) (stream : List ℕ) (given : List Entry) → IsSame old new → InEntries old stream given → InEntries new stream given
 same_reader old new stream given same at = record {
@@ -198,7 +198,7 @@ says_bad old new result bad did stops =
     subst (λ (x : Result (Option Entry) EntryFault). NextSays old new x) (sym did.0)
     (subst (λ (x : EntryReader). NextSays old x (Err (Bad bad))) (sym did.1) (λ stream given reads. (stops stream given reads, stops stream given reads)))
 
-next_by : (old new : EntryReader) (r : Result (Option Head) BadEntryKind) (result : Result (Option Entry) EntryFault) → old.stage ≡ Entries →
+next_by : (old new : EntryReader) (r : Result (Option EntryHead) BadEntryKind) (result : Result (Option Entry) EntryFault) → old.stage ≡ Entries →
     first_head (has old.entered) old.left ≡ r → Steps r old new result → NextSays old new result
 next_by old new (Ok None) result stage first did =
     says_none old new result did (λ stream given reads. nothing_next old stream given first (in_entries old stream given stage reads))
@@ -230,7 +230,7 @@ not_magic bytes more long wrong =
 fed_short : (old new : EntryReader) (piece stream : List ℕ) (given : List Entry) → old.stage ≡ Front → new ≡ record old { left = old.left ++ piece } → length (old.left ++ piece) < 8 → AtFront old stream given → ReadsSo new (stream ++ piece) given
 fed_short old new piece stream given stage is short at =
     subst (λ (x : EntryReader). ReadsSo x (stream ++ piece) given) (sym is)
-    (subst (λ (s : Stage). ReadsBy s (record old { left = old.left ++ piece }) (stream ++ piece) given) (sym stage)
+    (subst (λ (s : ReaderStage). ReadsBy s (record old { left = old.left ++ piece }) (stream ++ piece) given) (sym stage)
     (record { all_left = ap (λ (l : List ℕ). l ++ piece) at.all_left; short = short; none = at.none; nobody = at.nobody }))
 
 fed_right : (old new : EntryReader) (piece stream : List ℕ) (given : List Entry) → new ≡ record old { stage = Entries; place = 8; left = drop 8 (old.left ++ piece) } →
@@ -249,14 +249,14 @@ fed_wrong old new piece stream given is long wrong at =
       lasting = tt;
       always = λ more.
           ap (λ (l : List ℕ). reading ((l ++ piece) ++ more)) at.all_left
-          ∙ (not_magic (old.left ++ piece) more long wrong ∙ ap (λ (g : List Entry). let r : Reading = record { entries = g; fault = Some (bad_entry 0 Magic) } in r) (sym at.none));
+          ∙ (not_magic (old.left ++ piece) more long wrong ∙ ap (λ (g : List Entry). let r : TranscriptReading = record { entries = g; fault = Some (bad_entry 0 Magic) } in r) (sym at.none));
     } in
     subst (λ (x : EntryReader). ReadsSo x (stream ++ piece) given) (sym is) stops
 
 pub front_fed : (old new : EntryReader) (piece : List ℕ) → old.stage ≡ Front → PassesMagic (record old { left = old.left ++ piece }) new →
     (stream : List ℕ) (given : List Entry) → ReadsSo old stream given → ReadsSo new (stream ++ piece) given
 front_fed old new piece stage passes stream given reads =
-    let at : AtFront old stream given = subst (λ (s : Stage). ReadsBy s old stream given) stage reads in
+    let at : AtFront old stream given = subst (λ (s : ReaderStage). ReadsBy s old stream given) stage reads in
     elim (cases_lt (length (old.left ++ piece)) 8) [
       | inl short ↦ fed_short old new piece stream given stage (passes.short short) short at
       | inr long ↦ elim (cases_Bool (starts_with nat_eq (old.left ++ piece) magic)) [
@@ -266,19 +266,19 @@ front_fed old new piece stage passes stream given reads =
     ]
 
 -- at any time: what was given are the whole entries of a front of the stream
-front_by : (s : Stage) (reader : EntryReader) (stream : List ℕ) (given : List Entry) → ReadsBy s reader stream given → GivenFront stream given
+front_by : (s : ReaderStage) (reader : EntryReader) (stream : List ℕ) (given : List Entry) → ReadsBy s reader stream given → GivenFront stream given
 front_by Front reader stream given at = record { front = []; rest = stream; whole = refl; entries = sym at.none }
 front_by Entries reader stream given at = record {
   front = at.taken;
   rest = reader.left;
   whole = sym at.whole;
-  entries = ap (λ (l : List ℕ). (reading l).entries) (sym (append-nil at.taken)) ∙ ap (λ (x : Reading). x.entries) (at.onward []);
+  entries = ap (λ (l : List ℕ). (reading l).entries) (sym (append-nil at.taken)) ∙ ap (λ (x : TranscriptReading). x.entries) (at.onward []);
 }
 front_by (Stopped bad) reader stream given stops = record {
   front = stream;
   rest = [];
   whole = append-nil stream;
-  entries = ap (λ (l : List ℕ). (reading l).entries) (sym (append-nil stream)) ∙ ap (λ (x : Reading). x.entries) (stops.always []);
+  entries = ap (λ (l : List ℕ). (reading l).entries) (sym (append-nil stream)) ∙ ap (λ (x : TranscriptReading). x.entries) (stops.always []);
 }
 
 pub given_front : (reader : EntryReader) (stream : List ℕ) (given : List Entry) → ReadsSo reader stream given → GivenFront stream given

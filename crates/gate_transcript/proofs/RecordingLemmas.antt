@@ -5,13 +5,13 @@ use Rattle.std.proofs.lemmas.Bool.{ltb-true, leb-true}
 use Rattle.std.proofs.lemmas.Bool.Decides.{nat_tests}
 use Rattle.gate_outside.specs.Contents.{Grows, GrowsByFront, WritesAll}
 use Rattle.gate_transcript.specs.declared.entry.Entry.{Entry}
-use Rattle.gate_transcript.specs.declared.head.Head.{Head}
+use Rattle.gate_transcript.specs.declared.head.EntryHead.{EntryHead}
 use Rattle.gate_transcript.specs.declared.head.TheConstants.{LONGEST_BODY}
 use Rattle.gate_transcript.specs.Notes.{NotesSo}
 use Rattle.gate_transcript.specs.Recordings.{entries_from, entries_by, entries_in, have_room, IsTextOf, IsRecording, entries_told}
-use Rattle.gate_transcript.specs.Spelled.{transcript_text}
+use Rattle.gate_transcript.specs.EntryTexts.{transcript_text}
 use Rattle.gate_transcript.specs.Transcript.{magic}
-use Rattle.gate_transcript.proofs.SpelledLemmas.{text_of, head_spelled, text_rest, text_length, same_entry}
+use Rattle.gate_transcript.proofs.SpellLemmas.{text_of, head_spelled, text_rest, text_length, same_entry}
 
 -- one growth by two pieces
 grows_on : (before between now : Option (List ℕ)) (xs ys : List ℕ) → Grows before between xs → Grows between now ys → Grows before now (xs ++ ys)
@@ -64,7 +64,7 @@ no_more_than_bytes (e ∷ entries) =
 -- the first entry is taken off
 step_by : (n : ℕ) (entries : List Entry) (e : Entry) (more : List ℕ) → e.conn < 2 ^ 32 → length e.body < 2 ^ 32 → entries_by (suc n) entries (text_of e ++ more) ≡ entries_by n (e ∷ entries) more
 step_by n entries e more number short =
-    ap (λ (h : Option Head). entries_from h entries (text_of e ++ more) (entries_by n)) (head_spelled e more number short)
+    ap (λ (h : Option EntryHead). entries_from h entries (text_of e ++ more) (entries_by n)) (head_spelled e more number short)
     ∙ ap (λ (x : Entry). entries_by n (x ∷ entries) (drop (9 + length e.body) (text_of e ++ more))) (same_entry e more)
     ∙ ap (λ (l : List ℕ). entries_by n (e ∷ entries) l) (text_rest e more)
 

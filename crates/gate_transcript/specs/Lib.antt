@@ -3,6 +3,6 @@ pub mod Bodies
 pub mod Transcript
 pub mod Reads
 pub mod Steps
-pub mod Spelled
+pub mod EntryTexts
 pub mod Notes
 pub mod Recordings

@@ -6,8 +6,8 @@ use Rattle.gate_transcript.specs.declared.fault.BadEntryKind.TheVariants.{Magic,
 use Rattle.gate_transcript.specs.declared.fault.BadEntry.{BadEntry}
 use Rattle.gate_transcript.specs.declared.fault.EntryFault.{EntryFault}
 use Rattle.gate_transcript.specs.declared.fault.EntryFault.TheVariants.{Bad, Memory}
-use Rattle.gate_transcript.specs.declared.reader.Stage.{Stage}
-use Rattle.gate_transcript.specs.declared.reader.Stage.TheVariants.{Front, Entries, Stopped}
+use Rattle.gate_transcript.specs.declared.reader.ReaderStage.{ReaderStage}
+use Rattle.gate_transcript.specs.declared.reader.ReaderStage.TheVariants.{Front, Entries, Stopped}
 use Rattle.gate_transcript.specs.declared.reader.EntryReader.{EntryReader}
 use Rattle.gate_transcript.specs.declared.reader.TheConstants.{MAGIC_LENGTH}
 use Rattle.gate_transcript.specs.Connections.{has}
@@ -41,7 +41,8 @@ pub record StopsAt (bad : BadEntry) (stream : List ℕ) (given : List Entry) : T
   pub lasting : IsLasting bad.kind
   pub always : (more : List ℕ) → reading (stream ++ more) ≡ record { entries = given; fault = Some bad }
 
-abbrev pub ReadsBy : Stage → EntryReader → List ℕ → List Entry → Type 0
+-- what a reader was fed and has given, at each stage
+abbrev pub ReadsBy : ReaderStage → EntryReader → List ℕ → List Entry → Type 0
 ReadsBy Front reader stream given = AtFront reader stream given
 ReadsBy Entries reader stream given = InEntries reader stream given
 ReadsBy (Stopped bad) reader stream given = StopsAt bad stream given
@@ -62,6 +63,7 @@ IsUnfinished Kind stream = ⊥
 IsUnfinished Conn stream = ⊥
 IsUnfinished Length stream = ⊥
 
+-- a fault that more bytes could mend
 abbrev pub MayGoOn : Option BadEntry → List ℕ → Type 0
 MayGoOn None stream = Unit {0}
 MayGoOn (Some bad) stream = IsUnfinished bad.kind stream
@@ -108,6 +110,7 @@ EndsSo stream given (Err bad) = EndsBy bad stream given
 abbrev pub bytes_held : EntryReader → ℕ
 bytes_held reader = length reader.left
 
+-- an entry that is given is held no longer
 abbrev pub HoldsFewer : ℕ → ℕ → Result (Option Entry) EntryFault → Type 0
 HoldsFewer before now (Ok (Some e)) = now < before
 HoldsFewer before now (Ok None) = Unit {0}

@@ -3,11 +3,11 @@ use Rattle.std.specs.Prelude.{◌≡◌, ℕ, zero, suc, ◌+◌, ◌^◌, ◌&&
 use Rattle.gate_outside.specs.Memories.{call_script, calls_made, calls_failed}
 use Rattle.gate_outside.specs.declared.script.Script.{Script}
 use Rattle.gate_transcript.specs.declared.entry.Entry.{Entry}
-use Rattle.gate_transcript.specs.declared.head.Head.{Head}
+use Rattle.gate_transcript.specs.declared.head.EntryHead.{EntryHead}
 use Rattle.gate_transcript.specs.declared.head.TheConstants.{HEAD_LENGTH, LONGEST_BODY}
 use Rattle.gate_transcript.specs.declared.memory.MemoryRecorder.{MemoryRecorder}
 use Rattle.gate_transcript.specs.declared.reader.TheConstants.{MAGIC_LENGTH}
-use Rattle.gate_transcript.specs.Spelled.{transcript_text}
+use Rattle.gate_transcript.specs.EntryTexts.{transcript_text}
 use Rattle.gate_transcript.specs.Transcript.{entry_head, entry_with}
 
 -- the entries that a recorder in memory has noted
@@ -18,14 +18,16 @@ entries_recorded recorder = reverse recorder.entries.items
 abbrev pub note_script : MemoryRecorder → Script
 note_script recorder = call_script recorder.calls
 
+-- how often a recorder was told of an entry
 abbrev pub notes_made : MemoryRecorder → ℕ
 notes_made recorder = calls_made recorder.calls
 
+-- how often it failed
 abbrev pub note_faults : MemoryRecorder → ℕ
 note_faults recorder = calls_failed recorder.calls
 
 -- the entries where this head stands first in the bytes, behind these ones
-abbrev pub entries_from : Option Head → List Entry → List ℕ → (List Entry → List ℕ → List Entry) → List Entry
+abbrev pub entries_from : Option EntryHead → List Entry → List ℕ → (List Entry → List ℕ → List Entry) → List Entry
 entries_from None entries bytes more = entries
 entries_from (Some head) entries bytes more = more (entry_with head bytes ∷ entries) (drop (HEAD_LENGTH + head.size) bytes)
 

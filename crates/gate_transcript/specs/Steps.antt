@@ -6,11 +6,11 @@ use Rattle.gate_transcript.specs.declared.fault.BadEntryKind.{BadEntryKind}
 use Rattle.gate_transcript.specs.declared.fault.BadEntryKind.TheVariants.{Magic, Cut}
 use Rattle.gate_transcript.specs.declared.fault.EntryFault.{EntryFault}
 use Rattle.gate_transcript.specs.declared.fault.EntryFault.TheVariants.{Bad, Memory}
-use Rattle.gate_transcript.specs.declared.head.Head.{Head}
+use Rattle.gate_transcript.specs.declared.head.EntryHead.{EntryHead}
 use Rattle.gate_transcript.specs.declared.head.TheConstants.{HEAD_LENGTH}
 use Rattle.gate_transcript.specs.declared.reader.TheConstants.{MAGIC_LENGTH}
 use Rattle.gate_transcript.specs.declared.fault.BadEntry.{BadEntry}
-use Rattle.gate_transcript.specs.declared.reader.Stage.TheVariants.{Entries, Stopped}
+use Rattle.gate_transcript.specs.declared.reader.ReaderStage.TheVariants.{Entries, Stopped}
 use Rattle.gate_transcript.specs.declared.reader.EntryReader.{EntryReader}
 use Rattle.gate_transcript.specs.Connections.{has}
 use Rattle.gate_transcript.specs.Transcript.{magic, is_enter, entry_with, bad_entry}
@@ -29,7 +29,7 @@ pub record IsSame (old new : EntryReader) : Type 0 where
   pub who : (conn : ℕ) → has new.entered conn ≡ has old.entered conn
 
 -- the entry with this head was taken off the front of the bytes
-pub record RemovesEntry (head : Head) (old new : EntryReader) (e : Entry) : Type 0 where
+pub record RemovesEntry (head : EntryHead) (old new : EntryReader) (e : Entry) : Type 0 where
   pub entry : e ≡ entry_with head old.left
   pub stage : new.stage ≡ old.stage
   pub place : new.place ≡ min (old.place + (HEAD_LENGTH + head.size)) (2 ^ 64 - 1)
@@ -42,7 +42,7 @@ StopsBy Cut old new result = (result ≡ Ok None) × (new ≡ old)
 StopsBy kind old new result = (result ≡ Err (Bad (record { place = old.place; kind = kind }))) × (new ≡ record old { stage = Stopped (record { place = old.place; kind = kind }) })
 
 -- an answer of `next` after the magic, where this stands first in the bytes
-abbrev pub Steps : Result (Option Head) BadEntryKind → EntryReader → EntryReader → Result (Option Entry) EntryFault → Type 0
+abbrev pub Steps : Result (Option EntryHead) BadEntryKind → EntryReader → EntryReader → Result (Option Entry) EntryFault → Type 0
 Steps (Ok None) old new result = (result ≡ Ok None) × (new ≡ old)
 Steps (Ok (Some head)) old new (Ok (Some e)) = RemovesEntry head old new e
 Steps (Ok (Some head)) old new (Ok None) = ⊥
@@ -51,7 +51,7 @@ Steps (Ok (Some head)) old new (Err (Bad bad)) = ⊥
 Steps (Err kind) old new result = StopsBy kind old new result
 
 -- how a transcript ends before this, at the place where the given entries end
-abbrev pub ending : Result (Option Head) BadEntryKind → ℕ → Result (Unit {0}) BadEntry
+abbrev pub ending : Result (Option EntryHead) BadEntryKind → ℕ → Result (Unit {0}) BadEntry
 ending (Ok None) place = Ok tt
 ending (Ok (Some head)) place = Err (record { place = place; kind = Cut })
 ending (Err kind) place = Err (record { place = place; kind = kind })

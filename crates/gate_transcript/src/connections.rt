@@ -7,18 +7,18 @@ use std::collections::HashSet;
 
 /// The connections that have entered.
 #[derive(Drop)]
-pub struct Connections {
+pub struct EnteredNumbers {
     numbers: HashSet<u32>,
 }
 
-impl Connections {
+impl EnteredNumbers {
     ghost use Rattle.gate_transcript.specs.Connections.{has};
 
     /// No connection. It takes no memory.
-    pub fn new(alloc: Global) -> Connections
+    pub fn new(alloc: Global) -> EnteredNumbers
         ensures { (conn : ℕ) → has result conn ≡ false }
     {
-        Connections {
+        EnteredNumbers {
             numbers: HashSet::new(alloc),
         }
     }

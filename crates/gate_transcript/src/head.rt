@@ -5,7 +5,7 @@ ghost use Rattle.gate_transcript.specs.Connections.{has};
 ghost use Rattle.gate_transcript.specs.Transcript.{entry_kind, may_come, entry_head, sound_head, first_head};
 ghost use Rattle.gate_transcript.specs.Bodies.{may_have_length, is_body};
 
-use crate::connections::Connections;
+use crate::connections::EnteredNumbers;
 use crate::entry::{
     CLIENT_BYTE, END_BYTE, ENTER_BYTE, EntryKind, SLOW_BYTE, UP_END_BYTE, UPSTREAM_BYTE,
     end_reason_in,
@@ -21,7 +21,7 @@ pub const LONGEST_BODY: u32 = 131_072;
 
 /// What the head of an entry says.
 #[derive(Clone, Copy, Debug, PartialEq, Eq)]
-pub struct Head {
+pub struct EntryHead {
     /// What the entry tells.
     pub kind: EntryKind,
     /// The connection's number.
@@ -31,7 +31,7 @@ pub struct Head {
 }
 
 /// The head of the entry that stands first, nothing where no byte is there, or the fault of the entry.
-pub fn first_head(entered: &Connections, bytes: &[u8]) -> Result<Option<Head>, BadEntryKind>
+pub fn first_head(entered: &EnteredNumbers, bytes: &[u8]) -> Result<Option<EntryHead>, BadEntryKind>
     ensures { result ≡ first_head (has entered.now) bytes.now }
 {
     let [kind, rest @ ..] = bytes else {
@@ -52,7 +52,7 @@ pub fn first_head(entered: &Connections, bytes: &[u8]) -> Result<Option<Head>, B
 }
 
 /// The head, or its first fault: an unknown kind, a wrong connection, or a length that the kind does not have.
-fn sound_head(entered: &Connections, head: Option<Head>) -> Result<Head, BadEntryKind>
+fn sound_head(entered: &EnteredNumbers, head: Option<EntryHead>) -> Result<EntryHead, BadEntryKind>
     ensures { result ≡ sound_head (has entered.now) head }
 {
     let Some(head) = head else {
@@ -68,7 +68,7 @@ fn sound_head(entered: &Connections, head: Option<Head>) -> Result<Head, BadEntr
 }
 
 /// Whether an entry of this kind may come for the connection.
-fn may_come(entered: &Connections, kind: EntryKind, conn: u32) -> bool
+fn may_come(entered: &EnteredNumbers, kind: EntryKind, conn: u32) -> bool
     ensures { result ≡ may_come (has entered.now) kind conn }
 {
     match kind {
@@ -110,12 +110,12 @@ fn is_body(kind: EntryKind, body: &[u8]) -> bool
 }
 
 /// What a kind byte and the eight bytes after it say.
-fn entry_head(kind: u8, bytes: &[u8]) -> Option<Head>
+fn entry_head(kind: u8, bytes: &[u8]) -> Option<EntryHead>
     requires { HEAD_LENGTH - 1 ≤ length bytes.now }
     ensures { result ≡ entry_head kind bytes.now }
 {
     let kind = entry_kind(kind)?;
-    Some(Head {
+    Some(EntryHead {
         kind,
         conn: first_number(bytes),
         size: first_number(after(bytes, 4)),

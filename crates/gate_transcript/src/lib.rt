@@ -12,24 +12,24 @@
 
 mod connections;
 mod entry;
+mod entry_text;
 mod fault;
 mod head;
 mod memory;
-mod pending;
 mod reader;
 mod recorder;
-mod recording;
-mod writing;
+mod transcript_recorder;
+mod unread;
 
 pub use entry::{
     CLIENT_BYTE, END_BYTE, ENDED_REASON, ENTER_BYTE, Entry, EntryKind, FULL_REASON,
     READ_FAULT_REASON, SLOW_BYTE, UP_END_BYTE, UPSTREAM_BYTE, UpEndReason, WRITE_FAULT_REASON,
     end_reason_in,
 };
+pub use entry_text::{write_entry, written_entries_are_read};
 pub use fault::{BadEntry, BadEntryKind, EntryFault};
 pub use head::{HEAD_LENGTH, LONGEST_BODY};
 pub use memory::MemoryRecorder;
 pub use reader::{EntryReader, MAGIC, MAGIC_LENGTH};
 pub use recorder::{NoteFault, Recorder};
-pub use recording::TranscriptRecorder;
-pub use writing::{write_entry, written_entries_are_read};
+pub use transcript_recorder::TranscriptRecorder;

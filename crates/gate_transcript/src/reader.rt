@@ -1,11 +1,11 @@
 //! The reader of entries, which takes a transcript in any pieces.
 ghost use Rattle.std.specs.Prelude.{◌≡◌, ℕ, ◌≤◌, ◌+◌, List, [], ◌++◌, length, OnOk, OnErr, IfOk};
 
-use crate::connections::Connections;
+use crate::connections::EnteredNumbers;
 use crate::entry::{Entry, EntryKind};
 use crate::fault::{BadEntry, BadEntryKind, EntryFault};
-use crate::head::{HEAD_LENGTH, Head, first_head};
-use crate::pending::Pending;
+use crate::head::{EntryHead, HEAD_LENGTH, first_head};
+use crate::unread::UnreadBytes;
 use gate_bytes::{Memory, Text, after, before};
 use std::alloc::Global;
 
@@ -17,7 +17,7 @@ pub const MAGIC: [u8; MAGIC_LENGTH] = *b"RTSPGW1\n";
 
 /// How far a reader has come.
 #[derive(Clone, Copy)]
-pub enum Stage {
+pub enum ReaderStage {
     /// Fewer bytes than the magic has were fed.
     Front,
     /// The magic was right.
@@ -30,10 +30,10 @@ pub enum Stage {
 /// connections that have entered.
 #[derive(Drop)]
 pub struct EntryReader {
-    stage: Stage,
+    stage: ReaderStage,
     place: u64,
-    left: Pending,
-    entered: Connections,
+    left: UnreadBytes,
+    entered: EnteredNumbers,
 }
 
 impl EntryReader {
@@ -48,10 +48,10 @@ impl EntryReader {
         ensures { ReadsSo result [] [] }
     {
         EntryReader {
-            stage: Stage::Front,
+            stage: ReaderStage::Front,
             place: 0,
-            left: Pending::new(alloc),
-            entered: Connections::new(alloc),
+            left: UnreadBytes::new(alloc),
+            entered: EnteredNumbers::new(alloc),
         }
     }
 
@@ -61,15 +61,15 @@ impl EntryReader {
         ensures err { OnErr result (KeepsGiven self.old self.new) }
     {
         match self.stage {
-            Stage::Front => self.feed_front(piece),
-            Stage::Entries => self.feed_entries(piece),
-            Stage::Stopped(_) => Ok(()),
+            ReaderStage::Front => self.feed_front(piece),
+            ReaderStage::Entries => self.feed_entries(piece),
+            ReaderStage::Stopped(_) => Ok(()),
         }
     }
 
     /// Appends the piece, and looks at the magic once it is whole.
     fn feed_front(&mut self, piece: &[u8]) -> Result<(), Memory>
-        requires { self.old.stage ≡ Stage.Front }
+        requires { self.old.stage ≡ ReaderStage.Front }
         ensures ok { OnOk result (PassesMagic (record self.old { left = self.old.left ++ piece.now }) self.new) }
         ensures err { OnErr result (self.new ≡ self.old) }
     {
@@ -81,9 +81,9 @@ impl EntryReader {
         if bytes.starts_with(&MAGIC) {
             self.left.skip(MAGIC_LENGTH);
             self.place = MAGIC_LENGTH as u64;
-            self.stage = Stage::Entries;
+            self.stage = ReaderStage::Entries;
         } else {
-            self.stage = Stage::Stopped(BadEntry {
+            self.stage = ReaderStage::Stopped(BadEntry {
                 place: 0,
                 kind: BadEntryKind::Magic,
             });
@@ -106,15 +106,15 @@ impl EntryReader {
         ensures less { HoldsFewer (bytes_held self.old) (bytes_held self.new) result }
     {
         match self.stage {
-            Stage::Front => Ok(None),
-            Stage::Entries => self.next_entry(alloc),
-            Stage::Stopped(bad) => Err(EntryFault::Bad(bad)),
+            ReaderStage::Front => Ok(None),
+            ReaderStage::Entries => self.next_entry(alloc),
+            ReaderStage::Stopped(bad) => Err(EntryFault::Bad(bad)),
         }
     }
 
     /// The next entry after the magic.
     fn next_entry(&mut self, alloc: Global) -> Result<Option<Entry>, EntryFault>
-        requires { self.old.stage ≡ Stage.Entries }
+        requires { self.old.stage ≡ ReaderStage.Entries }
         ensures { Steps (first_head (has self.old.entered) self.old.left) self.old self.new result }
     {
         match first_head(&self.entered, self.left.as_bytes()) {
@@ -126,7 +126,7 @@ impl EntryReader {
     }
 
     /// Takes the entry with this head off the front.
-    fn take_entry(&mut self, alloc: Global, head: Head) -> Result<Entry, Memory>
+    fn take_entry(&mut self, alloc: Global, head: EntryHead) -> Result<Entry, Memory>
         requires { HEAD_LENGTH + head.size ≤ length self.old.left }
         ensures ok { IfOk result (λ e. RemovesEntry head self.old self.new e) }
         ensures err { OnErr result (IsSame self.old self.new) }
@@ -148,13 +148,13 @@ impl EntryReader {
     /// Stops at the entry that stands first, with this fault.
     fn stop(&mut self, kind: BadEntryKind) -> BadEntry
         ensures bad { result ≡ record { place = self.old.place; kind = kind } }
-        ensures stage { self.new ≡ record self.old { stage = Stage.Stopped result } }
+        ensures stage { self.new ≡ record self.old { stage = ReaderStage.Stopped result } }
     {
         let bad = BadEntry {
             place: self.place,
             kind,
         };
-        self.stage = Stage::Stopped(bad);
+        self.stage = ReaderStage::Stopped(bad);
         bad
     }
 
@@ -165,18 +165,18 @@ impl EntryReader {
         ensures { (stream : List ℕ) (given : List Entry) → ReadsSo self.now stream given → EndsSo stream given result }
     {
         match self.stage {
-            Stage::Front => Err(BadEntry {
+            ReaderStage::Front => Err(BadEntry {
                 place: 0,
                 kind: BadEntryKind::Magic,
             }),
-            Stage::Entries => self.finish_entries(),
-            Stage::Stopped(bad) => Err(bad),
+            ReaderStage::Entries => self.finish_entries(),
+            ReaderStage::Stopped(bad) => Err(bad),
         }
     }
 
     /// The same after the magic.
     fn finish_entries(&self) -> Result<(), BadEntry>
-        requires { self.now.stage ≡ Stage.Entries }
+        requires { self.now.stage ≡ ReaderStage.Entries }
         ensures { result ≡ ending (first_head (has self.now.entered) self.now.left) self.now.place }
     {
         let kind = match first_head(&self.entered, self.left.as_bytes()) {

@@ -8,35 +8,35 @@ use Rattle.rtsp_head.specs.declared.item.Item.{Item}
 use Rattle.client_ports.specs.declared.putter.Putter.{Putter}
 use Rattle.client_ports.specs.declared.taker.Taker.{Taker}
 use Rattle.client_ports.specs.Ends.{put_of, taken_of, putters_port, takers_port, capacity_of}
-use Rattle.mux_history.specs.declared.event.Closed.{Closed}
-use Rattle.mux_history.specs.declared.event.Closed.TheVariants.{Nobody, One, All}
-use Rattle.mux_history.specs.declared.event.Event.{Event}
-use Rattle.mux_history.specs.declared.event.Event.TheVariants as events
-use Rattle.mux_history.specs.declared.event.Outcome.{Outcome}
-use Rattle.mux_history.specs.declared.event.ToClient.{ToClient}
-use Rattle.hub_places.specs.declared.ending.Ending.{Ending}
+use Rattle.gateway_claim.specs.declared.event.Closed.{Closed}
+use Rattle.gateway_claim.specs.declared.event.Closed.TheVariants.{Nobody, One, All}
+use Rattle.gateway_claim.specs.declared.event.Event.{Event}
+use Rattle.gateway_claim.specs.declared.event.Event.TheVariants as events
+use Rattle.gateway_claim.specs.declared.event.Outcome.{Outcome}
+use Rattle.gateway_claim.specs.declared.event.ToClient.{ToClient}
+use Rattle.hub_queues.specs.declared.ending.Ending.{Ending}
 use Rattle.gateway_hub.specs.declared.fault.HubFault.{HubFault}
-use Rattle.hub_places.specs.declared.ending.StopWhy.{StopWhy}
-use Rattle.hub_places.specs.declared.line.Line.{Line}
-use Rattle.hub_places.specs.declared.line.Place.{Place}
-use Rattle.hub_places.specs.declared.line.Place.TheVariants.{Retired}
-use Rattle.hub_places.specs.declared.receipt.Receipt.{Receipt}
-use Rattle.hub_places.specs.declared.server.Server.{Server}
+use Rattle.hub_queues.specs.declared.ending.StopWhy.{StopWhy}
+use Rattle.hub_queues.specs.declared.line.HubConnection.{HubConnection}
+use Rattle.hub_queues.specs.declared.line.Place.{Place}
+use Rattle.hub_queues.specs.declared.line.Place.TheVariants.{Retired}
+use Rattle.hub_queues.specs.declared.receipt.Receipt.{Receipt}
+use Rattle.hub_queues.specs.declared.server.Server.{Server}
 use Rattle.gateway_hub.specs.declared.desk.Desk.{Desk}
 use Rattle.gateway_hub.specs.declared.desk.Delivery.{Delivery}
 use Rattle.gateway_hub.specs.Ends.{KeepsTaker, KeepsPort, KeepsLine, EachLine, KeepsEnds, KeepsOtherEnds}
-use Rattle.gateway_hub.specs.Entering.{Seats}
-use Rattle.gateway_hub.specs.Retiring.{RetiresBy, RetiresPlace}
-use Rattle.hub_places.specs.Room.{IsLookedAt}
+use Rattle.gateway_hub.specs.Enter.{Seats}
+use Rattle.gateway_hub.specs.Retire.{RetiresBy, RetiresPlace}
+use Rattle.hub_queues.specs.Room.{IsLookedAt}
 use Rattle.gateway_hub.specs.Rooms.{LooksAt}
-use Rattle.hub_places.specs.Places.{line_of, line_at, Changes, LineChanges, Counts, FetchesLine, PutsFirst, PutsBytes, ClosesOne, HandsOut}
-use Rattle.hub_places.specs.Servers.{FetchesUp}
+use Rattle.hub_queues.specs.Places.{line_of, line_at, Changes, LineChanges, CountsItem, FetchesLine, PutsFirst, PutsBytes, ClosesOne, HandsOut}
+use Rattle.hub_queues.specs.Servers.{FetchesUp}
 use Rattle.gateway_hub.specs.Desks.{CountsOne, HandsAll}
-use Rattle.gateway_hub.specs.Taking.{Stops}
+use Rattle.gateway_hub.specs.Take.{Stops}
 use Rattle.gateway_hub.specs.Calls.{GivesBack, Refuses}
 use Rattle.gateway_hub.proofs.EnterLemmas.{snoc_get}
-use Rattle.hub_places.proofs.PlaceLemmas.{found_other}
-use Rattle.hub_places.proofs.FrontLemmas.{begins_as, begins_twice, into_front}
+use Rattle.hub_queues.proofs.PlaceLemmas.{found_other}
+use Rattle.hub_queues.proofs.FrontLemmas.{begins_as, begins_twice, into_front}
 
 -- One end.
 taker_as : (before now : Taker) → now ≡ before → KeepsTaker before now
@@ -55,60 +55,60 @@ putter_twice before between now first next = record {
 }
 
 -- A line.
-line_as : (before now : Line) → now.inward ≡ before.inward → now.outward ≡ before.outward → KeepsLine before now
+line_as : (before now : HubConnection) → now.inward ≡ before.inward → now.outward ≡ before.outward → KeepsLine before now
 line_as before now inward outward = record { inward = taker_as before.inward now.inward inward; outward = putter_as before.outward now.outward outward }
 
-line_same : (line : Line) → KeepsLine line line
+line_same : (line : HubConnection) → KeepsLine line line
 line_same line = line_as line line refl refl
 
-line_twice : (before between now : Line) → KeepsLine before between → KeepsLine between now → KeepsLine before now
+line_twice : (before between now : HubConnection) → KeepsLine before between → KeepsLine between now → KeepsLine before now
 line_twice before between now first next = record {
   inward = taker_twice before.inward between.inward now.inward first.inward next.inward;
   outward = putter_twice before.outward between.outward now.outward first.outward next.outward;
 }
 
-line_put : (bytes : List ℕ) (full : Bool) (before now : Line) → PutsBytes bytes full before now → KeepsLine before now
+line_put : (bytes : List ℕ) (full : Bool) (before now : HubConnection) → PutsBytes bytes full before now → KeepsLine before now
 line_put bytes full before now puts = record {
   inward = taker_as before.inward now.inward puts.inward;
   outward = record { end = puts.outward.end; put = into_front bytes full before.outward now.outward puts.outward };
 }
 
-line_fetched : (item : Option Item) (before now : Line) → FetchesLine item before now → KeepsLine before now
+line_fetched : (item : Option Item) (before now : HubConnection) → FetchesLine item before now → KeepsLine before now
 line_fetched item before now fetches = record {
   inward = record { port = fetches.fetches.port; taken = fetches.fetches.taken };
   outward = putter_as before.outward now.outward fetches.outward;
 }
 
 -- Each line.
-pub changes_weaker : (change whole : Line → Line → Type 0) → ((was now : Line) → change was now → whole was now) → ((line : Line) → whole line line)
-    → (here : Bool) (before now : Option Line) → Changes here change before now → Changes true whole before now
+pub changes_weaker : (change whole : HubConnection → HubConnection → Type 0) → ((was now : HubConnection) → change was now → whole was now) → ((line : HubConnection) → whole line line)
+    → (here : Bool) (before now : Option HubConnection) → Changes here change before now → Changes true whole before now
 changes_weaker change whole weaker same false None now is = is
 changes_weaker change whole weaker same false (Some line) now is = (line, is, same line)
 changes_weaker change whole weaker same true None now is = is
 changes_weaker change whole weaker same true (Some line) now is = (is.0, is.1, weaker line is.0 is.2)
 
-pub changes_twice : (one other both : Line → Line → Type 0) → ((before between now : Line) → one before between → other between now → both before now)
-    → (before between now : Option Line) → Changes true one before between → Changes true other between now → Changes true both before now
-changes_twice one other both join None between now first next = subst (λ (o : Option Line). Changes true other o now) first next
+pub changes_twice : (one other both : HubConnection → HubConnection → Type 0) → ((before between now : HubConnection) → one before between → other between now → both before now)
+    → (before between now : Option HubConnection) → Changes true one before between → Changes true other between now → Changes true both before now
+changes_twice one other both join None between now first next = subst (λ (o : Option HubConnection). Changes true other o now) first next
 changes_twice one other both join (Some line) between now first next =
-    let then = subst (λ (o : Option Line). Changes true other o now) first.1 next in
+    let then = subst (λ (o : Option HubConnection). Changes true other o now) first.1 next in
     (then.0, then.1, join line first.0 then.0 first.2 then.2)
 
-pub each_same : (whole : Line → Line → Type 0) → ((line : Line) → whole line line) → (before now : List Place) → now ≡ before → EachLine whole before now
+pub each_same : (whole : HubConnection → HubConnection → Type 0) → ((line : HubConnection) → whole line line) → (before now : List Place) → now ≡ before → EachLine whole before now
 each_same whole same before now is i = changes_weaker whole whole (λ w n c. c) same false (line_at before i) (line_at now i) (ap (λ (l : List Place). line_at l i) is)
 
-pub each_one : (conn : ℕ) (change whole : Line → Line → Type 0) → ((was now : Line) → change was now → whole was now) → ((line : Line) → whole line line) → (before now : List Place) → LineChanges conn change before now → EachLine whole before now
+pub each_one : (conn : ℕ) (change whole : HubConnection → HubConnection → Type 0) → ((was now : HubConnection) → change was now → whole was now) → ((line : HubConnection) → whole line line) → (before now : List Place) → LineChanges conn change before now → EachLine whole before now
 each_one conn change whole weaker same before now changes i = changes_weaker change whole weaker same (conn == i) (line_at before i) (line_at now i) (changes.lines i)
 
-pub each_twice : (one other both : Line → Line → Type 0) → ((before between now : Line) → one before between → other between now → both before now)
+pub each_twice : (one other both : HubConnection → HubConnection → Type 0) → ((before between now : HubConnection) → one before between → other between now → both before now)
     → (before between now : List Place) → EachLine one before between → EachLine other between now → EachLine both before now
 each_twice one other both join before between now first next i = changes_twice one other both join (line_at before i) (line_at between i) (line_at now i) (first i) (next i)
 
-pub each_counted : (whole : Line → Line → Type 0) → ((was now : Line) → Counts was now → whole was now) → ((line : Line) → whole line line) → (asker : Option ℕ) (before now : List Place) → CountsOne asker before now → EachLine whole before now
+pub each_counted : (whole : HubConnection → HubConnection → Type 0) → ((was now : HubConnection) → CountsItem was now → whole was now) → ((line : HubConnection) → whole line line) → (asker : Option ℕ) (before now : List Place) → CountsOne asker before now → EachLine whole before now
 each_counted whole weaker same None before now is = each_same whole same before now is
-each_counted whole weaker same (Some conn) before now is = each_one conn Counts whole weaker same before now is
+each_counted whole weaker same (Some conn) before now is = each_one conn CountsItem whole weaker same before now is
 
-pub each_closed : (whole : Line → Line → Type 0) → ((was now : Line) → now.inward ≡ was.inward → now.outward ≡ was.outward → whole was now) → ((line : Line) → whole line line)
+pub each_closed : (whole : HubConnection → HubConnection → Type 0) → ((was now : HubConnection) → now.inward ≡ was.inward → now.outward ≡ was.outward → whole was now) → ((line : HubConnection) → whole line line)
     → (heard : Bool) (closed : Closed) (before now : List Place) → ClosesOne heard closed before now → EachLine whole before now
 each_closed whole weaker same heard Nobody before now is = each_same whole same before now is
 each_closed whole weaker same heard (One conn why) before now is = each_one conn _ whole (λ w n c. weaker w n c.inward c.outward) same before now is
@@ -188,7 +188,7 @@ hand_ends asker heard o delivery before now hands = record {
 }
 
 -- A line's port for its client was looked at.
-line_looked : (before now : Line) → IsLookedAt before now → KeepsLine before now
+line_looked : (before now : HubConnection) → IsLookedAt before now → KeepsLine before now
 line_looked before now looked = record {
   inward = taker_as before.inward now.inward looked.inward;
   outward = record { end = looked.outward.end; put = begins_as (put_of before.outward) (put_of now.outward) looked.outward.put };
@@ -215,11 +215,11 @@ others_as conn before now server same = record {
   lines = λ i other. changes_weaker KeepsLine KeepsLine (λ w n c. c) line_same false (line_at before.places.items i) (line_at now.places.items i) (same i other);
 }
 
-pub seat_ends : (line : Line) (before now : Desk) → Seats line before now → KeepsOtherEnds (length before.places.items) before now
+pub seat_ends : (line : HubConnection) (before now : Desk) → Seats line before now → KeepsOtherEnds (length before.places.items) before now
 seat_ends line before now seats = others_as (length before.places.items) before now seats.server (λ i other.
     ap (λ (l : List Place). line_at l i) seats.places ∙ elim (snoc_get before.places.items seats.place i) [ inl same ↦ ap line_of same | inr new ↦ absurd (other new.0) ])
 
-retired_other : (conn pushed taken : ℕ) (fall : Option Bool) (ending : Option Ending) (receipt : Receipt) (before now : List Place) (line : Option Line) → RetiresBy conn pushed taken fall ending receipt before now line → (i : ℕ) → i ≢ conn → line_at now i ≡ line_at before i
+retired_other : (conn pushed taken : ℕ) (fall : Option Bool) (ending : Option Ending) (receipt : Receipt) (before now : List Place) (line : Option HubConnection) → RetiresBy conn pushed taken fall ending receipt before now line → (i : ℕ) → i ≢ conn → line_at now i ≡ line_at before i
 retired_other conn pushed taken fall ending receipt before now None retires i other = ap (λ (l : List Place). line_at l i) retires.0
 retired_other conn pushed taken fall ending receipt before now (Some line) retires i other =
     ap (λ (l : List Place). line_at l i) retires.0 ∙ ap line_of (found_other before conn i (Retired receipt) (ne_eqb conn i (λ same. other (sym same))))

@@ -2,20 +2,20 @@
 use Rattle.std.proofs.Common.{◌≡◌, ◌∙◌, true, Option, Some, None, refl, sym, ap, subst}
 use Rattle.std.specs.Option.{option_or}
 use Rattle.gate_transcript.specs.declared.recorder.NoteFault.{NoteFault}
-use Rattle.hub_places.specs.declared.ending.Ending.{Ending}
-use Rattle.hub_places.specs.declared.ending.Ending.TheVariants.{Upstream, Stopped}
-use Rattle.hub_places.specs.declared.ending.StopWhy.{StopWhy}
+use Rattle.hub_queues.specs.declared.ending.Ending.{Ending}
+use Rattle.hub_queues.specs.declared.ending.Ending.TheVariants.{Upstream, Stopped}
+use Rattle.hub_queues.specs.declared.ending.StopWhy.{StopWhy}
 use Rattle.gateway_hub.specs.declared.desk.Desk.{Desk}
 use Rattle.gateway_hub.specs.declared.desk.Fall.{Fall}
-use Rattle.gateway_hub.specs.Desks.{LeavesOut, heard_of, left_for}
+use Rattle.gateway_hub.specs.Desks.{LeavesOut, fall_heard, left_for}
 use Rattle.gateway_hub.specs.Endings.{cut_short}
-use Rattle.gateway_hub.specs.Taking.{Stops, stop_of}
+use Rattle.gateway_hub.specs.Take.{Stops, stop_of}
 
 -- How the hub stands once it was stopped, unless an ending was kept: what excuses a client still does.
 pub record Halts (why : StopWhy) (before now : Desk) : Type 0 where
   pub server : now.server ≡ before.server
   pub places : now.places ≡ before.places
-  pub heard : heard_of now.fall ≡ heard_of before.fall
+  pub heard : fall_heard now.fall ≡ fall_heard before.fall
   pub cut : cut_short before.fall before.ending ≡ true → cut_short now.fall now.ending ≡ true
   pub ending : now.ending ≡ option_or before.ending (Some (Stopped why))
 
@@ -30,12 +30,12 @@ pub halts : (why : StopWhy) (before now : Desk) → Stops why before now → Hal
 halts why before now stop = record {
   server = stop.server;
   places = stop.places;
-  heard = ap heard_of stop.fall;
+  heard = ap fall_heard stop.fall;
   cut = λ is. cut_as before.fall now.fall (option_or before.ending (Some (Stopped why))) now.ending stop.fall stop.ending (cut_kept before.fall before.ending (Some (Stopped why)) is);
   ending = stop.ending;
 }
 
-heard_left : (fault : NoteFault) (fall : Option Fall) → heard_of (left_for fault fall) ≡ heard_of fall
+heard_left : (fault : NoteFault) (fall : Option Fall) → fall_heard (left_for fault fall) ≡ fall_heard fall
 heard_left fault None = refl
 heard_left fault (Some fall) = refl
 
@@ -53,7 +53,7 @@ left_halts fault before mid now left stop =
     record {
       server = stop.server ∙ left.server;
       places = stop.places ∙ left.places;
-      heard = ap heard_of fell ∙ heard_left fault before.fall;
+      heard = ap fall_heard fell ∙ heard_left fault before.fall;
       cut = λ is. cut_as (left_for fault before.fall) now.fall (option_or before.ending (Some (Stopped (stop_of fault)))) now.ending fell ends (cut_left fault before.fall before.ending (Some (Stopped (stop_of fault))) is);
       ending = ends;
     }

@@ -5,16 +5,16 @@ use Rattle.client_ports.specs.declared.parcel.Parcel.{Parcel}
 use Rattle.client_ports.specs.declared.parcel.Parcel.TheVariants as parcels
 use Rattle.client_ports.specs.declared.putter.Putter.{Putter}
 use Rattle.client_ports.specs.Ends.{put_of, fulls_of}
-use Rattle.mux_history.specs.declared.event.Outcome.{Outcome}
-use Rattle.mux_history.specs.declared.event.ToClient.{ToClient}
-use Rattle.mux_history.specs.Happenings.{Happening, Entry, enters, takes, ends, lags, hears, up_ends, pieces_to, sent, is_alive}
-use Rattle.hub_places.specs.declared.line.Line.{Line}
-use Rattle.hub_places.specs.declared.line.Place.{Place}
-use Rattle.hub_places.specs.Closes.{lags_here, lagged}
-use Rattle.hub_places.specs.Parcels.{as_parcels}
-use Rattle.hub_places.specs.Places.{line_at, PutsInto, HandsOut}
-use Rattle.gateway_hub.specs.Kept.{IsHanded}
-use Rattle.gateway_hub.specs.Taking.{may_hand}
+use Rattle.gateway_claim.specs.declared.event.Outcome.{Outcome}
+use Rattle.gateway_claim.specs.declared.event.ToClient.{ToClient}
+use Rattle.gateway_claim.specs.Happenings.{Happening, HistoryEntry, enters, takes, ends, lags, hears, up_ends, pieces_to, sent, is_alive}
+use Rattle.hub_queues.specs.declared.line.HubConnection.{HubConnection}
+use Rattle.hub_queues.specs.declared.line.Place.{Place}
+use Rattle.hub_queues.specs.Closes.{lags_here, lagged}
+use Rattle.hub_queues.specs.Parcels.{as_parcels}
+use Rattle.hub_queues.specs.Places.{line_at, PutsInto, HandsOut}
+use Rattle.gateway_hub.specs.Keeps.{IsHanded}
+use Rattle.gateway_hub.specs.Take.{may_hand}
 use Rattle.gateway_hub.proofs.OrderLemmas.{Orders, handed_living}
 use Rattle.gateway_hub.proofs.HistoryLemmas.{entry}
 use Rattle.gateway_hub.proofs.LineLemmas.{was_before, KeepsPart}
@@ -33,7 +33,7 @@ or_right true b is either = cc
 or_right false b is either = either
 
 -- Nothing was put for a client, and nothing is handed to it.
-pub handed_same : (i : ℕ) (put : List Parcel) (fulls : ℕ) (T : List Entry) (h : Happening) (o : Outcome) → pieces_to i o.to_client ≡ [] → (lags_here i h ≡ true → 0 < fulls) → IsHanded i put fulls T → IsHanded i put fulls (entry h o ∷ T)
+pub handed_same : (i : ℕ) (put : List Parcel) (fulls : ℕ) (T : List HistoryEntry) (h : Happening) (o : Outcome) → pieces_to i o.to_client ≡ [] → (lags_here i h ≡ true → 0 < fulls) → IsHanded i put fulls T → IsHanded i put fulls (entry h o ∷ T)
 handed_same i put fulls T h o none lag was =
     let same : sent i (entry h o ∷ T) ≡ sent i T = ap (λ (l : List (List ℕ)). l ++ sent i T) none in
     record {
@@ -47,7 +47,7 @@ handed_same i put fulls T h o none lag was =
     by false is l = was.slow l
 
 -- A piece is handed to a client whose port was never full: it is put, or its port is full now.
-handed_piece : (i : ℕ) (bytes : List ℕ) (full : Bool) (before after : Putter) (T : List Entry) (h : Happening) (o : Outcome) → pieces_to i o.to_client ≡ bytes ∷ [] → lags_here i h ≡ false → is_alive i T ≡ true
+handed_piece : (i : ℕ) (bytes : List ℕ) (full : Bool) (before after : Putter) (T : List HistoryEntry) (h : Happening) (o : Outcome) → pieces_to i o.to_client ≡ bytes ∷ [] → lags_here i h ≡ false → is_alive i T ≡ true
     → (lagged i T ≡ true → is_alive i T ≡ false) → fulls_of before ≡ 0 → PutsInto bytes full before after → IsHanded i (put_of before) (fulls_of before) T → IsHanded i (put_of after) (fulls_of after) (entry h o ∷ T)
 handed_piece i bytes true before after T h o piece lag alive dead none puts was =
     let more : sent i (entry h o ∷ T) ≡ bytes ∷ sent i T = ap (λ (l : List (List ℕ)). l ++ sent i T) piece in
@@ -67,17 +67,17 @@ handed_piece i bytes false before after T h o piece lag alive dead none puts was
     }
 
 -- what was put for each client
-abbrev pub HandsLines : List Place → List Entry → Type 0
-HandsLines places history = (i : ℕ) (line : Line) → line_at places i ≡ Some line → IsHanded i (put_of line.outward) (fulls_of line.outward) history
+abbrev pub HandsLines : List Place → List HistoryEntry → Type 0
+HandsLines places history = (i : ℕ) (line : HubConnection) → line_at places i ≡ Some line → IsHanded i (put_of line.outward) (fulls_of line.outward) history
 
-outgoing_same : (i : ℕ) (was now : Putter) (T : List Entry) → now ≡ was → IsHanded i (put_of was) (fulls_of was) T → IsHanded i (put_of now) (fulls_of now) T
+outgoing_same : (i : ℕ) (was now : Putter) (T : List HistoryEntry) → now ≡ was → IsHanded i (put_of was) (fulls_of was) T → IsHanded i (put_of now) (fulls_of now) T
 outgoing_same i was now T same = subst (λ (p : Putter). IsHanded i (put_of p) (fulls_of p) T) (sym same)
 
 -- the end in its port of a line
-abbrev pub outgoing : Line → Putter
+abbrev pub outgoing : HubConnection → Putter
 outgoing line = line.outward
 
-pub lines_same : (before after : List Place) (T : List Entry) → KeepsPart outgoing before after → HandsLines before T → HandsLines after T
+pub lines_same : (before after : List Place) (T : List HistoryEntry) → KeepsPart outgoing before after → HandsLines before T → HandsLines after T
 lines_same before after T kept hands i line at =
     let w = kept i line at in
     outgoing_same i w.0.outward line.outward T w.2 (hands i w.0 w.1)
@@ -88,10 +88,10 @@ piece_other conn i bytes other = ap (λ b. cond b (bytes ∷ []) []) other
 piece_here : (conn i : ℕ) (bytes : List ℕ) → (conn == i) ≡ true → cond (conn == i) (bytes ∷ []) [] ≡ bytes ∷ []
 piece_here conn i bytes here = ap (λ b. cond b (bytes ∷ []) []) here
 
-pub hands_more : (before after : List Place) (refused : Option ℕ) (T : List Entry) (h : Happening) (o : Outcome) → Orders T h o → HandsOut o.to_client refused before after
+pub hands_more : (before after : List Place) (refused : Option ℕ) (T : List HistoryEntry) (h : Happening) (o : Outcome) → Orders T h o → HandsOut o.to_client refused before after
     → ((i : ℕ) → lagged i T ≡ true → is_alive i T ≡ false)
-    → (may_hand h ≡ true → (i : ℕ) (line : Line) → line_at before i ≡ Some line → is_alive i T ≡ true → fulls_of line.outward ≡ 0)
-    → ((i : ℕ) (line : Line) → line_at before i ≡ Some line → lags_here i h ≡ true → 0 < fulls_of line.outward)
+    → (may_hand h ≡ true → (i : ℕ) (line : HubConnection) → line_at before i ≡ Some line → is_alive i T ≡ true → fulls_of line.outward ≡ 0)
+    → ((i : ℕ) (line : HubConnection) → line_at before i ≡ Some line → lags_here i h ≡ true → 0 < fulls_of line.outward)
     → HandsLines before T → HandsLines after (entry h o ∷ T)
 hands_more before after refused T h o orders out dead ready lag hands = by o.to_client refl out
   where

@@ -2,21 +2,21 @@
 use Rattle.std.proofs.Common.{◌≡◌, ◌∙◌, ℕ, Bool, true, false, cond, ◌&&◌, ◌==◌, not, List, [], ◌∷◌, ◌++◌, Option, Some, None, refl, sym, ap}
 use Rattle.std.specs.Prelude.{is_some, is_none}
 use Rattle.std.specs.Option.{option_or}
-use Rattle.gate_machine.specs.declared.why.CloseWhy.{CloseWhy}
-use Rattle.gate_machine.specs.Alone.{is_empty_list}
-use Rattle.mux_history.specs.declared.event.Closed.{Closed}
-use Rattle.mux_history.specs.declared.event.Closed.TheVariants.{Nobody, One, All}
-use Rattle.mux_history.specs.declared.event.Outcome.{Outcome}
-use Rattle.mux_history.specs.declared.event.UpCause.{UpCause}
-use Rattle.mux_history.specs.Happenings.{Happening, Entry, enters_here, fault_in, entered, closes_of, shut, is_alive}
-use Rattle.mux_history.specs.Cores.{stays_alive}
-use Rattle.mux_history.proofs.CoreLemmas.{alive_after}
-use Rattle.hub_places.specs.declared.receipt.Close.{Close}
-use Rattle.hub_places.specs.Closes.{is_heard, closing, close_by, close_in, fall_by, fall_in, fall_close}
+use Rattle.client_machine.specs.declared.why.CloseWhy.{CloseWhy}
+use Rattle.client_machine.specs.Alone.{is_empty_list}
+use Rattle.gateway_claim.specs.declared.event.Closed.{Closed}
+use Rattle.gateway_claim.specs.declared.event.Closed.TheVariants.{Nobody, One, All}
+use Rattle.gateway_claim.specs.declared.event.Outcome.{Outcome}
+use Rattle.gateway_claim.specs.declared.event.UpCause.{UpCause}
+use Rattle.gateway_claim.specs.Happenings.{Happening, HistoryEntry, enters_here, fault_in, entered, closes_of, shut, is_alive}
+use Rattle.gateway_claim.specs.Cores.{stays_alive}
+use Rattle.gateway_claim.proofs.CoreLemmas.{alive_after}
+use Rattle.hub_queues.specs.declared.receipt.Close.{Close}
+use Rattle.hub_queues.specs.Closes.{is_heard, closing, close_by, close_in, fall_by, fall_in, fall_close}
 use Rattle.gateway_hub.proofs.OrderLemmas.{Orders, past, falls_down, goes_on, goes_not_all}
 
 -- an entry
-abbrev pub entry : Happening → Outcome → Entry
+abbrev pub entry : Happening → Outcome → HistoryEntry
 entry h o = record { happening = h; outcome = o }
 
 pub or_none : {X : Type 0} (o : Option X) → option_or o None ≡ o
@@ -28,7 +28,7 @@ none_by None is = refl
 none_by (Some cause) is = cc
 
 -- Where the connection to the server stands, no fall is told, and where it ended one is.
-pub fall_none : (T : List Entry) → fault_in T ≡ None → fall_in T ≡ None
+pub fall_none : (T : List HistoryEntry) → fault_in T ≡ None → fall_in T ≡ None
 fall_none [] is = refl
 fall_none (e ∷ T) is = by (fault_in T) e.outcome.fault refl refl is (fall_none T)
   where
@@ -58,7 +58,7 @@ same_close i alive heard (One conn why) = by (conn == i)
 same_close i true heard All = refl
 same_close i false heard All = refl
 
-unclosed : (i : ℕ) (T : List Entry) → is_empty_list (shut i T) ≡ is_none (close_in i T)
+unclosed : (i : ℕ) (T : List HistoryEntry) → is_empty_list (shut i T) ≡ is_none (close_in i T)
 unclosed i [] = refl
 unclosed i (e ∷ T) =
     either_empty (closes_of i (is_alive i T) e.outcome.closed) (shut i T)
@@ -66,7 +66,7 @@ unclosed i (e ∷ T) =
     ∙ ap (λ b. is_none (close_by i (is_alive i T) (is_heard e.happening) e.outcome.closed) && b) (unclosed i T)
     ∙ sym (either_none (close_in i T) (close_by i (is_alive i T) (is_heard e.happening) e.outcome.closed))
 
-pub alive_unclosed : (i : ℕ) (T : List Entry) → entered i T ≡ true → is_alive i T ≡ is_none (close_in i T)
+pub alive_unclosed : (i : ℕ) (T : List HistoryEntry) → entered i T ≡ true → is_alive i T ≡ is_none (close_in i T)
 alive_unclosed i T is = ap (λ b. b && is_empty_list (shut i T)) is ∙ unclosed i T
 
 -- A line knows its close, after one entry more.
@@ -75,7 +75,7 @@ ClosesTo i heard was now Nobody = now ≡ was
 ClosesTo i heard was now (One conn why) = now ≡ cond (conn == i) (option_or was (Some (closing why heard))) was
 ClosesTo i heard was now All = now ≡ was
 
-pub close_more : (i : ℕ) (T : List Entry) (h : Happening) (o : Outcome) (was : Option Close) (fall : Option Bool) → Orders T h o → entered i T ≡ true → fall ≡ fall_in T → close_in i T ≡ option_or was (fall_close fall)
+pub close_more : (i : ℕ) (T : List HistoryEntry) (h : Happening) (o : Outcome) (was : Option Close) (fall : Option Bool) → Orders T h o → entered i T ≡ true → fall ≡ fall_in T → close_in i T ≡ option_or was (fall_close fall)
     → (now : Option Close) (fell : Option Bool) → fell ≡ option_or fall (fall_by (is_some o.fault) (is_heard h))
     → ((c : Closed) → o.closed ≡ c → ClosesTo i (is_heard h) was now c)
     → close_in i (entry h o ∷ T) ≡ option_or now (fall_close fell)
@@ -134,5 +134,5 @@ stays_dead i (One conn why) = by (conn == i)
     by false = refl
 stays_dead i All = refl
 
-pub dead_more : (i : ℕ) (T : List Entry) (h : Happening) (o : Outcome) → enters_here i h ≡ false → is_alive i T ≡ false → is_alive i (entry h o ∷ T) ≡ false
+pub dead_more : (i : ℕ) (T : List HistoryEntry) (h : Happening) (o : Outcome) → enters_here i h ≡ false → is_alive i T ≡ false → is_alive i (entry h o ∷ T) ≡ false
 dead_more i T h o stranger dead = alive_after i T (entry h o) stranger ∙ ap (stays_alive i o.closed) dead ∙ stays_dead i o.closed

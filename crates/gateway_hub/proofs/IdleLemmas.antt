@@ -11,21 +11,21 @@ use Rattle.rtsp_head.specs.declared.item.Item.{Item}
 use Rattle.rtsp_head.specs.Items.{Shape}
 use Rattle.rtsp_head.specs.Shapes.{shape_of}
 use Rattle.client_ports.specs.Ends.{taken_of}
-use Rattle.mux_history.specs.declared.event.Event.{Event}
-use Rattle.mux_history.specs.declared.event.Event.TheVariants as events
-use Rattle.mux_history.specs.Happenings.{Happening, Entry, ends, hears}
+use Rattle.gateway_claim.specs.declared.event.Event.{Event}
+use Rattle.gateway_claim.specs.declared.event.Event.TheVariants as events
+use Rattle.gateway_claim.specs.Happenings.{Happening, HistoryEntry, ends, hears}
 use Rattle.gateway_hub.specs.declared.fault.HubFault.{HubFault}
-use Rattle.hub_places.specs.declared.ending.StopWhy.TheVariants as stops
-use Rattle.hub_places.specs.declared.line.Line.{Line}
-use Rattle.hub_places.specs.declared.line.Place.{Place}
-use Rattle.hub_places.specs.declared.server.Server.{Server}
+use Rattle.hub_queues.specs.declared.ending.StopWhy.TheVariants as stops
+use Rattle.hub_queues.specs.declared.line.HubConnection.{HubConnection}
+use Rattle.hub_queues.specs.declared.line.Place.{Place}
+use Rattle.hub_queues.specs.declared.server.Server.{Server}
 use Rattle.gateway_hub.specs.declared.desk.Desk.{Desk}
 use Rattle.gateway_hub.specs.Notes.{TellsNotes, StillTells}
-use Rattle.hub_places.specs.Parcels.{items_in, waiting, arrival_here, arrivals, heard_here, heard_items, coming}
-use Rattle.hub_places.specs.Places.{line_at, receipt_at}
-use Rattle.hub_places.specs.Servers.{FetchesUp}
-use Rattle.gateway_hub.specs.Kept.{TookItems, TookServerItems, Keeps}
-use Rattle.gateway_hub.specs.Taking.{IsUntaken, HasInHand, is_late}
+use Rattle.hub_queues.specs.Parcels.{items_in, waiting, arrival_here, arrivals, heard_here, heard_items, coming}
+use Rattle.hub_queues.specs.Places.{line_at, receipt_at}
+use Rattle.hub_queues.specs.Servers.{FetchesUp}
+use Rattle.gateway_hub.specs.Keeps.{TookItems, TookServerItems, Keeps}
+use Rattle.gateway_hub.specs.Take.{IsUntaken, HasInHand, is_late}
 use Rattle.gateway_hub.specs.Calls.{GivesBack, Refuses, Stays, GrowsBy, Fails, Shuts}
 use Rattle.gateway_hub.proofs.LineLemmas.{part_same}
 use Rattle.gateway_hub.proofs.OweLemmas.{ends_later, stop_keeps, underway_idle}
@@ -36,8 +36,8 @@ server_inward : (before now : Desk) → now.places ≡ before.places → now.ser
 server_inward before now places server fall ending =
     let same = ap (λ (v : Vec Place). v.items) places in
     record {
-      arrived = part_same (λ (l : Line). l.arrived) before.places.items now.places.items same;
-      close = part_same (λ (l : Line). l.close) before.places.items now.places.items same;
+      arrived = part_same (λ (l : HubConnection). l.arrived) before.places.items now.places.items same;
+      close = part_same (λ (l : HubConnection). l.close) before.places.items now.places.items same;
       outward = part_same put_and_fulls before.places.items now.places.items same;
       receipts = λ i. ap (λ (l : List Place). receipt_at l i) same;
       size = ap (λ (l : List Place). length l) same;
@@ -46,12 +46,12 @@ server_inward before now places server fall ending =
       ending = ending;
     }
 
-took_places : (came T : List Entry) (before now : Desk) → now.places ≡ before.places → TookItems before.places.items T → ((i : ℕ) → arrivals i came ≡ arrivals i T) → TookItems now.places.items came
+took_places : (came T : List HistoryEntry) (before now : Desk) → now.places ≡ before.places → TookItems before.places.items T → ((i : ℕ) → arrivals i came ≡ arrivals i T) → TookItems now.places.items came
 took_places came T before now places took same i line at =
     ap (λ (l : List Shape). l ++ waiting line.first) (same i) ∙ took i line (ap (λ (v : Vec Place). line_at v.items i) (sym places) ∙ at)
 
 -- An event that no item is, is in hand.
-pub idle_in_hand : (h : Happening) (stands : List Entry → Type 0) (told : Option (List Noted)) (faults : ℕ) (desk : Desk) (T : List Entry) → ((i : ℕ) → arrival_here i h ≡ []) → heard_here h ≡ [] → is_late h ≡ false → desk.ending ≡ None → Keeps stands told faults desk T → HasInHand h stands told faults desk T
+pub idle_in_hand : (h : Happening) (stands : List HistoryEntry → Type 0) (told : Option (List Noted)) (faults : ℕ) (desk : Desk) (T : List HistoryEntry) → ((i : ℕ) → arrival_here i h ≡ []) → heard_here h ≡ [] → is_late h ≡ false → desk.ending ≡ None → Keeps stands told faults desk T → HasInHand h stands told faults desk T
 idle_in_hand h stands told faults desk T none unheard early still_open k = record {
   underway = underway_idle stands told desk T h none unheard k.underway;
   settled = k.settled;
@@ -62,7 +62,7 @@ idle_in_hand h stands told faults desk T none unheard early still_open k = recor
 }
 
 -- It was refused.
-pub idle_refused : (h : Happening) (fault : NoteFault) (answer : HubFault) (stood stands : List Entry → Type 0) (told tells : Option (List Noted)) (faults later : ℕ) (before mid now : Desk)
+pub idle_refused : (h : Happening) (fault : NoteFault) (answer : HubFault) (stood stands : List HistoryEntry → Type 0) (told tells : Option (List Noted)) (faults later : ℕ) (before mid now : Desk)
     → ((i : ℕ) → arrival_here i h ≡ []) → heard_here h ≡ [] → is_late h ≡ false → before.ending ≡ None
     → IsUntaken fault stood stands told tells faults later before mid → faults ≤ later → Refuses fault answer mid now
     → Fails answer (Keeps stood told faults before) (Keeps stands tells later now) before.ending now.ending
@@ -74,7 +74,7 @@ idle_refused h fault answer stood stands told tells faults later before mid now 
     k.underway.took k.underway.took_up refuses_from)
 
 -- The server's item is in hand.
-pub up_in_hand : (item : Item) (stands : List Entry → Type 0) (told : Option (List Noted)) (faults : ℕ) (before now : Desk) (T : List Entry) → FetchesUp (Some item) before.server now.server → now.places ≡ before.places → now.fall ≡ before.fall → now.ending ≡ before.ending → before.ending ≡ None
+pub up_in_hand : (item : Item) (stands : List HistoryEntry → Type 0) (told : Option (List Noted)) (faults : ℕ) (before now : Desk) (T : List HistoryEntry) → FetchesUp (Some item) before.server now.server → now.places ≡ before.places → now.fall ≡ before.fall → now.ending ≡ before.ending → before.ending ≡ None
     → Keeps stands told faults before T → HasInHand (hears (shape_of item)) stands told faults now T
 up_in_hand item stands told faults before now T fetches places fall ending still_open k =
     let only = server_inward before now places fetches.outward fall ending in
@@ -89,7 +89,7 @@ up_in_hand item stands told faults before now T fetches places fall ending still
     }
 
 -- The server's item was refused.
-pub up_refused : (item : Item) (fault : NoteFault) (answer : HubFault) (event : Event) (stood stands : List Entry → Type 0) (told tells : Option (List Noted)) (faults later : ℕ) (start before mid back now : Desk)
+pub up_refused : (item : Item) (fault : NoteFault) (answer : HubFault) (event : Event) (stood stands : List HistoryEntry → Type 0) (told tells : Option (List Noted)) (faults later : ℕ) (start before mid back now : Desk)
     → FetchesUp (Some item) start.server before.server → before.places ≡ start.places → before.fall ≡ start.fall → before.ending ≡ start.ending → start.ending ≡ None
     → event ≡ events.Up item → IsUntaken fault stood stands told tells faults later before mid → faults ≤ later → GivesBack event mid back → Refuses fault answer back now
     → Fails answer (Keeps stood told faults start) (Keeps stands tells later now) start.ending now.ending
@@ -114,18 +114,18 @@ some_is : {A : Type 0} (o : Option A) → is_some o ≡ true → (x : A) × (o �
 some_is None is = absurd (cc)
 some_is (Some x) is = (x, refl)
 
-pub shuts_line : (conn : ℕ) (line : Option Line) → is_some line ≡ true → (kept keeps : List Entry → Type 0) (before now : Desk) → before.ending ≡ None → GrowsBy (ends conn) kept keeps → Shuts conn line (Ok tt) kept keeps before now
+pub shuts_line : (conn : ℕ) (line : Option HubConnection) → is_some line ≡ true → (kept keeps : List HistoryEntry → Type 0) (before now : Desk) → before.ending ≡ None → GrowsBy (ends conn) kept keeps → Shuts conn line (Ok tt) kept keeps before now
 shuts_line conn line is kept keeps before now none grows =
     let some = some_is line is in
-    subst (λ (o : Option Line). Shuts conn o (Ok tt) kept keeps before now) (sym some.1) (none, grows)
+    subst (λ (o : Option HubConnection). Shuts conn o (Ok tt) kept keeps before now) (sym some.1) (none, grows)
 
 -- What is kept moves on: the core stands for the same histories, the recorder tells the same, and the places are the same.
-pub moved_keeps : (stood stands : List Entry → Type 0) (told tells : Option (List Noted)) (faults later : ℕ) (before now : Desk) (T : List Entry) → (stood T → stands T) → (TellsNotes told T → TellsNotes tells T) → faults ≤ later
+pub moved_keeps : (stood stands : List HistoryEntry → Type 0) (told tells : Option (List Noted)) (faults later : ℕ) (before now : Desk) (T : List HistoryEntry) → (stood T → stands T) → (TellsNotes told T → TellsNotes tells T) → faults ≤ later
     → now.server ≡ before.server → now.places.items ≡ before.places.items → now.fall ≡ before.fall → now.ending ≡ before.ending → Keeps stood told faults before T → Keeps stands tells later now T
 moved_keeps stood stands told tells faults later before now T stays notes_stay more server places fall ending k =
     let only : OnlyInward before now = record {
-      arrived = part_same (λ (l : Line). l.arrived) before.places.items now.places.items places;
-      close = part_same (λ (l : Line). l.close) before.places.items now.places.items places;
+      arrived = part_same (λ (l : HubConnection). l.arrived) before.places.items now.places.items places;
+      close = part_same (λ (l : HubConnection). l.close) before.places.items now.places.items places;
       outward = part_same put_and_fulls before.places.items now.places.items places;
       receipts = λ i. ap (λ (l : List Place). receipt_at l i) places;
       size = ap (λ (l : List Place). length l) places;
@@ -155,13 +155,13 @@ moved_keeps stood stands told tells faults later before now T stays notes_stay m
     }
 
 -- An entering was refused by the recorder.
-pub entering_refused : (fault : NoteFault) (answer : HubFault) (stood stands : List Entry → Type 0) (told tells : Option (List Noted)) (faults later : ℕ) (before mid now : Desk) → Stays stood stands → StillTells told tells → faults ≤ later → (fault ≡ notes.Failed → Rose faults later)
+pub entering_refused : (fault : NoteFault) (answer : HubFault) (stood stands : List HistoryEntry → Type 0) (told tells : Option (List Noted)) (faults later : ℕ) (before mid now : Desk) → Stays stood stands → StillTells told tells → faults ≤ later → (fault ≡ notes.Failed → Rose faults later)
     → mid.server ≡ before.server → mid.places.items ≡ before.places.items → mid.fall ≡ before.fall → mid.ending ≡ before.ending → before.ending ≡ None → Refuses fault answer mid now
     → Fails answer (Keeps stood told faults before) (Keeps stands tells later now) before.ending now.ending
 entering_refused fault answer stood stands told tells faults later before mid now stays tell more rose server places fall ending none refuses =
     fails_so fault answer (Keeps stood told faults before) (Keeps stands tells later now) before.ending mid now refuses none (ending ∙ none)
     (λ T k. by fault rose refuses T (moved_keeps stood stands told tells faults later before mid T (stays T) (tell T) more server places fall ending k))
   where
-    by : (f : NoteFault) → (f ≡ notes.Failed → Rose faults later) → Refuses f answer mid now → (T : List Entry) → Keeps stands tells later mid T → Keeps stands tells later now T
+    by : (f : NoteFault) → (f ≡ notes.Failed → Rose faults later) → Refuses f answer mid now → (T : List HistoryEntry) → Keeps stands tells later mid T → Keeps stands tells later now T
     by notes.Memory rose_so r T kept = subst (λ (d : Desk). Keeps stands tells later d T) (sym r.1) kept
     by notes.Failed rose_so r T kept = stop_keeps stands tells later mid now stops.Record r.1 (λ _. rose_some faults later (rose_so refl)) (λ no_spent. absurd (cc)) T kept

@@ -1,5 +1,5 @@
 -- Lemmas of the hub.
-pub mod ClosingLemmas
+pub mod CloseLemmas
 pub mod EndLemmas
 pub mod EnterLemmas
 pub mod GoLemmas
@@ -17,7 +17,7 @@ pub mod PutLemmas
 pub mod ReceiptLemmas
 pub mod RetireLemmas
 pub mod SettleLemmas
-pub mod ShownLemmas
+pub mod ShowLemmas
 pub mod StepLemmas
 pub mod TakeLemmas
 pub mod UpLemmas

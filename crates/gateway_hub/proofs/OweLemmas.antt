@@ -9,31 +9,31 @@ use Rattle.gate_outside.specs.Causes.{Rose}
 use Rattle.gate_transcript.specs.declared.entry.Entry.{Entry as Noted}
 use Rattle.rtsp_head.specs.Items.{Shape}
 use Rattle.client_ports.specs.Ends.{put_of, fulls_of}
-use Rattle.mux_history.specs.declared.event.UpCause.{UpCause}
-use Rattle.mux_history.specs.declared.event.UpWhy.TheVariants as whys
-use Rattle.mux_history.specs.Happenings.{Happening, Entry, up_ends, fault_in}
-use Rattle.hub_places.specs.declared.ending.Ending.{Ending}
-use Rattle.hub_places.specs.declared.ending.Ending.TheVariants.{Upstream, Stopped}
-use Rattle.hub_places.specs.declared.ending.StopWhy.{StopWhy}
-use Rattle.hub_places.specs.declared.ending.StopWhy.TheVariants as stops
+use Rattle.gateway_claim.specs.declared.event.UpCause.{UpCause}
+use Rattle.gateway_claim.specs.declared.event.UpWhy.TheVariants as whys
+use Rattle.gateway_claim.specs.Happenings.{Happening, HistoryEntry, up_ends, fault_in}
+use Rattle.hub_queues.specs.declared.ending.Ending.{Ending}
+use Rattle.hub_queues.specs.declared.ending.Ending.TheVariants.{Upstream, Stopped}
+use Rattle.hub_queues.specs.declared.ending.StopWhy.{StopWhy}
+use Rattle.hub_queues.specs.declared.ending.StopWhy.TheVariants as stops
 use Rattle.gate_transcript.specs.declared.recorder.NoteFault.{NoteFault}
 use Rattle.gate_transcript.specs.declared.recorder.NoteFault.TheVariants.{Failed, Memory}
-use Rattle.hub_places.specs.declared.line.Line.{Line}
-use Rattle.hub_places.specs.declared.line.Place.{Place}
-use Rattle.hub_places.specs.declared.receipt.Receipt.{Receipt}
-use Rattle.hub_places.specs.declared.server.Server.{Server}
+use Rattle.hub_queues.specs.declared.line.HubConnection.{HubConnection}
+use Rattle.hub_queues.specs.declared.line.Place.{Place}
+use Rattle.hub_queues.specs.declared.receipt.Receipt.{Receipt}
+use Rattle.hub_queues.specs.declared.server.Server.{Server}
 use Rattle.gateway_hub.specs.declared.desk.Desk.{Desk}
 use Rattle.gateway_hub.specs.declared.desk.Fall.{Fall}
 use Rattle.gateway_hub.specs.declared.desk.Delivery.{Delivery}
-use Rattle.hub_places.specs.Closes.{lagged, close_in, fall_close, fall_in}
-use Rattle.gateway_hub.specs.Desks.{LeavesOut, ending_by, heard_of, left_for}
+use Rattle.hub_queues.specs.Closes.{lagged, close_in, fall_close, fall_in}
+use Rattle.gateway_hub.specs.Desks.{LeavesOut, ending_by, fall_heard, left_for}
 use Rattle.gateway_hub.specs.Ends.{EachLine, PutsNothing, PutsFor}
 use Rattle.gateway_hub.specs.Endings.{cut_short, ends_short, stopped_noting, fell_full, is_note_stop, is_stopped}
 use Rattle.gateway_hub.specs.Notes.{StillTells}
-use Rattle.hub_places.specs.Parcels.{waiting, arrival_here, arrivals, heard_here, heard_items, coming}
-use Rattle.hub_places.specs.Places.{line_at, receipt_at, IsRefused, IsSeated}
-use Rattle.gateway_hub.specs.Kept.{TookItems, TookServerItems, IsHanded, IsHandedUp, IsReceipt, AreNumbered, Underway, ArePortsSettled, EndsRightly, KeepsOwing, MayOwe, is_owed, is_excused, is_server_excused}
-use Rattle.gateway_hub.specs.Taking.{IsReadyToTake, owes, TakesOneEvent, IsUntaken, Stops, stop_of, SettlesOwed}
+use Rattle.hub_queues.specs.Parcels.{waiting, arrival_here, arrivals, heard_here, heard_items, coming}
+use Rattle.hub_queues.specs.Places.{line_at, receipt_at, IsRefused, IsSeated}
+use Rattle.gateway_hub.specs.Keeps.{TookItems, TookServerItems, IsHanded, IsHandedUp, IsReceipt, AreNumbered, Underway, ArePortsSettled, EndsRightly, KeepsOwing, MayOwe, is_owed, is_excused, is_server_excused}
+use Rattle.gateway_hub.specs.Take.{IsReadyToTake, owes, TakesOneEvent, IsUntaken, Stops, stop_of, SettlesOwed}
 use Rattle.gateway_hub.proofs.HaltLemmas.{Halts, cut_as, halts, left_halts}
 use Rattle.gateway_hub.proofs.HistoryLemmas.{entry}
 use Rattle.gateway_hub.proofs.ReceiptLemmas.{fall_some}
@@ -41,13 +41,13 @@ use Rattle.gateway_hub.proofs.SettleLemmas.{short_stays, stop_stays}
 use Rattle.gateway_hub.proofs.PutLemmas.{nothing_put}
 
 -- Nothing comes: the items that came are the same.
-took_idle : (places : List Place) (T : List Entry) (h : Happening) → ((i : ℕ) → arrival_here i h ≡ []) → TookItems places T → TookItems places (coming h ∷ T)
+took_idle : (places : List Place) (T : List HistoryEntry) (h : Happening) → ((i : ℕ) → arrival_here i h ≡ []) → TookItems places T → TookItems places (coming h ∷ T)
 took_idle places T h none took i line at = ap (λ (l : List Shape). l ++ waiting line.first) (ap (λ (l : List Shape). arrivals i T ++ l) (none i) ∙ append-nil (arrivals i T)) ∙ took i line at
 
-took_up_idle : (server : Server) (T : List Entry) (h : Happening) → heard_here h ≡ [] → TookServerItems server T → TookServerItems server (coming h ∷ T)
+took_up_idle : (server : Server) (T : List HistoryEntry) (h : Happening) → heard_here h ≡ [] → TookServerItems server T → TookServerItems server (coming h ∷ T)
 took_up_idle server T h none took = ap (λ (l : List Shape). l ++ waiting server.first) (ap (λ (l : List Shape). heard_items T ++ l) none ∙ append-nil (heard_items T)) ∙ took
 
-pub underway_idle : (stands : List Entry → Type 0) (told : Option (List Noted)) (desk : Desk) (T : List Entry) (h : Happening) → ((i : ℕ) → arrival_here i h ≡ []) → heard_here h ≡ [] → Underway stands told desk T T → Underway stands told desk (coming h ∷ T) T
+pub underway_idle : (stands : List HistoryEntry → Type 0) (told : Option (List Noted)) (desk : Desk) (T : List HistoryEntry) (h : Happening) → ((i : ℕ) → arrival_here i h ≡ []) → heard_here h ≡ [] → Underway stands told desk T T → Underway stands told desk (coming h ∷ T) T
 underway_idle stands told desk T h none unheard u = record {
   stood = u.stood;
   noted = u.noted;
@@ -63,7 +63,7 @@ underway_idle stands told desk T h none unheard u = record {
 }
 
 -- Causes stand when the count of faults rises.
-pub ends_later : (faults later count : ℕ) (ending : Option Ending) (T : List Entry) → faults ≤ later → EndsRightly faults count ending T → EndsRightly later count ending T
+pub ends_later : (faults later count : ℕ) (ending : Option Ending) (T : List HistoryEntry) → faults ≤ later → EndsRightly faults count ending T → EndsRightly later count ending T
 ends_later faults later count None T more is = is
 ends_later faults later count (Some (Upstream cause)) T more is = is
 ends_later faults later count (Some (Stopped why)) T more is = (λ r. let some = is.0 r in omega arith, is.1)
@@ -85,7 +85,7 @@ or_false : (b : Bool) → (b || false) ≡ b
 or_false true = refl
 or_false false = refl
 
-pub settle_up : (client : Option ℕ) (server : Bool) (desk : Desk) (T : List Entry) → (fell_full (fault_in T) ≡ true) ⊎ (stopped_noting desk.ending ≡ true) → ArePortsSettled client server desk T → ArePortsSettled client false desk T
+pub settle_up : (client : Option ℕ) (server : Bool) (desk : Desk) (T : List HistoryEntry) → (fell_full (fault_in T) ≡ true) ⊎ (stopped_noting desk.ending ≡ true) → ArePortsSettled client server desk T → ArePortsSettled client false desk T
 settle_up client server desk T reason s = record {
   clients = s.clients;
   up = λ some. elim reason [
@@ -94,7 +94,7 @@ settle_up client server desk T reason s = record {
   ];
 }
 
-pub settle_client : (conn : ℕ) (server : Bool) (desk : Desk) (T : List Entry) → (lagged conn T ≡ true) ⊎ (cut_short desk.fall desk.ending ≡ true) → ArePortsSettled (Some conn) server desk T → ArePortsSettled None server desk T
+pub settle_client : (conn : ℕ) (server : Bool) (desk : Desk) (T : List HistoryEntry) → (lagged conn T ≡ true) ⊎ (cut_short desk.fall desk.ending ≡ true) → ArePortsSettled (Some conn) server desk T → ArePortsSettled None server desk T
 settle_client conn server desk T reason s = record {
   clients = λ i line at some. by i (or_cases (lagged i T) (cut_short desk.fall desk.ending || (conn == i)) (s.clients i line at some));
   up = s.up;
@@ -114,7 +114,7 @@ settle_client conn server desk T reason s = record {
     by i (inr other) = elim (or_cases (cut_short desk.fall desk.ending) (conn == i) other) [ inl short ↦ cut i short | inr same ↦ here i same ]
 
 -- The end of the connection to the server, which had been owed, was taken.
-full_cut : (before now : Option Ending) (fault : Option UpCause) (T : List Entry) → before ≡ None → now ≡ option_or before (ending_by fault) → fault_in T ≡ None → fell_full (option_or (fault_in T) fault) ≡ true → ends_short now ≡ true
+full_cut : (before now : Option Ending) (fault : Option UpCause) (T : List HistoryEntry) → before ≡ None → now ≡ option_or before (ending_by fault) → fault_in T ≡ None → fell_full (option_or (fault_in T) fault) ≡ true → ends_short now ≡ true
 full_cut before now fault T none is standing full =
     ap ends_short (is ∙ ap (λ (e : Option Ending). option_or e (ending_by fault)) none) ∙ by fault (ap (λ (f : Option UpCause). fell_full (option_or f fault)) (sym standing) ∙ full)
   where
@@ -122,7 +122,7 @@ full_cut before now fault T none is standing full =
     by None is = cc
     by (Some cause) is = is
 
-ready_to_end : (client : Option ℕ) (stands : List Entry → Type 0) (told : Option (List Noted)) (faults : ℕ) (desk : Desk) (T : List Entry) → KeepsOwing client true stands told faults desk T → IsReadyToTake (up_ends whys.UpFull) desk T
+ready_to_end : (client : Option ℕ) (stands : List HistoryEntry → Type 0) (told : Option (List Noted)) (faults : ℕ) (desk : Desk) (T : List HistoryEntry) → KeepsOwing client true stands told faults desk T → IsReadyToTake (up_ends whys.UpFull) desk T
 ready_to_end client stands told faults desk T k =
     let up = k.owed_up refl in
     record {
@@ -134,10 +134,10 @@ ready_to_end client stands told faults desk T k =
       seated = λ i none. refl;
     }
 
-none_fault : (faults count : ℕ) (ending : Option Ending) (T : List Entry) → ending ≡ None → EndsRightly faults count ending T → fault_in T ≡ None
+none_fault : (faults count : ℕ) (ending : Option Ending) (T : List HistoryEntry) → ending ≡ None → EndsRightly faults count ending T → fault_in T ≡ None
 none_fault faults count ending T is cause = subst (λ (e : Option Ending). EndsRightly faults count e T) is cause
 
-pub end_taken : (stood stands : List Entry → Type 0) (told tells : Option (List Noted)) (faults later : ℕ) (before now : Desk) (delivery : Delivery) → TakesOneEvent (up_ends whys.UpFull) delivery stood stands told tells before now → faults ≤ later
+pub end_taken : (stood stands : List HistoryEntry → Type 0) (told tells : Option (List Noted)) (faults later : ℕ) (before now : Desk) (delivery : Delivery) → TakesOneEvent (up_ends whys.UpFull) delivery stood stands told tells before now → faults ≤ later
     → PutsFor delivery.landed before.places.items now.places.items → (client : Option ℕ) → SettlesOwed client true client false stood stands told tells faults later before now
 end_taken stood stands told tells faults later before now delivery one more puts client = record {
   later = entry (up_ends whys.UpFull) one.outcome ∷ [];
@@ -178,12 +178,12 @@ pub is_failed : (fault : NoteFault) → stop_of fault ≡ stops.Record → fault
 is_failed Failed is = refl
 is_failed Memory is = cc
 
-pub ends_stopped : (faults later count : ℕ) (ending : Option Ending) (why : StopWhy) (T : List Entry) → faults ≤ later → (why ≡ stops.Record → 0 < later) → (why ≡ stops.Spent → 4294967295 ≤ count) → EndsRightly faults count ending T
+pub ends_stopped : (faults later count : ℕ) (ending : Option Ending) (why : StopWhy) (T : List HistoryEntry) → faults ≤ later → (why ≡ stops.Record → 0 < later) → (why ≡ stops.Spent → 4294967295 ≤ count) → EndsRightly faults count ending T
     → EndsRightly later count (option_or ending (Some (Stopped why))) T
 ends_stopped faults later count None why T more record_some spent is = (record_some, spent)
 ends_stopped faults later count (Some ending) why T more record_some spent is = ends_later faults later count (Some ending) T more is
 
-excused_stopped : (i : ℕ) (owed : Option ℕ) (why : StopWhy) (before now : Desk) (T : List Entry) → Halts why before now → is_excused i owed before.fall before.ending T ≡ true → is_excused i owed now.fall now.ending T ≡ true
+excused_stopped : (i : ℕ) (owed : Option ℕ) (why : StopWhy) (before now : Desk) (T : List HistoryEntry) → Halts why before now → is_excused i owed before.fall before.ending T ≡ true → is_excused i owed now.fall now.ending T ≡ true
 excused_stopped i owed why before now T stop is = elim (or_cases (lagged i T) (cut_short before.fall before.ending || is_owed owed i) is) [
   | inl lag ↦ or_first (lagged i T) (cut_short now.fall now.ending || is_owed owed i) lag
   | inr other ↦ or_next (lagged i T) (cut_short now.fall now.ending || is_owed owed i) (elim (or_cases (cut_short before.fall before.ending) (is_owed owed i) other) [
@@ -192,7 +192,7 @@ excused_stopped i owed why before now T stop is = elim (or_cases (lagged i T) (c
   ])
 ]
 
-receipt_stopped : (i : ℕ) (receipt : Receipt) (why : StopWhy) (before now : Desk) (T : List Entry) → Halts why before now → IsReceipt i receipt before.fall before.ending T → IsReceipt i receipt now.fall now.ending T
+receipt_stopped : (i : ℕ) (receipt : Receipt) (why : StopWhy) (before now : Desk) (T : List HistoryEntry) → Halts why before now → IsReceipt i receipt before.fall before.ending T → IsReceipt i receipt now.fall now.ending T
 receipt_stopped i receipt why before now T stop was = record {
   over = λ none. was.over (none_first before.ending (Some (Stopped why)) (sym stop.ending ∙ none));
   tells = record {
@@ -212,7 +212,7 @@ receipt_stopped i receipt why before now T stop was = record {
     none_first None m is = refl
     none_first (Some e) m is = cc
 
-server_stopped : (owed : Bool) (ending more : Option Ending) (T : List Entry) → is_server_excused owed ending T ≡ true → is_server_excused owed (option_or ending more) T ≡ true
+server_stopped : (owed : Bool) (ending more : Option Ending) (T : List HistoryEntry) → is_server_excused owed ending T ≡ true → is_server_excused owed (option_or ending more) T ≡ true
 server_stopped owed ending more T is = elim (or_cases (fell_full (fault_in T)) (stopped_noting ending || owed) is) [
   | inl full ↦ or_first (fell_full (fault_in T)) (stopped_noting (option_or ending more) || owed) full
   | inr other ↦ or_next (fell_full (fault_in T)) (stopped_noting (option_or ending more) || owed) (elim (or_cases (stopped_noting ending) owed other) [
@@ -222,7 +222,7 @@ server_stopped owed ending more T is = elim (or_cases (fell_full (fault_in T)) (
 ]
 
 -- All that stands while events are taken stands when the hub is stopped.
-underway_stopped : (stood stands : List Entry → Type 0) (told tells : Option (List Noted)) (before now : Desk) (why : StopWhy) (came T : List Entry) → stands T → StillTells told tells → Halts why before now → Underway stood told before came T → Underway stands tells now came T
+underway_stopped : (stood stands : List HistoryEntry → Type 0) (told tells : Option (List Noted)) (before now : Desk) (why : StopWhy) (came T : List HistoryEntry) → stands T → StillTells told tells → Halts why before now → Underway stood told before came T → Underway stands tells now came T
 underway_stopped stood stands told tells before now why came T stays same stop u =
     let places = ap (λ (v : Vec Place). v.items) stop.places in
     record {
@@ -230,37 +230,37 @@ underway_stopped stood stands told tells before now why came T stays same stop u
       noted = same T u.noted;
       took = subst (λ (l : List Place). TookItems l came) (sym places) u.took;
       took_up = subst (λ (x : Server). TookServerItems x came) (sym stop.server) u.took_up;
-      arrived = subst (λ (l : List Place). (i : ℕ) (line : Line) → line_at l i ≡ Some line → line.arrived ≡ length (arrivals i T)) (sym places) u.arrived;
-      closed = subst (λ (l : List Place). (i : ℕ) (line : Line) → line_at l i ≡ Some line → close_in i T ≡ option_or line.close (fall_close (heard_of now.fall))) (sym places)
-          (subst (λ (f : Option Bool). (i : ℕ) (line : Line) → line_at before.places.items i ≡ Some line → close_in i T ≡ option_or line.close (fall_close f)) (sym stop.heard) u.closed);
+      arrived = subst (λ (l : List Place). (i : ℕ) (line : HubConnection) → line_at l i ≡ Some line → line.arrived ≡ length (arrivals i T)) (sym places) u.arrived;
+      closed = subst (λ (l : List Place). (i : ℕ) (line : HubConnection) → line_at l i ≡ Some line → close_in i T ≡ option_or line.close (fall_close (fall_heard now.fall))) (sym places)
+          (subst (λ (f : Option Bool). (i : ℕ) (line : HubConnection) → line_at before.places.items i ≡ Some line → close_in i T ≡ option_or line.close (fall_close f)) (sym stop.heard) u.closed);
       fell = stop.heard ∙ u.fell;
-      handed = subst (λ (l : List Place). (i : ℕ) (line : Line) → line_at l i ≡ Some line → IsHanded i (put_of line.outward) (fulls_of line.outward) T) (sym places) u.handed;
+      handed = subst (λ (l : List Place). (i : ℕ) (line : HubConnection) → line_at l i ≡ Some line → IsHanded i (put_of line.outward) (fulls_of line.outward) T) (sym places) u.handed;
       up_handed = subst (λ (x : Server). IsHandedUp (put_of x.outward) (fulls_of x.outward) T) (sym stop.server) u.up_handed;
       receipts = subst (λ (l : List Place). (i : ℕ) (receipt : Receipt) → receipt_at l i ≡ Some receipt → IsReceipt i receipt now.fall now.ending T) (sym places)
           (λ i receipt at. receipt_stopped i receipt why before now T stop (u.receipts i receipt at));
       numbered = subst (λ (l : List Place). AreNumbered (length l) T) (sym places) u.numbered;
     }
 
-settled_stopped : (before now : Desk) (why : StopWhy) (client : Option ℕ) (server : Bool) (T : List Entry) → Halts why before now → ArePortsSettled client server before T → ArePortsSettled client server now T
+settled_stopped : (before now : Desk) (why : StopWhy) (client : Option ℕ) (server : Bool) (T : List HistoryEntry) → Halts why before now → ArePortsSettled client server before T → ArePortsSettled client server now T
 settled_stopped before now why client server T stop s =
     let places = ap (λ (v : Vec Place). v.items) stop.places in
     record {
-      clients = subst (λ (l : List Place). (i : ℕ) (line : Line) → line_at l i ≡ Some line → 0 < fulls_of line.outward → is_excused i client now.fall now.ending T ≡ true) (sym places)
+      clients = subst (λ (l : List Place). (i : ℕ) (line : HubConnection) → line_at l i ≡ Some line → 0 < fulls_of line.outward → is_excused i client now.fall now.ending T ≡ true) (sym places)
           (λ i line at some. excused_stopped i client why before now T stop (s.clients i line at some));
       up = subst (λ (x : Server). 0 < fulls_of x.outward → is_server_excused server now.ending T ≡ true) (sym stop.server)
           (subst (λ (e : Option Ending). 0 < fulls_of before.server.outward → is_server_excused server e T ≡ true) (sym stop.ending)
           (λ some. server_stopped server before.ending (Some (Stopped why)) T (s.up some)));
     }
 
-cause_stopped : (faults later : ℕ) (before now : Desk) (why : StopWhy) (T : List Entry) → Halts why before now → faults ≤ later → (why ≡ stops.Record → 0 < later) → (why ≡ stops.Spent → 4294967295 ≤ length before.places.items)
+cause_stopped : (faults later : ℕ) (before now : Desk) (why : StopWhy) (T : List HistoryEntry) → Halts why before now → faults ≤ later → (why ≡ stops.Record → 0 < later) → (why ≡ stops.Spent → 4294967295 ≤ length before.places.items)
     → EndsRightly faults (length before.places.items) before.ending T → EndsRightly later (length now.places.items) now.ending T
 cause_stopped faults later before now why T stop more record_some spent is =
     subst (λ (l : List Place). EndsRightly later (length l) now.ending T) (sym (ap (λ (v : Vec Place). v.items) stop.places))
     (subst (λ (e : Option Ending). EndsRightly later (length before.places.items) e T) (sym stop.ending) (ends_stopped faults later (length before.places.items) before.ending why T more record_some spent is))
 
 -- A stop that comes from outside changes nothing else.
-pub stop_keeps : (stands : List Entry → Type 0) (told : Option (List Noted)) (faults : ℕ) (before now : Desk) (why : StopWhy) → Stops why before now → (why ≡ stops.Record → 0 < faults) → (why ≡ stops.Spent → 4294967295 ≤ length before.places.items)
-    → (T : List Entry) → KeepsOwing None false stands told faults before T → KeepsOwing None false stands told faults now T
+pub stop_keeps : (stands : List HistoryEntry → Type 0) (told : Option (List Noted)) (faults : ℕ) (before now : Desk) (why : StopWhy) → Stops why before now → (why ≡ stops.Record → 0 < faults) → (why ≡ stops.Spent → 4294967295 ≤ length before.places.items)
+    → (T : List HistoryEntry) → KeepsOwing None false stands told faults before T → KeepsOwing None false stands told faults now T
 stop_keeps stands told faults before now why stop record_some spent T k = record {
   underway = underway_stopped stands stands told told before now why T T k.underway.stood (λ history is. is) (halts why before now stop) k.underway;
   settled = settled_stopped before now why None false T (halts why before now stop) k.settled;
@@ -289,10 +289,10 @@ pub seated_stopped : (i : ℕ) (before now : Desk) (why : StopWhy) → Stops why
 seated_stopped i before now why stop = subst (λ (l : List Place). IsSeated i l) (sym (ap (λ (v : Vec Place). v.items) stop.places))
 
 -- The desk of an event that was not taken, stopped.
-pub stopped_since : (fault : NoteFault) (stood stands : List Entry → Type 0) (told tells : Option (List Noted)) (faults later : ℕ) (before mid now : Desk) → IsUntaken fault stood stands told tells faults later before mid → Stops (stop_of fault) mid now → Stops (stop_of fault) before now
+pub stopped_since : (fault : NoteFault) (stood stands : List HistoryEntry → Type 0) (told tells : Option (List Noted)) (faults later : ℕ) (before mid now : Desk) → IsUntaken fault stood stands told tells faults later before mid → Stops (stop_of fault) mid now → Stops (stop_of fault) before now
 stopped_since fault stood stands told tells faults later before mid now untaken stop = subst (λ (d : Desk). Stops (stop_of fault) d now) untaken.same_desk stop
 
-pub end_untaken : (fault : NoteFault) (stood stands : List Entry → Type 0) (told tells : Option (List Noted)) (faults later : ℕ) (before mid now : Desk) → IsUntaken fault stood stands told tells faults later before mid → faults ≤ later → Stops (stop_of fault) mid now
+pub end_untaken : (fault : NoteFault) (stood stands : List HistoryEntry → Type 0) (told tells : Option (List Noted)) (faults later : ℕ) (before mid now : Desk) → IsUntaken fault stood stands told tells faults later before mid → faults ≤ later → Stops (stop_of fault) mid now
     → (client : Option ℕ) → SettlesOwed client true client false stood stands told tells faults later before now
 end_untaken fault stood stands told tells faults later before mid now untaken more stops_mid client =
     let stop = stopped_since fault stood stands told tells faults later before mid now untaken stops_mid in
@@ -314,18 +314,18 @@ end_untaken fault stood stands told tells faults later before mid now untaken mo
     }
 
 -- The note failed by which a client was to be found too slow.
-left_short : (fault : NoteFault) (fall : Option Fall) (ending : Option Ending) (T : List Entry) (faults count : ℕ) → MayOwe ending → heard_of fall ≡ fall_in T → EndsRightly faults count ending T
+left_short : (fault : NoteFault) (fall : Option Fall) (ending : Option Ending) (T : List HistoryEntry) (faults count : ℕ) → MayOwe ending → fall_heard fall ≡ fall_in T → EndsRightly faults count ending T
     → cut_short (left_for fault fall) (option_or ending (Some (Stopped (stop_of fault)))) ≡ true
 left_short fault fall None T faults count may fell cause = stop_is_note fault
 left_short fault fall (Some (Upstream why)) T faults count may fell cause = by fall (ap (λ (f : Option Bool). is_some f) fell ∙ fall_some T (ap (λ (f : Option UpCause). is_some f) cause))
   where
-    by : (f : Option Fall) → is_some (heard_of f) ≡ true → cut_short (left_for fault f) (Some (Upstream why)) ≡ true
+    by : (f : Option Fall) → is_some (fall_heard f) ≡ true → cut_short (left_for fault f) (Some (Upstream why)) ≡ true
     by None is = cc
     by (Some f) is = refl
 left_short fault fall (Some (Stopped why)) T faults count (inl none) fell cause = absurd (cc)
 left_short fault fall (Some (Stopped why)) T faults count (inr short) fell cause = short
 
-pub lag_untaken : (fault : NoteFault) (stood stands : List Entry → Type 0) (told tells : Option (List Noted)) (faults later : ℕ) (before mid left now : Desk) → IsUntaken fault stood stands told tells faults later before mid → faults ≤ later → LeavesOut fault mid left
+pub lag_untaken : (fault : NoteFault) (stood stands : List HistoryEntry → Type 0) (told tells : Option (List Noted)) (faults later : ℕ) (before mid left now : Desk) → IsUntaken fault stood stands told tells faults later before mid → faults ≤ later → LeavesOut fault mid left
     → Stops (stop_of fault) left now → (conn : ℕ) → SettlesOwed (Some conn) false None false stood stands told tells faults later before now
 lag_untaken fault stood stands told tells faults later before mid left now untaken more leaves_mid stops_left conn =
     let leaves = subst (λ (d : Desk). LeavesOut fault d left) untaken.same_desk leaves_mid in
@@ -350,7 +350,7 @@ lag_untaken fault stood stands told tells faults later before mid left now untak
     }
 
 -- Nothing is owed, or the hub was stopped: nothing is taken.
-pub none_owed : (client : Option ℕ) (stands : List Entry → Type 0) (told : Option (List Noted)) (faults : ℕ) (desk : Desk) → SettlesOwed client false client false stands stands told told faults faults desk desk
+pub none_owed : (client : Option ℕ) (stands : List HistoryEntry → Type 0) (told : Option (List Noted)) (faults : ℕ) (desk : Desk) → SettlesOwed client false client false stands stands told told faults faults desk desk
 none_owed client stands told faults desk = record { later = []; late = tt; keeps = λ T k. k; seats = λ T k i s. s; unhanded = λ T k. nothing_put desk.places.items desk.places.items refl }
 
 stopped_short : (fall : Option Fall) (ending : Option Ending) → is_stopped ending ≡ true → ends_short ending ≡ true → cut_short fall ending ≡ true
@@ -358,7 +358,7 @@ stopped_short fall None stopped short = cc
 stopped_short fall (Some (Upstream cause)) stopped short = cc
 stopped_short fall (Some (Stopped why)) stopped short = short
 
-pub lag_stopped : (stands : List Entry → Type 0) (told : Option (List Noted)) (faults : ℕ) (desk : Desk) (conn : ℕ) → is_stopped desk.ending ≡ true → SettlesOwed (Some conn) false None false stands stands told told faults faults desk desk
+pub lag_stopped : (stands : List HistoryEntry → Type 0) (told : Option (List Noted)) (faults : ℕ) (desk : Desk) (conn : ℕ) → is_stopped desk.ending ≡ true → SettlesOwed (Some conn) false None false stands stands told told faults faults desk desk
 lag_stopped stands told faults desk conn stopped = record {
   later = [];
   late = tt;
@@ -374,12 +374,12 @@ lag_stopped stands told faults desk conn stopped = record {
 }
 
 -- The port was full.
-pub full_as : (full : Bool) → full ≡ true → (client : Option ℕ) (stood stands : List Entry → Type 0) (told tells : Option (List Noted)) (faults later : ℕ) (before now : Desk) → SettlesOwed client true client false stood stands told tells faults later before now
+pub full_as : (full : Bool) → full ≡ true → (client : Option ℕ) (stood stands : List HistoryEntry → Type 0) (told tells : Option (List Noted)) (faults later : ℕ) (before now : Desk) → SettlesOwed client true client false stood stands told tells faults later before now
     → SettlesOwed client full client false stood stands told tells faults later before now
 full_as full is client stood stands told tells faults later before now = subst (λ (b : Bool). SettlesOwed client b client false stood stands told tells faults later before now) (sym is)
 
 -- The client whose port was full.
-pub client_as : (client : Option ℕ) (conn : ℕ) → client ≡ Some conn → (stood stands : List Entry → Type 0) (told tells : Option (List Noted)) (faults later : ℕ) (before now : Desk) → SettlesOwed (Some conn) false None false stood stands told tells faults later before now
+pub client_as : (client : Option ℕ) (conn : ℕ) → client ≡ Some conn → (stood stands : List HistoryEntry → Type 0) (told tells : Option (List Noted)) (faults later : ℕ) (before now : Desk) → SettlesOwed (Some conn) false None false stood stands told tells faults later before now
     → SettlesOwed client false None false stood stands told tells faults later before now
 client_as client conn is stood stands told tells faults later before now = subst (λ (c : Option ℕ). SettlesOwed c false None false stood stands told tells faults later before now) (sym is)
 

@@ -6,27 +6,27 @@ use Rattle.std.proofs.lemmas.List.{append-nil, append_assoc}
 use Rattle.client_ports.specs.declared.parcel.Parcel.{Parcel}
 use Rattle.client_ports.specs.declared.parcel.Parcel.TheVariants as parcels
 use Rattle.client_ports.specs.Ends.{put_of}
-use Rattle.mux_history.specs.declared.event.Outcome.{Outcome}
-use Rattle.mux_history.specs.declared.event.ToClient.{ToClient}
-use Rattle.hub_places.specs.declared.line.Line.{Line}
-use Rattle.hub_places.specs.declared.line.Place.{Place}
+use Rattle.gateway_claim.specs.declared.event.Outcome.{Outcome}
+use Rattle.gateway_claim.specs.declared.event.ToClient.{ToClient}
+use Rattle.hub_queues.specs.declared.line.HubConnection.{HubConnection}
+use Rattle.hub_queues.specs.declared.line.Place.{Place}
 use Rattle.gateway_hub.specs.declared.desk.Desk.{Desk}
 use Rattle.gateway_hub.specs.declared.desk.Delivery.{Delivery}
 use Rattle.gateway_hub.specs.Ends.{KeepsLine, EachLine, PutsNothing, PutsMore, PutsFor}
-use Rattle.hub_places.specs.Places.{line_at, Changes, LineChanges, PutsBytes, HandsOut, told_full}
+use Rattle.hub_queues.specs.Places.{line_at, Changes, LineChanges, PutsBytes, HandsOut, told_full}
 use Rattle.gateway_hub.specs.Desks.{HandsAll, addressee_of, landed_for}
 use Rattle.gateway_hub.proofs.EndLemmas.{changes_twice, each_same, each_one, each_twice, each_counted, each_closed}
 
-nothing_twice : (before between now : Line) → PutsNothing before between → PutsNothing between now → PutsNothing before now
+nothing_twice : (before between now : HubConnection) → PutsNothing before between → PutsNothing between now → PutsNothing before now
 nothing_twice before between now first next = next ∙ first
 
-nothing_more : (before between now : Line) → PutsNothing before between → PutsMore between now → PutsMore before now
+nothing_more : (before between now : HubConnection) → PutsNothing before between → PutsMore between now → PutsMore before now
 nothing_more before between now first next = record { first = next.first; later = next.later; whole = ap (λ (l : List Parcel). l ++ next.first ∷ next.later) (sym first) ∙ next.whole }
 
-more_nothing : (before between now : Line) → PutsMore before between → PutsNothing between now → PutsMore before now
+more_nothing : (before between now : HubConnection) → PutsMore before between → PutsNothing between now → PutsMore before now
 more_nothing before between now first next = record { first = first.first; later = first.later; whole = first.whole ∙ sym next }
 
-kept_more : (before between now : Line) → KeepsLine before between → PutsMore between now → PutsMore before now
+kept_more : (before between now : HubConnection) → KeepsLine before between → PutsMore between now → PutsMore before now
 kept_more before between now kept next = by kept.outward.put.0 kept.outward.put.1
   where
     by : (rest : List Parcel) → put_of before.outward ++ rest ≡ put_of between.outward → PutsMore before now
@@ -55,7 +55,7 @@ puts_after None before between now was is = each_twice PutsNothing PutsNothing P
 puts_after (Some conn) before between now was is = changes_twice PutsNothing PutsMore PutsMore nothing_more (line_at before conn) (line_at between conn) (line_at now conn) (was conn) is
 
 -- A client is handed bytes.
-landed_more : (bytes : List ℕ) (before now : Line) → PutsBytes bytes false before now → PutsMore before now
+landed_more : (bytes : List ℕ) (before now : HubConnection) → PutsBytes bytes false before now → PutsMore before now
 landed_more bytes before now puts = record { first = parcels.Bytes bytes; later = []; whole = sym puts.outward.put }
 
 puts_piece : (piece : ToClient) (client : Option ℕ) (before now : List Place) (full : Bool) → client ≡ told_full full piece.conn → LineChanges piece.conn (PutsBytes piece.bytes full) before now → PutsFor (landed_for (Some piece.conn) client) before now
@@ -65,7 +65,7 @@ puts_piece piece client before now false is changes =
     subst (λ (o : Option ℕ). PutsFor (landed_for (Some piece.conn) o) before now) (sym is) (forward (line_at before piece.conn) (line_at now piece.conn)
     (subst (λ (b : Bool). Changes b (PutsBytes piece.bytes false) (line_at before piece.conn) (line_at now piece.conn)) (eq-eqb piece.conn piece.conn refl) (changes.lines piece.conn)))
   where
-    forward : (was after : Option Line) → Changes true (PutsBytes piece.bytes false) was after → Changes true PutsMore was after
+    forward : (was after : Option HubConnection) → Changes true (PutsBytes piece.bytes false) was after → Changes true PutsMore was after
     forward None after c = c
     forward (Some line) after c = (c.0, c.1, landed_more piece.bytes line c.0 c.2)
 

@@ -5,34 +5,34 @@ use Rattle.std.specs.Option.{option_or}
 use Rattle.std.proofs.lemmas.Bool.{eqb-true, eq-eqb}
 use Rattle.std.proofs.lemmas.List.{append-nil}
 use Rattle.rtsp_head.specs.Items.{Shape}
-use Rattle.gate_machine.specs.declared.why.CloseWhy.{CloseWhy}
-use Rattle.gate_machine.specs.declared.why.CloseWhy.TheVariants as whys
-use Rattle.gate_machine.specs.Alone.{is_empty_list}
-use Rattle.mux_history.specs.declared.event.Closed.{Closed}
-use Rattle.mux_history.specs.declared.event.Closed.TheVariants.{Nobody, One, All}
-use Rattle.mux_history.specs.declared.event.Outcome.{Outcome}
-use Rattle.mux_history.specs.declared.event.ToClient.{ToClient}
-use Rattle.mux_history.specs.declared.event.UpCause.{UpCause}
-use Rattle.mux_history.specs.Happenings.{Happening, Entry, enters, takes, ends, lags, hears, up_ends, enters_here, fault_in, entered, pieces_to, sent, shut, is_alive}
-use Rattle.mux_history.specs.Cores.{ever_entered, stays_alive}
-use Rattle.mux_history.specs.Orderly.{IsOrderlyEvent, IsOrderly}
-use Rattle.mux_history.proofs.CoreLemmas.{alive_after, entry_closed, never_part}
-use Rattle.hub_places.specs.declared.ending.Ending.{Ending}
+use Rattle.client_machine.specs.declared.why.CloseWhy.{CloseWhy}
+use Rattle.client_machine.specs.declared.why.CloseWhy.TheVariants as whys
+use Rattle.client_machine.specs.Alone.{is_empty_list}
+use Rattle.gateway_claim.specs.declared.event.Closed.{Closed}
+use Rattle.gateway_claim.specs.declared.event.Closed.TheVariants.{Nobody, One, All}
+use Rattle.gateway_claim.specs.declared.event.Outcome.{Outcome}
+use Rattle.gateway_claim.specs.declared.event.ToClient.{ToClient}
+use Rattle.gateway_claim.specs.declared.event.UpCause.{UpCause}
+use Rattle.gateway_claim.specs.Happenings.{Happening, HistoryEntry, enters, takes, ends, lags, hears, up_ends, enters_here, fault_in, entered, pieces_to, sent, shut, is_alive}
+use Rattle.gateway_claim.specs.Cores.{ever_entered, stays_alive}
+use Rattle.gateway_claim.specs.Orderly.{IsOrderlyEvent, IsOrderly}
+use Rattle.gateway_claim.proofs.CoreLemmas.{alive_after, entry_closed, never_part}
+use Rattle.hub_queues.specs.declared.ending.Ending.{Ending}
 use Rattle.gateway_hub.specs.declared.desk.Fall.{Fall}
-use Rattle.hub_places.specs.declared.ending.Ending.TheVariants.{Upstream, Stopped}
-use Rattle.hub_places.specs.declared.receipt.Close.{Close}
-use Rattle.hub_places.specs.declared.receipt.Receipt.{Receipt}
-use Rattle.hub_places.specs.Closes.{is_heard, closing, close_by, close_in, fall_by, fall_in, fall_close, lags_here, lagged}
+use Rattle.hub_queues.specs.declared.ending.Ending.TheVariants.{Upstream, Stopped}
+use Rattle.hub_queues.specs.declared.receipt.Close.{Close}
+use Rattle.hub_queues.specs.declared.receipt.Receipt.{Receipt}
+use Rattle.hub_queues.specs.Closes.{is_heard, closing, close_by, close_in, fall_by, fall_in, fall_close, lags_here, lagged}
 use Rattle.gateway_hub.specs.Desks.{ending_by}
-use Rattle.gateway_hub.specs.Kept.{IsReceipt, HadNothing, AreNumbered, EndsRightly, close_why, by_upstream_of}
-use Rattle.hub_places.specs.Parcels.{arrival_here, arrivals}
+use Rattle.gateway_hub.specs.Keeps.{IsReceipt, HadNothing, AreNumbered, EndsRightly, close_why, by_upstream_of}
+use Rattle.hub_queues.specs.Parcels.{arrival_here, arrivals}
 use Rattle.gateway_hub.proofs.OrderLemmas.{Orders, past, falls_down, goes_on, handed_living}
 use Rattle.gateway_hub.proofs.HistoryLemmas.{entry, or_none, alive_unclosed, dead_more}
 use Rattle.gateway_hub.proofs.HandLemmas.{handed_same}
 use Rattle.gateway_hub.proofs.SettleLemmas.{excused_more}
 
 -- Who is not alive is handed nothing and not closed.
-dead_piece : (i : ℕ) (T : List Entry) (h : Happening) (o : Outcome) → Orders T h o → is_alive i T ≡ false → (piece : Option ToClient) → o.to_client ≡ piece → pieces_to i piece ≡ []
+dead_piece : (i : ℕ) (T : List HistoryEntry) (h : Happening) (o : Outcome) → Orders T h o → is_alive i T ≡ false → (piece : Option ToClient) → o.to_client ≡ piece → pieces_to i piece ≡ []
 dead_piece i T h o orders dead None is = refl
 dead_piece i T h o orders dead (Some piece) is = by (piece.conn == i) refl
   where
@@ -42,10 +42,10 @@ dead_piece i T h o orders dead (Some piece) is = by (piece.conn == i) refl
         let alive : is_alive i T ≡ true = ap (λ n. is_alive n T) (sym (eqb-true piece.conn i same)) ∙ (handed_living T h o piece is orders).0 in
         absurd (cc)
 
-ordered_closes : (i : ℕ) (T : List Entry) (h : Happening) (o : Outcome) (why : CloseWhy) → IsOrderly T (entry h o) → o.closed ≡ One i why → is_alive i T ≡ true
+ordered_closes : (i : ℕ) (T : List HistoryEntry) (h : Happening) (o : Outcome) (why : CloseWhy) → IsOrderly T (entry h o) → o.closed ≡ One i why → is_alive i T ≡ true
 ordered_closes i T h o why orderly is = entry_closed T (entry h o) i why is orderly
 
-dead_close : (i : ℕ) (T : List Entry) (h : Happening) (o : Outcome) → IsOrderly T (entry h o) → is_alive i T ≡ false → (c : Closed) → o.closed ≡ c → close_by i (is_alive i T) (is_heard h) c ≡ None
+dead_close : (i : ℕ) (T : List HistoryEntry) (h : Happening) (o : Outcome) → IsOrderly T (entry h o) → is_alive i T ≡ false → (c : Closed) → o.closed ≡ c → close_by i (is_alive i T) (is_heard h) c ≡ None
 dead_close i T h o orderly dead Nobody is = refl
 dead_close i T h o orderly dead (One conn why) is = by (conn == i) refl
   where
@@ -57,11 +57,11 @@ dead_close i T h o orderly dead (One conn why) is = by (conn == i) refl
 dead_close i T h o orderly dead All is = ap (λ b. close_by i b (is_heard h) All) dead
 
 -- Nothing happens to a connection that is retired.
-record Rests (i : ℕ) (T : List Entry) (h : Happening) (o : Outcome) : Type 0 where
+record Rests (i : ℕ) (T : List HistoryEntry) (h : Happening) (o : Outcome) : Type 0 where
   piece : pieces_to i o.to_client ≡ []
   close : close_in i (entry h o ∷ T) ≡ close_in i T
 
-rests : (i : ℕ) (T : List Entry) (h : Happening) (o : Outcome) → IsOrderly T (entry h o) → Orders T h o → (is_alive i T ≡ false) ⊎ (is_some (fault_in T) ≡ true) → Rests i T h o
+rests : (i : ℕ) (T : List HistoryEntry) (h : Happening) (o : Outcome) → IsOrderly T (entry h o) → Orders T h o → (is_alive i T ≡ false) ⊎ (is_some (fault_in T) ≡ true) → Rests i T h o
 rests i T h o orderly orders (inl dead) = record {
   piece = dead_piece i T h o orders dead o.to_client refl;
   close = ap (option_or (close_in i T)) (dead_close i T h o orderly dead o.closed refl) ∙ or_none (close_in i T);
@@ -77,11 +77,11 @@ none_before : (ending more : Option Ending) → option_or ending more ≡ None �
 none_before None more is = refl
 none_before (Some ending) more is = cc
 
-over_or_dead : (i : ℕ) (T : List Entry) (ending : Option Ending) → (ending ≡ None → is_alive i T ≡ false) → (ending ≡ None) ⊎ (is_some (fault_in T) ≡ true) → (is_alive i T ≡ false) ⊎ (is_some (fault_in T) ≡ true)
+over_or_dead : (i : ℕ) (T : List HistoryEntry) (ending : Option Ending) → (ending ≡ None → is_alive i T ≡ false) → (ending ≡ None) ⊎ (is_some (fault_in T) ≡ true) → (is_alive i T ≡ false) ⊎ (is_some (fault_in T) ≡ true)
 over_or_dead i T ending dead (inl none) = inl (dead none)
 over_or_dead i T ending dead (inr ended) = inr ended
 
-pub receipt_more : (i : ℕ) (receipt : Receipt) (fall falls : Option Fall) (ending more : Option Ending) (T : List Entry) (h : Happening) (o : Outcome) → IsOrderly T (entry h o) → Orders T h o
+pub receipt_more : (i : ℕ) (receipt : Receipt) (fall falls : Option Fall) (ending more : Option Ending) (T : List HistoryEntry) (h : Happening) (o : Outcome) → IsOrderly T (entry h o) → Orders T h o
     → (ending ≡ None) ⊎ (is_some (fault_in T) ≡ true) → enters_here i h ≡ false → arrival_here i h ≡ [] → lags_here i h ≡ false
     → IsReceipt i receipt fall ending T → IsReceipt i receipt (option_or fall falls) (option_or ending more) (entry h o ∷ T)
 receipt_more i receipt fall falls ending more T h o orderly orders open_or_over stranger unasked unlagged was =
@@ -123,7 +123,7 @@ lag_conn i (hears shape) is = cc
 lag_conn i (up_ends why) is = cc
 
 -- One that is found too slow is not alive then.
-lag_dies : (i : ℕ) (T : List Entry) (h : Happening) (o : Outcome) → Orders T h o → h ≡ lags i → (is_some (fault_in T) ≡ true → is_alive i T ≡ false) → is_alive i (entry h o ∷ T) ≡ false
+lag_dies : (i : ℕ) (T : List HistoryEntry) (h : Happening) (o : Outcome) → Orders T h o → h ≡ lags i → (is_some (fault_in T) ≡ true → is_alive i T ≡ false) → is_alive i (entry h o ∷ T) ≡ false
 lag_dies i T h o orders is ended = alive_after i T (entry h o) (ap (λ (x : Happening). enters_here i x) is) ∙ by orders
   where
     dead_by : (alive : Bool) → is_alive i T ≡ alive → stays_alive i (cond alive (One i whys.Slow) Nobody) alive ≡ false
@@ -138,7 +138,7 @@ lag_dies i T h o orders is ended = alive_after i T (entry h o) (ap (λ (x : Happ
         ap (λ (c : Closed). stays_alive i c (is_alive i T)) e.1 ∙ dead_by (is_alive i T) refl
 
 -- One that ends is not alive then.
-pub end_dies : (i : ℕ) (T : List Entry) (h : Happening) (o : Outcome) → Orders T h o → h ≡ ends i → fault_in T ≡ None → is_alive i (entry h o ∷ T) ≡ false
+pub end_dies : (i : ℕ) (T : List HistoryEntry) (h : Happening) (o : Outcome) → Orders T h o → h ≡ ends i → fault_in T ≡ None → is_alive i (entry h o ∷ T) ≡ false
 end_dies i T h o orders is standing = alive_after i T (entry h o) (ap (λ (x : Happening). enters_here i x) is) ∙ by orders
   where
     dead_by : (alive : Bool) → stays_alive i (cond alive (One i whys.Ended) Nobody) alive ≡ false
@@ -152,10 +152,10 @@ end_dies i T h o orders is standing = alive_after i T (entry h o) (ap (λ (x : H
         let e : IsOrderlyEvent T (ends i) o = subst (λ (x : Happening). IsOrderlyEvent T x o) is event in
         ap (λ (c : Closed). stays_alive i c (is_alive i T)) e.1 ∙ dead_by (is_alive i T)
 
-unentered_dead : (i : ℕ) (T : List Entry) → ever_entered i T ≡ false → is_alive i T ≡ false
+unentered_dead : (i : ℕ) (T : List HistoryEntry) → ever_entered i T ≡ false → is_alive i T ≡ false
 unentered_dead i T never = ap (λ b. b && is_empty_list (shut i T)) (never_part T i never)
 
-nothing_more : (i : ℕ) (T : List Entry) (h : Happening) (o : Outcome) → IsOrderly T (entry h o) → Orders T h o → ever_entered i T ≡ false → arrival_here i h ≡ [] → HadNothing i T → HadNothing i (entry h o ∷ T)
+nothing_more : (i : ℕ) (T : List HistoryEntry) (h : Happening) (o : Outcome) → IsOrderly T (entry h o) → Orders T h o → ever_entered i T ≡ false → arrival_here i h ≡ [] → HadNothing i T → HadNothing i (entry h o ∷ T)
 nothing_more i T h o orderly orders never unasked was =
     let rest = rests i T h o orderly orders (inl (unentered_dead i T never)) in
     record {
@@ -164,7 +164,7 @@ nothing_more i T h o orderly orders never unasked was =
       closed = rest.close ∙ was.closed;
     }
 
-pub numbered_more : (count : ℕ) (T : List Entry) (h : Happening) (o : Outcome) → IsOrderly T (entry h o) → Orders T h o → ((i : ℕ) → enters_here i h ≡ false) → ((i : ℕ) → count ≤ i → arrival_here i h ≡ []) → ((i : ℕ) → lags_here i h ≡ true → i < count)
+pub numbered_more : (count : ℕ) (T : List HistoryEntry) (h : Happening) (o : Outcome) → IsOrderly T (entry h o) → Orders T h o → ((i : ℕ) → enters_here i h ≡ false) → ((i : ℕ) → count ≤ i → arrival_here i h ≡ []) → ((i : ℕ) → lags_here i h ≡ true → i < count)
     → ((i : ℕ) → lags_here i h ≡ true → is_some (fault_in T) ≡ true → is_alive i T ≡ false) → AreNumbered count T → AreNumbered count (entry h o ∷ T)
 numbered_more count T h o orderly orders stranger unasked within ended was = record {
   bound = was.bound;
@@ -178,7 +178,7 @@ numbered_more count T h o orderly orders stranger unasked within ended was = rec
 }
 
 -- After the end of the connection to the server no one who entered before it is alive.
-pub ended_dead : (i : ℕ) (T : List Entry) (fall : Option Bool) (was : Option Close) → entered i T ≡ true → is_some fall ≡ true → close_in i T ≡ option_or was (fall_close fall) → is_alive i T ≡ false
+pub ended_dead : (i : ℕ) (T : List HistoryEntry) (fall : Option Bool) (was : Option Close) → entered i T ≡ true → is_some fall ≡ true → close_in i T ≡ option_or was (fall_close fall) → is_alive i T ≡ false
 ended_dead i T fall was en fell is = alive_unclosed i T en ∙ ap (λ (c : Option Close). is_none c) is ∙ by was fall fell
   where
     by : (c : Option Close) (f : Option Bool) → is_some f ≡ true → is_none (option_or c (fall_close f)) ≡ false
@@ -186,7 +186,7 @@ ended_dead i T fall was en fell is = alive_unclosed i T en ∙ ap (λ (c : Optio
     by None None is = cc
     by None (Some heard) is = refl
 
-pub fall_some : (T : List Entry) → is_some (fault_in T) ≡ true → is_some (fall_in T) ≡ true
+pub fall_some : (T : List HistoryEntry) → is_some (fault_in T) ≡ true → is_some (fall_in T) ≡ true
 fall_some [] is = cc
 fall_some (e ∷ T) is = by (fault_in T) e.outcome.fault refl refl is (fall_some T)
   where
@@ -205,7 +205,7 @@ fall_some (e ∷ T) is = by (fault_in T) e.outcome.fault refl refl is (fall_some
     by None None was at none before = cc
 
 -- An ending that is kept has its cause.
-pub cause_more : (faults count : ℕ) (ending : Option Ending) (T : List Entry) (h : Happening) (o : Outcome) → EndsRightly faults count ending T → EndsRightly faults count (option_or ending (ending_by o.fault)) (entry h o ∷ T)
+pub cause_more : (faults count : ℕ) (ending : Option Ending) (T : List HistoryEntry) (h : Happening) (o : Outcome) → EndsRightly faults count ending T → EndsRightly faults count (option_or ending (ending_by o.fault)) (entry h o ∷ T)
 cause_more faults count None T h o none = by o.fault refl
   where
     by : (fault : Option UpCause) → o.fault ≡ fault → EndsRightly faults count (ending_by fault) (entry h o ∷ T)

@@ -9,18 +9,18 @@ use Rattle.client_ports.specs.declared.parcel.Parcel.{Parcel}
 use Rattle.client_ports.specs.declared.parcel.Parcel.TheVariants as parcels
 use Rattle.client_ports.specs.declared.taker.Taker.{Taker}
 use Rattle.client_ports.specs.Ends.{taken_of}
-use Rattle.mux_history.specs.declared.event.Closed.{Closed}
-use Rattle.mux_history.specs.declared.event.Closed.TheVariants.{Nobody, One, All}
-use Rattle.mux_history.specs.declared.event.Outcome.{Outcome}
-use Rattle.mux_history.specs.Happenings.{Happening, Entry, enters, takes, ends, lags, hears, up_ends, entered}
-use Rattle.hub_places.specs.declared.line.Line.{Line}
-use Rattle.hub_places.specs.declared.line.Place.{Place}
-use Rattle.hub_places.specs.Closes.{is_heard, closing, close_in, fall_by, fall_in, fall_close}
+use Rattle.gateway_claim.specs.declared.event.Closed.{Closed}
+use Rattle.gateway_claim.specs.declared.event.Closed.TheVariants.{Nobody, One, All}
+use Rattle.gateway_claim.specs.declared.event.Outcome.{Outcome}
+use Rattle.gateway_claim.specs.Happenings.{Happening, HistoryEntry, enters, takes, ends, lags, hears, up_ends, entered}
+use Rattle.hub_queues.specs.declared.line.HubConnection.{HubConnection}
+use Rattle.hub_queues.specs.declared.line.Place.{Place}
+use Rattle.hub_queues.specs.Closes.{is_heard, closing, close_in, fall_by, fall_in, fall_close}
 use Rattle.gateway_hub.specs.Notes.{asker_noted}
-use Rattle.hub_places.specs.Parcels.{items_in, waiting, arrival_here, arrivals, coming}
-use Rattle.hub_places.specs.Places.{line_at, Counts, ClosesOne}
+use Rattle.hub_queues.specs.Parcels.{items_in, waiting, arrival_here, arrivals, coming}
+use Rattle.hub_queues.specs.Places.{line_at, CountsItem, ClosesOne}
 use Rattle.gateway_hub.specs.Desks.{CountsOne}
-use Rattle.gateway_hub.specs.Kept.{TookItems}
+use Rattle.gateway_hub.specs.Keeps.{TookItems}
 use Rattle.gateway_hub.proofs.OrderLemmas.{Orders}
 use Rattle.gateway_hub.proofs.HistoryLemmas.{entry, ClosesTo, close_more}
 use Rattle.gateway_hub.proofs.LineLemmas.{was_before, KeepsPart}
@@ -32,17 +32,17 @@ items_fewer (parcels.Item item ∷ put) = let h = items_fewer put in omega arith
 items_fewer (parcels.Bytes text ∷ put) = let h = items_fewer put in omega arith
 
 -- the part of a line that an event keeps: what its client sent
-abbrev pub incoming : Line → Taker × Option Item
+abbrev pub incoming : HubConnection → Taker × Option Item
 incoming line = (line.inward, line.first)
 
-pub took_same : (before after : List Place) (came : List Entry) → KeepsPart incoming before after → TookItems before came → TookItems after came
+pub took_same : (before after : List Place) (came : List HistoryEntry) → KeepsPart incoming before after → TookItems before came → TookItems after came
 took_same before after came kept took i now is =
     let w = kept i now is in
     subst (λ (p : Taker × Option Item). arrivals i came ++ waiting p.1 ≡ items_in (taken_of p.0)) (sym w.2) (took i w.0 w.1)
 
 -- A line counts its arrivals.
-abbrev pub CountsArrivals : List Place → List Entry → Type 0
-CountsArrivals places history = (i : ℕ) (line : Line) → line_at places i ≡ Some line → line.arrived ≡ length (arrivals i history)
+abbrev pub CountsArrivals : List Place → List HistoryEntry → Type 0
+CountsArrivals places history = (i : ℕ) (line : HubConnection) → line_at places i ≡ Some line → line.arrived ≡ length (arrivals i history)
 
 here_none : (i : ℕ) (h : Happening) → asker_noted h ≡ None → arrival_here i h ≡ []
 here_none i (enters conn) is = refl
@@ -68,10 +68,10 @@ here_one i conn (lags c) is other = cc
 here_one i conn (hears s) is other = cc
 here_one i conn (up_ends why) is other = cc
 
-more_arrived : (i : ℕ) (T : List Entry) (h : Happening) (o : Outcome) → length (arrivals i (entry h o ∷ T)) ≡ length (arrivals i T) + length (arrival_here i h)
+more_arrived : (i : ℕ) (T : List HistoryEntry) (h : Happening) (o : Outcome) → length (arrivals i (entry h o ∷ T)) ≡ length (arrivals i T) + length (arrival_here i h)
 more_arrived i T h o = length-append (arrivals i T) (arrival_here i h)
 
-pub arrived_more : (before after : List Place) (T : List Entry) (h : Happening) (o : Outcome) → TookItems before (coming h ∷ T) → CountsArrivals before T → CountsOne (asker_noted h) before after → CountsArrivals after (entry h o ∷ T)
+pub arrived_more : (before after : List Place) (T : List HistoryEntry) (h : Happening) (o : Outcome) → TookItems before (coming h ∷ T) → CountsArrivals before T → CountsOne (asker_noted h) before after → CountsArrivals after (entry h o ∷ T)
 arrived_more before after T h o took counts counted = by (asker_noted h) refl counted
   where
     by : (asker : Option ℕ) → asker_noted h ≡ asker → CountsOne asker before after → CountsArrivals after (entry h o ∷ T)
@@ -79,7 +79,7 @@ arrived_more before after T h o took counts counted = by (asker_noted h) refl co
         counts i line (ap (λ (l : List Place). line_at l i) (sym same) ∙ at)
         ∙ ap (λ (l : List Shape). length l) (sym (append-nil (arrivals i T)) ∙ ap (λ (l : List Shape). arrivals i T ++ l) (sym (here_none i h is)))
     by (Some conn) is changes i line at =
-        let w = was_before conn Counts before after changes i line at in
+        let w = was_before conn CountsItem before after changes i line at in
         let n = more_arrived i T h o in
         let k = counts i w.0 w.1 in
         elim w.2 [
@@ -94,16 +94,16 @@ arrived_more before after T h o took counts counted = by (asker_noted h) refl co
               let up = c.1.arrived less in
               omega arith
           | inr e ↦
-              ap (λ (l : Line). l.arrived) e.1
+              ap (λ (l : HubConnection). l.arrived) e.1
               ∙ k
               ∙ ap (λ (l : List Shape). length l) (sym (append-nil (arrivals i T)) ∙ ap (λ (l : List Shape). arrivals i T ++ l) (sym (here_other i conn h is e.0)))
         ]
 
 -- A line knows its close.
-abbrev pub KnowsCloses : List Place → Option Bool → List Entry → Type 0
-KnowsCloses places fall history = (i : ℕ) (line : Line) → line_at places i ≡ Some line → close_in i history ≡ option_or line.close (fall_close fall)
+abbrev pub KnowsCloses : List Place → Option Bool → List HistoryEntry → Type 0
+KnowsCloses places fall history = (i : ℕ) (line : HubConnection) → line_at places i ≡ Some line → close_in i history ≡ option_or line.close (fall_close fall)
 
-pub closes_more : (before after : List Place) (fall fell : Option Bool) (T : List Entry) (h : Happening) (o : Outcome) → Orders T h o → ((i : ℕ) (line : Line) → line_at before i ≡ Some line → entered i T ≡ true) → fall ≡ fall_in T
+pub closes_more : (before after : List Place) (fall fell : Option Bool) (T : List HistoryEntry) (h : Happening) (o : Outcome) → Orders T h o → ((i : ℕ) (line : HubConnection) → line_at before i ≡ Some line → entered i T ≡ true) → fall ≡ fall_in T
     → KnowsCloses before fall T → ClosesOne (is_heard h) o.closed before after → fell ≡ option_or fall (fall_by (is_some o.fault) (is_heard h)) → KnowsCloses after fell (entry h o ∷ T)
 closes_more before after fall fell T h o orders en knows closes closed falls = by o.closed refl closed
   where
@@ -122,5 +122,5 @@ closes_more before after fall fell T h o orders en knows closes closed falls = b
         (λ c same. subst (ClosesTo i (is_heard h) w.0.close line.close) (sym is ∙ same)
         (elim w.2 [
           | inl x ↦ x.1.close ∙ ap (λ b. cond b (option_or w.0.close (Some (closing why (is_heard h)))) w.0.close) (sym x.0)
-          | inr x ↦ ap (λ (l : Line). l.close) x.1 ∙ ap (λ b. cond b (option_or w.0.close (Some (closing why (is_heard h)))) w.0.close) (sym x.0)
+          | inr x ↦ ap (λ (l : HubConnection). l.close) x.1 ∙ ap (λ b. cond b (option_or w.0.close (Some (closing why (is_heard h)))) w.0.close) (sym x.0)
         ]))

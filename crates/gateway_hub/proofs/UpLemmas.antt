@@ -6,16 +6,16 @@ use Rattle.std.proofs.lemmas.List.{append-nil}
 use Rattle.client_ports.specs.declared.parcel.Parcel.{Parcel}
 use Rattle.client_ports.specs.declared.putter.Putter.{Putter}
 use Rattle.client_ports.specs.Ends.{put_of, fulls_of}
-use Rattle.mux_history.specs.declared.event.Outcome.{Outcome}
-use Rattle.mux_history.specs.declared.event.ToUp.{ToUp}
-use Rattle.mux_history.specs.declared.event.UpCause.{UpCause}
-use Rattle.mux_history.specs.declared.event.UpWhy.TheVariants as whys
-use Rattle.mux_history.specs.Happenings.{Happening, Entry, up_ends, fault_in, nothing_up}
+use Rattle.gateway_claim.specs.declared.event.Outcome.{Outcome}
+use Rattle.gateway_claim.specs.declared.event.ToUp.{ToUp}
+use Rattle.gateway_claim.specs.declared.event.UpCause.{UpCause}
+use Rattle.gateway_claim.specs.declared.event.UpWhy.TheVariants as whys
+use Rattle.gateway_claim.specs.Happenings.{Happening, HistoryEntry, up_ends, fault_in, nothing_up}
 use Rattle.gateway_hub.specs.Endings.{fell_full}
-use Rattle.hub_places.specs.Parcels.{up_parcels, handed_up}
-use Rattle.hub_places.specs.Places.{Lacks, PutsAll}
-use Rattle.gateway_hub.specs.Kept.{IsHandedUp}
-use Rattle.gateway_hub.specs.Taking.{may_ask}
+use Rattle.hub_queues.specs.Parcels.{up_parcels, handed_up}
+use Rattle.hub_queues.specs.Places.{Lacks, PutsAll}
+use Rattle.gateway_hub.specs.Keeps.{IsHandedUp}
+use Rattle.gateway_hub.specs.Take.{may_ask}
 use Rattle.gateway_hub.proofs.OrderLemmas.{Orders, past, falls_down, goes_on, asked_nothing, full_event}
 use Rattle.gateway_hub.proofs.HistoryLemmas.{entry}
 
@@ -23,7 +23,7 @@ some_of : (o : Option UpCause) (cause : UpCause) → o ≡ Some cause → is_som
 some_of o cause is = ap (λ (x : Option UpCause). is_some x) is
 
 -- Nothing is handed to the server.
-up_same : (full : Bool) (before after : Putter) (T : List Entry) (h : Happening) (o : Outcome) → up_parcels o.to_up ≡ [] → PutsAll (up_parcels o.to_up) full before after
+up_same : (full : Bool) (before after : Putter) (T : List HistoryEntry) (h : Happening) (o : Outcome) → up_parcels o.to_up ≡ [] → PutsAll (up_parcels o.to_up) full before after
     → (fell_full (fault_in (entry h o ∷ T)) ≡ true → 0 < fulls_of before) → IsHandedUp (put_of before) (fulls_of before) T → IsHandedUp (put_of after) (fulls_of after) (entry h o ∷ T)
 up_same full before after T h o none puts fell was =
     let landed = puts.landed (puts.none none) in
@@ -37,7 +37,7 @@ up_same full before after T h o none puts fell was =
     }
 
 -- It is handed something while its port was never full: that is put, or the port is full now.
-up_more : (full : Bool) (before after : Putter) (T : List Entry) (h : Happening) (o : Outcome) → fulls_of before ≡ 0 → PutsAll (up_parcels o.to_up) full before after
+up_more : (full : Bool) (before after : Putter) (T : List HistoryEntry) (h : Happening) (o : Outcome) → fulls_of before ≡ 0 → PutsAll (up_parcels o.to_up) full before after
     → (fell_full (fault_in (entry h o ∷ T)) ≡ true → 0 < fulls_of before) → IsHandedUp (put_of before) (fulls_of before) T → IsHandedUp (put_of after) (fulls_of after) (entry h o ∷ T)
 up_more true before after T h o none puts fell was =
     let refused = puts.refused refl in
@@ -59,7 +59,7 @@ up_more false before after T h o none puts fell was =
 nothing_parcels : (up : ToUp) → up ≡ nothing_up → up_parcels up ≡ []
 nothing_parcels up is = ap up_parcels is
 
-pub ups_more : (full : Bool) (before after : Putter) (T : List Entry) (h : Happening) (o : Outcome) → Orders T h o → PutsAll (up_parcels o.to_up) full before after
+pub ups_more : (full : Bool) (before after : Putter) (T : List HistoryEntry) (h : Happening) (o : Outcome) → Orders T h o → PutsAll (up_parcels o.to_up) full before after
     → (may_ask h ≡ true → is_some (fault_in T) ≡ false → fulls_of before ≡ 0) → (h ≡ up_ends whys.UpFull → 0 < fulls_of before)
     → IsHandedUp (put_of before) (fulls_of before) T → IsHandedUp (put_of after) (fulls_of after) (entry h o ∷ T)
 ups_more full before after T h o (past cause fault orderly) puts ready fell was =

@@ -6,25 +6,25 @@ use Rattle.rtsp_head.specs.Items.{Shape}
 use Rattle.gate_transcript.specs.declared.recorder.NoteFault.{NoteFault}
 use Rattle.gate_transcript.specs.declared.recorder.NoteFault.TheVariants as notes
 use Rattle.client_ports.specs.Ends.{WasEmpty}
-use Rattle.mux_history.specs.declared.event.Event.{Event}
-use Rattle.mux_history.specs.declared.event.Event.TheVariants.{Client, Up, End, Slow, UpEnd}
-use Rattle.mux_history.specs.declared.event.Outcome.{Outcome}
-use Rattle.mux_history.specs.declared.event.UpWhy.{UpWhy}
-use Rattle.mux_history.specs.Happenings.{Happening, takes, ends, hears, up_ends, Entry, is_alive}
-use Rattle.hub_places.specs.declared.ending.Ending.{Ending}
-use Rattle.hub_places.specs.declared.ending.Ending.TheVariants.{Upstream, Stopped}
+use Rattle.gateway_claim.specs.declared.event.Event.{Event}
+use Rattle.gateway_claim.specs.declared.event.Event.TheVariants.{Client, Up, End, Slow, UpEnd}
+use Rattle.gateway_claim.specs.declared.event.Outcome.{Outcome}
+use Rattle.gateway_claim.specs.declared.event.UpWhy.{UpWhy}
+use Rattle.gateway_claim.specs.Happenings.{Happening, takes, ends, hears, up_ends, HistoryEntry, is_alive}
+use Rattle.hub_queues.specs.declared.ending.Ending.{Ending}
+use Rattle.hub_queues.specs.declared.ending.Ending.TheVariants.{Upstream, Stopped}
 use Rattle.gateway_hub.specs.declared.fault.HubFault.{HubFault}
 use Rattle.gateway_hub.specs.declared.fault.HubFault.TheVariants as faults
-use Rattle.hub_places.specs.declared.ending.StopWhy.TheVariants as stops
+use Rattle.hub_queues.specs.declared.ending.StopWhy.TheVariants as stops
 use Rattle.gateway_hub.specs.declared.seat.Taken.{Taken}
 use Rattle.gateway_hub.specs.declared.seat.Taken.TheVariants.{Done, Empty, Busy, Closed}
-use Rattle.hub_places.specs.declared.line.Line.{Line}
-use Rattle.hub_places.specs.declared.line.Place.{Place}
-use Rattle.hub_places.specs.declared.server.Server.{Server}
+use Rattle.hub_queues.specs.declared.line.HubConnection.{HubConnection}
+use Rattle.hub_queues.specs.declared.line.Place.{Place}
+use Rattle.hub_queues.specs.declared.server.Server.{Server}
 use Rattle.gateway_hub.specs.declared.desk.Desk.{Desk}
-use Rattle.hub_places.specs.Places.{LineChanges, PutsFirst, line_at}
-use Rattle.hub_places.specs.Servers.{PutsFirstUp}
-use Rattle.gateway_hub.specs.Taking.{AreLate, Stops}
+use Rattle.hub_queues.specs.Places.{LineChanges, PutsFirst, line_at}
+use Rattle.hub_queues.specs.Servers.{PutsFirstUp}
+use Rattle.gateway_hub.specs.Take.{AreLate, Stops}
 
 -- The item of an event that was not taken is first in line again.
 abbrev pub BackInLine : Event → Vec Place → Vec Place → Type 0
@@ -34,6 +34,7 @@ BackInLine (End conn) before now = now ≡ before
 BackInLine (Slow conn) before now = now ≡ before
 BackInLine (UpEnd why) before now = now ≡ before
 
+-- an item of the server that was refused is first in line again
 abbrev pub BackInServerLine : Event → Server → Server → Type 0
 BackInServerLine (Client conn item) before now = now ≡ before
 BackInServerLine (Up item) before now = PutsFirstUp item before now
@@ -41,6 +42,7 @@ BackInServerLine (End conn) before now = now ≡ before
 BackInServerLine (Slow conn) before now = now ≡ before
 BackInServerLine (UpEnd why) before now = now ≡ before
 
+-- an event that was refused left all as it was, but that its item is first in line again
 pub record GivesBack (event : Event) (before now : Desk) : Type 0 where
   pub lines : BackInLine event before.places now.places
   pub server : BackInServerLine event before.server now.server
@@ -54,18 +56,18 @@ Refuses notes.Failed fault before now = (fault ≡ faults.RecordFault) × Stops 
 
 -- what holds of the histories of a hub
 abbrev pub HubHistories : Type 1
-HubHistories = List Entry → Type 0
+HubHistories = List HistoryEntry → Type 0
 
 -- What the hub kept, it keeps with the same history.
 abbrev pub Stays : HubHistories → HubHistories → Type 0
-Stays kept keeps = (history : List Entry) → kept history → keeps history
+Stays kept keeps = (history : List HistoryEntry) → kept history → keeps history
 
 -- The history has this event more, and those that full ports asked for.
 pub record GrowsBy (happening : Happening) (kept keeps : HubHistories) : Type 0 where
   pub outcome : Outcome
-  pub later : List Entry
+  pub later : List HistoryEntry
   pub late : AreLate later
-  pub grows : (history : List Entry) → kept history → keeps (later ++ record { happening = happening; outcome = outcome } ∷ history)
+  pub grows : (history : List HistoryEntry) → kept history → keeps (later ++ record { happening = happening; outcome = outcome } ∷ history)
 
 -- What a call answers that did nothing: an ending was kept before, or the event could not be planned or noted, which stopped
 -- the hub where the recorder failed.
@@ -77,22 +79,22 @@ Fails faults.Memory kept keeps before now = (before ≡ None) × Stays kept keep
 
 -- The client of this connection put nothing that was not taken: its port was empty at one moment.
 pub record IsEmptyLine (conn : ℕ) (places : List Place) : Type 0 where
-  pub line : Line
+  pub line : HubConnection
   pub at : line_at places conn ≡ Some line
   pub none : line.first ≡ None
   pub empty : WasEmpty line.inward
 
 -- The first item in line of a connection was taken, or why not: the connection is not alive, a request of it is open, or
 -- none was in line.
-abbrev pub TakesFirst : ℕ → (List Entry → Bool) → Result Taken HubFault → HubHistories → HubHistories → Desk → Desk → Type 0
+abbrev pub TakesFirst : ℕ → (List HistoryEntry → Bool) → Result Taken HubFault → HubHistories → HubHistories → Desk → Desk → Type 0
 TakesFirst conn busy (Ok Done) kept keeps before now =
-    (before.ending ≡ None) × ((history : List Entry) → kept history → (is_alive conn history ≡ true) × (busy history ≡ false)) × ((item : Shape) × GrowsBy (takes conn item) kept keeps)
+    (before.ending ≡ None) × ((history : List HistoryEntry) → kept history → (is_alive conn history ≡ true) × (busy history ≡ false)) × ((item : Shape) × GrowsBy (takes conn item) kept keeps)
 TakesFirst conn busy (Ok Empty) kept keeps before now =
-    (before.ending ≡ None) × ((history : List Entry) → kept history → (is_alive conn history ≡ true) × (busy history ≡ false)) × Stays kept keeps × ((history : List Entry) → kept history → IsEmptyLine conn now.places.items)
+    (before.ending ≡ None) × ((history : List HistoryEntry) → kept history → (is_alive conn history ≡ true) × (busy history ≡ false)) × Stays kept keeps × ((history : List HistoryEntry) → kept history → IsEmptyLine conn now.places.items)
 TakesFirst conn busy (Ok Busy) kept keeps before now =
-    (before.ending ≡ None) × ((history : List Entry) → kept history → (is_alive conn history ≡ true) × (busy history ≡ true)) × Stays kept keeps
+    (before.ending ≡ None) × ((history : List HistoryEntry) → kept history → (is_alive conn history ≡ true) × (busy history ≡ true)) × Stays kept keeps
 TakesFirst conn busy (Ok Closed) kept keeps before now =
-    (before.ending ≡ None) × ((history : List Entry) → kept history → is_alive conn history ≡ false) × Stays kept keeps
+    (before.ending ≡ None) × ((history : List HistoryEntry) → kept history → is_alive conn history ≡ false) × Stays kept keeps
 TakesFirst conn busy (Err fault) kept keeps before now = Fails fault kept keeps before.ending now.ending
 
 -- The first item in line of the server was taken, or none was in line.
@@ -102,7 +104,7 @@ TakesFirstUp (Ok false) kept keeps before now = (before.ending ≡ None) × Stay
 TakesFirstUp (Err fault) kept keeps before now = Fails fault kept keeps before.ending now.ending
 
 -- A connection ended; nothing happened where the number was never given or is retired.
-abbrev pub Shuts : ℕ → Option Line → Result (Unit {0}) HubFault → HubHistories → HubHistories → Desk → Desk → Type 0
+abbrev pub Shuts : ℕ → Option HubConnection → Result (Unit {0}) HubFault → HubHistories → HubHistories → Desk → Desk → Type 0
 Shuts conn None (Ok u) kept keeps before now = (before.ending ≡ None) × Stays kept keeps × (now ≡ before)
 Shuts conn (Some line) (Ok u) kept keeps before now = (before.ending ≡ None) × GrowsBy (ends conn) kept keeps
 Shuts conn line (Err fault) kept keeps before now = Fails fault kept keeps before.ending now.ending

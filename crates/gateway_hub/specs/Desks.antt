@@ -1,23 +1,24 @@
 -- How a call changes what the hub keeps (this project's own).
 use Rattle.std.specs.Prelude.{◌≡◌, ℕ, Bool, is_some, List, Option, Some, None}
 use Rattle.std.specs.Option.{option_or}
-use Rattle.mux_history.specs.declared.event.Outcome.{Outcome}
-use Rattle.mux_history.specs.declared.event.ToClient.{ToClient}
-use Rattle.mux_history.specs.declared.event.UpCause.{UpCause}
-use Rattle.hub_places.specs.declared.ending.Ending.{Ending}
-use Rattle.hub_places.specs.declared.ending.Ending.TheVariants.{Upstream}
-use Rattle.hub_places.specs.declared.line.Place.{Place}
+use Rattle.gateway_claim.specs.declared.event.Outcome.{Outcome}
+use Rattle.gateway_claim.specs.declared.event.ToClient.{ToClient}
+use Rattle.gateway_claim.specs.declared.event.UpCause.{UpCause}
+use Rattle.hub_queues.specs.declared.ending.Ending.{Ending}
+use Rattle.hub_queues.specs.declared.ending.Ending.TheVariants.{Upstream}
+use Rattle.hub_queues.specs.declared.line.Place.{Place}
 use Rattle.gate_transcript.specs.declared.recorder.NoteFault.{NoteFault}
 use Rattle.gateway_hub.specs.declared.desk.Desk.{Desk}
 use Rattle.gateway_hub.specs.declared.desk.Fall.{Fall}
 use Rattle.gateway_hub.specs.declared.desk.Delivery.{Delivery}
-use Rattle.hub_places.specs.Closes.{fall_by}
-use Rattle.hub_places.specs.Places.{LineChanges, Counts, ClosesOne, HandsOut}
-use Rattle.hub_places.specs.Servers.{HandsUp}
+use Rattle.hub_queues.specs.Closes.{fall_by}
+use Rattle.hub_queues.specs.Places.{LineChanges, CountsItem, ClosesOne, HandsOut}
+use Rattle.hub_queues.specs.Servers.{HandsUp}
 
+-- one connection's arrivals are one more
 abbrev pub CountsOne : Option ℕ → List Place → List Place → Type 0
 CountsOne None before now = now ≡ before
-CountsOne (Some conn) before now = LineChanges conn Counts before now
+CountsOne (Some conn) before now = LineChanges conn CountsItem before now
 
 -- the ending that the end of the connection to the server is
 abbrev pub ending_by : Option UpCause → Option Ending
@@ -25,9 +26,9 @@ ending_by None = None
 ending_by (Some cause) = Some (Upstream cause)
 
 -- whether an item of the server ended its connection, where that ended
-abbrev pub heard_of : Option Fall → Option Bool
-heard_of None = None
-heard_of (Some fall) = Some fall.heard
+abbrev pub fall_heard : Option Fall → Option Bool
+fall_heard None = None
+fall_heard (Some fall) = Some fall.heard
 
 -- the end of the connection to the server, since which no note failed
 abbrev pub fallen : Option Bool → Option Fall
@@ -58,6 +59,7 @@ abbrev pub addressee_of : Option ToClient → Option ℕ
 addressee_of None = None
 addressee_of (Some piece) = Some piece.conn
 
+-- for whom bytes were put, unless the port was full
 abbrev pub landed_for : Option ℕ → Option ℕ → Option ℕ
 landed_for addressee None = addressee
 landed_for addressee (Some full) = None

@@ -1,15 +1,15 @@
 -- Why a hub takes no more events (this project's own).
 use Rattle.std.specs.Prelude.{◌≡◌, ◌⊎◌, ℕ, Bool, true, false, is_some, Option, Some, None, Result, IfErr}
 use Rattle.gate_outside.specs.Causes.{Rose}
-use Rattle.mux_history.specs.declared.event.UpCause.{UpCause}
-use Rattle.mux_history.specs.declared.event.UpCause.TheVariants as causes
-use Rattle.hub_places.specs.declared.ending.Ending.{Ending}
-use Rattle.hub_places.specs.declared.ending.Ending.TheVariants.{Upstream, Stopped}
+use Rattle.gateway_claim.specs.declared.event.UpCause.{UpCause}
+use Rattle.gateway_claim.specs.declared.event.UpCause.TheVariants as causes
+use Rattle.hub_queues.specs.declared.ending.Ending.{Ending}
+use Rattle.hub_queues.specs.declared.ending.Ending.TheVariants.{Upstream, Stopped}
 use Rattle.gateway_hub.specs.declared.desk.Fall.{Fall}
 use Rattle.gateway_hub.specs.declared.fault.HubFault.{HubFault}
 use Rattle.gateway_hub.specs.declared.fault.HubFault.TheVariants as faults
-use Rattle.hub_places.specs.declared.ending.StopWhy.{StopWhy}
-use Rattle.hub_places.specs.declared.ending.StopWhy.TheVariants as stops
+use Rattle.hub_queues.specs.declared.ending.StopWhy.{StopWhy}
+use Rattle.hub_queues.specs.declared.ending.StopWhy.TheVariants as stops
 
 -- what a call answers after an ending was kept
 abbrev pub fault_of : Ending → HubFault
@@ -25,6 +25,7 @@ is_note_stop stops.Spent = false
 is_note_stop stops.Record = true
 is_note_stop stops.DoorEnd = false
 
+-- whether the hub stopped since a note failed
 abbrev pub stopped_noting : Option Ending → Bool
 stopped_noting None = false
 stopped_noting (Some (Upstream cause)) = false

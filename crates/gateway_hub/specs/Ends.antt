@@ -5,10 +5,10 @@ use Rattle.client_ports.specs.declared.putter.Putter.{Putter}
 use Rattle.client_ports.specs.declared.taker.Taker.{Taker}
 use Rattle.client_ports.specs.Ends.{put_of, taken_of, takers_port, KeepsPutter}
 use Rattle.client_ports.specs.Rule.{BeginsIn}
-use Rattle.hub_places.specs.declared.line.Line.{Line}
-use Rattle.hub_places.specs.declared.line.Place.{Place}
+use Rattle.hub_queues.specs.declared.line.HubConnection.{HubConnection}
+use Rattle.hub_queues.specs.declared.line.Place.{Place}
 use Rattle.gateway_hub.specs.declared.desk.Desk.{Desk}
-use Rattle.hub_places.specs.Places.{Changes, line_at}
+use Rattle.hub_queues.specs.Places.{Changes, line_at}
 
 -- The taker is of the same port, and what it took before is the first of what it took.
 pub record KeepsTaker (before now : Taker) : Type 0 where
@@ -21,12 +21,12 @@ pub record KeepsPort (before now : Putter) : Type 0 where
   pub put : BeginsIn (put_of before) (put_of now)
 
 -- So do both ends of a line.
-pub record KeepsLine (before now : Line) : Type 0 where
+pub record KeepsLine (before now : HubConnection) : Type 0 where
   pub inward : KeepsTaker before.inward now.inward
   pub outward : KeepsPort before.outward now.outward
 
 -- Each line that was there is there, changed so, and there are no others.
-abbrev pub EachLine : (Line → Line → Type 0) → List Place → List Place → Type 0
+abbrev pub EachLine : (HubConnection → HubConnection → Type 0) → List Place → List Place → Type 0
 EachLine change before now = (i : ℕ) → Changes true change (line_at before i) (line_at now i)
 
 -- All ends stay in place, the server's two and each line's two.
@@ -42,10 +42,11 @@ pub record KeepsOtherEnds (conn : ℕ) (before now : Desk) : Type 0 where
   pub lines : (i : ℕ) → i ≢ conn → Changes true KeepsLine (line_at before.places.items i) (line_at now.places.items i)
 
 -- Nothing was put for a client, or something was.
-abbrev pub PutsNothing : Line → Line → Type 0
+abbrev pub PutsNothing : HubConnection → HubConnection → Type 0
 PutsNothing before now = put_of now.outward ≡ put_of before.outward
 
-pub record PutsMore (before now : Line) : Type 0 where
+-- something was put for a connection
+pub record PutsMore (before now : HubConnection) : Type 0 where
   pub first : Parcel
   pub later : List Parcel
   pub whole : put_of before.outward ++ first ∷ later ≡ put_of now.outward

@@ -1,12 +1,12 @@
 pub mod Endings
 pub mod Ends
-pub mod Entering
+pub mod Enter
 pub mod Notes
 pub mod Desks
-pub mod Retiring
-pub mod Kept
-pub mod Taking
+pub mod Retire
+pub mod Keeps
+pub mod Take
 pub mod Calls
-pub mod Closing
+pub mod Close
 pub mod Receipts
 pub mod Rooms

@@ -4,10 +4,11 @@ use Rattle.gate_transcript.specs.declared.entry.Entry.{Entry as Noted}
 use Rattle.gate_transcript.specs.declared.entry.EntryKind.{EntryKind}
 use Rattle.gate_transcript.specs.declared.entry.EntryKind.TheVariants.{Enter, Client, Upstream, End, Slow, UpEnd}
 use Rattle.gate_transcript.specs.declared.entry.TheConstants.{ENDED_REASON, READ_FAULT_REASON, WRITE_FAULT_REASON, FULL_REASON}
-use Rattle.mux_history.specs.declared.event.UpWhy.{UpWhy}
-use Rattle.mux_history.specs.declared.event.UpWhy.TheVariants as whys
-use Rattle.mux_history.specs.Happenings.{Happening, enters, takes, ends, lags, hears, up_ends, Entry}
+use Rattle.gateway_claim.specs.declared.event.UpWhy.{UpWhy}
+use Rattle.gateway_claim.specs.declared.event.UpWhy.TheVariants as whys
+use Rattle.gateway_claim.specs.Happenings.{Happening, enters, takes, ends, lags, hears, up_ends, HistoryEntry}
 
+-- an entry as a recorder is told of it
 abbrev pub noting : EntryKind → ℕ → List ℕ → Noted
 noting kind conn body = record { kind = kind; conn = conn; body = body }
 
@@ -28,18 +29,18 @@ note_of (hears shape) = noting Upstream 0 shape.bytes
 note_of (up_ends why) = noting UpEnd 0 (reason_noted why ∷ [])
 
 -- the entries of a history, the newest first
-abbrev pub notes : List Entry → List Noted
+abbrev pub notes : List HistoryEntry → List Noted
 notes [] = []
 notes (entry ∷ earlier) = note_of entry.happening ∷ notes earlier
 
 -- A recorder that tells its entries tells those of the history.
-abbrev pub TellsNotes : Option (List Noted) → List Entry → Type 0
+abbrev pub TellsNotes : Option (List Noted) → List HistoryEntry → Type 0
 TellsNotes None history = Unit {0}
 TellsNotes (Some told) history = told ≡ notes history
 
 -- It tells the same history, or none any more.
 abbrev pub StillTells : Option (List Noted) → Option (List Noted) → Type 0
-StillTells told tells = (history : List Entry) → TellsNotes told history → TellsNotes tells history
+StillTells told tells = (history : List HistoryEntry) → TellsNotes told history → TellsNotes tells history
 
 -- the connection whose client an item is of
 abbrev pub asker_noted : Happening → Option ℕ

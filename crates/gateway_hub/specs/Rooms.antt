@@ -3,10 +3,10 @@ use Rattle.std.specs.Prelude.{◌≡◌, ℕ, Bool, true, false, List, Option, R
 use Rattle.std.specs.Option.{option_or}
 use Rattle.gateway_hub.specs.declared.fault.HubFault.{HubFault}
 use Rattle.gateway_hub.specs.declared.desk.Desk.{Desk}
-use Rattle.hub_places.specs.declared.line.Place.{Place}
+use Rattle.hub_queues.specs.declared.line.Place.{Place}
 use Rattle.gateway_hub.specs.Ends.{PutsFor}
-use Rattle.hub_places.specs.Places.{LineChanges}
-use Rattle.hub_places.specs.Room.{IsLookedAt}
+use Rattle.hub_queues.specs.Places.{LineChanges}
+use Rattle.hub_queues.specs.Room.{IsLookedAt}
 
 -- The line of this connection was looked at, and nothing else was done.
 pub record LooksAt (conn : ℕ) (before now : Desk) : Type 0 where

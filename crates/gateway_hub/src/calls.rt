@@ -3,19 +3,19 @@ ghost use Rattle.std.specs.Prelude.{◌≡◌, ◌≤◌, false};
 ghost use Rattle.gateway_hub.specs.Calls.{TakesFirst, TakesFirstUp, Shuts, ShutsUp};
 ghost use Rattle.gateway_hub.specs.Endings.{ShowsFault};
 ghost use Rattle.gateway_hub.specs.Ends.{KeepsEnds};
-ghost use Rattle.gateway_hub.specs.Kept.{Keeps, StandsIdle};
-ghost use Rattle.hub_places.specs.Places.{line_at};
+ghost use Rattle.gateway_hub.specs.Keeps.{Keeps, StandsIdle};
+ghost use Rattle.hub_queues.specs.Places.{line_at};
 ghost use Rattle.gateway_hub.specs.Rooms.{RemembersLast};
-ghost use Rattle.gateway_hub.specs.Taking.{is_full_reason};
+ghost use Rattle.gateway_hub.specs.Take.{is_full_reason};
 
-use crate::state::State;
+use crate::state::HubState;
 use crate::{HubFault, Recorder, Taken};
-use hub_places::{is_seated, next_of};
-use mux_history::{Core, Event, UpWhy};
+use gateway_claim::{Core, Event, UpWhy};
+use hub_queues::{is_seated, next_of};
 use std::alloc::Global;
 use std::sync::Wait;
 
-impl<M: Core, R: Recorder> State<M, R> {
+impl<M: Core, R: Recorder> HubState<M, R> {
     /// Takes the first item in line of a connection, as an event.
     pub fn take<W: Wait>(&mut self, alloc: Global, rt: &W, conn: u32) -> Result<Taken, HubFault>
         ensures takes { TakesFirst conn (M.is_busy (M.bases self.old.core) conn) result

@@ -1,13 +1,13 @@
 //! All that the hub keeps beside its core and its recorder.
 ghost use Rattle.std.specs.Prelude.{◌≡◌, Option};
-ghost use Rattle.gateway_hub.specs.Desks.{CountsOne, KeepsEnding, HandsAll, LeavesOut, addressee_of, landed_for, heard_of, left_for};
+ghost use Rattle.gateway_hub.specs.Desks.{CountsOne, KeepsEnding, HandsAll, LeavesOut, addressee_of, landed_for, fall_heard, left_for};
 ghost use Rattle.gateway_hub.specs.Endings.{is_stopped};
 ghost use Rattle.gateway_hub.specs.Calls.{GivesBack, Refuses};
-ghost use Rattle.gateway_hub.specs.Taking.{Stops};
+ghost use Rattle.gateway_hub.specs.Take.{Stops};
 
 use crate::{Ending, HubFault, NoteFault, StopWhy};
-use hub_places::{Place, Server, count_arrival, hand_out, note_close, put_first};
-use mux_history::{Event, Outcome, ToClient, UpCause};
+use gateway_claim::{Event, Outcome, ToClient, UpCause};
+use hub_queues::{Place, Server, count_arrival, hand_out, note_close, put_first};
 use std::sync::Wait;
 
 /// How the connection to the server ended.
@@ -70,8 +70,8 @@ fn landed_for(addressee: Option<u32>, full: Option<u32>) -> Option<u32>
 }
 
 /// Whether an item of the server ended its connection, where that ended.
-pub fn heard_of(fall: Option<Fall>) -> Option<bool>
-    ensures { result ≡ heard_of fall }
+pub fn fall_heard(fall: Option<Fall>) -> Option<bool>
+    ensures { result ≡ fall_heard fall }
 {
     match fall {
         Some(fall) => Some(fall.heard),

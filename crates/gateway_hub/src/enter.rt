@@ -2,18 +2,18 @@
 ghost use Rattle.std.specs.Prelude.{◌≡◌, ◌≤◌, [], None, length};
 ghost use Rattle.gateway_hub.specs.Endings.{ShowsFault};
 ghost use Rattle.gateway_hub.specs.Ends.{KeepsOtherEnds};
-ghost use Rattle.gateway_hub.specs.Entering.{Enters};
-ghost use Rattle.gateway_hub.specs.Kept.{Keeps, KeepsSome, StandsIdle};
+ghost use Rattle.gateway_hub.specs.Enter.{Enters};
+ghost use Rattle.gateway_hub.specs.Keeps.{Keeps, KeepsSome, StandsIdle};
 
 use crate::desk::Desk;
-use crate::state::State;
+use crate::state::HubState;
 use crate::{
     Entered, HubFault, INWARD_CAPACITY, MOST_CONNECTIONS, OUTWARD_CAPACITY, Recorder, Seat, StopWhy,
 };
 use client_ports::{Putter, Taker, port};
 use gate_transcript::EntryKind;
-use hub_places::{Line, Place, Server};
-use mux_history::Core;
+use gateway_claim::Core;
+use hub_queues::{HubConnection, Place, Server};
 use std::alloc::Global;
 
 /// A desk at which nothing happened, with the hub's ends of the server's two ports.
@@ -35,7 +35,7 @@ pub fn fresh_desk(alloc: Global, inward: Taker, outward: Putter) -> Desk
     }
 }
 
-impl<M: Core, R: Recorder> State<M, R> {
+impl<M: Core, R: Recorder> HubState<M, R> {
     /// A connection enters: its ports are made, the core is prepared, the entering is noted, and then it enters. Its number
     /// is that of the connections before it.
     pub fn enter(&mut self, alloc: Global) -> Result<Entered, HubFault>
@@ -59,7 +59,7 @@ impl<M: Core, R: Recorder> State<M, R> {
         let conn = self.desk.places.len() as u32;
         let (inward, items) = port(alloc, INWARD_CAPACITY)?;
         let (pieces, outward) = port(alloc, OUTWARD_CAPACITY)?;
-        let Ok(line) = Box::new(alloc, Line::new(items, pieces)) else {
+        let Ok(line) = Box::new(alloc, HubConnection::new(items, pieces)) else {
             return Err(HubFault::Memory);
         };
         let Ok(()) = self.desk.places.reserve(1) else {

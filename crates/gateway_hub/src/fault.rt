@@ -1,8 +1,8 @@
 //! What the calls of a hub answer where they did nothing.
 
 use gate_bytes::Memory;
-use hub_places::{Ending, StopWhy};
-use mux_history::UpCause;
+use gateway_claim::UpCause;
+use hub_queues::{Ending, StopWhy};
 
 /// Why a call of a hub did nothing.
 #[derive(Clone, Copy, Debug, PartialEq, Eq)]

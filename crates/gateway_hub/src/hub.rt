@@ -1,11 +1,11 @@
 //! The hub.
-ghost use Rattle.gateway_hub.specs.Kept.{KeepsSome, StandsIdle};
+ghost use Rattle.gateway_hub.specs.Keeps.{KeepsSome, StandsIdle};
 
 use crate::Recorder;
-use crate::state::State;
-use mux_history::Core;
+use crate::state::HubState;
+use gateway_claim::Core;
 
-mod called;
+mod calls;
 
 /// What all threads of the gateway share under one lock: a core, a recorder, and the hub's ends of the ports.
 ///
@@ -13,6 +13,6 @@ mod called;
 /// recorder's entries where these are told; and that what was put and taken is what this history says.
 #[derive(Drop)]
 pub struct Hub<M: Core, R: Recorder> {
-    state: State<M, R>,
+    state: HubState<M, R>,
     ghost keeps: { ∥ KeepsSome (StandsIdle M.stands M.waits M.bases state.core) (R.entries state.recorder) (R.faults state.recorder) state.desk ∥₁ },
 }

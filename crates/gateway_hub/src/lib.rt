@@ -7,12 +7,12 @@
 #![tactic(auto)]
 
 mod calls;
-mod closing;
+mod close;
 mod desk;
 mod enter;
 mod fault;
 mod hub;
-mod noting;
+mod note;
 mod receipts;
 mod retire;
 mod seat;
@@ -21,7 +21,7 @@ mod state;
 pub use fault::HubFault;
 pub use gate_transcript::{NoteFault, Recorder};
 pub use hub::Hub;
-pub use hub_places::{
+pub use hub_queues::{
     Close, Ending, INWARD_CAPACITY, MOST_CONNECTIONS, OUTWARD_CAPACITY, Receipt, SERVER_CAPACITY,
     SERVER_INWARD_CAPACITY, StopWhy,
 };

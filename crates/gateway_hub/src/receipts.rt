@@ -4,7 +4,7 @@ ghost use Rattle.gateway_hub.specs.Receipts.{last_receipt, receipt_count};
 
 use crate::retire::{Back, receipt_for};
 use crate::{Ending, Receipt};
-use hub_places::Place;
+use hub_queues::Place;
 
 /// One receipt for each connection that entered a hub, by its number. That of a connection that was not retired has
 /// nothing pushed and nothing taken.

@@ -1,20 +1,20 @@
 //! How a connection is retired.
 ghost use Rattle.std.specs.Prelude.{◌≡◌, ◌≤◌, length};
 ghost use Rattle.std.specs.Option.{option_or, option_map};
-ghost use Rattle.hub_places.specs.Places.{line_at};
+ghost use Rattle.hub_queues.specs.Places.{line_at};
 ghost use Rattle.client_ports.specs.Ends.{put_of, taken_of};
-ghost use Rattle.hub_places.specs.Closes.{fall_close};
+ghost use Rattle.hub_queues.specs.Closes.{fall_close};
 ghost use Rattle.gateway_hub.specs.Endings.{ShowsFault};
 ghost use Rattle.gateway_hub.specs.Ends.{KeepsEnds, KeepsOtherEnds};
-ghost use Rattle.gateway_hub.specs.Kept.{Keeps, StandsIdle, close_why, by_upstream_of};
-ghost use Rattle.gateway_hub.specs.Retiring.{EndsFirst, RetiresPlace, RetiresSo, receipt_for, stranger_receipt};
+ghost use Rattle.gateway_hub.specs.Keeps.{Keeps, StandsIdle, close_why, by_upstream_of};
+ghost use Rattle.gateway_hub.specs.Retire.{EndsFirst, RetiresPlace, RetiresSo, receipt_for, stranger_receipt};
 
-use crate::desk::heard_of;
-use crate::state::{State, stop_of};
+use crate::desk::fall_heard;
+use crate::state::{HubState, stop_of};
 use crate::{Close, Ending, Receipt, Recorder};
 use client_ports::{Putter, Taker};
-use hub_places::{Line, Place};
-use mux_history::{CloseWhy, Core, Event};
+use gateway_claim::{CloseWhy, Core, Event};
+use hub_queues::{HubConnection, Place};
 use std::alloc::Global;
 use std::sync::Wait;
 
@@ -68,7 +68,7 @@ pub struct Back {
 }
 
 /// The receipt of a connection that has this line.
-pub fn receipt_for(line: &Line, back: Back) -> Receipt
+pub fn receipt_for(line: &HubConnection, back: Back) -> Receipt
     ensures { result ≡ receipt_for back.conn line.now back.pushed back.taken back.fall back.ending }
 {
     let close = close_of(line.close, back.fall);
@@ -127,7 +127,7 @@ fn retire_of(places: &mut Vec<Place>, back: Back) -> Receipt
     }
 }
 
-impl<M: Core, R: Recorder> State<M, R> {
+impl<M: Core, R: Recorder> HubState<M, R> {
     /// Ends a connection that is alive, unless an ending was kept. Where that can't be noted, the hub is stopped.
     fn end_first<W: Wait>(&mut self, alloc: Global, rt: &W, conn: u32)
         ensures ends { EndsFirst conn
@@ -176,7 +176,7 @@ impl<M: Core, R: Recorder> State<M, R> {
             conn,
             pushed,
             taken,
-            fall: heard_of(self.desk.fall),
+            fall: fall_heard(self.desk.fall),
             ending: self.desk.ending,
         };
         retire_of(&mut self.desk.places, back)

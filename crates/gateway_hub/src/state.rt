@@ -1,23 +1,23 @@
 //! The core, the recorder and the desk of a hub, and how one event is taken.
 ghost use Rattle.std.specs.Prelude.{◌≡◌, ◌≤◌, ℕ, false, List, Option, None, IfOk, IfErr, OnOk};
-ghost use Rattle.mux_history.specs.Happenings.{Entry, happening_of};
-ghost use Rattle.mux_history.specs.Cores.{IsTimely};
+ghost use Rattle.gateway_claim.specs.Happenings.{HistoryEntry, happening_of};
+ghost use Rattle.gateway_claim.specs.Cores.{IsTimely};
 ghost use Rattle.gateway_hub.specs.Endings.{ShowsFault};
 ghost use Rattle.gateway_hub.specs.Ends.{KeepsEnds, PutsFor};
-ghost use Rattle.gateway_hub.specs.Kept.{StandsIdle};
-ghost use Rattle.gateway_hub.specs.Taking.{TakesOneEvent, IsUntaken, SettlesOwed, TakesHubEvent, stop_of};
+ghost use Rattle.gateway_hub.specs.Keeps.{StandsIdle};
+ghost use Rattle.gateway_hub.specs.Take.{TakesOneEvent, IsUntaken, SettlesOwed, TakesHubEvent, stop_of};
 
 use crate::desk::{Delivery, Desk};
-use crate::noting::{asker_of, is_heard, note};
+use crate::note::{asker_of, is_heard, note};
 use crate::{NoteFault, Recorder, StopWhy};
 use gate_bytes::Memory;
-use mux_history::{Core, Event, UpWhy};
+use gateway_claim::{Core, Event, UpWhy};
 use std::alloc::Global;
 use std::sync::Wait;
 
 /// The core, the recorder and the desk of a hub.
 #[derive(Drop)]
-pub struct State<M: Core, R: Recorder> {
+pub struct HubState<M: Core, R: Recorder> {
     /// The core.
     pub core: M,
     /// The recorder.
@@ -32,7 +32,7 @@ pub struct State<M: Core, R: Recorder> {
 
 /// An event that was not taken, and why.
 #[derive(Drop)]
-pub struct Refused {
+pub struct RefusedEvent {
     /// The event.
     pub event: Event,
     /// Why.
@@ -49,7 +49,7 @@ pub fn stop_of(fault: NoteFault) -> StopWhy
     }
 }
 
-impl<M: Core, R: Recorder> State<M, R> {
+impl<M: Core, R: Recorder> HubState<M, R> {
     /// Takes one event: it is planned, noted and committed, and what it hands out is put, first to the client and then to
     /// the server. Tells for whom bytes were put, and whose ports were full. Where memory was wanting, or the note failed, nothing was taken.
     /// It asks that the event is no item of a client whose connection is busy.
@@ -58,8 +58,8 @@ impl<M: Core, R: Recorder> State<M, R> {
         alloc: Global,
         rt: &W,
         event: Event,
-    ) -> Result<Delivery, Refused>
-        requires { (T : List Entry) → M.stands self.old.core T → IsTimely (M.is_busy (M.bases self.old.core)) T (happening_of event) }
+    ) -> Result<Delivery, RefusedEvent>
+        requires { (T : List HistoryEntry) → M.stands self.old.core T → IsTimely (M.is_busy (M.bases self.old.core)) T (happening_of event) }
         ensures ok { IfOk result (λ delivery. TakesOneEvent (happening_of event) delivery (StandsIdle M.stands M.waits M.bases self.old.core) (StandsIdle M.stands M.waits M.bases self.new.core) (R.entries self.old.recorder) (R.entries self.new.recorder) self.old.desk self.new.desk) }
         ensures err { IfErr result (λ refused. (refused.event ≡ event) × IsUntaken refused.fault (StandsIdle M.stands M.waits M.bases self.old.core) (StandsIdle M.stands M.waits M.bases self.new.core) (R.entries self.old.recorder) (R.entries self.new.recorder) (R.faults self.old.recorder) (R.faults self.new.recorder) self.old.desk self.new.desk) }
         ensures ends { KeepsEnds self.old.desk self.new.desk }
@@ -73,12 +73,12 @@ impl<M: Core, R: Recorder> State<M, R> {
             Ok(plan) => plan,
             Err(Memory) => {
                 let fault = NoteFault::Memory;
-                return Err(Refused { event, fault });
+                return Err(RefusedEvent { event, fault });
             }
         };
         match note(&mut self.recorder, &event) {
             Ok(()) => {}
-            Err(fault) => return Err(Refused { event, fault }),
+            Err(fault) => return Err(RefusedEvent { event, fault }),
         }
         let asker = asker_of(&event);
         let heard = is_heard(&event);
@@ -146,8 +146,8 @@ impl<M: Core, R: Recorder> State<M, R> {
         alloc: Global,
         rt: &W,
         event: Event,
-    ) -> Result<Option<u32>, Refused>
-        requires { (T : List Entry) → M.stands self.old.core T → IsTimely (M.is_busy (M.bases self.old.core)) T (happening_of event) }
+    ) -> Result<Option<u32>, RefusedEvent>
+        requires { (T : List HistoryEntry) → M.stands self.old.core T → IsTimely (M.is_busy (M.bases self.old.core)) T (happening_of event) }
         ensures ok { OnOk result (TakesHubEvent (happening_of event) (StandsIdle M.stands M.waits M.bases self.old.core) (StandsIdle M.stands M.waits M.bases self.new.core) (R.entries self.old.recorder) (R.entries self.new.recorder) (R.faults self.old.recorder) (R.faults self.new.recorder) self.old.desk self.new.desk) }
         ensures err { IfErr result (λ refused. (refused.event ≡ event) × IsUntaken refused.fault (StandsIdle M.stands M.waits M.bases self.old.core) (StandsIdle M.stands M.waits M.bases self.new.core) (R.entries self.old.recorder) (R.entries self.new.recorder) (R.faults self.old.recorder) (R.faults self.new.recorder) self.old.desk self.new.desk) }
         ensures ends { KeepsEnds self.old.desk self.new.desk }

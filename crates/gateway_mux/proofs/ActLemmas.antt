@@ -6,26 +6,26 @@ use Rattle.rtsp_head.specs.Items.{Shape}
 use Rattle.rtsp_head.specs.declared.item.ItemKind.TheVariants as kinds
 use Rattle.rtsp_uri.specs.declared.base.Bases.{Bases}
 use Rattle.client_slot.specs.Client.{Client}
-use Rattle.gate_machine.specs.declared.parts.Done.{Done}
-use Rattle.gate_machine.specs.Effects.{carries, Effect}
-use Rattle.gate_machine.specs.Events.{PrivateEvent, arrive, media}
-use Rattle.gate_machine.specs.Frames.{channel_in, behind_channel, frame_text, Half, half_for, channel_for}
-use Rattle.gate_machine.specs.Hearing.{carry, take_item, take, give, take_media}
-use Rattle.gate_machine.specs.Step.{heard_step}
-use Rattle.mux_history.specs.declared.event.Closed.TheVariants.{Nobody}
-use Rattle.mux_history.specs.declared.event.Outcome.{Outcome}
-use Rattle.mux_history.specs.declared.event.ToClient.{ToClient}
-use Rattle.mux_history.specs.declared.event.UpCause.{UpCause}
-use Rattle.mux_history.specs.Books.{Opened, Books}
-use Rattle.mux_history.specs.Heard.{Heard, frames, heard, heard_at}
-use Rattle.mux_history.specs.Happenings.{Happening, takes, hears, Entry, enters_here}
-use Rattle.mux_history.specs.Next.{next}
-use Rattle.mux_history.specs.Own.{owner_of, heard_turn, heard_final, settled_by}
-use Rattle.mux_history.specs.Settling.{free_in, settles}
-use Rattle.mux_history.specs.Follows.{spent, heard_answer}
-use Rattle.mux_history.specs.Shared.{heard_raw, outcome_by}
-use Rattle.mux_history.proofs.OtherLemmas.{differs}
-use Rattle.gateway_mux.specs.declared.turn.Turn.{Turn}
+use Rattle.client_machine.specs.declared.parts.Done.{Done}
+use Rattle.client_machine.specs.Effects.{carries, Effect}
+use Rattle.client_machine.specs.Events.{PrivateEvent, arrive, media}
+use Rattle.client_machine.specs.Frames.{channel_in, behind_channel, frame_text, Half, half_for, channel_for}
+use Rattle.client_machine.specs.ServerItems.{carry, take_item, take, give, take_media}
+use Rattle.client_machine.specs.Step.{heard_step}
+use Rattle.gateway_claim.specs.declared.event.Closed.TheVariants.{Nobody}
+use Rattle.gateway_claim.specs.declared.event.Outcome.{Outcome}
+use Rattle.gateway_claim.specs.declared.event.ToClient.{ToClient}
+use Rattle.gateway_claim.specs.declared.event.UpCause.{UpCause}
+use Rattle.gateway_claim.specs.Books.{Opened, Books}
+use Rattle.gateway_claim.specs.ServerItems.{Heard, frames, heard, heard_at}
+use Rattle.gateway_claim.specs.Happenings.{Happening, takes, hears, HistoryEntry, enters_here}
+use Rattle.gateway_claim.specs.Next.{next}
+use Rattle.gateway_claim.specs.OwnEvents.{owner_of, heard_turn, heard_final, settled_by}
+use Rattle.gateway_claim.specs.Settlement.{free_in, settles}
+use Rattle.gateway_claim.specs.Follows.{spent, heard_answer}
+use Rattle.gateway_claim.specs.SharedEvents.{heard_raw, outcome_by}
+use Rattle.gateway_claim.proofs.OtherLemmas.{differs}
+use Rattle.gateway_mux.specs.declared.turn.PlannedTurn.{PlannedTurn}
 use Rattle.gateway_mux.specs.Acts.{IsPlannedTurn, IsRise, IsFall}
 use Rattle.gateway_mux.specs.Moves.{wrong_heard, wrong_in, step_in, TakesTurn, IsAfterStep, IsIdle, IsEndAt, handed_by, answering, risen_by, fallen_by, ended_by, IsNext, IsCommitted}
 use Rattle.gateway_mux.specs.Pictures.{Picture, opened_in, books_in, IsPictureOf}
@@ -37,17 +37,17 @@ use Rattle.gateway_mux.proofs.IdleLemmas.{idle_follows}
 use Rattle.gateway_mux.proofs.StandLemmas.{standing_open, standing_ended}
 
 -- the next entry, where the connection to the server stands after it
-stands_next : (bases : Bases) (after : Picture) (T : List Entry) (h : Happening) (outcome : Outcome) → outcome ≡ next bases T h → IsPictureOf bases after (record { happening = h; outcome = next bases T h } ∷ T) → IsNext bases after T h outcome
+stands_next : (bases : Bases) (after : Picture) (T : List HistoryEntry) (h : Happening) (outcome : Outcome) → outcome ≡ next bases T h → IsPictureOf bases after (record { happening = h; outcome = next bases T h } ∷ T) → IsNext bases after T h outcome
 stands_next bases after T h outcome is there = record {
   is_next = is;
-  is_after = subst (λ (history : List Entry). IsPictureOf bases after history) (sym (standing_open (record { happening = h; outcome = outcome } ∷ T) here.standing)) here;
+  is_after = subst (λ (history : List HistoryEntry). IsPictureOf bases after history) (sym (standing_open (record { happening = h; outcome = outcome } ∷ T) here.standing)) here;
 }
   where
     here : IsPictureOf bases after (record { happening = h; outcome = outcome } ∷ T)
     here = subst (λ (one : Outcome). IsPictureOf bases after (record { happening = h; outcome = one } ∷ T)) (sym is) there
 
 -- A turn.
-pub turn_committed : (bases : Bases) (one after : Picture) (h : Happening) (answer : Option (List ℕ)) (it : Turn) (done : Done) → IsPlannedTurn bases one h answer it → IsTurned one after it done
+pub turn_committed : (bases : Bases) (one after : Picture) (h : Happening) (answer : Option (List ℕ)) (it : PlannedTurn) (done : Done) → IsPlannedTurn bases one h answer it → IsTurned one after it done
     → IsCommitted bases one after h (handed_by it.conn answer done)
 turn_committed bases one after h answer it done its turned T is =
     let (outcome, there) = turn_follows bases one after T h it.conn its.client its.raw is its.its_turn (turn_is_after bases one after T h answer it done is its turned) in
@@ -63,7 +63,7 @@ idle_committed bases one h answer none idle T is =
 pub end_committed : (bases : Bases) (one : Picture) (h : Happening) (cause : UpCause) → IsEndAt bases one h (wrong_in one h) cause → IsCommitted bases one one h (ended_by cause)
 end_committed bases one h cause ends T is = record {
   is_next = sym (ends_so bases one T h cause is ends);
-  is_after = subst (λ (history : List Entry). IsPictureOf bases one history) (sym (standing_ended T (record { happening = h; outcome = ended_by cause }) is.standing refl)) is;
+  is_after = subst (λ (history : List HistoryEntry). IsPictureOf bases one history) (sym (standing_ended T (record { happening = h; outcome = ended_by cause }) is.standing refl)) is;
 }
 
 -- A step that changes nothing of the connection, with no reply.

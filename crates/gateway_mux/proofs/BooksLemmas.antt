@@ -6,15 +6,15 @@ use Rattle.std.specs.Str.{bytes_eq}
 use Rattle.channel_map.specs.declared.map.Held.{Held}
 use Rattle.channel_map.specs.Pairs.{is_free}
 use Rattle.head_two.specs.declared.ask.Ask2.{Ask2}
-use Rattle.mux_history.specs.Kinds.{RequestKind}
-use Rattle.mux_history.specs.Books.{Opened, Books, lends, pair_asked, is_pair}
-use Rattle.mux_history.specs.Heard.{Heard, replies, requests, frames, faults, heard}
-use Rattle.mux_history.specs.Notices.{Notice, session_named, held_session, named_session, notice_of, answer_to}
-use Rattle.mux_history.specs.Settling.{Final, final_of, opened_then, held_then, holder_then, settles, free_in}
-use Rattle.mux_history.specs.Happenings.{Happening, enters, takes, ends, lags, hears, up_ends}
-use Rattle.mux_history.specs.Own.{owner_of, notice_turn, heard_turn, turn, heard_final, final_in, settled_by, lends_where}
-use Rattle.mux_history.specs.Follows.{heard_answer, answer_due}
-use Rattle.mux_history.specs.Shared.{notice_raw, heard_raw, raw_event}
+use Rattle.gateway_claim.specs.Kinds.{RequestKind}
+use Rattle.gateway_claim.specs.Books.{Opened, Books, lends, pair_asked, is_pair}
+use Rattle.gateway_claim.specs.ServerItems.{Heard, replies, requests, frames, faults, heard}
+use Rattle.gateway_claim.specs.Notices.{HeardNotice, session_named, held_session, named_session, notice_of, answer_to}
+use Rattle.gateway_claim.specs.Settlement.{Final, final_of, opened_then, held_then, holder_then, settles, free_in}
+use Rattle.gateway_claim.specs.Happenings.{Happening, enters, takes, ends, lags, hears, up_ends}
+use Rattle.gateway_claim.specs.OwnEvents.{owner_of, notice_turn, heard_turn, turn, heard_final, final_in, settled_by, lends_where}
+use Rattle.gateway_claim.specs.Follows.{heard_answer, answer_due}
+use Rattle.gateway_claim.specs.SharedEvents.{notice_raw, heard_raw, raw_event}
 use Rattle.gateway_mux.proofs.TurnLemmas.{lowest_free_same}
 
 pub record AreSame (a b : Books) : Type 0 where
@@ -29,7 +29,7 @@ named_same f g request None same = refl
 named_same f g request (Some id) same = ap (held_session request id) (same id)
 
 pub notice_same : (f g : List ℕ → Option ℕ) (request : Ask2) → ((id : List ℕ) → f id ≡ g id) → notice_of f request ≡ notice_of g request
-notice_same f g request same = ap (λ (one : Result Notice ℕ). cond (bytes_eq request.method (codes "PLAY_NOTIFY")) one (Err 501)) (named_same f g request (session_named request) same)
+notice_same f g request same = ap (λ (one : Result HeardNotice ℕ). cond (bytes_eq request.method (codes "PLAY_NOTIFY")) one (Err 501)) (named_same f g request (session_named request) same)
 
 -- whose turn it is
 heard_turn_same : (a b : Books) (said : Heard) → AreSame a b → heard_turn a said ≡ heard_turn b said
@@ -79,7 +79,7 @@ final_same a b (up_ends cause) same = refl
 -- the answer to the server
 heard_answer_same : (a b : Books) (said : Heard) → AreSame a b → heard_answer a said ≡ heard_answer b said
 heard_answer_same a b (replies reply) same = refl
-heard_answer_same a b (requests request) same = ap (λ (notice : Result Notice ℕ). Some (answer_to request notice)) (notice_same a.holder b.holder request same.holder)
+heard_answer_same a b (requests request) same = ap (λ (notice : Result HeardNotice ℕ). Some (answer_to request notice)) (notice_same a.holder b.holder request same.holder)
 heard_answer_same a b (frames channel rest) same = refl
 heard_answer_same a b (faults fault) same = refl
 

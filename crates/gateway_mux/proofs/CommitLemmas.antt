@@ -6,40 +6,40 @@ use Rattle.rtsp_uri.specs.declared.base.Bases.{Bases}
 use Rattle.channel_map.specs.Pairs.{is_free}
 use Rattle.client_slot.specs.declared.purpose.Purpose.{Purpose}
 use Rattle.client_slot.specs.Client.{Client}
-use Rattle.gate_machine.specs.declared.parts.Done.{Done}
-use Rattle.gate_machine.specs.declared.parts.Plan.{Plan}
-use Rattle.gate_machine.specs.Asking.{AsksBy}
-use Rattle.gate_machine.specs.Effects.{Outgoing, asks, carries, Effect}
-use Rattle.gate_machine.specs.Hearing.{hear}
-use Rattle.gate_machine.specs.Plans.{Comes, heard_by, effect_by, IsPlan, Does}
-use Rattle.gate_machine.specs.Spelled.{spelled}
-use Rattle.gate_machine.specs.Step.{heard_step}
-use Rattle.mux_history.specs.declared.event.UpMessage.{UpMessage}
-use Rattle.mux_history.specs.declared.event.UpMessage.TheVariants.{Request}
-use Rattle.mux_history.specs.Books.{Opened, Books}
-use Rattle.mux_history.specs.Happenings.{Happening, Entry}
-use Rattle.mux_history.specs.Next.{client_piece, one_closed}
-use Rattle.mux_history.specs.Settling.{free_in}
-use Rattle.mux_history.specs.Own.{final_in, settled_by}
-use Rattle.mux_history.specs.Follows.{answer_due}
-use Rattle.mux_history.specs.Shared.{raw_up, number_heard, outcome_by}
-use Rattle.gateway_mux.specs.declared.settled.Settled.{Settled}
-use Rattle.gateway_mux.specs.declared.turn.Turn.{Turn}
+use Rattle.client_machine.specs.declared.parts.Done.{Done}
+use Rattle.client_machine.specs.declared.parts.Plan.{Plan}
+use Rattle.client_machine.specs.OpenRequests.{AsksBy}
+use Rattle.client_machine.specs.Effects.{Outgoing, asks, carries, Effect}
+use Rattle.client_machine.specs.ServerItems.{hear}
+use Rattle.client_machine.specs.Plans.{Comes, heard_by, effect_by, IsPlan, Does}
+use Rattle.client_machine.specs.UpTexts.{spelled}
+use Rattle.client_machine.specs.Step.{heard_step}
+use Rattle.gateway_claim.specs.declared.event.UpMessage.{UpMessage}
+use Rattle.gateway_claim.specs.declared.event.UpMessage.TheVariants.{Request}
+use Rattle.gateway_claim.specs.Books.{Opened, Books}
+use Rattle.gateway_claim.specs.Happenings.{Happening, HistoryEntry}
+use Rattle.gateway_claim.specs.Next.{client_piece, one_closed}
+use Rattle.gateway_claim.specs.Settlement.{free_in}
+use Rattle.gateway_claim.specs.OwnEvents.{final_in, settled_by}
+use Rattle.gateway_claim.specs.Follows.{answer_due}
+use Rattle.gateway_claim.specs.SharedEvents.{raw_up, number_heard, outcome_by}
+use Rattle.gateway_mux.specs.declared.settlement.Settlement.{Settlement}
+use Rattle.gateway_mux.specs.declared.turn.PlannedTurn.{PlannedTurn}
 use Rattle.gateway_mux.specs.Acts.{IsPlannedTurn}
-use Rattle.client_seats.specs.Carried.{IsCarriedAt}
+use Rattle.connection_table.specs.CarryOut.{IsCarriedAt}
 use Rattle.gateway_mux.specs.Moves.{step_in, IsAfterStep, IsAfterTurn, handed_by}
 use Rattle.gateway_mux.specs.Pictures.{Picture, books_in, IsPictureOf}
-use Rattle.gateway_mux.specs.Settled.{AreSettled, asker_settled, held_settled, holder_settled}
+use Rattle.gateway_mux.specs.Settlements.{AreSettled, asker_settled, held_settled, holder_settled}
 use Rattle.gateway_mux.specs.Turn.{free_once, session_of_client, kind_open, asks_pair, asker_lent, issued_then}
 use Rattle.gateway_mux.specs.Upstream.{held_lent}
 use Rattle.gateway_mux.proofs.FinalLemmas.{final_here, names_own}
 use Rattle.gateway_mux.proofs.SettleableLemmas.{session_bound}
-use Rattle.gateway_mux.proofs.SettledLemmas.{settled_held, settled_asker, NamesOwn, settled_holder}
+use Rattle.gateway_mux.proofs.SettlementLemmas.{settled_held, settled_asker, NamesOwn, settled_holder}
 use Rattle.gateway_mux.proofs.TurnLemmas.{lowest_free_same}
-use Rattle.gateway_mux.proofs.TurnedLemmas.{effect_asks, asker_by, issued_by, holder_by_message, held_by_message}
+use Rattle.gateway_mux.proofs.AfterTurnLemmas.{effect_asks, asker_by, issued_by, holder_by_message, held_by_message}
 
 -- what was done, by what there was before and after it
-pub record IsTurned (one after : Picture) (it : Turn) (done : Done) : Type 0 where
+pub record IsTurned (one after : Picture) (it : PlannedTurn) (done : Done) : Type 0 where
   pub carried : IsCarriedAt (one.clients it.conn) (after.clients it.conn) it.plan it.number it.next done
   pub others : (i : ℕ) → it.conn ≢ i → after.clients i ≡ one.clients i
   pub issued : after.issued ≡ issued_then it.asks one.issued
@@ -48,22 +48,22 @@ pub record IsTurned (one after : Picture) (it : Turn) (done : Done) : Type 0 whe
   pub holder : (id : List ℕ) → after.holder id ≡ holder_settled it.settled it.conn id (one.holder id)
 
 -- The lowest pair that is free then.
-pub free_by : (one : Picture) (h : Happening) (session : Option (List ℕ)) (settled : Option Settled) → AreSettled (final_in (books_in one) h) session settled → free_once settled one.held ≡ free_in (settled_by (books_in one) h)
+pub free_by : (one : Picture) (h : Happening) (session : Option (List ℕ)) (settled : Option Settlement) → AreSettled (final_in (books_in one) h) session settled → free_once settled one.held ≡ free_in (settled_by (books_in one) h)
 free_by one h session settled is =
     lowest_free_same (λ pair. is_free (held_settled settled pair (one.held pair))) (λ pair. is_free ((settled_by (books_in one) h).held pair))
     (λ pair. ap is_free (settled_held (final_in (books_in one) h) session settled pair (one.held pair) is))
 
 -- what the machine does at it
-abbrev pub effect_of : Bases → Picture → Turn → Client → Comes → Effect
+abbrev pub effect_of : Bases → Picture → PlannedTurn → Client → Comes → Effect
 effect_of bases one it client comes = effect_by bases it.number (free_once it.settled one.held) client comes
 
-pub effect_is : (bases : Bases) (one : Picture) (h : Happening) (answer : Option (List ℕ)) (it : Turn) → (its : IsPlannedTurn bases one h answer it) → effect_of bases one it its.client its.comes ≡ step_in bases one h its.client its.raw
+pub effect_is : (bases : Bases) (one : Picture) (h : Happening) (answer : Option (List ℕ)) (it : PlannedTurn) → (its : IsPlannedTurn bases one h answer it) → effect_of bases one it its.client its.comes ≡ step_in bases one h its.client its.raw
 effect_is bases one h answer it its =
     ap (λ said. heard_step bases (free_once it.settled one.held) said) its.says
     ∙ ap (λ free. heard_step bases free (hear bases (number_heard h) its.client its.raw)) (free_by one h its.client.session.id it.settled its.settles)
 
 -- whether a request goes up
-pub goes : (bases : Bases) (one : Picture) (h : Happening) (answer : Option (List ℕ)) (it : Turn) → (its : IsPlannedTurn bases one h answer it) → it.asks ≡ is_some (effect_of bases one it its.client its.comes).message
+pub goes : (bases : Bases) (one : Picture) (h : Happening) (answer : Option (List ℕ)) (it : PlannedTurn) → (its : IsPlannedTurn bases one h answer it) → it.asks ≡ is_some (effect_of bases one it its.client its.comes).message
 goes bases one h answer it its = its.asks
 
 -- what was done
@@ -76,12 +76,12 @@ carried_is before after client plan number next done is carried bases pair comes
     by None carried = absurd carried
     by (Some then) carried = (then, refl, carried bases pair comes planned)
 
-pub done_is : (bases : Bases) (one after : Picture) (h : Happening) (answer : Option (List ℕ)) (it : Turn) (done : Done) → (its : IsPlannedTurn bases one h answer it) → IsTurned one after it done
+pub done_is : (bases : Bases) (one after : Picture) (h : Happening) (answer : Option (List ℕ)) (it : PlannedTurn) (done : Done) → (its : IsPlannedTurn bases one h answer it) → IsTurned one after it done
     → (then : Client) × (after.clients it.conn ≡ Some then) × Does it.next (free_once it.settled one.held) then done (effect_of bases one it its.client its.comes)
 done_is bases one after h answer it done its turned =
     carried_is (one.clients it.conn) (after.clients it.conn) its.client it.plan it.number it.next done its.its_turn.here turned.carried bases (free_once it.settled one.held) its.comes its.plan
 
-pub turn_is_after : (bases : Bases) (one after : Picture) (T : List Entry) (h : Happening) (answer : Option (List ℕ)) (it : Turn) (done : Done) → IsPictureOf bases one T → (its : IsPlannedTurn bases one h answer it)
+pub turn_is_after : (bases : Bases) (one after : Picture) (T : List HistoryEntry) (h : Happening) (answer : Option (List ℕ)) (it : PlannedTurn) (done : Done) → IsPictureOf bases one T → (its : IsPlannedTurn bases one h answer it)
     → IsTurned one after it done → IsAfterTurn bases one after h it.conn its.client its.raw
 turn_is_after bases one after T h answer it done is its turned =
     subst (λ (effect : Effect). IsAfterStep one after h it.conn effect) (effect_is bases one h answer it its) by_effect
@@ -138,7 +138,7 @@ spelled_is number free pair old pending (Some (asks request named)) by_it = refl
 spelled_is number free pair old pending (Some (carries one half rest)) by_it = absurd by_it
 
 -- What it hands out.
-pub turn_hands : (bases : Bases) (one after : Picture) (h : Happening) (answer : Option (List ℕ)) (it : Turn) (done : Done) → (its : IsPlannedTurn bases one h answer it) → IsTurned one after it done
+pub turn_hands : (bases : Bases) (one after : Picture) (h : Happening) (answer : Option (List ℕ)) (it : PlannedTurn) (done : Done) → (its : IsPlannedTurn bases one h answer it) → IsTurned one after it done
     → handed_by it.conn answer done ≡ outcome_by (books_in one) h it.conn (step_in bases one h its.client its.raw)
 turn_hands bases one after h answer it done its turned =
     let (then, there, does) = done_is bases one after h answer it done its turned in

@@ -4,19 +4,19 @@ use Rattle.std.specs.Prelude.{is_none, ◌&&◌}
 use Rattle.std.specs.Option.{option_map}
 use Rattle.head_two.specs.declared.reply.Reply2.{Reply2}
 use Rattle.session_one.specs.Table.{is_success}
-use Rattle.mux_history.specs.declared.event.UpCause.{UpCause}
-use Rattle.mux_history.specs.declared.event.UpCause.TheVariants.{BadGrant, SessionTaken}
-use Rattle.mux_history.specs.Kinds.{RequestKind, sets_up}
-use Rattle.mux_history.specs.Books.{Opened, Books}
-use Rattle.mux_history.specs.Heard.{Heard as Said, replies, requests, frames, faults, heard}
-use Rattle.mux_history.specs.Happenings.{Happening, enters, takes, ends, lags, hears, up_ends}
-use Rattle.mux_history.specs.Settling.{Final, final_of, id_said}
-use Rattle.mux_history.specs.Own.{heard_turn, turn, heard_final, final_in}
-use Rattle.mux_history.specs.Follows.{is_session_for, is_granted, is_held_elsewhere, grant_breach, kind_breach}
+use Rattle.gateway_claim.specs.declared.event.UpCause.{UpCause}
+use Rattle.gateway_claim.specs.declared.event.UpCause.TheVariants.{BadGrant, SessionTaken}
+use Rattle.gateway_claim.specs.Kinds.{RequestKind, sets_up}
+use Rattle.gateway_claim.specs.Books.{Opened, Books}
+use Rattle.gateway_claim.specs.ServerItems.{Heard, replies, requests, frames, faults, heard}
+use Rattle.gateway_claim.specs.Happenings.{Happening, enters, takes, ends, lags, hears, up_ends}
+use Rattle.gateway_claim.specs.Settlement.{Final, final_of, id_said}
+use Rattle.gateway_claim.specs.OwnEvents.{heard_turn, turn, heard_final, final_in}
+use Rattle.gateway_claim.specs.Follows.{is_session_for, is_granted, is_held_elsewhere, grant_breach, kind_breach}
 use Rattle.gateway_mux.specs.Moves.{wrong_reply, wrong_heard, wrong_in}
 use Rattle.gateway_mux.specs.Pictures.{Picture, books_in}
 use Rattle.gateway_mux.specs.Turn.{session_of_client}
-use Rattle.gateway_mux.proofs.SettledLemmas.{NamesOwn}
+use Rattle.gateway_mux.proofs.SettlementLemmas.{NamesOwn}
 
 -- the final reply is to a request of the connection whose turn it is
 asked_here : (reply : Reply2) (opened : Option Opened) (i : ℕ) → option_map (λ (one : Opened). one.conn) opened ≡ Some i → IfSome (final_of reply opened) (λ final. final.conn ≡ i)
@@ -30,7 +30,7 @@ asked_here reply (Some opened) i turns = by (nat_lt reply.code 200)
     by true = tt
     by false = conn_is opened.conn i turns
 
-heard_here : (books : Books) (said : Said) (i : ℕ) → heard_turn books said ≡ Some i → IfSome (heard_final books said) (λ final. final.conn ≡ i)
+heard_here : (books : Books) (said : Heard) (i : ℕ) → heard_turn books said ≡ Some i → IfSome (heard_final books said) (λ final. final.conn ≡ i)
 heard_here books (replies reply) i turns = asked_here reply (books.opened reply.cseq) i turns
 heard_here books (requests request) i turns = tt
 heard_here books (frames channel rest) i turns = tt
@@ -76,7 +76,7 @@ reply_names one reply (Some opened) i turns right = by (nat_lt reply.code 200)
     by false = λ pair is success. subst (λ (who : ℕ). is_session_for (session_of_client (one.clients who)) (id_said reply) ≡ true) (conn_is opened.conn i turns)
         (kind_names (books_in one) opened.kind opened.conn (session_of_client (one.clients opened.conn)) reply right pair is success)
 
-heard_names : (one : Picture) (said : Said) (i : ℕ) → heard_turn (books_in one) said ≡ Some i → wrong_heard one said ≡ None → NamesOwn (heard_final (books_in one) said) (session_of_client (one.clients i))
+heard_names : (one : Picture) (said : Heard) (i : ℕ) → heard_turn (books_in one) said ≡ Some i → wrong_heard one said ≡ None → NamesOwn (heard_final (books_in one) said) (session_of_client (one.clients i))
 heard_names one (replies reply) i turns right = reply_names one reply ((books_in one).opened reply.cseq) i turns right
 heard_names one (requests request) i turns right = tt
 heard_names one (frames channel rest) i turns right = tt

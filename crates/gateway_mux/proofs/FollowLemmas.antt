@@ -6,33 +6,33 @@ use Rattle.std.proofs.lemmas.Bool.{eq-eqb, eqb-true}
 use Rattle.rtsp_uri.specs.declared.base.Bases.{Bases}
 use Rattle.rtsp_head.specs.Items.{Shape}
 use Rattle.client_slot.specs.Client.{Client}
-use Rattle.gate_machine.specs.Alone.{Private}
-use Rattle.gate_machine.specs.Effects.{Effect}
-use Rattle.gate_machine.specs.Events.{PrivateEvent, end, slow}
-use Rattle.gate_machine.specs.Step.{step}
-use Rattle.mux_history.specs.declared.event.Outcome.{Outcome}
-use Rattle.mux_history.specs.Books.{Opened, Books}
-use Rattle.mux_history.specs.Heard.{Heard, replies, requests, frames, faults, heard}
-use Rattle.mux_history.specs.Notices.{Notice, notice_of}
-use Rattle.mux_history.specs.Settling.{settles, free_in}
-use Rattle.mux_history.specs.Happenings.{Happening, enters, takes, ends, lags, hears, up_ends, Entry, fault_in, enters_here, entered}
-use Rattle.mux_history.specs.Own.{turn, heard_final, settled_by, lends_where, notice_event, heard_event, event_of, books_of}
-use Rattle.mux_history.specs.Follows.{spent, answer_due}
-use Rattle.mux_history.specs.Next.{next}
-use Rattle.mux_history.specs.Shared.{shared, shared_in, raw_up, notice_raw, heard_raw, raw_event, number_heard, kind_gone, outcome_by}
-use Rattle.mux_history.specs.Turns.{client_alone, step_by_books, IsItsTurn, IsSteppedBy}
-use Rattle.mux_history.proofs.JoinedLemmas.{alone}
-use Rattle.mux_history.proofs.TurnLawLemmas.{stepped}
-use Rattle.mux_history.proofs.TurnStandLemmas.{entry_next, next_history}
+use Rattle.client_machine.specs.Alone.{Private}
+use Rattle.client_machine.specs.Effects.{Effect}
+use Rattle.client_machine.specs.Events.{PrivateEvent, end, slow}
+use Rattle.client_machine.specs.Step.{step}
+use Rattle.gateway_claim.specs.declared.event.Outcome.{Outcome}
+use Rattle.gateway_claim.specs.Books.{Opened, Books}
+use Rattle.gateway_claim.specs.ServerItems.{Heard, replies, requests, frames, faults, heard}
+use Rattle.gateway_claim.specs.Notices.{HeardNotice, notice_of}
+use Rattle.gateway_claim.specs.Settlement.{settles, free_in}
+use Rattle.gateway_claim.specs.Happenings.{Happening, enters, takes, ends, lags, hears, up_ends, HistoryEntry, fault_in, enters_here, entered}
+use Rattle.gateway_claim.specs.OwnEvents.{turn, heard_final, settled_by, lends_where, notice_event, heard_event, event_of, books_of}
+use Rattle.gateway_claim.specs.Follows.{spent, answer_due}
+use Rattle.gateway_claim.specs.Next.{next}
+use Rattle.gateway_claim.specs.SharedEvents.{shared, shared_in, raw_up, notice_raw, heard_raw, raw_event, number_heard, kind_gone, outcome_by}
+use Rattle.gateway_claim.specs.Turns.{client_alone, step_by_books, IsItsTurn, IsSteppedBy}
+use Rattle.gateway_claim.proofs.SlotLemmas.{alone}
+use Rattle.gateway_claim.proofs.TurnLawLemmas.{stepped}
+use Rattle.gateway_claim.proofs.TurnStandLemmas.{entry_next, next_history}
 use Rattle.gateway_mux.specs.Pictures.{Picture, books_in, IsPictureOf}
 use Rattle.gateway_mux.specs.Moves.{step_in, TakesTurn, books_stepped, IsAfterTurn}
 use Rattle.gateway_mux.proofs.BooksLemmas.{AreSame, turn_same, raw_same, answer_same, settled_same, free_same, lends_same}
-use Rattle.gateway_mux.specs.Gone.{IsKeptUnlessGone}
+use Rattle.gateway_mux.specs.Departure.{IsKeptUnlessGone}
 use Rattle.gateway_mux.proofs.OverLemmas.{kept_as, kept_along}
 use Rattle.gateway_mux.proofs.PictureLemmas.{entered_in, same_books, wrong_same}
 
 -- What comes to a connection in the numbers of all has a form in its own.
-notice_form : (books : Books) (i : ℕ) (notice : Result Notice ℕ) (raw : PrivateEvent) → notice_raw notice ≡ Some raw → (form : PrivateEvent) × (notice_event books i notice ≡ Some form)
+notice_form : (books : Books) (i : ℕ) (notice : Result HeardNotice ℕ) (raw : PrivateEvent) → notice_raw notice ≡ Some raw → (form : PrivateEvent) × (notice_event books i notice ≡ Some form)
 notice_form books i (Ok notice) raw e = (_, refl)
 notice_form books i (Err code) raw e = cc
 
@@ -60,7 +60,7 @@ no_entering books (hears shape) i j e = refl
 no_entering books (up_ends cause) i j e = refl
 
 -- The step is the same.
-step_same : (bases : Bases) (one : Picture) (T : List Entry) (h : Happening) (i : ℕ) (client : Client) (raw : PrivateEvent) → AreSame (books_in one) (books_of T) → client ≡ shared (books_of T) i (alone bases T i).client
+step_same : (bases : Bases) (one : Picture) (T : List HistoryEntry) (h : Happening) (i : ℕ) (client : Client) (raw : PrivateEvent) → AreSame (books_in one) (books_of T) → client ≡ shared (books_of T) i (alone bases T i).client
     → step_in bases one h client raw ≡ step_by_books bases T i h raw
 step_same bases one T h i client raw same is_client =
     ap (λ free. step bases (number_heard h) free client raw) (free_same (settled_by (books_in one) h) (settled_by (books_of T) h) (settled_same (books_in one) (books_of T) h same))
@@ -75,7 +75,7 @@ outcome_same a b h i effect same =
     (free_same (settled_by a h) (settled_by b h) (settled_same a b h same))
 
 -- It is a turn as the law has it.
-is_turn : (bases : Bases) (one : Picture) (T : List Entry) (h : Happening) (i : ℕ) (client : Client) (raw : PrivateEvent) → IsPictureOf bases one T → TakesTurn bases one h i client raw
+is_turn : (bases : Bases) (one : Picture) (T : List HistoryEntry) (h : Happening) (i : ℕ) (client : Client) (raw : PrivateEvent) → IsPictureOf bases one T → TakesTurn bases one h i client raw
     → (form : PrivateEvent) × IsItsTurn bases T i h form raw
 is_turn bases one T h i client raw is comes =
     let same : AreSame (books_in one) (books_of T) = same_books bases one T is in
@@ -97,13 +97,13 @@ is_turn bases one T h i client raw is comes =
     )
 
 -- The connections after it.
-shared_when : (bases : Bases) (T : List Entry) (j : ℕ) (t : Bool) → entered j T ≡ t → shared_in bases j T ≡ option_map (λ (private : Private). shared (books_of T) j private.client) (cond t (Some (alone bases T j)) None)
+shared_when : (bases : Bases) (T : List HistoryEntry) (j : ℕ) (t : Bool) → entered j T ≡ t → shared_in bases j T ≡ option_map (λ (private : Private). shared (books_of T) j private.client) (cond t (Some (alone bases T j)) None)
 shared_when bases T j t e = ap (λ one. option_map (λ (private : Private). shared (books_of T) j private.client) (cond one (Some (alone bases T j)) None)) e
 
-entered_still : (T : List Entry) (e : Entry) (j : ℕ) → enters_here j e.happening ≡ false → entered j (e ∷ T) ≡ entered j T
+entered_still : (T : List HistoryEntry) (e : HistoryEntry) (j : ℕ) → enters_here j e.happening ≡ false → entered j (e ∷ T) ≡ entered j T
 entered_still T e j none = ap (λ t. (t && is_none (fault_in T)) || entered j T) none
 
-other_client : (bases : Bases) (T : List Entry) (e : Entry) (j : ℕ) → enters_here j e.happening ≡ false → shared (books_of (e ∷ T)) j (client_alone bases (e ∷ T) j) ≡ shared (books_of T) j (client_alone bases T j)
+other_client : (bases : Bases) (T : List HistoryEntry) (e : HistoryEntry) (j : ℕ) → enters_here j e.happening ≡ false → shared (books_of (e ∷ T)) j (client_alone bases (e ∷ T) j) ≡ shared (books_of T) j (client_alone bases T j)
     → shared_in bases j (e ∷ T) ≡ shared_in bases j T
 other_client bases T e j none same = by (entered j T) refl
   where
@@ -120,7 +120,7 @@ apart j i e same = true_false (sym (ap (λ n. n == i) same ∙ own i) ∙ e)
     own : (n : ℕ) → (n == n) ≡ true
     own n = eq-eqb n n refl
 
-pub turn_follows : (bases : Bases) (one after : Picture) (T : List Entry) (h : Happening) (i : ℕ) (client : Client) (raw : PrivateEvent) → IsPictureOf bases one T → TakesTurn bases one h i client raw
+pub turn_follows : (bases : Bases) (one after : Picture) (T : List HistoryEntry) (h : Happening) (i : ℕ) (client : Client) (raw : PrivateEvent) → IsPictureOf bases one T → TakesTurn bases one h i client raw
     → IsAfterTurn bases one after h i client raw
     → (next bases T h ≡ outcome_by (books_in one) h i (step_in bases one h client raw)) × IsPictureOf bases after (record { happening = h; outcome = next bases T h } ∷ T)
 turn_follows bases one after T h i client raw is comes now = (outcome, is_after)

@@ -4,20 +4,20 @@ use Rattle.std.proofs.Math.Logic.{∥∥₁_map}
 use Rattle.std.proofs.lemmas.Bool.{eqb-true, eq-eqb}
 use Rattle.rtsp_uri.specs.declared.base.Bases.{Bases}
 use Rattle.client_slot.specs.Client.{Client}
-use Rattle.mux_history.specs.declared.event.Outcome.{Outcome}
-use Rattle.mux_history.specs.Happenings.{Happening, Entry}
-use Rattle.mux_history.specs.Shared.{shared_in}
-use Rattle.client_seats.specs.declared.seats.Seats.{Seats}
-use Rattle.gateway_mux.specs.declared.upstream.Upstream.{Upstream}
+use Rattle.gateway_claim.specs.declared.event.Outcome.{Outcome}
+use Rattle.gateway_claim.specs.Happenings.{Happening, HistoryEntry}
+use Rattle.gateway_claim.specs.SharedEvents.{shared_in}
+use Rattle.connection_table.specs.declared.table.ConnectionTable.{ConnectionTable}
+use Rattle.gateway_mux.specs.declared.upstream.UpstreamBooks.{UpstreamBooks}
 use Rattle.gateway_mux.specs.Moves.{IsNext, IsCommitted}
-use Rattle.client_seats.specs.Over.{is_over, unless_over}
-use Rattle.gateway_mux.specs.Gone.{IsKeptUnlessGone}
+use Rattle.connection_table.specs.Over.{is_over, unless_over}
+use Rattle.gateway_mux.specs.Departure.{IsKeptUnlessGone}
 use Rattle.gateway_mux.specs.Pictures.{Picture, picture, IsPictureOf, IsKept}
 use Rattle.gateway_mux.specs.Room.{is_in, is_idle, is_unbound, HasRoom}
-use Rattle.client_seats.specs.Seats.{client_at, is_ready}
+use Rattle.connection_table.specs.Tables.{client_at, is_ready}
 use Rattle.gateway_mux.specs.Spare.{left}
 use Rattle.gateway_mux.specs.Turn.{one_if}
-use Rattle.gateway_mux.proofs.KeptLemmas.{room_same}
+use Rattle.gateway_mux.proofs.KeepLemmas.{room_same}
 use Rattle.gateway_mux.proofs.OverLemmas.{kept_along, kept_unless_over}
 use Rattle.gateway_mux.proofs.ReadyLemmas.{IsKeptReady}
 use Rattle.gateway_mux.proofs.RoomLemmas.{without, in_without, once_without, count_without}
@@ -43,7 +43,7 @@ forgotten_clients conn before after its forgets kept i = by (conn == i) refl
     by false e = kept_along (forgets.others i (apart conn i e)) (kept i) refl
 
 -- The history is the same.
-forgotten_picture : (bases : Bases) (conn : ℕ) (seats after : Seats) (upstream : Upstream) (T : List Entry) → IsForgotten conn (client_at seats) (client_at after) → IsPictureOf bases (picture seats upstream) T → IsPictureOf bases (picture after upstream) T
+forgotten_picture : (bases : Bases) (conn : ℕ) (seats after : ConnectionTable) (upstream : UpstreamBooks) (T : List HistoryEntry) → IsForgotten conn (client_at seats) (client_at after) → IsPictureOf bases (picture seats upstream) T → IsPictureOf bases (picture after upstream) T
 forgotten_picture bases conn seats after upstream T forgets is = record {
   is_history = is.is_history;
   standing = is.standing;
@@ -96,7 +96,7 @@ forgotten_room conn before after a b forgets room = by (after conn) (before conn
         stays true e = cc
         stays false e = e
 
-forgotten_kept : (bases : Bases) (conn : ℕ) (seats after : Seats) (upstream : Upstream) (a b : ℕ) → IsForgotten conn (client_at seats) (client_at after) → IsKept bases (picture seats upstream) a b → IsKept bases (picture after upstream) a b
+forgotten_kept : (bases : Bases) (conn : ℕ) (seats after : ConnectionTable) (upstream : UpstreamBooks) (a b : ℕ) → IsForgotten conn (client_at seats) (client_at after) → IsKept bases (picture seats upstream) a b → IsKept bases (picture after upstream) a b
 forgotten_kept bases conn seats after upstream a b forgets keeps = record {
   history = keeps.history;
   is_of = forgotten_picture bases conn seats after upstream keeps.history forgets keeps.is_of;
@@ -104,7 +104,7 @@ forgotten_kept bases conn seats after upstream a b forgets keeps = record {
   low = keeps.low;
 }
 
-pub forgotten_ready : (bases : Bases) (conn : ℕ) (seats after : Seats) (upstream : Upstream) → IsForgotten conn (client_at seats) (client_at after) → is_ready after ≡ is_ready seats → IsKeptReady bases seats upstream → IsKeptReady bases after upstream
+pub forgotten_ready : (bases : Bases) (conn : ℕ) (seats after : ConnectionTable) (upstream : UpstreamBooks) → IsForgotten conn (client_at seats) (client_at after) → is_ready after ≡ is_ready seats → IsKeptReady bases seats upstream → IsKeptReady bases after upstream
 forgotten_ready bases conn seats after upstream forgets ready keeps = record {
   kept = subst (λ (b : Bool). ∥ IsKept bases (picture after upstream) (upstream.requests.spare - one_if b) (upstream.sessions.spare - one_if b) ∥₁) (sym ready)
       (∥∥₁_map keeps.kept (forgotten_kept bases conn seats after upstream (left upstream.requests.spare seats) (left upstream.sessions.spare seats) forgets));
@@ -112,7 +112,7 @@ forgotten_ready bases conn seats after upstream forgets ready keeps = record {
   spare_session = λ is. keeps.spare_session (sym ready ∙ is);
 }
 
-pub forgotten_commits : (bases : Bases) (one : Picture) (conn : ℕ) (seats after : Seats) (upstream : Upstream) (h : Happening) (outcome : Outcome) → IsForgotten conn (client_at seats) (client_at after)
+pub forgotten_commits : (bases : Bases) (one : Picture) (conn : ℕ) (seats after : ConnectionTable) (upstream : UpstreamBooks) (h : Happening) (outcome : Outcome) → IsForgotten conn (client_at seats) (client_at after)
     → IsCommitted bases one (picture seats upstream) h outcome → IsCommitted bases one (picture after upstream) h outcome
 forgotten_commits bases one conn seats after upstream h outcome forgets commits T is =
     let now : IsNext bases (picture seats upstream) T h outcome = commits T is in

@@ -6,39 +6,39 @@ use Rattle.std.specs.Option.{option_map, option_or}
 use Rattle.std.proofs.lemmas.Bool.{eq-eqb, eqb-true}
 use Rattle.rtsp_uri.specs.declared.base.Bases.{Bases}
 use Rattle.client_slot.specs.Client.{Client}
-use Rattle.gate_machine.specs.Alone.{Private, new_private}
-use Rattle.gate_machine.specs.Effects.{Effect, stays}
-use Rattle.gate_machine.specs.Events.{PrivateEvent}
-use Rattle.gate_machine.specs.Hearing.{hear, idles}
-use Rattle.gate_machine.specs.Step.{heard_step}
-use Rattle.mux_history.specs.declared.event.Outcome.{Outcome}
-use Rattle.mux_history.specs.declared.event.UpCause.{UpCause}
-use Rattle.mux_history.specs.Books.{Opened, Books}
-use Rattle.mux_history.specs.Settling.{settles, free_in}
-use Rattle.mux_history.specs.Happenings.{Happening, Entry, fault_in, enters_here, entered, silent}
-use Rattle.mux_history.specs.Own.{turn, final_in, settled_by, lends_where, has_shut, books_of, own}
-use Rattle.mux_history.specs.Follows.{event_in, effect_at, effect_of_turn, said_breach, spent, effect, breach, answer_due, message_due, up_due, IsHistory}
-use Rattle.mux_history.specs.Next.{outcome_with, next}
-use Rattle.mux_history.specs.Shared.{shared, shared_in, raw_event, number_heard, kind_gone, outcome_by}
-use Rattle.mux_history.specs.Turns.{IsSteppedBy}
-use Rattle.mux_history.proofs.AgreeLemmas.{joined, books_with, books_next, alone_with, event_for, alone_next}
-use Rattle.mux_history.proofs.CaseLemmas.{nobody_settles}
-use Rattle.mux_history.proofs.JoinedLemmas.{alone}
-use Rattle.mux_history.proofs.OverLemmas.{own_event, breach_standing}
-use Rattle.mux_history.proofs.TurnLawLemmas.{stepped}
-use Rattle.mux_history.proofs.TurnNextLemmas.{raw_step_of}
-use Rattle.mux_history.proofs.TurnStandLemmas.{entry_next, next_history}
+use Rattle.client_machine.specs.Alone.{Private, new_private}
+use Rattle.client_machine.specs.Effects.{Effect, stays}
+use Rattle.client_machine.specs.Events.{PrivateEvent}
+use Rattle.client_machine.specs.ServerItems.{hear, idles}
+use Rattle.client_machine.specs.Step.{heard_step}
+use Rattle.gateway_claim.specs.declared.event.Outcome.{Outcome}
+use Rattle.gateway_claim.specs.declared.event.UpCause.{UpCause}
+use Rattle.gateway_claim.specs.Books.{Opened, Books}
+use Rattle.gateway_claim.specs.Settlement.{settles, free_in}
+use Rattle.gateway_claim.specs.Happenings.{Happening, HistoryEntry, fault_in, enters_here, entered, silent}
+use Rattle.gateway_claim.specs.OwnEvents.{turn, final_in, settled_by, lends_where, has_shut, books_of, own}
+use Rattle.gateway_claim.specs.Follows.{event_in, effect_at, effect_of_turn, said_breach, spent, effect, breach, answer_due, message_due, up_due, IsHistory}
+use Rattle.gateway_claim.specs.Next.{outcome_with, next}
+use Rattle.gateway_claim.specs.SharedEvents.{shared, shared_in, raw_event, number_heard, kind_gone, outcome_by}
+use Rattle.gateway_claim.specs.Turns.{IsSteppedBy}
+use Rattle.gateway_claim.proofs.AgreeLemmas.{joined, books_with, books_next, alone_with, event_for, alone_next}
+use Rattle.gateway_claim.proofs.CaseLemmas.{nobody_settles}
+use Rattle.gateway_claim.proofs.SlotLemmas.{alone}
+use Rattle.gateway_claim.proofs.OverLemmas.{own_event, breach_standing}
+use Rattle.gateway_claim.proofs.TurnLawLemmas.{stepped}
+use Rattle.gateway_claim.proofs.TurnNextLemmas.{raw_step_of}
+use Rattle.gateway_claim.proofs.TurnStandLemmas.{entry_next, next_history}
 use Rattle.gateway_mux.specs.Pictures.{Picture, books_in, IsPictureOf}
 use Rattle.gateway_mux.specs.Moves.{IsIdleAt, IsIdleTurn, IsIdle, answering}
 use Rattle.gateway_mux.proofs.BooksLemmas.{AreSame, turn_same, raw_same, final_same, answer_same}
-use Rattle.client_seats.specs.Over.{is_over}
+use Rattle.connection_table.specs.Over.{is_over}
 use Rattle.gateway_mux.proofs.OverLemmas.{kept_along}
 use Rattle.gateway_mux.proofs.PictureLemmas.{entered_in, over_in, same_books, wrong_same}
 use Rattle.gateway_mux.proofs.QuietLemmas.{over_hears}
 use Rattle.gateway_mux.proofs.EndLemmas.{own_comes}
 
 -- The next entry hands out the answer alone, and leaves the books and every connection as they were.
-pub record IsStill (bases : Bases) (T : List Entry) (h : Happening) : Type 0 where
+pub record IsStill (bases : Bases) (T : List HistoryEntry) (h : Happening) : Type 0 where
   pub outcome : next bases T h ≡ answering (answer_due (books_of T) h)
   pub books : books_of (entry_next bases T h ∷ T) ≡ books_of T
   pub clients : (i : ℕ) → shared (books_of (entry_next bases T h ∷ T)) i (alone bases (entry_next bases T h ∷ T) i).client ≡ shared (books_of T) i (alone bases T i).client
@@ -53,7 +53,7 @@ nothing_lent books h None shut = refl
 nothing_lent books h (Some i) shut = refl
 
 -- No connection makes a step.
-no_step : (bases : Bases) (T : List Entry) (h : Happening) → IsHistory bases T → fault_in T ≡ None → said_breach bases T h ≡ None → final_in (books_of T) h ≡ None → effect bases T h ≡ stays new_private.client
+no_step : (bases : Bases) (T : List HistoryEntry) (h : Happening) → IsHistory bases T → fault_in T ≡ None → said_breach bases T h ≡ None → final_in (books_of T) h ≡ None → effect bases T h ≡ stays new_private.client
     → ((j : ℕ) → event_for bases T h (turn (books_of T) h) j ≡ None) → IsStill bases T h
 no_step bases T h history standing said settles_none made quiet =
     let wrong : breach bases T h ≡ None =
@@ -83,13 +83,13 @@ no_event true = refl
 no_event false = refl
 
 -- It is nobody's turn.
-pub still_nobody : (bases : Bases) (T : List Entry) (h : Happening) → IsHistory bases T → fault_in T ≡ None → said_breach bases T h ≡ None → turn (books_of T) h ≡ None → IsStill bases T h
+pub still_nobody : (bases : Bases) (T : List HistoryEntry) (h : Happening) → IsHistory bases T → fault_in T ≡ None → said_breach bases T h ≡ None → turn (books_of T) h ≡ None → IsStill bases T h
 still_nobody bases T h history standing said turns =
     no_step bases T h history standing said (nobody_settles (books_of T) h turns) (ap (λ who. effect_of_turn bases T who h) turns)
     (λ j. ap (λ who. event_for bases T h who j) turns ∙ no_event (entered j T))
 
 -- It is the turn of a connection that never entered.
-still_absent : (bases : Bases) (T : List Entry) (h : Happening) (i : ℕ) → IsHistory bases T → fault_in T ≡ None → said_breach bases T h ≡ None → final_in (books_of T) h ≡ None → turn (books_of T) h ≡ Some i → entered i T ≡ false → IsStill bases T h
+still_absent : (bases : Bases) (T : List HistoryEntry) (h : Happening) (i : ℕ) → IsHistory bases T → fault_in T ≡ None → said_breach bases T h ≡ None → final_in (books_of T) h ≡ None → turn (books_of T) h ≡ Some i → entered i T ≡ false → IsStill bases T h
 still_absent bases T h i history standing said settles_none turns absent =
     no_step bases T h history standing said settles_none
     (ap (λ who. effect_of_turn bases T who h) turns ∙ ap (λ t. effect_at bases (cond t (Some (alone bases T i)) None) (event_in (books_of T) i (cond t (Some (alone bases T i)) None) h)) absent)
@@ -100,7 +100,7 @@ still_absent bases T h i history standing said settles_none turns absent =
     by j false e = ap (λ t. cond (entered j T) (cond t (own_event bases T j h) None) None) e ∙ no_event (entered j T)
 
 -- It is the turn of a connection that entered and hears nothing: the law of a turn tells what is after it.
-still_heard : (bases : Bases) (T : List Entry) (h : Happening) (i : ℕ) (raw : PrivateEvent) → IsHistory bases T → fault_in T ≡ None → said_breach bases T h ≡ None → final_in (books_of T) h ≡ None → turn (books_of T) h ≡ Some i → entered i T ≡ true
+still_heard : (bases : Bases) (T : List HistoryEntry) (h : Happening) (i : ℕ) (raw : PrivateEvent) → IsHistory bases T → fault_in T ≡ None → said_breach bases T h ≡ None → final_in (books_of T) h ≡ None → turn (books_of T) h ≡ Some i → entered i T ≡ true
     → raw_event (books_of T) h ≡ Some raw → hear bases (number_heard h) (shared (books_of T) i (alone bases T i).client) raw ≡ idles (shared (books_of T) i (alone bases T i).client) → IsStill bases T h
 still_heard bases T h i raw history standing said settles_none turns en is_raw idle =
     let comes = own_comes bases T i h raw is_raw in
@@ -136,7 +136,7 @@ still_heard bases T h i raw history standing said settles_none turns en is_raw i
     by here others j false e = others j (λ is. true_is_false (sym (eq-eqb i j (sym is)) ∙ e))
 
 -- It is the turn of a connection that never entered, or is over.
-still_gone : (bases : Bases) (T : List Entry) (h : Happening) (i : ℕ) → IsHistory bases T → fault_in T ≡ None → said_breach bases T h ≡ None → final_in (books_of T) h ≡ None → turn (books_of T) h ≡ Some i
+still_gone : (bases : Bases) (T : List HistoryEntry) (h : Happening) (i : ℕ) → IsHistory bases T → fault_in T ≡ None → said_breach bases T h ≡ None → final_in (books_of T) h ≡ None → turn (books_of T) h ≡ Some i
     → (entered i T ≡ true → is_over (shared (books_of T) i (alone bases T i).client) ≡ true) → IsStill bases T h
 still_gone bases T h i history standing said settles_none turns over = by (entered i T) refl
   where
@@ -147,20 +147,20 @@ still_gone bases T h i history standing said settles_none turns over = by (enter
     by false absent = still_absent bases T h i history standing said settles_none turns absent
 
 -- What the multiplexer has is what the longer history has.
-same_client : (bases : Bases) (T : List Entry) (e : Entry) (i : ℕ) (t : Bool) → shared (books_of (e ∷ T)) i (alone bases (e ∷ T) i).client ≡ shared (books_of T) i (alone bases T i).client
+same_client : (bases : Bases) (T : List HistoryEntry) (e : HistoryEntry) (i : ℕ) (t : Bool) → shared (books_of (e ∷ T)) i (alone bases (e ∷ T) i).client ≡ shared (books_of T) i (alone bases T i).client
     → option_map (λ (p : Private). shared (books_of (e ∷ T)) i p.client) (cond t (Some (alone bases (e ∷ T) i)) None) ≡ option_map (λ (p : Private). shared (books_of T) i p.client) (cond t (Some (alone bases T i)) None)
 same_client bases T e i true same = ap (λ (one : Client). Some one) same
 same_client bases T e i false same = refl
 
-pub shared_still : (bases : Bases) (T : List Entry) (h : Happening) (i : ℕ) → IsStill bases T h → entered i (entry_next bases T h ∷ T) ≡ entered i T → shared_in bases i (entry_next bases T h ∷ T) ≡ shared_in bases i T
+pub shared_still : (bases : Bases) (T : List HistoryEntry) (h : Happening) (i : ℕ) → IsStill bases T h → entered i (entry_next bases T h ∷ T) ≡ entered i T → shared_in bases i (entry_next bases T h ∷ T) ≡ shared_in bases i T
 shared_still bases T h i still en =
     ap (λ t. option_map (λ (p : Private). shared (books_of (entry_next bases T h ∷ T)) i p.client) (cond t (Some (alone bases (entry_next bases T h ∷ T) i)) None)) en
     ∙ same_client bases T (entry_next bases T h) i (entered i T) (still.clients i)
 
-pub stands_still : (bases : Bases) (T : List Entry) (h : Happening) → fault_in T ≡ None → IsStill bases T h → fault_in (entry_next bases T h ∷ T) ≡ None
+pub stands_still : (bases : Bases) (T : List HistoryEntry) (h : Happening) → fault_in T ≡ None → IsStill bases T h → fault_in (entry_next bases T h ∷ T) ≡ None
 stands_still bases T h standing still = ap (λ was. option_or was (next bases T h).fault) standing ∙ ap (λ (out : Outcome). out.fault) still.outcome
 
-same_picture : (bases : Bases) (one : Picture) (T : List Entry) (h : Happening) → IsPictureOf bases one T → ((i : ℕ) → enters_here i h ≡ false) → IsStill bases T h → IsPictureOf bases one (entry_next bases T h ∷ T)
+same_picture : (bases : Bases) (one : Picture) (T : List HistoryEntry) (h : Happening) → IsPictureOf bases one T → ((i : ℕ) → enters_here i h ≡ false) → IsStill bases T h → IsPictureOf bases one (entry_next bases T h ∷ T)
 same_picture bases one T h is nobody still = record {
   is_history = next_history bases T h is.is_history;
   standing = stands_still bases T h is.standing still;
@@ -172,7 +172,7 @@ same_picture bases one T h is nobody still = record {
 }
 
 -- Whose turn it is, and whether the connection entered.
-still_at : (bases : Bases) (one : Picture) (T : List Entry) (h : Happening) (answer : Option (List ℕ)) (i : ℕ) (client : Option Client) → IsPictureOf bases one T → IsIdle bases one h answer → turn (books_in one) h ≡ Some i → one.clients i ≡ client → IsIdleAt bases one h client
+still_at : (bases : Bases) (one : Picture) (T : List HistoryEntry) (h : Happening) (answer : Option (List ℕ)) (i : ℕ) (client : Option Client) → IsPictureOf bases one T → IsIdle bases one h answer → turn (books_in one) h ≡ Some i → one.clients i ≡ client → IsIdleAt bases one h client
     → IsStill bases T h
 still_at bases one T h answer i None is idle turns here at =
     let same : AreSame (books_in one) (books_of T) = same_books bases one T is in
@@ -185,12 +185,12 @@ still_at bases one T h answer i (Some client) is idle turns here at =
     (sym (turn_same (books_in one) (books_of T) h same) ∙ turns) there.0 (sym (raw_same (books_in one) (books_of T) h same) ∙ at.is_raw)
     (subst (λ (now : Client). hear bases (number_heard h) now at.raw ≡ idles now) there.1 at.idle)
 
-still_by : (bases : Bases) (one : Picture) (T : List Entry) (h : Happening) (answer : Option (List ℕ)) (who : Option ℕ) → IsPictureOf bases one T → IsIdle bases one h answer → turn (books_in one) h ≡ who → IsIdleTurn bases one h who → IsStill bases T h
+still_by : (bases : Bases) (one : Picture) (T : List HistoryEntry) (h : Happening) (answer : Option (List ℕ)) (who : Option ℕ) → IsPictureOf bases one T → IsIdle bases one h answer → turn (books_in one) h ≡ who → IsIdleTurn bases one h who → IsStill bases T h
 still_by bases one T h answer None is idle turns at =
     still_nobody bases T h is.is_history is.standing (sym (wrong_same bases one T is h) ∙ idle.said) (sym (turn_same (books_in one) (books_of T) h (same_books bases one T is)) ∙ turns)
 still_by bases one T h answer (Some i) is idle turns at = still_at bases one T h answer i (one.clients i) is idle turns refl at
 
-pub idle_follows : (bases : Bases) (one : Picture) (T : List Entry) (h : Happening) (answer : Option (List ℕ)) → IsPictureOf bases one T → ((i : ℕ) → enters_here i h ≡ false) → IsIdle bases one h answer
+pub idle_follows : (bases : Bases) (one : Picture) (T : List HistoryEntry) (h : Happening) (answer : Option (List ℕ)) → IsPictureOf bases one T → ((i : ℕ) → enters_here i h ≡ false) → IsIdle bases one h answer
     → (next bases T h ≡ answering answer) × IsPictureOf bases one (record { happening = h; outcome = answering answer } ∷ T)
 idle_follows bases one T h answer is nobody idle =
     let still : IsStill bases T h = still_by bases one T h answer (turn (books_in one) h) is idle refl idle.idle in

@@ -17,8 +17,8 @@ use Rattle.rtsp_head.specs.declared.facts.Length.{Length}
 use Rattle.rtsp_head.specs.declared.facts.Length.TheVariants as lengths
 use Rattle.rtsp_head.specs.declared.fault.HeadFault.{HeadFault}
 use Rattle.rtsp_head.specs.Heads.{facts_of}
-use Rattle.gate_machine.specs.Frames.{frame_text}
-use Rattle.mux_history.specs.Tells.{is_frame}
+use Rattle.client_machine.specs.Frames.{frame_text}
+use Rattle.gateway_claim.specs.Tells.{is_frame}
 
 -- whether a span is that of a frame
 abbrev is_frame_at : Option Span → Bool

@@ -1,7 +1,7 @@
 pub mod ActLemmas
-pub mod AskedLemmas
+pub mod AskLemmas
 pub mod BooksLemmas
-pub mod CarryingLemmas
+pub mod CarryLemmas
 pub mod CommitLemmas
 pub mod EndLemmas
 pub mod EnterLemmas
@@ -10,8 +10,8 @@ pub mod FollowLemmas
 pub mod ForgetLemmas
 pub mod IdleLemmas
 pub mod ItemLemmas
-pub mod KeepingLemmas
-pub mod KeptLemmas
+pub mod UpkeepLemmas
+pub mod KeepLemmas
 pub mod MuxLemmas
 pub mod OverLemmas
 pub mod QuietLemmas
@@ -19,12 +19,12 @@ pub mod PictureLemmas
 pub mod PlanLemmas
 pub mod ReadyLemmas
 pub mod RoomLemmas
-pub mod SaidLemmas
+pub mod FactLemmas
 pub mod SettleableLemmas
-pub mod SettledLemmas
+pub mod SettlementLemmas
 pub mod StandLemmas
 pub mod TellLemmas
 pub mod TurnLemmas
-pub mod TurnedLemmas
-pub mod UnsettledLemmas
+pub mod AfterTurnLemmas
+pub mod OpenLemmas
 pub mod UpstreamLemmas

@@ -3,19 +3,19 @@ use Rattle.std.proofs.Common.{◌≡◌, ◌∙◌, ℕ, ◌+◌, ◌-◌, ◌^�
 use Rattle.std.specs.Prelude.{is_some, is_none}
 use Rattle.rtsp_uri.specs.declared.base.Bases.{Bases}
 use Rattle.gate_bytes.specs.declared.memory.Memory.{Memory}
-use Rattle.mux_history.specs.declared.event.Event.{Event}
-use Rattle.mux_history.specs.declared.event.Outcome.{Outcome}
-use Rattle.mux_history.specs.declared.event.UpCause.{UpCause}
-use Rattle.mux_history.specs.Cores.{IsNewTo, ever_entered}
-use Rattle.mux_history.specs.Happenings.{Happening, Entry, fault_in, standing, silent, is_alive, happening_of, entry_of, entered, entering}
-use Rattle.mux_history.specs.Follows.{IsHistory}
-use Rattle.mux_history.specs.Tells.{is_frame_item, is_dropped, dropped_frames, is_busy, IsFirstAlive}
-use Rattle.mux_history.proofs.CoreLemmas.{never_part}
-use Rattle.mux_history.proofs.TurnStandLemmas.{next_history}
+use Rattle.gateway_claim.specs.declared.event.Event.{Event}
+use Rattle.gateway_claim.specs.declared.event.Outcome.{Outcome}
+use Rattle.gateway_claim.specs.declared.event.UpCause.{UpCause}
+use Rattle.gateway_claim.specs.Cores.{IsNewTo, ever_entered}
+use Rattle.gateway_claim.specs.Happenings.{Happening, HistoryEntry, fault_in, standing, silent, is_alive, happening_of, entry_of, entered, entering}
+use Rattle.gateway_claim.specs.Follows.{IsHistory}
+use Rattle.gateway_claim.specs.Tells.{is_frame_item, is_dropped, dropped_frames, is_busy, IsFirstAlive}
+use Rattle.gateway_claim.proofs.CoreLemmas.{never_part}
+use Rattle.gateway_claim.proofs.TurnStandLemmas.{next_history}
 use Rattle.gateway_mux.specs.declared.act.Act.{Act}
 use Rattle.gateway_mux.specs.declared.mux.Mux.{Mux}
 use Rattle.gateway_mux.specs.Acts.{IsAct, IsShortAct, IsKeyed}
-use Rattle.gateway_mux.specs.Entering.{IsNewIn, IsEntered, IsAsBefore}
+use Rattle.gateway_mux.specs.Enter.{IsNewIn, IsEntered, IsAsBefore}
 use Rattle.gateway_mux.specs.Moves.{IsNext, IsCommitted}
 use Rattle.gateway_mux.specs.Pictures.{Picture, IsPictureOf}
 use Rattle.gateway_mux.specs.Stands.{Stands, IsActFor, picture_of, bases_of}
@@ -35,7 +35,7 @@ here i at e high = grind (arith, e, high)
 
 -- None that is alive has a number from this one on up to that one.
 abbrev pub NoneAlive : Bases → Picture → ℕ → ℕ → Type 0
-NoneAlive bases one from to = (T : List Entry) → IsPictureOf bases one T → (i : ℕ) → from ≤ i → i < to → is_alive i T ≡ false
+NoneAlive bases one from to = (T : List HistoryEntry) → IsPictureOf bases one T → (i : ℕ) → from ≤ i → i < to → is_alive i T ≡ false
 
 -- nor up to the next that entered
 pub none_before : (bases : Bases) (one : Picture) (from at conn : ℕ) → NoneAlive bases one from at → ((i : ℕ) → at ≤ i → i < conn → one.clients i ≡ None) → NoneAlive bases one from conn
@@ -46,7 +46,7 @@ none_before bases one from at conn before absent T is i low high = by_place (nat
     by_place false e = alive_in bases one T is i ∙ ap is_alive_client (absent i (beyond i at e) high)
 
 -- nor behind it, where it isn't alive
-pub none_behind : (bases : Bases) (one : Picture) (from conn : ℕ) → NoneAlive bases one from conn → ((T : List Entry) → IsPictureOf bases one T → is_alive conn T ≡ false) → NoneAlive bases one from (conn + 1)
+pub none_behind : (bases : Bases) (one : Picture) (from conn : ℕ) → NoneAlive bases one from conn → ((T : List HistoryEntry) → IsPictureOf bases one T → is_alive conn T ≡ false) → NoneAlive bases one from (conn + 1)
 none_behind bases one from conn before dead T is i low high = by_place (nat_lt i conn) refl
   where
     by_place : (b : Bool) → nat_lt i conn ≡ b → is_alive i T ≡ false
@@ -55,7 +55,7 @@ none_behind bases one from conn before dead T is i low high = by_place (nat_lt i
 
 -- Behind the last number of 32 bits there is none.
 pub none_left : (bases : Bases) (one : Picture) (from conn : ℕ) (result : Option ℕ) → NoneAlive bases one from (conn + 1) → (conn + 1 < 2 ^ 32 → ⊥) → result ≡ None
-    → (T : List Entry) → IsPictureOf bases one T → IsFirstAlive from T result
+    → (T : List HistoryEntry) → IsPictureOf bases one T → IsFirstAlive from T result
 none_left bases one from conn result before last is_none T is = subst (λ (found : Option ℕ). IsFirstAlive from T found) (sym is_none) (λ i low high. before T is i low (grind (arith, last, high)))
 
 -- what is known of a value that is there, or isn't
@@ -72,11 +72,11 @@ some_there None e = cc
 some_there (Some value) e = refl
 
 -- After the end an event hands out nothing.
-over_by : (mux : Mux) (T : List Entry) (h : Happening) (ended : Option UpCause) → mux.ended ≡ ended → is_some ended ≡ true → Stands mux T → Stands mux (record { happening = h; outcome = silent } ∷ T)
+over_by : (mux : Mux) (T : List HistoryEntry) (h : Happening) (ended : Option UpCause) → mux.ended ≡ ended → is_some ended ≡ true → Stands mux T → Stands mux (record { happening = h; outcome = silent } ∷ T)
 over_by mux T h None e over stands = cc
 over_by mux T h (Some cause) e over stands = over_stands mux T h cause stands e
 
-pub silent_stands : (mux : Mux) (h : Happening) (outcome : Outcome) → is_some mux.ended ≡ true → outcome ≡ silent → (T : List Entry) → Stands mux T → Stands mux (record { happening = h; outcome = outcome } ∷ T)
+pub silent_stands : (mux : Mux) (h : Happening) (outcome : Outcome) → is_some mux.ended ≡ true → outcome ≡ silent → (T : List HistoryEntry) → Stands mux T → Stands mux (record { happening = h; outcome = outcome } ∷ T)
 silent_stands mux h outcome over is T stands =
     subst (λ (out : Outcome). Stands mux (record { happening = h; outcome = out } ∷ T)) (sym is) (over_by mux T h mux.ended refl over stands)
 
@@ -124,7 +124,7 @@ message_handed h outcome some =
     ap (λ t. is_frame_item h && (is_none outcome.to_client && t)) (some_there outcome.to_up.message some) ∙ both_false (is_frame_item h) (is_none outcome.to_client)
 
 -- What an event hands out is the next entry, and what the multiplexer has after it is that of the longer history.
-committed : (mux new : Mux) (e : Entry) (T : List Entry) → Stands mux T → mux.ended ≡ None → new.ended ≡ e.outcome.fault → bases_of new ≡ bases_of mux
+committed : (mux new : Mux) (e : HistoryEntry) (T : List HistoryEntry) → Stands mux T → mux.ended ≡ None → new.ended ≡ e.outcome.fault → bases_of new ≡ bases_of mux
     → IsNext (bases_of mux) (picture_of new.connections) T e.happening e.outcome → new.dropped ≡ dropped_frames (e ∷ T) → Stands new (e ∷ T)
 committed mux new e T stands open_still ended bases is counts = record {
   is_history =
@@ -137,26 +137,26 @@ committed mux new e T stands open_still ended bases is counts = record {
 
 pub commit_drops : (mux new : Mux) (event : Event) (outcome : Outcome) → mux.ended ≡ None → new.ended ≡ outcome.fault → bases_of new ≡ bases_of mux
     → IsCommitted (bases_of mux) (picture_of mux.connections) (picture_of new.connections) (happening_of event) outcome → new.dropped ≡ min (mux.dropped + 1) (2 ^ 64 - 1) → is_dropped (happening_of event) outcome ≡ true
-    → (T : List Entry) → Stands mux T → Stands new (entry_of event outcome ∷ T)
+    → (T : List HistoryEntry) → Stands mux T → Stands new (entry_of event outcome ∷ T)
 commit_drops mux new event outcome open_still ended bases commits count dropped T stands =
     committed mux new (entry_of event outcome) T stands open_still ended bases (commits T (open_picture mux T stands open_still))
     (count ∙ ap (λ n. min (n + 1) (2 ^ 64 - 1)) stands.counts ∙ sym (drops_one T (entry_of event outcome) (sym stands.has_ended ∙ open_still) dropped))
 
 pub commit_stands : (mux new : Mux) (event : Event) (outcome : Outcome) → mux.ended ≡ None → new.ended ≡ outcome.fault → bases_of new ≡ bases_of mux
     → IsCommitted (bases_of mux) (picture_of mux.connections) (picture_of new.connections) (happening_of event) outcome → new.dropped ≡ mux.dropped → is_dropped (happening_of event) outcome ≡ false
-    → (T : List Entry) → Stands mux T → Stands new (entry_of event outcome ∷ T)
+    → (T : List HistoryEntry) → Stands mux T → Stands new (entry_of event outcome ∷ T)
 commit_stands mux new event outcome open_still ended bases commits count dropped T stands =
     committed mux new (entry_of event outcome) T stands open_still ended bases (commits T (open_picture mux T stands open_still))
     (count ∙ stands.counts ∙ sym (drops_none T (entry_of event outcome) (sym stands.has_ended ∙ open_still) dropped))
 
 -- A connection enters.
-entered_picture : (mux new : Mux) (conn : ℕ) (T : List Entry) → Stands mux T → mux.ended ≡ None → entered conn T ≡ false
+entered_picture : (mux new : Mux) (conn : ℕ) (T : List HistoryEntry) → Stands mux T → mux.ended ≡ None → entered conn T ≡ false
     → IsEntered conn (picture_of mux.connections) (picture_of new.connections) → IsPictureOf (bases_of mux) (picture_of new.connections) (entering conn ∷ T)
 entered_picture mux new conn T stands open_still never is =
     enter_follows (bases_of mux) (picture_of mux.connections) (picture_of new.connections) T conn (open_picture mux T stands open_still) never is.clients is.asker is.held is.holder is.issued
 
 pub entered_stands : (mux new : Mux) (conn : ℕ) → mux.ended ≡ None → new.ended ≡ mux.ended → new.dropped ≡ mux.dropped → bases_of new ≡ bases_of mux
-    → IsEntered conn (picture_of mux.connections) (picture_of new.connections) → (T : List Entry) → Stands mux T → ever_entered conn T ≡ false → Stands new (entering conn ∷ T)
+    → IsEntered conn (picture_of mux.connections) (picture_of new.connections) → (T : List HistoryEntry) → Stands mux T → ever_entered conn T ≡ false → Stands new (entering conn ∷ T)
 entered_stands mux new conn open_still ended count bases is T stands never =
     let still : fault_in T ≡ None = sym stands.has_ended ∙ open_still in
     let after : IsPictureOf (bases_of mux) (picture_of new.connections) (entering conn ∷ T) = entered_picture mux new conn T stands open_still (never_part T conn never) is in
@@ -166,11 +166,11 @@ entered_stands mux new conn open_still ended count bases is T stands never =
       counts = count ∙ stands.counts ∙ sym (drops_none T (entering conn) still refl);
       is_picture =
           subst (λ (b : Bases). IsPictureOf b (picture_of new.connections) (standing (entering conn ∷ T))) (sym bases)
-          (subst (λ (all : List Entry). IsPictureOf (bases_of mux) (picture_of new.connections) all) (sym (standing_open (entering conn ∷ T) (fault_now T (entering conn) still))) after);
+          (subst (λ (all : List HistoryEntry). IsPictureOf (bases_of mux) (picture_of new.connections) all) (sym (standing_open (entering conn ∷ T) (fault_now T (entering conn) still))) after);
     }
 
 -- Nothing changed.
-as_before : (bases : Bases) (one after : Picture) (T : List Entry) → IsAsBefore one after → IsPictureOf bases one T → IsPictureOf bases after T
+as_before : (bases : Bases) (one after : Picture) (T : List HistoryEntry) → IsAsBefore one after → IsPictureOf bases one T → IsPictureOf bases after T
 as_before bases one after T same is = record {
   is_history = is.is_history;
   standing = is.standing;
@@ -192,7 +192,7 @@ new_picture mux after conn open_still bases same new = record {
 }
 
 pub unchanged_stands : (mux new : Mux) → new.ended ≡ mux.ended → new.dropped ≡ mux.dropped → bases_of new ≡ bases_of mux → IsAsBefore (picture_of mux.connections) (picture_of new.connections)
-    → (T : List Entry) → Stands mux T → Stands new T
+    → (T : List HistoryEntry) → Stands mux T → Stands new T
 unchanged_stands mux new ended count bases same T stands = record {
   is_history = subst (λ (b : Bases). IsHistory b T) (sym bases) stands.is_history;
   has_ended = ended ∙ stands.has_ended;
@@ -202,18 +202,18 @@ unchanged_stands mux new ended count bases same T stands = record {
 }
 
 -- After the end none is alive, and none is busy.
-dead_by : (mux : Mux) (T : List Entry) (ended : Option UpCause) → Stands mux T → mux.ended ≡ ended → is_some ended ≡ true → (i : ℕ) → false ≡ is_alive i T
+dead_by : (mux : Mux) (T : List HistoryEntry) (ended : Option UpCause) → Stands mux T → mux.ended ≡ ended → is_some ended ≡ true → (i : ℕ) → false ≡ is_alive i T
 dead_by mux T (Some cause) stands e over i = sym (alive_over (bases_of mux) T cause stands.is_history (sym stands.has_ended ∙ e) i)
 dead_by mux T None stands e over i = cc
 
-pub dead_over : (mux : Mux) (T : List Entry) → Stands mux T → is_some mux.ended ≡ true → (i : ℕ) → false ≡ is_alive i T
+pub dead_over : (mux : Mux) (T : List HistoryEntry) → Stands mux T → is_some mux.ended ≡ true → (i : ℕ) → false ≡ is_alive i T
 dead_over mux T stands over i = dead_by mux T mux.ended stands refl over i
 
-idle_by : (mux : Mux) (T : List Entry) (ended : Option UpCause) → Stands mux T → mux.ended ≡ ended → is_some ended ≡ true → (i : ℕ) → false ≡ is_busy (bases_of mux) i T
+idle_by : (mux : Mux) (T : List HistoryEntry) (ended : Option UpCause) → Stands mux T → mux.ended ≡ ended → is_some ended ≡ true → (i : ℕ) → false ≡ is_busy (bases_of mux) i T
 idle_by mux T (Some cause) stands e over i = sym (busy_over (bases_of mux) T cause stands.is_history (sym stands.has_ended ∙ e) i)
 idle_by mux T None stands e over i = cc
 
-pub idle_over : (mux : Mux) (T : List Entry) → Stands mux T → is_some mux.ended ≡ true → (i : ℕ) → false ≡ is_busy (bases_of mux) i T
+pub idle_over : (mux : Mux) (T : List HistoryEntry) → Stands mux T → is_some mux.ended ≡ true → (i : ℕ) → false ≡ is_busy (bases_of mux) i T
 idle_over mux T stands over i = idle_by mux T mux.ended stands refl over i
 
 -- what holds anyway holds after an error

@@ -2,8 +2,8 @@
 use Rattle.std.proofs.Common.{◌≡◌, ◌∙◌, ◌&&◌, not, Bool, true, false, cond, ℕ, List, Option, Some, None, IsSome, is_some, refl, sym, ap, subst}
 use Rattle.client_slot.specs.declared.purpose.Purpose.{Purpose}
 use Rattle.client_slot.specs.Client.{Client}
-use Rattle.client_seats.specs.Over.{is_over, unless_over}
-use Rattle.gateway_mux.specs.Gone.{is_gone, IsKeptUnlessGone}
+use Rattle.connection_table.specs.Over.{is_over, unless_over}
+use Rattle.gateway_mux.specs.Departure.{is_gone, IsKeptUnlessGone}
 
 true_is_false : true ≡ false → ⊥
 true_is_false e = cc

@@ -7,43 +7,43 @@ use Rattle.head_two.specs.declared.reply.Reply2.{Reply2}
 use Rattle.session_one.specs.Table.{is_success}
 use Rattle.client_slot.specs.declared.purpose.Purpose.{Purpose}
 use Rattle.client_slot.specs.Client.{Client}
-use Rattle.client_slot.specs.Renumbered.{purpose_under}
-use Rattle.gate_machine.specs.Alone.{Private, private_after, new_private}
-use Rattle.mux_history.specs.declared.event.UpCause.TheVariants.{BadGrant, SessionTaken}
-use Rattle.mux_history.specs.Kinds.{RequestKind, sets_up, tears_down, closes, plain}
-use Rattle.mux_history.specs.Books.{Opened, Books}
-use Rattle.mux_history.specs.Heard.{Heard, replies, requests, frames, faults, heard}
-use Rattle.mux_history.specs.Happenings.{Happening, enters, takes, ends, lags, hears, up_ends, Entry, entered}
-use Rattle.mux_history.specs.Settling.{id_said}
-use Rattle.mux_history.specs.Own.{books_of}
-use Rattle.mux_history.specs.Follows.{private_in, is_granted, is_others, is_held_elsewhere, kind_breach, session_of_private, reply_breach, heard_breach, said_breach}
-use Rattle.mux_history.specs.Joined.{opened_for, IsOpenFor}
-use Rattle.mux_history.specs.Shared.{shared, shared_in, kind_pending}
-use Rattle.mux_history.proofs.AgreeLemmas.{joined}
-use Rattle.mux_history.proofs.CaseLemmas.{own_absent}
-use Rattle.mux_history.proofs.JoinedLemmas.{alone, AreJoined}
-use Rattle.mux_history.proofs.TurnNextLemmas.{kind_same}
+use Rattle.client_slot.specs.Renumber.{purpose_under}
+use Rattle.client_machine.specs.Alone.{Private, private_after, new_private}
+use Rattle.gateway_claim.specs.declared.event.UpCause.TheVariants.{BadGrant, SessionTaken}
+use Rattle.gateway_claim.specs.Kinds.{RequestKind, sets_up, tears_down, closes, plain}
+use Rattle.gateway_claim.specs.Books.{Opened, Books}
+use Rattle.gateway_claim.specs.ServerItems.{Heard, replies, requests, frames, faults, heard}
+use Rattle.gateway_claim.specs.Happenings.{Happening, enters, takes, ends, lags, hears, up_ends, HistoryEntry, entered}
+use Rattle.gateway_claim.specs.Settlement.{id_said}
+use Rattle.gateway_claim.specs.OwnEvents.{books_of}
+use Rattle.gateway_claim.specs.Follows.{private_in, is_granted, is_others, is_held_elsewhere, kind_breach, session_of_private, reply_breach, heard_breach, said_breach}
+use Rattle.gateway_claim.specs.BooksAndSlots.{opened_for, IsOpenFor}
+use Rattle.gateway_claim.specs.SharedEvents.{shared, shared_in, kind_pending}
+use Rattle.gateway_claim.proofs.AgreeLemmas.{joined}
+use Rattle.gateway_claim.proofs.CaseLemmas.{own_absent}
+use Rattle.gateway_claim.proofs.SlotLemmas.{alone, AreJoined}
+use Rattle.gateway_claim.proofs.TurnNextLemmas.{kind_same}
 use Rattle.gateway_mux.specs.Pictures.{Picture, opened_in, books_in, IsPictureOf}
 use Rattle.gateway_mux.specs.Moves.{wrong_reply, wrong_heard, wrong_in}
-use Rattle.client_seats.specs.Over.{is_over}
-use Rattle.gateway_mux.specs.Gone.{IsKeptUnlessGone}
+use Rattle.connection_table.specs.Over.{is_over}
+use Rattle.gateway_mux.specs.Departure.{IsKeptUnlessGone}
 use Rattle.gateway_mux.specs.Turn.{session_of_client, kind_open}
 use Rattle.gateway_mux.proofs.OverLemmas.{busy_stays, kept_along, kept_none, kept_whole, kept_id}
 use Rattle.gateway_mux.proofs.BooksLemmas.{AreSame}
 
 -- a connection that entered
-shared_by : (bases : Bases) (T : List Entry) (i : ℕ) (t : Bool) → entered i T ≡ t → shared_in bases i T ≡ option_map (λ (private : Private). shared (books_of T) i private.client) (cond t (Some (alone bases T i)) None)
+shared_by : (bases : Bases) (T : List HistoryEntry) (i : ℕ) (t : Bool) → entered i T ≡ t → shared_in bases i T ≡ option_map (λ (private : Private). shared (books_of T) i private.client) (cond t (Some (alone bases T i)) None)
 shared_by bases T i t e = ap (λ one. option_map (λ (private : Private). shared (books_of T) i private.client) (cond one (Some (alone bases T i)) None)) e
 
 -- A connection that never entered is none.
-pub none_in : (bases : Bases) (one : Picture) (T : List Entry) → IsPictureOf bases one T → (i : ℕ) → entered i T ≡ false → one.clients i ≡ None
+pub none_in : (bases : Bases) (one : Picture) (T : List HistoryEntry) → IsPictureOf bases one T → (i : ℕ) → entered i T ≡ false → one.clients i ≡ None
 none_in bases one T is i out = kept_none (one.clients i) (kept_along refl (is.clients i) (shared_by bases T i false out))
 
 -- One that entered is kept, where it isn't over.
-pub kept_in : (bases : Bases) (one : Picture) (T : List Entry) → IsPictureOf bases one T → (i : ℕ) → entered i T ≡ true → IsKeptUnlessGone (one.clients i) (Some (shared (books_of T) i (alone bases T i).client))
+pub kept_in : (bases : Bases) (one : Picture) (T : List HistoryEntry) → IsPictureOf bases one T → (i : ℕ) → entered i T ≡ true → IsKeptUnlessGone (one.clients i) (Some (shared (books_of T) i (alone bases T i).client))
 kept_in bases one T is i en = kept_along refl (is.clients i) (shared_by bases T i true en)
 
-pub client_in : (bases : Bases) (one : Picture) (T : List Entry) → IsPictureOf bases one T → (i : ℕ) → entered i T ≡ true → is_over (shared (books_of T) i (alone bases T i).client) ≡ false
+pub client_in : (bases : Bases) (one : Picture) (T : List HistoryEntry) → IsPictureOf bases one T → (i : ℕ) → entered i T ≡ true → is_over (shared (books_of T) i (alone bases T i).client) ≡ false
     → one.clients i ≡ Some (shared (books_of T) i (alone bases T i).client)
 client_in bases one T is i en stays = kept_whole (one.clients i) (shared (books_of T) i (alone bases T i).client) (kept_in bases one T is i en) stays
 
@@ -53,7 +53,7 @@ some_none a e = cc
 some_is : (a b : Client) → Some a ≡ Some b → b ≡ a
 some_is a b e = cc
 
-pub entered_in : (bases : Bases) (one : Picture) (T : List Entry) → IsPictureOf bases one T → (i : ℕ) (client : Client) → one.clients i ≡ Some client
+pub entered_in : (bases : Bases) (one : Picture) (T : List HistoryEntry) → IsPictureOf bases one T → (i : ℕ) (client : Client) → one.clients i ≡ Some client
     → (entered i T ≡ true) × (client ≡ shared (books_of T) i (alone bases T i).client)
 entered_in bases one T is i client here = by (entered i T) refl
   where
@@ -62,11 +62,11 @@ entered_in bases one T is i client here = by (entered i T) refl
     by false e = absurd (some_none client (sym (none_in bases one T is i e) ∙ here))
 
 -- One that entered and is not kept is over.
-pub over_in : (bases : Bases) (one : Picture) (T : List Entry) → IsPictureOf bases one T → (i : ℕ) → one.clients i ≡ None → entered i T ≡ true → is_over (shared (books_of T) i (alone bases T i).client) ≡ true
+pub over_in : (bases : Bases) (one : Picture) (T : List HistoryEntry) → IsPictureOf bases one T → (i : ℕ) → one.clients i ≡ None → entered i T ≡ true → is_over (shared (books_of T) i (alone bases T i).client) ≡ true
 over_in bases one T is i none en = kept_along (sym none) (kept_in bases one T is i en) refl
 
 -- The connection that asked an open request entered, and has one open.
-pub opened_entered : (bases : Bases) (T : List Entry) → AreJoined bases T → (number : ℕ) (opened : Opened) → (books_of T).opened number ≡ Some opened → entered opened.conn T ≡ true
+pub opened_entered : (bases : Bases) (T : List HistoryEntry) → AreJoined bases T → (number : ℕ) (opened : Opened) → (books_of T).opened number ≡ Some opened → entered opened.conn T ≡ true
 opened_entered bases T all number opened e = by (entered opened.conn T) refl
   where
     open_some : IsSome (alone bases T opened.conn).client.pending
@@ -84,7 +84,7 @@ pub some_under : (pairs : ℕ → ℕ) (pending : Option Purpose) → IsSome pen
 some_under pairs None some = cc
 some_under pairs (Some purpose) some = refl
 
-pub asker_stays : (bases : Bases) (T : List Entry) → AreJoined bases T → (number : ℕ) (opened : Opened) → (books_of T).opened number ≡ Some opened → is_over (shared (books_of T) opened.conn (alone bases T opened.conn).client) ≡ false
+pub asker_stays : (bases : Bases) (T : List HistoryEntry) → AreJoined bases T → (number : ℕ) (opened : Opened) → (books_of T).opened number ≡ Some opened → is_over (shared (books_of T) opened.conn (alone bases T opened.conn).client) ≡ false
 asker_stays bases T all number opened e =
     busy_stays (shared (books_of T) opened.conn (alone bases T opened.conn).client)
     (some_under ((books_of T).pair_of opened.conn) (alone bases T opened.conn).client.pending ((all.1 opened.conn).last number opened e refl).1)
@@ -93,7 +93,7 @@ opened_kind : (a b : Opened) → Some a ≡ Some b → a.kind ≡ b.kind
 opened_kind a b e = cc
 
 -- The kind of an open request is that of what its connection has open.
-pub kind_is : (bases : Bases) (T : List Entry) → AreJoined bases T → (number : ℕ) (opened : Opened) → (books_of T).opened number ≡ Some opened
+pub kind_is : (bases : Bases) (T : List HistoryEntry) → AreJoined bases T → (number : ℕ) (opened : Opened) → (books_of T).opened number ≡ Some opened
     → kind_pending (shared (books_of T) opened.conn (alone bases T opened.conn).client).pending ≡ opened.kind
 kind_is bases T all number opened e = by (alone bases T opened.conn).client.pending (all.1 opened.conn).pending ((all.1 opened.conn).last number opened e refl).1
   where
@@ -107,7 +107,7 @@ kind_is bases T all number opened e = by (alone bases T opened.conn).client.pend
         sym (kind_same ((books_of T).pair_of opened.conn) purpose)
         ∙ opened_kind (opened_for (books_of T) opened.conn purpose) opened (sym now.0 ∙ ap (books_of T).opened (sym same_number) ∙ e)
 
-opened_same : (bases : Bases) (one : Picture) (T : List Entry) → IsPictureOf bases one T → (number : ℕ) → opened_in one number ≡ (books_of T).opened number
+opened_same : (bases : Bases) (one : Picture) (T : List HistoryEntry) → IsPictureOf bases one T → (number : ℕ) → opened_in one number ≡ (books_of T).opened number
 opened_same bases one T is number = by ((books_of T).opened number) refl
   where
     all : AreJoined bases T
@@ -122,7 +122,7 @@ opened_same bases one T is number = by ((books_of T).opened number) refl
         ∙ ap (λ kind. let entry : Opened = record { conn = opened.conn; kind = kind } in Some entry) (kind_is bases T all number opened e)
 
 -- The books are the same.
-pub same_books : (bases : Bases) (one : Picture) (T : List Entry) → IsPictureOf bases one T → AreSame (books_in one) (books_of T)
+pub same_books : (bases : Bases) (one : Picture) (T : List HistoryEntry) → IsPictureOf bases one T → AreSame (books_in one) (books_of T)
 same_books bases one T is = record {
   opened = opened_same bases one T is;
   held = is.held;
@@ -143,27 +143,27 @@ kind_breach_same a b tears_down i session reply same = refl
 kind_breach_same a b closes i session reply same = refl
 kind_breach_same a b plain i session reply same = refl
 
-session_same : (bases : Bases) (one : Picture) (T : List Entry) → IsPictureOf bases one T → (i : ℕ) → session_of_client (one.clients i) ≡ session_of_private (private_in bases i T)
+session_same : (bases : Bases) (one : Picture) (T : List HistoryEntry) → IsPictureOf bases one T → (i : ℕ) → session_of_client (one.clients i) ≡ session_of_private (private_in bases i T)
 session_same bases one T is i = kept_id (one.clients i) (shared_in bases i T) (is.clients i) session_of_client refl (λ client. refl) ∙ by (private_in bases i T)
   where
     by : (private : Option Private) → session_of_client (option_map (λ (one : Private). shared (books_of T) i one.client) private) ≡ session_of_private private
     by None = refl
     by (Some private) = refl
 
-reply_same : (bases : Bases) (one : Picture) (T : List Entry) → IsPictureOf bases one T → (reply : Reply2) (opened : Option Opened) → wrong_reply one reply opened ≡ reply_breach bases T reply opened
+reply_same : (bases : Bases) (one : Picture) (T : List HistoryEntry) → IsPictureOf bases one T → (reply : Reply2) (opened : Option Opened) → wrong_reply one reply opened ≡ reply_breach bases T reply opened
 reply_same bases one T is reply None = refl
 reply_same bases one T is reply (Some opened) =
     kind_breach_same (books_in one) (books_of T) opened.kind opened.conn (session_of_client (one.clients opened.conn)) reply (same_books bases one T is)
     ∙ ap (λ session. kind_breach (books_of T) opened.kind opened.conn session reply) (session_same bases one T is opened.conn)
 
-heard_wrong_same : (bases : Bases) (one : Picture) (T : List Entry) → IsPictureOf bases one T → (said : Heard) → wrong_heard one said ≡ heard_breach bases T said
+heard_wrong_same : (bases : Bases) (one : Picture) (T : List HistoryEntry) → IsPictureOf bases one T → (said : Heard) → wrong_heard one said ≡ heard_breach bases T said
 heard_wrong_same bases one T is (replies reply) =
     ap (wrong_reply one reply) (opened_same bases one T is reply.cseq) ∙ reply_same bases one T is reply ((books_of T).opened reply.cseq)
 heard_wrong_same bases one T is (requests request) = refl
 heard_wrong_same bases one T is (frames channel rest) = refl
 heard_wrong_same bases one T is (faults fault) = refl
 
-pub wrong_same : (bases : Bases) (one : Picture) (T : List Entry) → IsPictureOf bases one T → (h : Happening) → wrong_in one h ≡ said_breach bases T h
+pub wrong_same : (bases : Bases) (one : Picture) (T : List HistoryEntry) → IsPictureOf bases one T → (h : Happening) → wrong_in one h ≡ said_breach bases T h
 wrong_same bases one T is (enters conn) = refl
 wrong_same bases one T is (takes conn shape) = refl
 wrong_same bases one T is (ends conn) = refl

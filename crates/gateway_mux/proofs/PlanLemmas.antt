@@ -11,30 +11,30 @@ use Rattle.up_books.specs.declared.cseq.TheConstants.{LAST_NUMBER}
 use Rattle.up_books.specs.Numbers.{next_number}
 use Rattle.client_slot.specs.declared.purpose.Purpose.{Purpose}
 use Rattle.client_slot.specs.Client.{Client}
-use Rattle.gate_machine.specs.declared.parts.Plan.{Plan}
-use Rattle.gate_machine.specs.declared.why.CloseWhy.{CloseWhy}
-use Rattle.gate_machine.specs.declared.why.CloseWhy.TheVariants.{BadItem}
-use Rattle.gate_machine.specs.Asking.{AsksBy}
-use Rattle.gate_machine.specs.Effects.{Outgoing, asks, carries, Effect}
-use Rattle.gate_machine.specs.Events.{arrive, end, slow}
-use Rattle.gate_machine.specs.Frames.{channel_in, behind_channel, Half, half_for}
-use Rattle.gate_machine.specs.declared.frames.StreamHalf.{StreamHalf}
-use Rattle.gate_machine.specs.Halves.{half_of}
-use Rattle.gate_machine.specs.Hearing.{idles, carry, take_item, take, closes, hear}
-use Rattle.gate_machine.specs.Plans.{Comes, requests, shuts, heard_by, effect_by, IsPlan}
-use Rattle.gate_machine.specs.Step.{heard_step}
-use Rattle.mux_history.specs.declared.event.UpCause.{UpCause}
-use Rattle.mux_history.specs.declared.event.UpCause.TheVariants.{CseqSpent}
-use Rattle.mux_history.specs.Happenings.{Happening, enters, takes, ends, lags, hears, up_ends}
-use Rattle.mux_history.specs.Follows.{spent}
-use Rattle.mux_history.specs.Shared.{number_heard}
-use Rattle.gateway_mux.specs.declared.said.Said.{Said}
+use Rattle.client_machine.specs.declared.parts.Plan.{Plan}
+use Rattle.client_machine.specs.declared.why.CloseWhy.{CloseWhy}
+use Rattle.client_machine.specs.declared.why.CloseWhy.TheVariants.{BadItem}
+use Rattle.client_machine.specs.OpenRequests.{AsksBy}
+use Rattle.client_machine.specs.Effects.{Outgoing, asks, carries, Effect}
+use Rattle.client_machine.specs.Events.{arrive, end, slow}
+use Rattle.client_machine.specs.Frames.{channel_in, behind_channel, Half, half_for}
+use Rattle.client_machine.specs.declared.frames.StreamHalf.{StreamHalf}
+use Rattle.client_machine.specs.Halves.{half_of}
+use Rattle.client_machine.specs.ServerItems.{idles, carry, take_item, take, closes, hear}
+use Rattle.client_machine.specs.Plans.{Comes, requests, shuts, heard_by, effect_by, IsPlan}
+use Rattle.client_machine.specs.Step.{heard_step}
+use Rattle.gateway_claim.specs.declared.event.UpCause.{UpCause}
+use Rattle.gateway_claim.specs.declared.event.UpCause.TheVariants.{CseqSpent}
+use Rattle.gateway_claim.specs.Happenings.{Happening, enters, takes, ends, lags, hears, up_ends}
+use Rattle.gateway_claim.specs.Follows.{spent}
+use Rattle.gateway_claim.specs.SharedEvents.{number_heard}
+use Rattle.gateway_mux.specs.declared.turn_facts.TurnFacts.{TurnFacts}
 use Rattle.gateway_mux.specs.Acts.{IsPlannedTurn, IsSaid, IsClosing, IsBadKind, IsAct, answers_alone}
 use Rattle.gateway_mux.specs.Moves.{wrong_in, step_in, IsIdleAt, IsIdleTurn, IsIdle, IsEndAt}
 use Rattle.gateway_mux.specs.Pictures.{Picture}
 use Rattle.gateway_mux.specs.Turn.{free_once}
 use Rattle.gateway_mux.proofs.CommitLemmas.{free_by}
-use Rattle.gateway_mux.proofs.TurnedLemmas.{effect_asks}
+use Rattle.gateway_mux.proofs.AfterTurnLemmas.{effect_asks}
 
 -- An item of a connection that hears nothing in it.
 idle_item : (bases : Bases) (one : Picture) (conn : ℕ) (shape : Shape) → ((client : Client) → one.clients conn ≡ Some client → take client.alive shape client ≡ idles client) → IsIdle bases one (takes conn shape) None
@@ -133,7 +133,7 @@ closing_said bases one conn why (hears shape) closing = absurd closing
 closing_said bases one conn why (up_ends cause) closing = absurd closing
 
 -- The turn of a connection that never entered.
-pub absent_act : (bases : Bases) (one : Picture) (h : Happening) (it : Said) (comes : Comes) → IsSaid bases one h it comes → one.clients it.conn ≡ None → IsAct bases one h (answers_alone it.answer)
+pub absent_act : (bases : Bases) (one : Picture) (h : Happening) (it : TurnFacts) (comes : Comes) → IsSaid bases one h it comes → one.clients it.conn ≡ None → IsAct bases one h (answers_alone it.answer)
 absent_act bases one h it comes said none = by it.answer idle
   where
     idle : IsIdle bases one h it.answer
@@ -149,7 +149,7 @@ absent_act bases one h it comes said none = by it.answer idle
     by (Some answer) idle = idle
 
 -- What the machine does at the turn of a connection.
-effect_said : (bases : Bases) (one : Picture) (h : Happening) (it : Said) (comes : Comes) (client : Client) → (said : IsSaid bases one h it comes) → one.clients it.conn ≡ Some client
+effect_said : (bases : Bases) (one : Picture) (h : Happening) (it : TurnFacts) (comes : Comes) (client : Client) → (said : IsSaid bases one h it comes) → one.clients it.conn ≡ Some client
     → effect_by bases it.number (free_once it.settled one.held) client comes ≡ step_in bases one h client said.raw
 effect_said bases one h it comes client said here =
     ap (λ heard. heard_step bases (free_once it.settled one.held) heard) (said.says client)
@@ -177,7 +177,7 @@ left_at issued (Some (asks request named)) low left = by (issued == LAST_NUMBER)
         less issued low e = grind arith
 left_at issued (Some (carries pair half rest)) low left = refl
 
-pub spent_act : (bases : Bases) (one : Picture) (h : Happening) (it : Said) (comes : Comes) (client : Client) (plan : Plan) (goes : Bool) → IsSaid bases one h it comes → one.clients it.conn ≡ Some client
+pub spent_act : (bases : Bases) (one : Picture) (h : Happening) (it : TurnFacts) (comes : Comes) (client : Client) (plan : Plan) (goes : Bool) → IsSaid bases one h it comes → one.clients it.conn ≡ Some client
     → IsPlan bases (one.issued + 1) (free_once it.settled one.held) client comes plan → goes ≡ is_some (effect_by bases it.number (free_once it.settled one.held) client comes).message → goes ≡ true → next_number one.issued ≡ None → IsEndAt bases one h (wrong_in one h) CseqSpent
 spent_act bases one h it comes client plan goes said here planned is up none =
     subst (λ (wrong : Option UpCause). IsEndAt bases one h wrong CseqSpent) (sym said.right)
@@ -195,7 +195,7 @@ spent_act bases one h it comes client plan goes said here planned is up none =
           (sym is ∙ up) none;
     })
 
-pub turned_act : (bases : Bases) (one : Picture) (h : Happening) (it : Said) (comes : Comes) (client : Client) (plan : Plan) (goes : Bool) (key next : ℕ) → next ≡ one.issued + 1 → (said : IsSaid bases one h it comes) → one.clients it.conn ≡ Some client
+pub turned_act : (bases : Bases) (one : Picture) (h : Happening) (it : TurnFacts) (comes : Comes) (client : Client) (plan : Plan) (goes : Bool) (key next : ℕ) → next ≡ one.issued + 1 → (said : IsSaid bases one h it comes) → one.clients it.conn ≡ Some client
     → IsPlan bases (one.issued + 1) (free_once it.settled one.held) client comes plan → goes ≡ is_some (effect_by bases it.number (free_once it.settled one.held) client comes).message → one.issued ≤ LAST_NUMBER → (goes ≡ true → IsSome (next_number one.issued))
     → IsPlannedTurn bases one h it.answer (record { conn = it.conn; key = key; number = it.number; next = next; settled = it.settled; plan = plan; asks = goes })
 turned_act bases one h it comes client plan goes key next is_next said here planned is low left = record {
@@ -237,5 +237,5 @@ one_left None next is same told none = absurd (false_true (ap is_some (sym same)
 one_left (Some n) next is same told none = refl
 
 -- the connection of which alone is said that it has its turn
-pub said_conn : (conn : ℕ) (client : Client) (one : Picture) (it : Said) → it ≡ record { conn = conn; number = 0; settled = None; answer = None } → one.clients conn ≡ Some client → one.clients it.conn ≡ Some client
-said_conn conn client one it is here = ap (λ (said : Said). one.clients said.conn) is ∙ here
+pub said_conn : (conn : ℕ) (client : Client) (one : Picture) (it : TurnFacts) → it ≡ record { conn = conn; number = 0; settled = None; answer = None } → one.clients conn ≡ Some client → one.clients it.conn ≡ Some client
+said_conn conn client one it is here = ap (λ (said : TurnFacts). one.clients said.conn) is ∙ here

@@ -9,18 +9,18 @@ use Rattle.rtsp_small.specs.Notices.{notify_reason_of}
 use Rattle.head_two.specs.declared.ask.Ask2.{Ask2}
 use Rattle.translate_down.specs.Replies.{told_by}
 use Rattle.client_slot.specs.Client.{Client}
-use Rattle.gate_machine.specs.declared.why.CloseWhy.TheVariants.{Ended, Slow}
-use Rattle.gate_machine.specs.Events.{PrivateEvent, arrive, answer, media, end, slow}
-use Rattle.gate_machine.specs.Hearing.{take, closes, take_media, hear, idles}
-use Rattle.gate_machine.specs.Spelled.{source_said}
-use Rattle.mux_history.specs.Books.{Opened}
-use Rattle.mux_history.specs.Heard.{Heard, replies, requests, frames, faults, heard}
-use Rattle.mux_history.specs.Happenings.{Happening, enters, takes, ends, lags, hears, up_ends, Entry}
-use Rattle.mux_history.specs.Notices.{Notice, notice_field, session_named, known_reason, said_reason, held_session, named_session, notice_of}
-use Rattle.mux_history.specs.Own.{notice_turn, heard_turn, turn, books_of}
-use Rattle.mux_history.specs.Shared.{shared, heard_raw, raw_event, heard_number, number_heard}
-use Rattle.mux_history.proofs.JoinedLemmas.{alone, AreJoined}
-use Rattle.client_seats.specs.Over.{is_over}
+use Rattle.client_machine.specs.declared.why.CloseWhy.TheVariants.{Ended, Slow}
+use Rattle.client_machine.specs.Events.{PrivateEvent, arrive, answer, media, end, slow}
+use Rattle.client_machine.specs.ServerItems.{take, closes, take_media, hear, idles}
+use Rattle.client_machine.specs.UpTexts.{source_said}
+use Rattle.gateway_claim.specs.Books.{Opened}
+use Rattle.gateway_claim.specs.ServerItems.{Heard, replies, requests, frames, faults, heard}
+use Rattle.gateway_claim.specs.Happenings.{Happening, enters, takes, ends, lags, hears, up_ends, HistoryEntry}
+use Rattle.gateway_claim.specs.Notices.{HeardNotice, notice_field, session_named, known_reason, said_reason, held_session, named_session, notice_of}
+use Rattle.gateway_claim.specs.OwnEvents.{notice_turn, heard_turn, turn, books_of}
+use Rattle.gateway_claim.specs.SharedEvents.{shared, heard_raw, raw_event, heard_number, number_heard}
+use Rattle.gateway_claim.proofs.SlotLemmas.{alone, AreJoined}
+use Rattle.connection_table.specs.Over.{is_over}
 use Rattle.gateway_mux.proofs.OverLemmas.{over_dead, over_unbound}
 use Rattle.gateway_mux.proofs.PictureLemmas.{asker_stays}
 
@@ -29,29 +29,29 @@ pub record HoldsOne (holder : List ℕ → Option ℕ) (conn : ℕ) : Type 0 whe
   pub id : List ℕ
   pub bound : holder id ≡ Some conn
 
-same_notice : (result : Result Notice ℕ) (a b : Notice) → result ≡ Ok a → result ≡ Ok b → a ≡ b
+same_notice : (result : Result HeardNotice ℕ) (a b : HeardNotice) → result ≡ Ok a → result ≡ Ok b → a ≡ b
 same_notice result a b one other = cc
 
-known_conn : (request : Ask2) (id : List ℕ) (conn : ℕ) (reason : Option NotifyReason) (notice : Notice) → known_reason request id conn reason ≡ Ok notice → conn ≡ notice.conn
+known_conn : (request : Ask2) (id : List ℕ) (conn : ℕ) (reason : Option NotifyReason) (notice : HeardNotice) → known_reason request id conn reason ≡ Ok notice → conn ≡ notice.conn
 known_conn request id conn None notice e = cc
-known_conn request id conn (Some reason) notice e = ap (λ (n : Notice). n.conn) (same_notice (known_reason request id conn (Some reason)) _ notice refl e)
+known_conn request id conn (Some reason) notice e = ap (λ (n : HeardNotice). n.conn) (same_notice (known_reason request id conn (Some reason)) _ notice refl e)
 
-said_conn : (request : Ask2) (id : List ℕ) (conn : ℕ) (value : Option (List ℕ)) (notice : Notice) → said_reason request id conn value ≡ Ok notice → conn ≡ notice.conn
+said_conn : (request : Ask2) (id : List ℕ) (conn : ℕ) (value : Option (List ℕ)) (notice : HeardNotice) → said_reason request id conn value ≡ Ok notice → conn ≡ notice.conn
 said_conn request id conn None notice e = cc
 said_conn request id conn (Some value) notice e = known_conn request id conn (notify_reason_of value) notice e
 
-held_bound : (holder : List ℕ → Option ℕ) (request : Ask2) (id : List ℕ) (held : Option ℕ) (notice : Notice) → holder id ≡ held → held_session request id held ≡ Ok notice → HoldsOne holder notice.conn
+held_bound : (holder : List ℕ → Option ℕ) (request : Ask2) (id : List ℕ) (held : Option ℕ) (notice : HeardNotice) → holder id ≡ held → held_session request id held ≡ Ok notice → HoldsOne holder notice.conn
 held_bound holder request id None notice is e = cc
 held_bound holder request id (Some conn) notice is e = record {
   id = id;
   bound = is ∙ ap (λ n. Some n) (said_conn request id conn (notice_field request (codes "Notify-Reason")) notice e);
 }
 
-named_bound : (holder : List ℕ → Option ℕ) (request : Ask2) (named : Option (List ℕ)) (notice : Notice) → named_session holder request named ≡ Ok notice → HoldsOne holder notice.conn
+named_bound : (holder : List ℕ → Option ℕ) (request : Ask2) (named : Option (List ℕ)) (notice : HeardNotice) → named_session holder request named ≡ Ok notice → HoldsOne holder notice.conn
 named_bound holder request None notice e = cc
 named_bound holder request (Some id) notice e = held_bound holder request id (holder id) notice refl e
 
-notice_bound : (holder : List ℕ → Option ℕ) (request : Ask2) (notice : Notice) → notice_of holder request ≡ Ok notice → HoldsOne holder notice.conn
+notice_bound : (holder : List ℕ → Option ℕ) (request : Ask2) (notice : HeardNotice) → notice_of holder request ≡ Ok notice → HoldsOne holder notice.conn
 notice_bound holder request notice e = by (bytes_eq request.method (codes "PLAY_NOTIFY")) e
   where
     by : (t : Bool) → cond t (named_session holder request (session_named request)) (Err 501) ≡ Ok notice → HoldsOne holder notice.conn
@@ -73,14 +73,14 @@ over_stays client over stays = true_false (sym over ∙ stays)
     true_false : true ≡ false → ⊥
     true_false e = cc
 
-over_reply : (bases : Bases) (T : List Entry) (i number : ℕ) (coming : Option PrivateEvent) → AreJoined bases T → is_over (shared (books_of T) i (alone bases T i).client) ≡ true → (opened : Option Opened) → (books_of T).opened number ≡ opened
+over_reply : (bases : Bases) (T : List HistoryEntry) (i number : ℕ) (coming : Option PrivateEvent) → AreJoined bases T → is_over (shared (books_of T) i (alone bases T i).client) ≡ true → (opened : Option Opened) → (books_of T).opened number ≡ opened
     → option_map (λ (one : Opened). one.conn) opened ≡ Some i → HearsNone bases number (shared (books_of T) i (alone bases T i).client) coming
 over_reply bases T i number coming all over None e turns = cc
 over_reply bases T i number coming all over (Some opened) e turns =
     absurd (over_stays (shared (books_of T) i (alone bases T i).client) over
     (subst (λ (j : ℕ). is_over (shared (books_of T) j (alone bases T j).client) ≡ false) (conn_is opened.conn i turns) (asker_stays bases T all number opened e)))
 
-over_notice : (bases : Bases) (T : List Entry) (i number : ℕ) (request : Ask2) (coming : Option PrivateEvent) → AreJoined bases T → is_over (shared (books_of T) i (alone bases T i).client) ≡ true → (notice : Result Notice ℕ) → notice_of (books_of T).holder request ≡ notice
+over_notice : (bases : Bases) (T : List HistoryEntry) (i number : ℕ) (request : Ask2) (coming : Option PrivateEvent) → AreJoined bases T → is_over (shared (books_of T) i (alone bases T i).client) ≡ true → (notice : Result HeardNotice ℕ) → notice_of (books_of T).holder request ≡ notice
     → notice_turn notice ≡ Some i → HearsNone bases number (shared (books_of T) i (alone bases T i).client) coming
 over_notice bases T i number request coming all over (Err code) e turns = cc
 over_notice bases T i number request coming all over (Ok notice) e turns =
@@ -91,7 +91,7 @@ over_notice bases T i number request coming all over (Ok notice) e turns =
     some_none : (id : List ℕ) → Some id ≡ None → ⊥
     some_none id e = cc
 
-over_heard : (bases : Bases) (T : List Entry) (i : ℕ) (said : Heard) → AreJoined bases T → is_over (shared (books_of T) i (alone bases T i).client) ≡ true → heard_turn (books_of T) said ≡ Some i
+over_heard : (bases : Bases) (T : List HistoryEntry) (i : ℕ) (said : Heard) → AreJoined bases T → is_over (shared (books_of T) i (alone bases T i).client) ≡ true → heard_turn (books_of T) said ≡ Some i
     → HearsNone bases (heard_number said) (shared (books_of T) i (alone bases T i).client) (heard_raw (books_of T) said)
 over_heard bases T i (replies reply) all over turns =
     over_reply bases T i reply.cseq (Some (answer (told_by reply) (source_said reply) false)) all over ((books_of T).opened reply.cseq) refl turns
@@ -104,7 +104,7 @@ over_heard bases T i (frames channel rest) all over turns = record {
 }
 over_heard bases T i (faults fault) all over turns = cc
 
-pub over_hears : (bases : Bases) (T : List Entry) (h : Happening) (i : ℕ) → AreJoined bases T → is_over (shared (books_of T) i (alone bases T i).client) ≡ true → turn (books_of T) h ≡ Some i
+pub over_hears : (bases : Bases) (T : List HistoryEntry) (h : Happening) (i : ℕ) → AreJoined bases T → is_over (shared (books_of T) i (alone bases T i).client) ≡ true → turn (books_of T) h ≡ Some i
     → HearsNone bases (number_heard h) (shared (books_of T) i (alone bases T i).client) (raw_event (books_of T) h)
 over_hears bases T (enters conn) i all over turns = cc
 over_hears bases T (takes conn shape) i all over turns = record {

@@ -7,28 +7,28 @@ use Rattle.rtsp_uri.specs.declared.base.Bases.{Bases}
 use Rattle.gate_bytes.specs.declared.memory.Memory.{Memory}
 use Rattle.channel_map.specs.declared.map.Held.{Held}
 use Rattle.client_slot.specs.Client.{Client}
-use Rattle.gate_machine.specs.declared.parts.Done.{Done}
-use Rattle.client_seats.specs.declared.seats.Seats.{Seats}
-use Rattle.gateway_mux.specs.declared.settled.Settled.{Settled}
-use Rattle.gateway_mux.specs.declared.turn.Turn.{Turn}
-use Rattle.gateway_mux.specs.declared.upstream.Upstream.{Upstream}
+use Rattle.client_machine.specs.declared.parts.Done.{Done}
+use Rattle.connection_table.specs.declared.table.ConnectionTable.{ConnectionTable}
+use Rattle.gateway_mux.specs.declared.settlement.Settlement.{Settlement}
+use Rattle.gateway_mux.specs.declared.turn.PlannedTurn.{PlannedTurn}
+use Rattle.gateway_mux.specs.declared.upstream.UpstreamBooks.{UpstreamBooks}
 use Rattle.gateway_mux.specs.Acts.{IsTurnOfSome}
-use Rattle.gateway_mux.specs.Entering.{IsNewIn, IsEntered, IsAsBefore}
+use Rattle.gateway_mux.specs.Enter.{IsNewIn, IsEntered, IsAsBefore}
 use Rattle.gateway_mux.specs.Pictures.{Picture, picture, IsKept}
-use Rattle.client_seats.specs.Seats.{client_at, is_ready}
+use Rattle.connection_table.specs.Tables.{client_at, is_ready}
 use Rattle.gateway_mux.specs.Spare.{left}
-use Rattle.gateway_mux.specs.Settled.{CanSettle, binds, unbinds}
+use Rattle.gateway_mux.specs.Settlements.{CanSettle, binds, unbinds}
 use Rattle.gateway_mux.specs.Turn.{session_of_client, one_if}
 use Rattle.gateway_mux.proofs.CommitLemmas.{IsTurned}
-use Rattle.gateway_mux.proofs.CarryingLemmas.{keeps_result, still_kept}
-use Rattle.gateway_mux.proofs.KeepingLemmas.{keeps_entering, room_asked, settles_now}
+use Rattle.gateway_mux.proofs.CarryLemmas.{keeps_result, still_kept}
+use Rattle.gateway_mux.proofs.UpkeepLemmas.{keeps_entering, room_asked, settles_now}
 use Rattle.gateway_mux.proofs.PictureLemmas.{none_in}
 
 -- What is kept for all but the next connection is kept for all.
-less_left : (spare : ℕ) (seats : Seats) → left spare seats ≤ spare
+less_left : (spare : ℕ) (seats : ConnectionTable) → left spare seats ≤ spare
 less_left spare seats = omega arith
 
-pub kept_in_all : (bases : Bases) (seats : Seats) (upstream : Upstream) → ∥ IsKept bases (picture seats upstream) (left upstream.requests.spare seats) (left upstream.sessions.spare seats) ∥₁
+pub kept_in_all : (bases : Bases) (seats : ConnectionTable) (upstream : UpstreamBooks) → ∥ IsKept bases (picture seats upstream) (left upstream.requests.spare seats) (left upstream.sessions.spare seats) ∥₁
     → ∥ IsKept bases (picture seats upstream) upstream.requests.spare upstream.sessions.spare ∥₁
 kept_in_all bases seats upstream keeps =
     let one : Picture = picture seats upstream in
@@ -63,22 +63,22 @@ entering_kept bases conn one after a b c d none entered requests sessions new ke
     (subst (λ (n : ℕ). ∥ IsKept bases after (a + 1) n ∥₁) (sym sessions)
     (∥∥₁_elim new (Prim.hlevel props) (λ n. ∥∥₁_map keeps (keeps_entering bases conn one after a b none entered n))))
 
-no_settled : (settled : Option Settled) → is_some settled ≡ false → settled ≡ None
+no_settled : (settled : Option Settlement) → is_some settled ≡ false → settled ≡ None
 no_settled None e = refl
 no_settled (Some settled) e = cc
 
-bound_room : (asker : ℕ → Option ℕ) (held : ℕ → Option Held) (holder : List ℕ → Option ℕ) (spare conn : ℕ) (session : Option (List ℕ)) (settled : Option Settled)
+bound_room : (asker : ℕ → Option ℕ) (held : ℕ → Option Held) (holder : List ℕ → Option ℕ) (spare conn : ℕ) (session : Option (List ℕ)) (settled : Option Settlement)
     → IfSome settled (CanSettle asker held holder spare conn session) → binds settled ≡ true → 0 < spare
 bound_room asker held holder spare conn session None can bound = cc
 bound_room asker held holder spare conn session (Some settled) can bound = can.has_room bound
 
 -- What the connections keep.
-pub record IsKeptReady (bases : Bases) (seats : Seats) (upstream : Upstream) : Type 0 where
+pub record IsKeptReady (bases : Bases) (seats : ConnectionTable) (upstream : UpstreamBooks) : Type 0 where
   pub kept : ∥ IsKept bases (picture seats upstream) (left upstream.requests.spare seats) (left upstream.sessions.spare seats) ∥₁
   pub spare : is_ready seats ≡ true → 0 < upstream.requests.spare
   pub spare_session : is_ready seats ≡ true → 0 < upstream.sessions.spare
 
-pub keeps_ready : (bases : Bases) (seats seats_after : Seats) (upstream after : Upstream) (answer : Option (List ℕ)) (it : Turn) (result : Option Done) → IsTurnOfSome bases (picture seats upstream) answer it → IsSome result
+pub keeps_ready : (bases : Bases) (seats seats_after : ConnectionTable) (upstream after : UpstreamBooks) (answer : Option (List ℕ)) (it : PlannedTurn) (result : Option Done) → IsTurnOfSome bases (picture seats upstream) answer it → IsSome result
     → IfSome result (λ done. IsTurned (picture seats upstream) (picture seats_after after) it done)
     → after.requests.spare + one_if it.asks ≡ upstream.requests.spare + one_if (is_some it.settled)
     → after.sessions.spare + one_if (binds it.settled) ≡ upstream.sessions.spare + one_if (unbinds it.settled (session_of_client (client_at seats it.conn)))
@@ -100,7 +100,7 @@ keeps_ready bases seats seats_after upstream after answer it result its some tur
     }
 
 -- Room for one connection more: not yet ready, and then ready with one place more of each.
-pub room_made : (bases : Bases) (seats seats_after : Seats) (upstream after : Upstream) → is_ready seats ≡ false → is_ready seats_after ≡ true → IsAsBefore (picture seats upstream) (picture seats_after after)
+pub room_made : (bases : Bases) (seats seats_after : ConnectionTable) (upstream after : UpstreamBooks) → is_ready seats ≡ false → is_ready seats_after ≡ true → IsAsBefore (picture seats upstream) (picture seats_after after)
     → after.requests.spare ≡ upstream.requests.spare + 1 → after.sessions.spare ≡ upstream.sessions.spare + 1 → IsKeptReady bases seats upstream → IsKeptReady bases seats_after after
 room_made bases seats seats_after upstream after idle ready same requests sessions keeps = record {
   kept = still_kept bases (picture seats upstream) (picture seats_after after) (left upstream.requests.spare seats) (left upstream.sessions.spare seats) (left after.requests.spare seats_after) (left after.sessions.spare seats_after) same
@@ -115,7 +115,7 @@ room_made bases seats seats_after upstream after idle ready same requests sessio
     kept_apart old new false false idle_too ready_too more = cc
 
 -- Where no connection more is ready for, more room does no harm.
-pub room_grown : (bases : Bases) (seats seats_after : Seats) (upstream after : Upstream) → is_ready seats ≡ false → is_ready seats_after ≡ is_ready seats → IsAsBefore (picture seats upstream) (picture seats_after after)
+pub room_grown : (bases : Bases) (seats seats_after : ConnectionTable) (upstream after : UpstreamBooks) → is_ready seats ≡ false → is_ready seats_after ≡ is_ready seats → IsAsBefore (picture seats upstream) (picture seats_after after)
     → upstream.requests.spare ≤ after.requests.spare → upstream.sessions.spare ≤ after.sessions.spare → IsKeptReady bases seats upstream → IsKeptReady bases seats_after after
 room_grown bases seats seats_after upstream after idle ready same requests sessions keeps = record {
   kept = still_kept bases (picture seats upstream) (picture seats_after after) (left upstream.requests.spare seats) (left upstream.sessions.spare seats) (left after.requests.spare seats_after) (left after.sessions.spare seats_after) same
@@ -131,7 +131,7 @@ room_grown bases seats seats_after upstream after idle ready same requests sessi
     kept_idle old new before now alike more = let same_one : one_if now ≡ one_if before = ap one_if alike in omega (arith, same_one, more)
 
 -- A connection entered, for which room was kept.
-pub room_used : (bases : Bases) (conn : ℕ) (seats seats_after : Seats) (upstream : Upstream) → is_ready seats ≡ true → is_ready seats_after ≡ false → ∥ IsNewIn bases (picture seats upstream) conn ∥₁ → IsEntered conn (picture seats upstream) (picture seats_after upstream)
+pub room_used : (bases : Bases) (conn : ℕ) (seats seats_after : ConnectionTable) (upstream : UpstreamBooks) → is_ready seats ≡ true → is_ready seats_after ≡ false → ∥ IsNewIn bases (picture seats upstream) conn ∥₁ → IsEntered conn (picture seats upstream) (picture seats_after upstream)
     → IsKeptReady bases seats upstream → IsKeptReady bases seats_after upstream
 room_used bases conn seats seats_after upstream ready used new entered keeps = record {
   kept = entering_kept bases conn (picture seats upstream) (picture seats_after upstream) (left upstream.requests.spare seats) (left upstream.sessions.spare seats) (left upstream.requests.spare seats_after) (left upstream.sessions.spare seats_after) (absent_new bases (picture seats upstream) conn new) entered
@@ -149,7 +149,7 @@ room_used bases conn seats seats_after upstream ready used new entered keeps = r
     one_more spare true true was is some = cc
 
 -- A slot for one connection more was made, or memory was wanting for it.
-pub room_prepared : (bases : Bases) (seats seats_after : Seats) (upstream after : Upstream) (result : Result (Unit {0}) Memory) → OnOk result (is_ready seats_after ≡ true) → OnErr result (is_ready seats_after ≡ is_ready seats) → is_ready seats ≡ false
+pub room_prepared : (bases : Bases) (seats seats_after : ConnectionTable) (upstream after : UpstreamBooks) (result : Result (Unit {0}) Memory) → OnOk result (is_ready seats_after ≡ true) → OnErr result (is_ready seats_after ≡ is_ready seats) → is_ready seats ≡ false
     → IsAsBefore (picture seats upstream) (picture seats_after after) → after.requests.spare ≡ upstream.requests.spare + 1 → after.sessions.spare ≡ upstream.sessions.spare + 1 → IsKeptReady bases seats upstream → IsKeptReady bases seats_after after
 room_prepared bases seats seats_after upstream after (Ok u) ready err idle same requests sessions keeps = room_made bases seats seats_after upstream after idle ready same requests sessions keeps
 room_prepared bases seats seats_after upstream after (Err e) ok still idle same requests sessions keeps =

@@ -8,46 +8,46 @@ use Rattle.std.proofs.lemmas.Slice.Eq.{bytes_eq-Decides}
 use Rattle.rtsp_uri.specs.declared.base.Bases.{Bases}
 use Rattle.channel_map.specs.declared.map.Held.{Held}
 use Rattle.client_slot.specs.Client.{Client}
-use Rattle.gate_machine.specs.Events.{PrivateEvent}
-use Rattle.mux_history.specs.Kinds.{RequestKind, sets_up, tears_down, closes, plain}
-use Rattle.mux_history.specs.Books.{Opened, Books}
-use Rattle.mux_history.specs.Happenings.{Happening, Entry}
-use Rattle.mux_history.specs.Joined.{IsJoined}
-use Rattle.mux_history.specs.Own.{final_in, books_of}
-use Rattle.mux_history.specs.Settling.{Final, freed_by, granted_by, bound_by, is_id, frees_session}
-use Rattle.mux_history.specs.Shared.{shared}
-use Rattle.mux_history.proofs.AgreeLemmas.{joined}
-use Rattle.mux_history.proofs.JoinedLemmas.{alone, AreFinal, IsTurnStep, turn_step}
-use Rattle.mux_history.proofs.OtherLemmas.{IsHeldKind, IsFinal}
-use Rattle.mux_history.proofs.OverLemmas.{own_event}
-use Rattle.gateway_mux.specs.declared.settled.Settled.{Settled}
-use Rattle.gateway_mux.specs.declared.turn.Turn.{Turn}
+use Rattle.client_machine.specs.Events.{PrivateEvent}
+use Rattle.gateway_claim.specs.Kinds.{RequestKind, sets_up, tears_down, closes, plain}
+use Rattle.gateway_claim.specs.Books.{Opened, Books}
+use Rattle.gateway_claim.specs.Happenings.{Happening, HistoryEntry}
+use Rattle.gateway_claim.specs.BooksAndSlots.{IsJoined}
+use Rattle.gateway_claim.specs.OwnEvents.{final_in, books_of}
+use Rattle.gateway_claim.specs.Settlement.{Final, freed_by, granted_by, bound_by, is_id, frees_session}
+use Rattle.gateway_claim.specs.SharedEvents.{shared}
+use Rattle.gateway_claim.proofs.AgreeLemmas.{joined}
+use Rattle.gateway_claim.proofs.SlotLemmas.{alone, AreFinal, IsTurnStep, turn_step}
+use Rattle.gateway_claim.proofs.OtherLemmas.{IsHeldKind, IsFinal}
+use Rattle.gateway_claim.proofs.OverLemmas.{own_event}
+use Rattle.gateway_mux.specs.declared.settlement.Settlement.{Settlement}
+use Rattle.gateway_mux.specs.declared.turn.PlannedTurn.{PlannedTurn}
 use Rattle.gateway_mux.specs.Acts.{IsPlannedTurn}
 use Rattle.gateway_mux.specs.Moves.{TakesTurn}
 use Rattle.gateway_mux.specs.Pictures.{Picture, books_in, IsPictureOf}
 use Rattle.gateway_mux.specs.Room.{count_of, is_unbound, HasRoom}
-use Rattle.gateway_mux.specs.Settled.{bound_new, IsSettled, AreSettled, CanSettle}
+use Rattle.gateway_mux.specs.Settlements.{bound_new, IsSettled, AreSettled, CanSettle}
 use Rattle.gateway_mux.proofs.BooksLemmas.{AreSame, turn_same, final_same}
 use Rattle.gateway_mux.proofs.PictureLemmas.{entered_in, same_books, wrong_same}
 use Rattle.gateway_mux.proofs.RoomLemmas.{count_positive}
 
 -- A connection alone agrees with the books.
-joined_in : (bases : Bases) (one : Picture) (T : List Entry) → IsPictureOf bases one T → (i : ℕ) → IsJoined (books_of T) i (alone bases T i).client (alone bases T i).count
+joined_in : (bases : Bases) (one : Picture) (T : List HistoryEntry) → IsPictureOf bases one T → (i : ℕ) → IsJoined (books_of T) i (alone bases T i).client (alone bases T i).count
 joined_in bases one T is i = (joined bases T is.is_history is.standing).1 i
 
 -- The session of a connection is bound to it, and it has every one that is.
-pub session_bound : (bases : Bases) (one : Picture) (T : List Entry) → IsPictureOf bases one T → (i : ℕ) (client : Client) → one.clients i ≡ Some client → (id : List ℕ) → client.session.id ≡ Some id → one.holder id ≡ Some i
+pub session_bound : (bases : Bases) (one : Picture) (T : List HistoryEntry) → IsPictureOf bases one T → (i : ℕ) (client : Client) → one.clients i ≡ Some client → (id : List ℕ) → client.session.id ≡ Some id → one.holder id ≡ Some i
 session_bound bases one T is i client here id has =
     let there : client ≡ shared (books_of T) i (alone bases T i).client = (entered_in bases one T is i client here).1 in
     let own : (alone bases T i).client.session.id ≡ Some id = ap (λ (c : Client). c.session.id) (sym there) ∙ has in
     is.holder id ∙ subst (λ (s : Option (List ℕ)). IfSome s (λ one. (books_of T).holder one ≡ Some i)) own (joined_in bases one T is i).holds
 
-pub session_has : (bases : Bases) (one : Picture) (T : List Entry) → IsPictureOf bases one T → (i : ℕ) (client : Client) → one.clients i ≡ Some client → (id : List ℕ) → one.holder id ≡ Some i → client.session.id ≡ Some id
+pub session_has : (bases : Bases) (one : Picture) (T : List HistoryEntry) → IsPictureOf bases one T → (i : ℕ) (client : Client) → one.clients i ≡ Some client → (id : List ℕ) → one.holder id ≡ Some i → client.session.id ≡ Some id
 session_has bases one T is i client here id bound =
     ap (λ (c : Client). c.session.id) (entered_in bases one T is i client here).1 ∙ (joined_in bases one T is i).session id (sym (is.holder id) ∙ bound)
 
 -- A final reply is one to an open request of the connection whose turn it is.
-pub final_is : (bases : Bases) (one : Picture) (T : List Entry) (h : Happening) (i : ℕ) (client : Client) (raw : PrivateEvent) → IsPictureOf bases one T → TakesTurn bases one h i client raw
+pub final_is : (bases : Bases) (one : Picture) (T : List HistoryEntry) (h : Happening) (i : ℕ) (client : Client) (raw : PrivateEvent) → IsPictureOf bases one T → TakesTurn bases one h i client raw
     → AreFinal (books_of T) i (final_in (books_in one) h)
 final_is bases one T h i client raw is comes =
     let same : AreSame (books_in one) (books_of T) = same_books bases one T is in
@@ -111,7 +111,7 @@ unbound_counts clients requests sessions i client room here none =
     let low : count_of (λ j. is_unbound (clients j)) room.roster ≤ sessions = room.for_sessions in
     omega arith
 
-can_be_settled : (bases : Bases) (one : Picture) (T : List Entry) (i : ℕ) (client : Client) (requests sessions : ℕ) (final : Final) (settled : Settled) → IsPictureOf bases one T → HasRoom one.clients requests sessions
+can_be_settled : (bases : Bases) (one : Picture) (T : List HistoryEntry) (i : ℕ) (client : Client) (requests sessions : ℕ) (final : Final) (settled : Settlement) → IsPictureOf bases one T → HasRoom one.clients requests sessions
     → one.clients i ≡ Some client → IsFinal (books_of T) final → final.conn ≡ i → IsSettled final client.session.id settled → CanSettle one.asker one.held one.holder sessions i client.session.id settled
 can_be_settled bases one T i client requests sessions final settled is room here is_final conn is_settled = record {
   is_open = is.asker settled.number ∙ ap (λ number. option_map (λ (opened : Opened). opened.conn) ((books_of T).opened number)) is_settled.number ∙ ap (option_map (λ (opened : Opened). opened.conn)) is_final.opened ∙ ap (λ who. Some who) conn;
@@ -130,16 +130,16 @@ can_be_settled bases one T i client requests sessions final settled is room here
     by None e = tt
     by (Some id) e = session_bound bases one T is i client here id e
 
-pub can_settle : (bases : Bases) (one : Picture) (T : List Entry) (h : Happening) (answer : Option (List ℕ)) (it : Turn) (requests sessions : ℕ) (settled : Settled) → IsPictureOf bases one T → HasRoom one.clients requests sessions
+pub can_settle : (bases : Bases) (one : Picture) (T : List HistoryEntry) (h : Happening) (answer : Option (List ℕ)) (it : PlannedTurn) (requests sessions : ℕ) (settled : Settlement) → IsPictureOf bases one T → HasRoom one.clients requests sessions
     → (its : IsPlannedTurn bases one h answer it) → it.settled ≡ Some settled → CanSettle one.asker one.held one.holder sessions it.conn its.client.session.id settled
 can_settle bases one T h answer it requests sessions settled is room its settles =
-    by (final_in (books_in one) h) (final_is bases one T h it.conn its.client its.raw is its.its_turn) (subst (λ (one_settled : Option Settled). AreSettled (final_in (books_in one) h) its.client.session.id one_settled) settles its.settles)
+    by (final_in (books_in one) h) (final_is bases one T h it.conn its.client its.raw is its.its_turn) (subst (λ (one_settled : Option Settlement). AreSettled (final_in (books_in one) h) its.client.session.id one_settled) settles its.settles)
   where
     by : (final : Option Final) → AreFinal (books_of T) it.conn final → AreSettled final its.client.session.id (Some settled) → CanSettle one.asker one.held one.holder sessions it.conn its.client.session.id settled
     by None is_final is_settled = absurd is_settled
     by (Some final) is_final is_settled = can_be_settled bases one T it.conn its.client requests sessions final settled is room its.its_turn.here is_final.0 is_final.1 is_settled
 
 -- That it can be settled has one proof at most.
-pub can_settle_prop : (asker : ℕ → Option ℕ) (held : ℕ → Option Held) (holder : List ℕ → Option ℕ) (spare conn : ℕ) (session : Option (List ℕ)) (settled : Option Settled)
+pub can_settle_prop : (asker : ℕ → Option ℕ) (held : ℕ → Option Held) (holder : List ℕ → Option ℕ) (spare conn : ℕ) (session : Option (List ℕ)) (settled : Option Settlement)
     → IsProp (IfSome settled (CanSettle asker held holder spare conn session))
 can_settle_prop asker held holder spare conn session settled = hlevel props

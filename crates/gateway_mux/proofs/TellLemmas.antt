@@ -5,21 +5,21 @@ use Rattle.std.specs.Option.{option_map}
 use Rattle.rtsp_uri.specs.declared.base.Bases.{Bases}
 use Rattle.client_slot.specs.declared.purpose.Purpose.{Purpose}
 use Rattle.client_slot.specs.Client.{Client}
-use Rattle.client_slot.specs.Renumbered.{purpose_under}
-use Rattle.gate_machine.specs.Alone.{is_live, is_empty_list}
-use Rattle.gate_machine.proofs.KeepLemmas.{live_unclosed}
-use Rattle.mux_history.specs.declared.event.UpCause.{UpCause}
-use Rattle.mux_history.specs.Happenings.{Entry, fault_in, standing, entered, shut, is_alive}
-use Rattle.mux_history.specs.Own.{books_of, own}
-use Rattle.mux_history.specs.Follows.{IsHistory}
-use Rattle.mux_history.specs.Shared.{shared}
-use Rattle.mux_history.specs.Tells.{IsFirstAlive, is_busy_private, is_busy, waiting_private, requests_waiting}
-use Rattle.mux_history.proofs.CaseLemmas.{not_over}
-use Rattle.mux_history.proofs.HistoryLemmas.{shut_as_alone}
-use Rattle.mux_history.proofs.JoinedLemmas.{alone}
-use Rattle.mux_history.proofs.OverLemmas.{faults_over}
-use Rattle.mux_history.proofs.WaitLemmas.{still_waiting, closed_waiting}
-use Rattle.gateway_mux.specs.Gone.{IsKeptUnlessGone}
+use Rattle.client_slot.specs.Renumber.{purpose_under}
+use Rattle.client_machine.specs.Alone.{is_live, is_empty_list}
+use Rattle.client_machine.proofs.KeepLemmas.{live_unclosed}
+use Rattle.gateway_claim.specs.declared.event.UpCause.{UpCause}
+use Rattle.gateway_claim.specs.Happenings.{HistoryEntry, fault_in, standing, entered, shut, is_alive}
+use Rattle.gateway_claim.specs.OwnEvents.{books_of, own}
+use Rattle.gateway_claim.specs.Follows.{IsHistory}
+use Rattle.gateway_claim.specs.SharedEvents.{shared}
+use Rattle.gateway_claim.specs.Tells.{IsFirstAlive, is_busy_private, is_busy, waiting_private, requests_waiting}
+use Rattle.gateway_claim.proofs.CaseLemmas.{not_over}
+use Rattle.gateway_claim.proofs.HistoryLemmas.{shut_as_alone}
+use Rattle.gateway_claim.proofs.SlotLemmas.{alone}
+use Rattle.gateway_claim.proofs.OverLemmas.{faults_over}
+use Rattle.gateway_claim.proofs.WaitLemmas.{still_waiting, closed_waiting}
+use Rattle.gateway_mux.specs.Departure.{IsKeptUnlessGone}
 use Rattle.gateway_mux.specs.Pictures.{Picture, IsPictureOf}
 use Rattle.gateway_mux.specs.Stands.{Stands, picture_of, bases_of}
 use Rattle.gateway_mux.specs.declared.mux.Mux.{Mux}
@@ -37,11 +37,11 @@ is_busy_client None = false
 is_busy_client (Some client) = client.alive && is_some client.pending
 
 -- A connection that entered was not closed exactly where the machine alone is live.
-alive_live : (bases : Bases) (T : List Entry) → IsHistory bases T → (i : ℕ) → entered i T ≡ true → is_alive i T ≡ is_live (alone bases T i)
+alive_live : (bases : Bases) (T : List HistoryEntry) → IsHistory bases T → (i : ℕ) → entered i T ≡ true → is_alive i T ≡ is_live (alone bases T i)
 alive_live bases T history i en =
     ap (λ t. t && is_empty_list (shut i T)) en ∙ ap is_empty_list (shut_as_alone bases T history i) ∙ sym (live_unclosed bases (own bases i T))
 
-pub alive_in : (bases : Bases) (one : Picture) (T : List Entry) → IsPictureOf bases one T → (i : ℕ) → is_alive i T ≡ is_alive_client (one.clients i)
+pub alive_in : (bases : Bases) (one : Picture) (T : List HistoryEntry) → IsPictureOf bases one T → (i : ℕ) → is_alive i T ≡ is_alive_client (one.clients i)
 alive_in bases one T is i = by (entered i T) refl
   where
     by : (t : Bool) → entered i T ≡ t → is_alive i T ≡ is_alive_client (one.clients i)
@@ -56,7 +56,7 @@ pending_same : (pairs : ℕ → ℕ) (pending : Option Purpose) → is_some pend
 pending_same pairs None = refl
 pending_same pairs (Some purpose) = refl
 
-pub busy_in : (bases : Bases) (one : Picture) (T : List Entry) → IsPictureOf bases one T → (i : ℕ) → is_busy bases i T ≡ is_busy_client (one.clients i)
+pub busy_in : (bases : Bases) (one : Picture) (T : List HistoryEntry) → IsPictureOf bases one T → (i : ℕ) → is_busy bases i T ≡ is_busy_client (one.clients i)
 busy_in bases one T is i = by (entered i T) refl
   where
     by : (t : Bool) → entered i T ≡ t → is_busy bases i T ≡ is_busy_client (one.clients i)
@@ -73,19 +73,19 @@ abbrev pub IsFirstLive : (ℕ → Option Client) → ℕ → Option ℕ → Type
 IsFirstLive clients from None = (i : ℕ) → from ≤ i → i < 2 ^ 32 → is_alive_client (clients i) ≡ false
 IsFirstLive clients from (Some conn) = (from ≤ conn) × (is_alive_client (clients conn) ≡ true) × ((i : ℕ) → from ≤ i → i < conn → is_alive_client (clients i) ≡ false)
 
-pub first_alive : (bases : Bases) (one : Picture) (T : List Entry) → IsPictureOf bases one T → (from : ℕ) (result : Option ℕ) → IsFirstLive one.clients from result → IsFirstAlive from T result
+pub first_alive : (bases : Bases) (one : Picture) (T : List HistoryEntry) → IsPictureOf bases one T → (from : ℕ) (result : Option ℕ) → IsFirstLive one.clients from result → IsFirstAlive from T result
 first_alive bases one T is from None first = λ i low high. alive_in bases one T is i ∙ first i low high
 first_alive bases one T is from (Some conn) first = (first.0, alive_in bases one T is conn ∙ first.1, λ i low high. alive_in bases one T is i ∙ first.2 i low high)
 
 -- After the end of the connection to the server no connection is alive, and none is busy.
-pub alive_over : (bases : Bases) (T : List Entry) (cause : UpCause) → IsHistory bases T → fault_in T ≡ Some cause → (i : ℕ) → is_alive i T ≡ false
+pub alive_over : (bases : Bases) (T : List HistoryEntry) (cause : UpCause) → IsHistory bases T → fault_in T ≡ Some cause → (i : ℕ) → is_alive i T ≡ false
 alive_over bases T cause history ended i = by (entered i T) refl
   where
     by : (t : Bool) → entered i T ≡ t → is_alive i T ≡ false
     by true e = alive_live bases T history i e ∙ ap (λ over. not over && (alone bases T i).client.alive) (faults_over bases T history cause ended i e)
     by false e = ap (λ t. t && is_empty_list (shut i T)) e
 
-pub busy_over : (bases : Bases) (T : List Entry) (cause : UpCause) → IsHistory bases T → fault_in T ≡ Some cause → (i : ℕ) → is_busy bases i T ≡ false
+pub busy_over : (bases : Bases) (T : List HistoryEntry) (cause : UpCause) → IsHistory bases T → fault_in T ≡ Some cause → (i : ℕ) → is_busy bases i T ≡ false
 busy_over bases T cause history ended i = by (entered i T) refl
   where
     by : (t : Bool) → entered i T ≡ t → is_busy bases i T ≡ false
@@ -95,7 +95,7 @@ busy_over bases T cause history ended i = by (entered i T) refl
     by false e = ap (λ t. is_busy_private (cond t (Some (alone bases T i)) None)) e
 
 -- So a multiplexer tells it, before that end and after it.
-pub told_alive : (mux : Mux) (T : List Entry) → Stands mux T → (i : ℕ) → is_alive i T ≡ (is_none mux.ended && is_alive_client ((picture_of mux.connections).clients i))
+pub told_alive : (mux : Mux) (T : List HistoryEntry) → Stands mux T → (i : ℕ) → is_alive i T ≡ (is_none mux.ended && is_alive_client ((picture_of mux.connections).clients i))
 told_alive mux T stands i = by mux.ended refl
   where
     by : (ended : Option UpCause) → mux.ended ≡ ended → is_alive i T ≡ (is_none mux.ended && is_alive_client ((picture_of mux.connections).clients i))
@@ -106,7 +106,7 @@ told_alive mux T stands i = by mux.ended refl
         alive_over (bases_of mux) T cause stands.is_history (sym stands.has_ended ∙ e) i
         ∙ sym (ap (λ (f : Option UpCause). is_none f && is_alive_client ((picture_of mux.connections).clients i)) e)
 
-pub told_busy : (mux : Mux) (T : List Entry) → Stands mux T → (i : ℕ) → is_busy (bases_of mux) i T ≡ (is_none mux.ended && is_busy_client ((picture_of mux.connections).clients i))
+pub told_busy : (mux : Mux) (T : List HistoryEntry) → Stands mux T → (i : ℕ) → is_busy (bases_of mux) i T ≡ (is_none mux.ended && is_busy_client ((picture_of mux.connections).clients i))
 told_busy mux T stands i = by mux.ended refl
   where
     by : (ended : Option UpCause) → mux.ended ≡ ended → is_busy (bases_of mux) i T ≡ (is_none mux.ended && is_busy_client ((picture_of mux.connections).clients i))
@@ -126,7 +126,7 @@ kept_waiting : (one : Option Client) (its : Client) → IsKeptUnlessGone one (So
 kept_waiting None its is none = ap length (none (over_dead its is))
 kept_waiting (Some client) its is none = ap waiting_of is
 
-pub waiting_in : (bases : Bases) (one : Picture) (T : List Entry) → IsPictureOf bases one T → (i : ℕ) → requests_waiting bases i T ≡ waiting_of (one.clients i)
+pub waiting_in : (bases : Bases) (one : Picture) (T : List HistoryEntry) → IsPictureOf bases one T → (i : ℕ) → requests_waiting bases i T ≡ waiting_of (one.clients i)
 waiting_in bases one T is i = by (entered i T) refl
   where
     by : (t : Bool) → entered i T ≡ t → requests_waiting bases i T ≡ waiting_of (one.clients i)
@@ -136,14 +136,14 @@ waiting_in bases one T is i = by (entered i T) refl
     by false e = ap (λ t. waiting_private (cond t (Some (alone bases T i)) None)) e ∙ sym (ap waiting_of (none_in bases one T is i e))
 
 -- The entries before the end of the connection to the server tell it also after that end.
-standing_more : (bases : Bases) (T : List Entry) (e : Entry) (i : ℕ) (ended : Option UpCause) → IsHistory bases (e ∷ T) → fault_in (e ∷ T) ≡ ended → requests_waiting bases i (standing T) ≡ requests_waiting bases i T
+standing_more : (bases : Bases) (T : List HistoryEntry) (e : HistoryEntry) (i : ℕ) (ended : Option UpCause) → IsHistory bases (e ∷ T) → fault_in (e ∷ T) ≡ ended → requests_waiting bases i (standing T) ≡ requests_waiting bases i T
     → requests_waiting bases i (standing (e ∷ T)) ≡ requests_waiting bases i (e ∷ T)
 standing_more bases T e i None history is earlier = ap (requests_waiting bases i) (standing_open (e ∷ T) is)
 standing_more bases T e i (Some cause) history is earlier =
-    ap (λ (f : Option UpCause). let all : List Entry = e ∷ T in requests_waiting bases i (cond (is_some f) (standing T) all)) is
+    ap (λ (f : Option UpCause). let all : List HistoryEntry = e ∷ T in requests_waiting bases i (cond (is_some f) (standing T) all)) is
     ∙ earlier
     ∙ sym (still_waiting bases T e i history.0 history.1 (ap is_some is))
 
-pub waiting_standing : (bases : Bases) (T : List Entry) → IsHistory bases T → (i : ℕ) → requests_waiting bases i (standing T) ≡ requests_waiting bases i T
+pub waiting_standing : (bases : Bases) (T : List HistoryEntry) → IsHistory bases T → (i : ℕ) → requests_waiting bases i (standing T) ≡ requests_waiting bases i T
 waiting_standing bases [] history i = refl
 waiting_standing bases (e ∷ T) history i = standing_more bases T e i (fault_in (e ∷ T)) history refl (waiting_standing bases T history.0 i)

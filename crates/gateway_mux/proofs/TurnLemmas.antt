@@ -4,8 +4,8 @@ use Rattle.channel_map.specs.declared.map.TheConstants.{PAIRS}
 use Rattle.channel_map.specs.declared.map.Held.{Held}
 use Rattle.channel_map.specs.Pairs.{is_free, first_free, lowest_free}
 use Rattle.client_slot.specs.Client.{Client}
-use Rattle.gateway_mux.specs.declared.settled.Settled.{Settled}
-use Rattle.gateway_mux.specs.Settled.{held_settled}
+use Rattle.gateway_mux.specs.declared.settlement.Settlement.{Settlement}
+use Rattle.gateway_mux.specs.Settlements.{held_settled}
 use Rattle.gateway_mux.specs.Upstream.{reserved_by}
 use Rattle.gateway_mux.specs.Turn.{free_once, session_of_client}
 
@@ -18,7 +18,7 @@ unfolding lowest_free
 lowest_free_same f g same = first_free_same PAIRS 0 f g same
 
 -- A pair is reserved once the reply was settled.
-pub reserved_settled : (old now new : ℕ → Option Held) (settled : Option Settled) (is_for reserves : Bool) (conn : ℕ) → ((p : ℕ) → now p ≡ held_settled settled p (old p)) → is_for ≡ reserves
+pub reserved_settled : (old now new : ℕ → Option Held) (settled : Option Settlement) (is_for reserves : Bool) (conn : ℕ) → ((p : ℕ) → now p ≡ held_settled settled p (old p)) → is_for ≡ reserves
     → ((p : ℕ) → new p ≡ reserved_by is_for conn (lowest_free (λ q. is_free (now q))) p (now p))
     → (p : ℕ) → new p ≡ reserved_by reserves conn (free_once settled old) p (held_settled settled p (old p))
 reserved_settled old now new settled is_for reserves conn settles is reserved p =

@@ -7,8 +7,8 @@ use Rattle.channel_map.specs.Pairs.{lowest_free}
 use Rattle.channel_map.proofs.PairLemmas.{lowest_free_below}
 use Rattle.channel_map.specs.declared.map.Freed.{Freed}
 use Rattle.channel_map.specs.declared.map.Freed.TheVariants.{Granted}
-use Rattle.mux_history.specs.Settling.{frees_session, holder_left}
-use Rattle.gateway_mux.specs.Settled.{IsOwnSession, holder_by}
+use Rattle.gateway_claim.specs.Settlement.{frees_session, holder_left}
+use Rattle.gateway_mux.specs.Settlements.{IsOwnSession, holder_by}
 
 same_id : (one id : List ℕ) → bytes_eq id one ≡ true → id ≡ one
 same_id one id e = (bytes_eq-Decides id one).0 e

@@ -5,28 +5,29 @@ use Rattle.rtsp_head.specs.declared.item.ItemKind.{ItemKind}
 use Rattle.rtsp_head.specs.declared.item.ItemKind.TheVariants as kinds
 use Rattle.rtsp_uri.specs.declared.base.Bases.{Bases}
 use Rattle.client_slot.specs.Client.{Client}
-use Rattle.gate_machine.specs.declared.why.CloseWhy.{CloseWhy}
-use Rattle.gate_machine.specs.declared.why.CloseWhy.TheVariants.{Ended, BadItem, Slow}
-use Rattle.gate_machine.specs.Events.{PrivateEvent}
-use Rattle.gate_machine.specs.Frames.{channel_in, Half, half_for, channel_for}
-use Rattle.gate_machine.specs.Hearing.{hear}
-use Rattle.gate_machine.specs.Plans.{Comes, CanCome, heard_by, effect_by, IsPlan, IsShortPlan}
-use Rattle.mux_history.specs.Happenings.{Happening, enters, takes, ends, lags, hears, up_ends}
-use Rattle.mux_history.specs.Own.{owner_of, turn, final_in}
-use Rattle.mux_history.specs.Follows.{answer_due}
-use Rattle.mux_history.specs.Shared.{raw_event, number_heard}
+use Rattle.client_machine.specs.declared.why.CloseWhy.{CloseWhy}
+use Rattle.client_machine.specs.declared.why.CloseWhy.TheVariants.{Ended, BadItem, Slow}
+use Rattle.client_machine.specs.Events.{PrivateEvent}
+use Rattle.client_machine.specs.Frames.{channel_in, Half, half_for, channel_for}
+use Rattle.client_machine.specs.ServerItems.{hear}
+use Rattle.client_machine.specs.Plans.{Comes, CanCome, heard_by, effect_by, IsPlan, IsShortPlan}
+use Rattle.gateway_claim.specs.Happenings.{Happening, enters, takes, ends, lags, hears, up_ends}
+use Rattle.gateway_claim.specs.OwnEvents.{owner_of, turn, final_in}
+use Rattle.gateway_claim.specs.Follows.{answer_due}
+use Rattle.gateway_claim.specs.SharedEvents.{raw_event, number_heard}
 use Rattle.gateway_mux.specs.declared.act.Act.{Act}
 use Rattle.gateway_mux.specs.declared.act.Act.TheVariants.{Nothing, Rises, Falls, Answers, Turns, Ends}
-use Rattle.gateway_mux.specs.declared.said.Said.{Said}
-use Rattle.gateway_mux.specs.declared.turn.Turn.{Turn}
+use Rattle.gateway_mux.specs.declared.turn_facts.TurnFacts.{TurnFacts}
+use Rattle.gateway_mux.specs.declared.turn.PlannedTurn.{PlannedTurn}
 use Rattle.gateway_mux.specs.Moves.{wrong_in, TakesTurn, IsIdle, IsEndAt}
 use Rattle.gateway_mux.specs.Pictures.{Picture, books_in}
-use Rattle.client_seats.specs.declared.seats.Seats.{Seats}
-use Rattle.client_seats.specs.Seats.{IsKeyOf}
-use Rattle.gateway_mux.specs.Settled.{AreSettled}
+use Rattle.connection_table.specs.declared.table.ConnectionTable.{ConnectionTable}
+use Rattle.connection_table.specs.Tables.{IsKeyOf}
+use Rattle.gateway_mux.specs.Settlements.{AreSettled}
 use Rattle.gateway_mux.specs.Short.{IsShortAnswer}
 use Rattle.gateway_mux.specs.Turn.{free_once}
 
+-- the item is Bad
 abbrev pub IsBadKind : ItemKind → Type 0
 IsBadKind kinds.Request = ⊥
 IsBadKind kinds.Response = ⊥
@@ -35,7 +36,7 @@ IsBadKind (kinds.Bad kind) = Unit {0}
 
 -- A connection has its turn: what comes to it is planned, for the next number and the lowest pair that is free then, and
 -- what a final reply settles. The server is due this answer.
-pub record IsPlannedTurn (bases : Bases) (one : Picture) (happening : Happening) (answer : Option (List ℕ)) (it : Turn) : Type 0 where
+pub record IsPlannedTurn (bases : Bases) (one : Picture) (happening : Happening) (answer : Option (List ℕ)) (it : PlannedTurn) : Type 0 where
   pub client : Client
   pub raw : PrivateEvent
   pub comes : Comes
@@ -48,12 +49,13 @@ pub record IsPlannedTurn (bases : Bases) (one : Picture) (happening : Happening)
   pub plan : IsPlan bases it.next (free_once it.settled one.held) client comes it.plan
   pub asks : it.asks ≡ is_some (effect_by bases it.number (free_once it.settled one.held) client comes).message
 
-pub record IsTurnOfSome (bases : Bases) (one : Picture) (answer : Option (List ℕ)) (it : Turn) : Type 0 where
+-- a planned turn is that of some event
+pub record IsTurnOfSome (bases : Bases) (one : Picture) (answer : Option (List ℕ)) (it : PlannedTurn) : Type 0 where
   pub happening : Happening
   pub is_planned : IsPlannedTurn bases one happening answer it
 
 -- What is said of a turn before its plan: what comes to the connection, and what is settled where that entered.
-pub record IsSaid (bases : Bases) (one : Picture) (happening : Happening) (it : Said) (comes : Comes) : Type 0 where
+pub record IsSaid (bases : Bases) (one : Picture) (happening : Happening) (it : TurnFacts) (comes : Comes) : Type 0 where
   pub raw : PrivateEvent
   pub turns : turn (books_in one) happening ≡ Some it.conn
   pub is_raw : raw_event (books_in one) happening ≡ Some raw
@@ -99,6 +101,7 @@ pub record IsFall (one : Picture) (happening : Happening) (conn channel : ℕ) :
   pub alive : client.alive ≡ true
   pub found : channel_for (channel_in shape / 2) (channel_in shape % 2) client.session.tracks ≡ Some channel
 
+-- the act is what the event does
 abbrev pub IsAct : Bases → Picture → Happening → Act → Type 0
 IsAct bases one happening Nothing = IsIdle bases one happening None
 IsAct bases one happening (Rises channel) = IsRise one happening channel
@@ -113,7 +116,7 @@ answers_alone None = Nothing
 answers_alone (Some answer) = Answers answer
 
 -- The connection that has its turn is kept under the key that was planned.
-abbrev pub IsKeyed : Seats → Act → Type 0
+abbrev pub IsKeyed : ConnectionTable → Act → Type 0
 IsKeyed seats Nothing = Unit {0}
 IsKeyed seats (Rises channel) = Unit {0}
 IsKeyed seats (Falls conn channel) = Unit {0}

@@ -4,24 +4,24 @@ use Rattle.std.specs.Option.{option_map}
 use Rattle.rtsp_uri.specs.declared.base.Bases.{Bases}
 use Rattle.head_two.specs.declared.reply.Reply2.{Reply2}
 use Rattle.client_slot.specs.Client.{Client}
-use Rattle.gate_machine.specs.declared.parts.Done.{Done}
-use Rattle.gate_machine.specs.Effects.{Effect}
-use Rattle.gate_machine.specs.Events.{PrivateEvent}
-use Rattle.gate_machine.specs.Hearing.{hear, idles}
-use Rattle.gate_machine.specs.Step.{step}
-use Rattle.mux_history.specs.declared.event.Outcome.{Outcome}
-use Rattle.mux_history.specs.declared.event.Closed.TheVariants.{Nobody, All}
-use Rattle.mux_history.specs.declared.event.UpMessage.TheVariants.{Request, Frame}
-use Rattle.mux_history.specs.declared.event.UpCause.{UpCause}
-use Rattle.mux_history.specs.declared.event.UpCause.TheVariants.{Framing, UnknownReply}
-use Rattle.mux_history.specs.Books.{Opened, Books}
-use Rattle.mux_history.specs.Heard.{Heard, replies, requests, frames, faults, heard}
-use Rattle.mux_history.specs.Settling.{free_in}
-use Rattle.mux_history.specs.Happenings.{Happening, enters, takes, ends, lags, hears, up_ends, cause_of, Entry, standing, nothing_up}
-use Rattle.mux_history.specs.Own.{turn, final_in, settled_by, lends_where}
-use Rattle.mux_history.specs.Follows.{kind_breach, spent, answer_due}
-use Rattle.mux_history.specs.Next.{client_piece, one_closed, next}
-use Rattle.mux_history.specs.Shared.{raw_event, number_heard, kind_gone}
+use Rattle.client_machine.specs.declared.parts.Done.{Done}
+use Rattle.client_machine.specs.Effects.{Effect}
+use Rattle.client_machine.specs.Events.{PrivateEvent}
+use Rattle.client_machine.specs.ServerItems.{hear, idles}
+use Rattle.client_machine.specs.Step.{step}
+use Rattle.gateway_claim.specs.declared.event.Outcome.{Outcome}
+use Rattle.gateway_claim.specs.declared.event.Closed.TheVariants.{Nobody, All}
+use Rattle.gateway_claim.specs.declared.event.UpMessage.TheVariants.{Request, Frame}
+use Rattle.gateway_claim.specs.declared.event.UpCause.{UpCause}
+use Rattle.gateway_claim.specs.declared.event.UpCause.TheVariants.{Framing, UnknownReply}
+use Rattle.gateway_claim.specs.Books.{Opened, Books}
+use Rattle.gateway_claim.specs.ServerItems.{Heard, replies, requests, frames, faults, heard}
+use Rattle.gateway_claim.specs.Settlement.{free_in}
+use Rattle.gateway_claim.specs.Happenings.{Happening, enters, takes, ends, lags, hears, up_ends, cause_of, HistoryEntry, standing, nothing_up}
+use Rattle.gateway_claim.specs.OwnEvents.{turn, final_in, settled_by, lends_where}
+use Rattle.gateway_claim.specs.Follows.{kind_breach, spent, answer_due}
+use Rattle.gateway_claim.specs.Next.{client_piece, one_closed, next}
+use Rattle.gateway_claim.specs.SharedEvents.{raw_event, number_heard, kind_gone}
 use Rattle.gateway_mux.specs.Pictures.{Picture, books_in, IsPictureOf}
 use Rattle.gateway_mux.specs.Turn.{session_of_client}
 
@@ -30,12 +30,14 @@ abbrev pub wrong_reply : Picture → Reply2 → Option Opened → Option UpCause
 wrong_reply one reply None = Some (UnknownReply reply.cseq)
 wrong_reply one reply (Some opened) = kind_breach (books_in one) opened.kind opened.conn (session_of_client (one.clients opened.conn)) reply
 
+-- what is wrong with what the server says
 abbrev pub wrong_heard : Picture → Heard → Option UpCause
 wrong_heard one (replies reply) = wrong_reply one reply ((books_in one).opened reply.cseq)
 wrong_heard one (requests request) = None
 wrong_heard one (frames channel rest) = None
 wrong_heard one (faults fault) = Some (Framing fault)
 
+-- why an event ends the connection to the server
 abbrev pub wrong_in : Picture → Happening → Option UpCause
 wrong_in one (enters conn) = None
 wrong_in one (takes conn shape) = None
@@ -69,6 +71,7 @@ pub record IsAfterStep (one after : Picture) (happening : Happening) (i : ℕ) (
   pub holder : (id : List ℕ) → after.holder id ≡ (books_stepped one happening i effect).holder id
   pub issued : after.issued ≡ (books_stepped one happening i effect).issued
 
+-- what the multiplexer has after the turn of a connection
 abbrev pub IsAfterTurn : Bases → Picture → Picture → Happening → ℕ → Client → PrivateEvent → Type 0
 IsAfterTurn bases one after happening i client raw = IsAfterStep one after happening i (step_in bases one happening client raw)
 
@@ -78,10 +81,12 @@ pub record HearsNothing (bases : Bases) (one : Picture) (happening : Happening) 
   pub is_raw : raw_event (books_in one) happening ≡ Some raw
   pub idle : hear bases (number_heard happening) client raw ≡ idles client
 
+-- the connection hears nothing, where it is there
 abbrev pub IsIdleAt : Bases → Picture → Happening → Option Client → Type 0
 IsIdleAt bases one happening None = Unit {0}
 IsIdleAt bases one happening (Some client) = HearsNothing bases one happening client
 
+-- nobody hears anything of the event
 abbrev pub IsIdleTurn : Bases → Picture → Happening → Option ℕ → Type 0
 IsIdleTurn bases one happening None = Unit {0}
 IsIdleTurn bases one happening (Some i) = IsIdleAt bases one happening (one.clients i)
@@ -110,6 +115,7 @@ answering answer = record { to_client = None; to_up = record { answer = answer; 
 abbrev pub risen_by : List ℕ → Outcome
 risen_by frame = record { to_client = None; to_up = record { answer = None; message = Some (Frame frame) }; closed = Nobody; fault = None }
 
+-- a frame for one player, and nothing else
 abbrev pub fallen_by : ℕ → List ℕ → Outcome
 fallen_by conn frame = record { to_client = Some (record { conn = conn; bytes = frame }); to_up = nothing_up; closed = Nobody; fault = None }
 
@@ -129,15 +135,17 @@ pub record IsSpentAt (bases : Bases) (one : Picture) (happening : Happening) (ca
   pub said : wrong_in one happening ≡ None
   pub spends : spent one.issued (step_in bases one happening client raw).message ≡ Some cause
 
+-- an end for what is wrong, or since no number is left
 abbrev pub IsEndAt : Bases → Picture → Happening → Option UpCause → UpCause → Type 0
 IsEndAt bases one happening (Some wrong) cause = wrong ≡ cause
 IsEndAt bases one happening None cause = IsSpentAt bases one happening cause
 
 -- What an event hands out is the next entry, whichever history it is, and afterwards what the multiplexer has is that of
 -- the longer one, up to the end of the connection to the server.
-pub record IsNext (bases : Bases) (after : Picture) (history : List Entry) (happening : Happening) (outcome : Outcome) : Type 0 where
+pub record IsNext (bases : Bases) (after : Picture) (history : List HistoryEntry) (happening : Happening) (outcome : Outcome) : Type 0 where
   pub is_next : outcome ≡ next bases history happening
   pub is_after : IsPictureOf bases after (standing (record { happening = happening; outcome = outcome } ∷ history))
 
+-- what was handed out is the next entry of every history that the multiplexer stood for
 abbrev pub IsCommitted : Bases → Picture → Picture → Happening → Outcome → Type 0
-IsCommitted bases one after happening outcome = (T : List Entry) → IsPictureOf bases one T → IsNext bases after T happening outcome
+IsCommitted bases one after happening outcome = (T : List HistoryEntry) → IsPictureOf bases one T → IsNext bases after T happening outcome

@@ -9,16 +9,16 @@ use Rattle.channel_map.specs.Pairs.{held_at}
 use Rattle.up_books.specs.Ids.{holder_of}
 use Rattle.up_books.specs.Numbers.{asker_of}
 use Rattle.client_slot.specs.Client.{Client}
-use Rattle.mux_history.specs.Books.{Opened, Books}
-use Rattle.mux_history.specs.Happenings.{Entry, fault_in}
-use Rattle.mux_history.specs.Own.{books_of}
-use Rattle.mux_history.specs.Follows.{IsHistory}
-use Rattle.mux_history.specs.Shared.{shared_in}
-use Rattle.client_seats.specs.declared.seats.Seats.{Seats}
-use Rattle.gateway_mux.specs.declared.upstream.Upstream.{Upstream}
-use Rattle.gateway_mux.specs.Gone.{IsKeptUnlessGone}
+use Rattle.gateway_claim.specs.Books.{Opened, Books}
+use Rattle.gateway_claim.specs.Happenings.{HistoryEntry, fault_in}
+use Rattle.gateway_claim.specs.OwnEvents.{books_of}
+use Rattle.gateway_claim.specs.Follows.{IsHistory}
+use Rattle.gateway_claim.specs.SharedEvents.{shared_in}
+use Rattle.connection_table.specs.declared.table.ConnectionTable.{ConnectionTable}
+use Rattle.gateway_mux.specs.declared.upstream.UpstreamBooks.{UpstreamBooks}
+use Rattle.gateway_mux.specs.Departure.{IsKeptUnlessGone}
 use Rattle.gateway_mux.specs.Room.{HasRoom}
-use Rattle.client_seats.specs.Seats.{client_at}
+use Rattle.connection_table.specs.Tables.{client_at}
 use Rattle.gateway_mux.specs.Turn.{kind_open}
 
 -- the players' connections; who asked each open request; who holds each pair of channels; which connection has each
@@ -30,7 +30,8 @@ pub record Picture : Type 0 where
   pub holder : List ℕ → Option ℕ
   pub issued : ℕ
 
-abbrev pub picture : Seats → Upstream → Picture
+-- what the multiplexer has, as functions
+abbrev pub picture : ConnectionTable → UpstreamBooks → Picture
 picture seats upstream = record {
   clients = client_at seats;
   asker = λ number. asker_of upstream.requests number;
@@ -43,6 +44,7 @@ picture seats upstream = record {
 abbrev pub opened_in : Picture → ℕ → Option Opened
 opened_in picture number = option_map (λ conn. record { conn = conn; kind = kind_open (picture.clients conn) }) (picture.asker number)
 
+-- the books of a picture
 abbrev pub books_in : Picture → Books
 books_in picture = record {
   opened = opened_in picture;
@@ -59,7 +61,7 @@ books_in picture = record {
 
 -- The list is a history in which the connection to the server stands, each connection is as it has it but for those that
 -- are over, and so are the numbers of requests, the pairs of channels and the sessions.
-pub record IsPictureOf (bases : Bases) (one : Picture) (history : List Entry) : Type 0 where
+pub record IsPictureOf (bases : Bases) (one : Picture) (history : List HistoryEntry) : Type 0 where
   pub is_history : IsHistory bases history
   pub standing : fault_in history ≡ None
   pub clients : (i : ℕ) → IsKeptUnlessGone (one.clients i) (shared_in bases i history)
@@ -70,7 +72,7 @@ pub record IsPictureOf (bases : Bases) (one : Picture) (history : List Entry) : 
 
 -- There is such a history, and the books have room for all that the connections can still ask for.
 pub record IsKept (bases : Bases) (one : Picture) (requests sessions : ℕ) : Type 0 where
-  pub history : List Entry
+  pub history : List HistoryEntry
   pub is_of : IsPictureOf bases one history
   pub room : HasRoom one.clients requests sessions
   pub low : (pair : ℕ) → IsSome (one.held pair) → pair < PAIRS

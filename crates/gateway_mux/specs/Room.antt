@@ -8,6 +8,7 @@ abbrev pub is_in : ℕ → List ℕ → Bool
 is_in i [] = false
 is_in i (j ∷ more) = j == i || is_in i more
 
+-- no number stands twice
 abbrev pub IsOnce : List ℕ → Type 0
 IsOnce [] = Unit {0}
 IsOnce (i ∷ more) = (is_in i more ≡ false) × IsOnce more
@@ -17,10 +18,12 @@ abbrev pub count_of : (ℕ → Bool) → List ℕ → ℕ
 count_of test [] = 0
 count_of test (i ∷ more) = (if test i then 1 else 0) + count_of test more
 
+-- whether a connection has no request open
 abbrev pub is_idle : Option Client → Bool
 is_idle None = false
 is_idle (Some client) = is_none client.pending
 
+-- whether a connection has no session
 abbrev pub is_unbound : Option Client → Bool
 is_unbound None = false
 is_unbound (Some client) = is_none client.session.id

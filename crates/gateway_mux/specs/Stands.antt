@@ -1,25 +1,26 @@
 -- When a multiplexer stands for a history (this project's own).
 use Rattle.std.specs.Prelude.{◌≡◌, ℕ, Bool, ◌||◌, is_some, List, Option, Some, None}
 use Rattle.rtsp_uri.specs.declared.base.Bases.{Bases}
-use Rattle.mux_history.specs.declared.event.UpCause.{UpCause}
-use Rattle.mux_history.specs.declared.event.Event.{Event}
-use Rattle.mux_history.specs.Happenings.{Entry, happening_of, fault_in, standing}
-use Rattle.mux_history.specs.Cores.{IsNewTo}
-use Rattle.mux_history.specs.Follows.{IsHistory}
-use Rattle.mux_history.specs.Tells.{dropped_frames}
+use Rattle.gateway_claim.specs.declared.event.UpCause.{UpCause}
+use Rattle.gateway_claim.specs.declared.event.Event.{Event}
+use Rattle.gateway_claim.specs.Happenings.{HistoryEntry, happening_of, fault_in, standing}
+use Rattle.gateway_claim.specs.Cores.{IsNewTo}
+use Rattle.gateway_claim.specs.Follows.{IsHistory}
+use Rattle.gateway_claim.specs.Tells.{dropped_frames}
 use Rattle.gateway_mux.specs.declared.act.Act.{Act}
 use Rattle.gateway_mux.specs.declared.connections.Connections.{Connections}
 use Rattle.gateway_mux.specs.declared.mux.Mux.{Mux}
 use Rattle.gateway_mux.specs.Acts.{IsAct, IsShortAct, IsKeyed}
 use Rattle.gateway_mux.specs.Pictures.{Picture, picture, IsPictureOf}
-use Rattle.client_seats.specs.Seats.{is_ready}
+use Rattle.connection_table.specs.Tables.{is_ready}
 
+-- what the multiplexer has
 abbrev pub picture_of : Connections → Picture
 picture_of connections = picture connections.seats connections.upstream
 
 -- The list is a history; what the multiplexer has of its connections is what it has before the connection to the server
 -- ended; and its end and the count of dropped frames are the history's.
-pub record Stands (mux : Mux) (history : List Entry) : Type 0 where
+pub record Stands (mux : Mux) (history : List HistoryEntry) : Type 0 where
   pub is_history : IsHistory mux.connections.bases history
   pub has_ended : mux.ended ≡ fault_in history
   pub counts : mux.dropped ≡ dropped_frames history
@@ -30,6 +31,7 @@ abbrev pub IsActFor : Option UpCause → Mux → Event → Act → Type 0
 IsActFor (Some cause) mux event plan = Unit {0}
 IsActFor None mux event plan = IsAct mux.connections.bases (picture_of mux.connections) (happening_of event) plan × IsShortAct plan × IsKeyed mux.connections.seats plan
 
+-- the plan is what the event does
 abbrev pub IsPlanFor : Mux → Event → Act → Type 0
 IsPlanFor mux event plan = IsActFor mux.ended mux event plan
 
@@ -37,6 +39,7 @@ IsPlanFor mux event plan = IsActFor mux.ended mux event plan
 abbrev pub IsFresh : Mux → ℕ → Type 0
 IsFresh mux conn = ∥ IsNewTo (Stands mux) conn ∥₁
 
+-- between which addresses it stands
 abbrev pub bases_of : Mux → Bases
 bases_of mux = mux.connections.bases
 

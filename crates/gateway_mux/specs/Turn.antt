@@ -5,16 +5,16 @@ use Rattle.rtsp_uri.specs.declared.base.Bases.{Bases}
 use Rattle.client_slot.specs.Client.{Client}
 use Rattle.channel_map.specs.declared.map.Held.{Held}
 use Rattle.channel_map.specs.Pairs.{is_free, lowest_free}
-use Rattle.gate_machine.specs.declared.parts.Plan.{Plan}
-use Rattle.gate_machine.specs.Plans.{Comes, IsPlan}
-use Rattle.mux_history.specs.Kinds.{RequestKind, plain}
-use Rattle.mux_history.specs.Books.{pair_asked}
-use Rattle.mux_history.specs.Shared.{kind_pending}
-use Rattle.gateway_mux.specs.declared.settled.Settled.{Settled}
-use Rattle.gateway_mux.specs.Settled.{held_settled}
+use Rattle.client_machine.specs.declared.parts.Plan.{Plan}
+use Rattle.client_machine.specs.Plans.{Comes, IsPlan}
+use Rattle.gateway_claim.specs.Kinds.{RequestKind, plain}
+use Rattle.gateway_claim.specs.Books.{pair_asked}
+use Rattle.gateway_claim.specs.SharedEvents.{kind_pending}
+use Rattle.gateway_mux.specs.declared.settlement.Settlement.{Settlement}
+use Rattle.gateway_mux.specs.Settlements.{held_settled}
 
 -- the lowest pair that is free once that is settled, by who holds each pair before it
-abbrev pub free_once : Option Settled → (ℕ → Option Held) → Option ℕ
+abbrev pub free_once : Option Settlement → (ℕ → Option Held) → Option ℕ
 free_once settled held = lowest_free (λ pair. is_free (held_settled settled pair (held pair)))
 
 -- A plan for a connection that entered.
@@ -40,6 +40,7 @@ abbrev pub asker_lent : Bool → ℕ → ℕ → ℕ → Option ℕ → Option �
 asker_lent false conn next number asker = asker
 asker_lent true conn next number asker = if number == next then Some conn else asker
 
+-- how many numbers are issued once a request has gone up, or not
 abbrev pub issued_then : Bool → ℕ → ℕ
 issued_then false issued = issued
 issued_then true issued = issued + 1

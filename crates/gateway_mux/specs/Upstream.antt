@@ -7,6 +7,7 @@ abbrev pub taken_by : ℕ → Option ℕ → ℕ → Option Held → Option Held
 taken_by conn None pair held = held
 taken_by conn (Some lowest) pair held = if pair == lowest then Some (record { conn = conn; pair = lowest; granted = false }) else held
 
+-- who holds a pair once a request has taken the lowest, or not
 abbrev pub reserved_by : Bool → ℕ → Option ℕ → ℕ → Option Held → Option Held
 reserved_by false conn lowest pair held = held
 reserved_by true conn lowest pair held = taken_by conn lowest pair held

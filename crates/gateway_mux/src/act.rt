@@ -1,8 +1,8 @@
 //! What an event does.
 
-use crate::turn::Turn;
+use crate::turn::PlannedTurn;
 use gate_bytes::Text;
-use mux_history::UpCause;
+use gateway_claim::UpCause;
 
 /// What an event will do to a multiplexer while the connection to the server stands; after that it
 /// does nothing. All memory for it is taken. It is the plan that [`Mux`](crate::Mux) makes of an event
@@ -18,7 +18,7 @@ pub enum Act {
     /// The server is answered, and no connection has its turn.
     Answers(Text),
     /// A connection has its turn, once the server is answered, where it asked.
-    Turns(Option<Text>, Turn),
+    Turns(Option<Text>, PlannedTurn),
     /// The connection to the server ends.
     Ends(UpCause),
 }

@@ -1,21 +1,21 @@
 //! Carrying out what an event does.
 ghost use Rattle.std.specs.Prelude.{◌≡◌};
-ghost use Rattle.gate_machine.specs.Plans.{IsShortPlan};
-ghost use Rattle.mux_history.specs.Happenings.{Happening, happening_of};
+ghost use Rattle.client_machine.specs.Plans.{IsShortPlan};
+ghost use Rattle.gateway_claim.specs.Happenings.{Happening, happening_of};
 
 use crate::act::Act;
 use crate::connections::Connections;
 use crate::frames::on_channel;
 use crate::outcome::{answering, ending, falling, handed, nothing, rising};
-use crate::turn::{Turn, commit_turn};
+use crate::turn::{PlannedTurn, commit_turn};
 use gate_bytes::Text;
-use mux_history::{Event, Outcome};
+use gateway_claim::{Event, Outcome};
 
 impl Connections {
     ghost use Rattle.gateway_mux.specs.Acts.{IsAct, IsPlannedTurn, IsTurnOfSome, IsShortAct, IsKeyed};
     ghost use Rattle.gateway_mux.specs.Moves.{IsCommitted};
     ghost use Rattle.gateway_mux.specs.Pictures.{picture};
-    ghost use Rattle.client_seats.specs.Seats.{IsKeyOf};
+    ghost use Rattle.connection_table.specs.Tables.{IsKeyOf};
     ghost use Rattle.gateway_mux.specs.Short.{IsShort, IsShortAnswer};
 
     /// Carries out what an event does. It takes no memory, and can't be refused.
@@ -46,7 +46,7 @@ impl Connections {
     /// Carries out the turn of a connection, after this answer to the server. Once it is over it is
     /// forgotten.
     #[inline(always)]
-    fn turn(&mut self, answer: Option<Text>, turn: Turn) -> Outcome
+    fn turn(&mut self, answer: Option<Text>, turn: PlannedTurn) -> Outcome
         requires turn { IsTurnOfSome self.old.bases (picture self.old.seats self.old.upstream) answer turn }
         requires key { IsKeyOf self.old.seats turn.conn turn.key }
         ensures commits { (h : Happening) → IsPlannedTurn self.old.bases (picture self.old.seats self.old.upstream) h answer turn

@@ -1,13 +1,13 @@
 //! The connections of a gateway: those of its players, and the one to the server.
 ghost use Rattle.std.specs.Prelude.{◌≡◌, ◌<◌, [], true, false, IsOk, OnOk};
 ghost use Rattle.gateway_mux.specs.Pictures.{picture, IsKept, IsPictureOf};
-ghost use Rattle.client_seats.specs.Seats.{is_ready};
+ghost use Rattle.connection_table.specs.Tables.{is_ready};
 ghost use Rattle.gateway_mux.specs.Spare.{left};
 
-use crate::upstream::Upstream;
-use client_seats::Seats;
+use crate::upstream::UpstreamBooks;
+use connection_table::ConnectionTable;
 use gate_bytes::Memory;
-use mux_history::Bases;
+use gateway_claim::Bases;
 use std::alloc::Global;
 
 /// The connections of a gateway while its connection to the server stands: they are what some history has, and
@@ -15,15 +15,15 @@ use std::alloc::Global;
 #[derive(Drop)]
 pub(crate) struct Connections {
     pub bases: Bases,
-    pub seats: Seats,
-    pub upstream: Upstream,
+    pub seats: ConnectionTable,
+    pub upstream: UpstreamBooks,
     ghost kept: { ∥ IsKept bases (picture seats upstream) (left upstream.requests.spare seats) (left upstream.sessions.spare seats) ∥₁ },
     ghost spare: { is_ready seats ≡ true → 0 < upstream.requests.spare },
     ghost spare_session: { is_ready seats ≡ true → 0 < upstream.sessions.spare },
 }
 
 impl Connections {
-    ghost use Rattle.gateway_mux.specs.Entering.{IsNewIn, IsEntered, IsAsBefore};
+    ghost use Rattle.gateway_mux.specs.Enter.{IsNewIn, IsEntered, IsAsBefore};
 
     /// No player, for a gateway with these addresses. It takes no memory.
     pub fn new(alloc: Global, bases: Bases) -> Connections
@@ -33,8 +33,8 @@ impl Connections {
     {
         Connections {
             bases,
-            seats: Seats::new(alloc),
-            upstream: Upstream::starting(alloc, 1),
+            seats: ConnectionTable::new(alloc),
+            upstream: UpstreamBooks::starting(alloc, 1),
         }
     }
 

@@ -2,7 +2,7 @@
 ghost use Rattle.std.specs.Prelude.{◌≡◌, ◌<◌, ◌^◌, length};
 ghost use Rattle.rtsp_head.specs.Shapes.{shape_of};
 ghost use Rattle.rtsp_head.specs.declared.item.ItemKind.TheVariants.{Frame};
-ghost use Rattle.gate_machine.specs.Frames.{channel_in, behind_channel, frame_text};
+ghost use Rattle.client_machine.specs.Frames.{channel_in, behind_channel, frame_text};
 
 use gate_bytes::Text;
 use rtsp_head::Item;

@@ -2,13 +2,13 @@
 ghost use Rattle.std.specs.Prelude.{◌≡◌, ◌<◌};
 ghost use Rattle.std.specs.Option.{option_copied, option_and_then};
 ghost use Rattle.up_books.specs.Ids.{holder_of};
-ghost use Rattle.mux_history.specs.Settling.{id_said};
-ghost use Rattle.gate_machine.specs.Spelled.{grant_said};
-ghost use Rattle.mux_history.specs.Follows.{is_session_for};
-ghost use Rattle.gateway_mux.specs.Granting.{is_taken_by, grants_that, wrong_grant};
+ghost use Rattle.gateway_claim.specs.Settlement.{id_said};
+ghost use Rattle.client_machine.specs.UpTexts.{grant_said};
+ghost use Rattle.gateway_claim.specs.Follows.{is_session_for};
+ghost use Rattle.gateway_mux.specs.WrongGrants.{is_taken_by, grants_that, wrong_grant};
 
+use gateway_claim::UpCause;
 use head_two::Reply2;
-use mux_history::UpCause;
 use rtsp_small::read_session;
 use rtsp_transport::Grant;
 use up_books::SessionBook;

@@ -10,24 +10,24 @@ mod commit;
 mod connections;
 mod frames;
 mod grant;
-mod hear;
 mod mux;
 mod mux_core;
 mod notice;
 mod outcome;
-mod planning;
-mod said;
+mod player_events;
 mod server;
-mod settled;
+mod server_item;
+mod settlement;
 mod status;
 mod tells;
 mod turn;
+mod turn_facts;
 mod upstream;
 
 pub use act::Act;
-pub use mux::Mux;
-pub use mux_history::{
+pub use gateway_claim::{
     Base, Bases, CloseWhy, Closed, Core, Event, FramingFault, Outcome, ToClient, ToUp, UpCause,
     UpMessage, UpWhy,
 };
+pub use mux::Mux;
 pub use status::Status;

@@ -1,14 +1,14 @@
 //! The multiplexer.
 ghost use Rattle.std.specs.Prelude.{◌≡◌, true, false, IfOk, OnOk, IsOk, IsSome, IfErr, OnErr, [], List, ◌∷◌, ℕ, None};
-ghost use Rattle.mux_history.specs.Cores.{ever_entered};
-ghost use Rattle.mux_history.specs.Happenings.{Entry, entry_of, entering, standing, is_alive, fault_in, happening_of};
-ghost use Rattle.mux_history.specs.Tells.{dropped_frames, IsFirstAlive, is_busy, requests_waiting, is_frame_item};
+ghost use Rattle.gateway_claim.specs.Cores.{ever_entered};
+ghost use Rattle.gateway_claim.specs.Happenings.{HistoryEntry, entry_of, entering, standing, is_alive, fault_in, happening_of};
+ghost use Rattle.gateway_claim.specs.Tells.{dropped_frames, IsFirstAlive, is_busy, requests_waiting, is_frame_item};
 
 use crate::act::Act;
 use crate::connections::Connections;
 use crate::outcome::nothing;
 use gate_bytes::Memory;
-use mux_history::{Bases, Event, Outcome, UpCause};
+use gateway_claim::{Bases, Event, Outcome, UpCause};
 use rtsp_head::ItemKind;
 use std::alloc::Global;
 
@@ -42,7 +42,7 @@ impl Mux {
     /// enter. Nothing else changes. Where that was taken already, and after the end of the connection
     /// to the server, no memory is.
     pub fn prepare(&mut self, alloc: Global) -> Result<(), Memory>
-        ensures stands { (T : List Entry) → Stands self.old T → Stands self.new T }
+        ensures stands { (T : List HistoryEntry) → Stands self.old T → Stands self.new T }
         ensures fresh { (conn : ℕ) → IsFresh self.old conn → IsFresh self.new conn }
         ensures prepared { OnOk result (is_prepared self.new ≡ true) }
         ensures free { is_prepared self.old ≡ true → IsOk result }
@@ -60,8 +60,8 @@ impl Mux {
     /// taken.
     pub fn enter(&mut self, alloc: Global, conn: u32) -> Result<(), Memory>
         requires { IsFresh self.old conn }
-        ensures ok { OnOk result ((T : List Entry) → Stands self.old T → ever_entered conn T ≡ false → Stands self.new (entering conn ∷ T)) }
-        ensures err { OnErr result ((T : List Entry) → Stands self.old T → Stands self.new T) }
+        ensures ok { OnOk result ((T : List HistoryEntry) → Stands self.old T → ever_entered conn T ≡ false → Stands self.new (entering conn ∷ T)) }
+        ensures err { OnErr result ((T : List HistoryEntry) → Stands self.old T → Stands self.new T) }
         ensures free { IsSome (end_of self.old) → IsOk result }
         ensures prepared { is_prepared self.old ≡ true → IsOk result }
         ensures used { OnOk result (end_of self.old ≡ None → is_prepared self.new ≡ false) }
@@ -94,7 +94,7 @@ impl Mux {
     #[inline(always)]
     pub fn commit(&mut self, event: Event, plan: Act) -> Outcome
         requires { IsPlanFor self.old event plan }
-        ensures stands { (T : List Entry) → Stands self.old T → Stands self.new (entry_of event result ∷ T) }
+        ensures stands { (T : List HistoryEntry) → Stands self.old T → Stands self.new (entry_of event result ∷ T) }
         ensures short { IsShort result }
         ensures bases { bases_of self.new ≡ bases_of self.old }
     {
@@ -114,10 +114,10 @@ impl Mux {
     /// handed out, and the event is given back. Only a request of a client or a message of the server
     /// may need memory.
     pub fn step(&mut self, alloc: Global, event: Event) -> Result<Outcome, (Event, Memory)>
-        ensures ok { IfOk result (λ outcome. (T : List Entry) → Stands self.old T → Stands self.new (entry_of event outcome ∷ T)) }
+        ensures ok { IfOk result (λ outcome. (T : List HistoryEntry) → Stands self.old T → Stands self.new (entry_of event outcome ∷ T)) }
         ensures short { IfOk result (λ outcome. IsShort outcome) }
         ensures given_back { IfErr result (λ refused. refused.0 ≡ event) }
-        ensures err { OnErr result ((T : List Entry) → Stands self.old T → Stands self.new T) }
+        ensures err { OnErr result ((T : List HistoryEntry) → Stands self.old T → Stands self.new T) }
         ensures free { needs_memory event ≡ false → IsOk result }
         ensures bases { bases_of self.new ≡ bases_of self.old }
     {
@@ -129,14 +129,14 @@ impl Mux {
 
     /// Whether a connection is alive: it entered, and was not closed.
     pub fn alive(&self, conn: u32) -> bool
-        ensures { (T : List Entry) → Stands self.now T → result ≡ is_alive conn T }
+        ensures { (T : List HistoryEntry) → Stands self.now T → result ≡ is_alive conn T }
     {
         self.ended.is_none() && self.connections.alive(conn)
     }
 
     /// Whether a request of a connection would wait: it is alive, and another request of it is open.
     pub fn busy(&self, conn: u32) -> bool
-        ensures { (T : List Entry) → Stands self.now T → result ≡ is_busy (bases_of self.now) conn T }
+        ensures { (T : List HistoryEntry) → Stands self.now T → result ≡ is_busy (bases_of self.now) conn T }
     {
         self.ended.is_none() && self.connections.busy(conn)
     }
@@ -144,7 +144,7 @@ impl Mux {
     /// How many requests of a connection wait: those that came while another one was open. Where the
     /// connection to the server has ended, those that waited then.
     pub fn waiting(&self, conn: u32) -> usize
-        ensures { (T : List Entry) → Stands self.now T → result ≡ requests_waiting (bases_of self.now) conn T }
+        ensures { (T : List HistoryEntry) → Stands self.now T → result ≡ requests_waiting (bases_of self.now) conn T }
     {
         self.connections.waiting(conn)
     }
@@ -152,14 +152,14 @@ impl Mux {
     /// The first connection from this number on that is alive, or that was alive when the connection
     /// to the server ended. So a caller can go over those that its end closed.
     pub fn next_alive(&self, from: u32) -> Option<u32>
-        ensures { (T : List Entry) → Stands self.now T → IsFirstAlive from (standing T) result }
+        ensures { (T : List HistoryEntry) → Stands self.now T → IsFirstAlive from (standing T) result }
     {
         self.connections.next_alive(from)
     }
 
     /// Why the connection to the server ended, where it did.
     pub fn ended(&self) -> Option<UpCause>
-        ensures history { (T : List Entry) → Stands self.now T → result ≡ fault_in T }
+        ensures history { (T : List HistoryEntry) → Stands self.now T → result ≡ fault_in T }
         ensures value { result ≡ end_of self.now }
     {
         self.ended
@@ -167,7 +167,7 @@ impl Mux {
 
     /// How many frames were dropped; it stops at the greatest number of 64 bits.
     pub fn dropped(&self) -> u64
-        ensures { (T : List Entry) → Stands self.now T → result ≡ dropped_frames T }
+        ensures { (T : List HistoryEntry) → Stands self.now T → result ≡ dropped_frames T }
     {
         self.dropped
     }

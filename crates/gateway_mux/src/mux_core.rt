@@ -3,12 +3,12 @@
 use crate::act::Act;
 use crate::mux::Mux;
 use gate_bytes::Memory;
-use mux_history::{Bases, Core, Event, Outcome, UpCause};
+use gateway_claim::{Bases, Core, Event, Outcome, UpCause};
 use std::alloc::Global;
 
 impl Core for Mux {
-    ghost use Rattle.mux_history.specs.Follows.{Follows};
-    ghost use Rattle.mux_history.specs.Tells.{is_busy, requests_waiting, dropped_frames};
+    ghost use Rattle.gateway_claim.specs.Follows.{Follows};
+    ghost use Rattle.gateway_claim.specs.Tells.{is_busy, requests_waiting, dropped_frames};
     ghost use Rattle.gateway_mux.specs.Stands.{Stands, IsPlanFor, bases_of, is_prepared};
     ghost use Rattle.gateway_mux.specs.CoreLaws.{stands_for_history, one_follows, follows_in_order, waits_for_nothing, treats_at_once};
 

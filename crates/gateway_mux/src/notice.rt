@@ -2,8 +2,8 @@
 ghost use Rattle.std.specs.Prelude.{◌≡◌, codes};
 ghost use Rattle.std.specs.Option.{option_copied};
 ghost use Rattle.up_books.specs.Ids.{holder_of};
-ghost use Rattle.mux_history.specs.Notices.{notice_field, session_named, notice_of, said_reason};
-ghost use Rattle.gateway_mux.specs.NoticesSeen.{notice_seen};
+ghost use Rattle.gateway_claim.specs.Notices.{notice_field, session_named, notice_of, said_reason};
+ghost use Rattle.gateway_mux.specs.NoticeParts.{notice_seen};
 
 use head_two::Ask2;
 use rtsp_small::{NotifyReason, read_reason, read_session};
@@ -39,7 +39,7 @@ pub(crate) enum NoticeRefusal {
 impl NoticeRefusal {
     ghost use Rattle.std.specs.Prelude.{true};
     ghost use Rattle.rtsp_status.specs.Reasons.{has_reason};
-    ghost use Rattle.gateway_mux.specs.NoticesSeen.{refusal_code};
+    ghost use Rattle.gateway_mux.specs.NoticeParts.{refusal_code};
 
     /// The code that it is refused with.
     pub fn code(self) -> u16

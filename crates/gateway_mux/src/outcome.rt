@@ -1,16 +1,16 @@
 //! What one event hands out.
 ghost use Rattle.std.specs.Prelude.{◌≡◌, ◌<◌, ◌^◌, length, None, Some, IfSome, option_map};
-ghost use Rattle.gate_machine.specs.Plans.{IsShortDone};
-ghost use Rattle.mux_history.specs.declared.event.Closed.TheVariants.{Nobody, All};
-ghost use Rattle.mux_history.specs.Happenings.{silent};
-ghost use Rattle.mux_history.specs.Next.{client_piece, one_closed};
-ghost use Rattle.mux_history.specs.declared.event.UpMessage.TheVariants.{Request};
+ghost use Rattle.client_machine.specs.Plans.{IsShortDone};
+ghost use Rattle.gateway_claim.specs.declared.event.Closed.TheVariants.{Nobody, All};
+ghost use Rattle.gateway_claim.specs.Happenings.{silent};
+ghost use Rattle.gateway_claim.specs.Next.{client_piece, one_closed};
+ghost use Rattle.gateway_claim.specs.declared.event.UpMessage.TheVariants.{Request};
 ghost use Rattle.gateway_mux.specs.Moves.{handed_by, answering, risen_by, fallen_by, ended_by};
 ghost use Rattle.gateway_mux.specs.Short.{IsShort, IsShortAnswer};
 
+use client_machine::{CloseWhy, Done};
 use gate_bytes::Text;
-use gate_machine::{CloseWhy, Done};
-use mux_history::{Closed, Outcome, ToClient, ToUp, UpCause, UpMessage};
+use gateway_claim::{Closed, Outcome, ToClient, ToUp, UpCause, UpMessage};
 
 /// Nothing.
 pub(crate) fn nothing() -> Outcome

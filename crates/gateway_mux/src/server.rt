@@ -8,22 +8,22 @@ ghost use Rattle.rtsp_head.specs.declared.item.ItemKind.TheVariants.{Frame};
 ghost use Rattle.rtsp_status.specs.Reasons.{has_reason};
 ghost use Rattle.client_slot.specs.Purposes.{purpose_seen};
 ghost use Rattle.head_two.specs.Answers.{answer_text};
-ghost use Rattle.mux_history.specs.Happenings.{hears};
-ghost use Rattle.mux_history.specs.Heard.{replies, requests, heard};
+ghost use Rattle.gateway_claim.specs.Happenings.{hears};
+ghost use Rattle.gateway_claim.specs.ServerItems.{replies, requests, heard};
 
 use crate::act::Act;
 use crate::connections::Connections;
 use crate::frames::channel_of;
 use crate::grant::{source_in, wrong_grant};
-use crate::hear::{Heard, hear};
 use crate::notice::read_notice;
-use crate::said::Said;
-use crate::settled::what_settles;
+use crate::server_item::{ServerItem, hear};
+use crate::settlement::what_settles;
+use crate::turn_facts::TurnFacts;
+use client_machine::{Incoming, ServerReply, channel_for, grant_said};
 use client_slot::Pending;
 use gate_bytes::{Memory, Text};
-use gate_machine::{Answer, Incoming, channel_for, grant_said};
+use gateway_claim::UpCause;
 use head_two::{Ask2, Reply2, write_answer};
-use mux_history::UpCause;
 use rtsp_head::{Item, ItemKind};
 use rtsp_transport::Grant;
 use session_one::is_success;
@@ -33,12 +33,12 @@ use std::alloc::Global;
 const LONGEST_ANSWER: usize = 0x7fff_ffff;
 
 impl Connections {
-    ghost use Rattle.mux_history.specs.Follows.{kind_breach};
-    ghost use Rattle.mux_history.specs.Shared.{kind_pending};
-    ghost use Rattle.gate_machine.specs.Spelled.{grant_said};
+    ghost use Rattle.gateway_claim.specs.Follows.{kind_breach};
+    ghost use Rattle.gateway_claim.specs.SharedEvents.{kind_pending};
+    ghost use Rattle.client_machine.specs.UpTexts.{grant_said};
     ghost use Rattle.gateway_mux.specs.Acts.{IsAct, IsShortAct, IsKeyed};
     ghost use Rattle.gateway_mux.specs.Free.{is_message};
-    ghost use Rattle.gateway_mux.specs.Granting.{IsLowPurpose};
+    ghost use Rattle.gateway_mux.specs.WrongGrants.{IsLowPurpose};
     ghost use Rattle.gateway_mux.specs.Pictures.{picture, books_in};
 
     /// What an item of the server does.
@@ -53,9 +53,9 @@ impl Connections {
             return Ok(self.plan_fall(item));
         }
         match hear(alloc, item)? {
-            Heard::Reply(reply) => self.plan_reply(alloc, &reply),
-            Heard::Ask(ask) => self.plan_ask(alloc, &ask),
-            Heard::Fault(fault) => Ok(Act::Ends(UpCause::Framing(fault))),
+            ServerItem::Reply(reply) => self.plan_reply(alloc, &reply),
+            ServerItem::Ask(ask) => self.plan_ask(alloc, &ask),
+            ServerItem::Fault(fault) => Ok(Act::Ends(UpCause::Framing(fault))),
         }
     }
 
@@ -111,17 +111,17 @@ impl Connections {
         } else {
             Some(what_settles(alloc, conn, pending, session, reply)?)
         };
-        let said = Said {
+        let said = TurnFacts {
             number: reply.cseq,
             settled,
-            ..Said::alone(conn)
+            ..TurnFacts::alone(conn)
         };
         let source = source_in(grant);
         self.plan_turn(
             alloc,
             Some(seat),
             said,
-            &Incoming::Reply(Answer { reply, source }),
+            &Incoming::Reply(ServerReply { reply, source }),
         )
     }
 
@@ -162,9 +162,9 @@ impl Connections {
     {
         match read_notice(&self.upstream.sessions, ask) {
             Ok(notice) => {
-                let said = Said {
+                let said = TurnFacts {
                     answer: Some(answer(alloc, 200, ask.cseq, Some(notice.id))?),
-                    ..Said::alone(notice.conn)
+                    ..TurnFacts::alone(notice.conn)
                 };
                 let seat = self.seats.seat(notice.conn);
                 let incoming = Incoming::Notice(notice.reason, notice.names);

@@ -1,7 +1,7 @@
 //! How a run of a gateway ends: the status, its exit status and its fault line.
 
 use gate_transcript::BadEntryKind;
-use mux_history::{FramingFault, UpCause};
+use gateway_claim::{FramingFault, UpCause};
 use std::fmt;
 
 /// How a run ended.

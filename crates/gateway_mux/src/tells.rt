@@ -1,7 +1,7 @@
 //! What can be told of the connections.
 ghost use Rattle.std.specs.Prelude.{◌≡◌, List};
-ghost use Rattle.mux_history.specs.Happenings.{Entry, is_alive};
-ghost use Rattle.mux_history.specs.Tells.{IsFirstAlive, is_busy, requests_waiting};
+ghost use Rattle.gateway_claim.specs.Happenings.{HistoryEntry, is_alive};
+ghost use Rattle.gateway_claim.specs.Tells.{IsFirstAlive, is_busy, requests_waiting};
 
 use crate::connections::Connections;
 
@@ -10,7 +10,7 @@ impl Connections {
 
     /// Whether a connection entered, and was not closed.
     pub fn alive(&self, conn: u32) -> bool
-        ensures { (T : List Entry) → IsPictureOf self.now.bases (picture self.now.seats self.now.upstream) T → result ≡ is_alive conn T }
+        ensures { (T : List HistoryEntry) → IsPictureOf self.now.bases (picture self.now.seats self.now.upstream) T → result ≡ is_alive conn T }
     {
         match self.seats.slot(conn) {
             Some(slot) => slot.alive(),
@@ -20,7 +20,7 @@ impl Connections {
 
     /// Whether a connection is alive and has a request open.
     pub fn busy(&self, conn: u32) -> bool
-        ensures { (T : List Entry) → IsPictureOf self.now.bases (picture self.now.seats self.now.upstream) T → result ≡ is_busy self.now.bases conn T }
+        ensures { (T : List HistoryEntry) → IsPictureOf self.now.bases (picture self.now.seats self.now.upstream) T → result ≡ is_busy self.now.bases conn T }
     {
         match self.seats.slot(conn) {
             Some(slot) => slot.alive() && slot.busy(),
@@ -30,7 +30,7 @@ impl Connections {
 
     /// How many requests of a connection wait.
     pub fn waiting(&self, conn: u32) -> usize
-        ensures { (T : List Entry) → IsPictureOf self.now.bases (picture self.now.seats self.now.upstream) T → result ≡ requests_waiting self.now.bases conn T }
+        ensures { (T : List HistoryEntry) → IsPictureOf self.now.bases (picture self.now.seats self.now.upstream) T → result ≡ requests_waiting self.now.bases conn T }
     {
         match self.seats.slot(conn) {
             Some(slot) => slot.waiting(),
@@ -40,7 +40,7 @@ impl Connections {
 
     /// The first connection from this number on that is alive.
     pub fn next_alive(&self, from: u32) -> Option<u32>
-        ensures { (T : List Entry) → IsPictureOf self.now.bases (picture self.now.seats self.now.upstream) T → IsFirstAlive from T result }
+        ensures { (T : List HistoryEntry) → IsPictureOf self.now.bases (picture self.now.seats self.now.upstream) T → IsFirstAlive from T result }
     {
         let mut from = from;
         while let Some(conn) = self.seats.next(from) {

@@ -4,22 +4,22 @@ ghost use Rattle.channel_map.specs.Pairs.{held_at};
 ghost use Rattle.client_slot.specs.Client.{Client};
 ghost use Rattle.up_books.specs.Ids.{holder_of};
 ghost use Rattle.up_books.specs.Numbers.{asker_of, next_number};
-ghost use Rattle.gate_machine.specs.Plans.{IsReady, IsShortPlan, IsShortDone};
-ghost use Rattle.client_seats.specs.Carried.{IsCarriedAt};
-ghost use Rattle.client_seats.specs.Seats.{client_at, is_ready, IsKeyOf};
-ghost use Rattle.gateway_mux.specs.Settled.{CanSettle, binds, unbinds, asker_settled, held_settled, holder_settled};
+ghost use Rattle.client_machine.specs.Plans.{IsReady, IsShortPlan, IsShortDone};
+ghost use Rattle.connection_table.specs.CarryOut.{IsCarriedAt};
+ghost use Rattle.connection_table.specs.Tables.{client_at, is_ready, IsKeyOf};
+ghost use Rattle.gateway_mux.specs.Settlements.{CanSettle, binds, unbinds, asker_settled, held_settled, holder_settled};
 ghost use Rattle.gateway_mux.specs.Upstream.{held_lent};
 ghost use Rattle.gateway_mux.specs.Turn.{session_of_client, asks_pair, asker_lent, issued_then, one_if, free_once};
 
-use crate::settled::Settled;
-use crate::upstream::Upstream;
-use client_seats::Seats;
+use crate::settlement::Settlement;
+use crate::upstream::UpstreamBooks;
+use client_machine::{Done, Plan};
 use client_slot::Pending;
-use gate_machine::{Done, Plan};
+use connection_table::ConnectionTable;
 
 /// What is planned for a connection: what the server's reply settles, and what the connection does.
 #[derive(Drop)]
-pub struct Turn {
+pub struct PlannedTurn {
     /// The connection.
     pub conn: u32,
     /// The key under which it is kept.
@@ -29,7 +29,7 @@ pub struct Turn {
     /// The number of the next request.
     pub next: u32,
     /// What a final reply settles.
-    pub settled: Option<Settled>,
+    pub settled: Option<Settlement>,
     /// What the connection does.
     pub plan: Plan,
     /// Whether a request goes up.
@@ -37,7 +37,11 @@ pub struct Turn {
 }
 
 /// Carries out what is planned for a connection. It takes no memory, and can't be refused.
-pub(crate) fn commit_turn(seats: &mut Seats, upstream: &mut Upstream, turn: Turn) -> Option<Done>
+pub(crate) fn commit_turn(
+    seats: &mut ConnectionTable,
+    upstream: &mut UpstreamBooks,
+    turn: PlannedTurn,
+) -> Option<Done>
     requires key { IsKeyOf seats.old turn.conn turn.key }
     requires ready { IfSome (client_at seats.old turn.conn) (λ client. IsReady client turn.plan) }
     requires settles { IfSome turn.settled (CanSettle (λ n. asker_of upstream.old.requests n) (λ p. held_at p upstream.old.channels) (λ id. holder_of upstream.old.sessions id) upstream.old.sessions.spare turn.conn (session_of_client (client_at seats.old turn.conn))) }
@@ -56,7 +60,7 @@ pub(crate) fn commit_turn(seats: &mut Seats, upstream: &mut Upstream, turn: Turn
     ensures held { IsSome result → (p : ℕ) → held_at p upstream.new.channels ≡ held_lent turn.asks (asks_pair (client_at seats.new turn.conn)) turn.conn (free_once turn.settled (λ q. held_at q upstream.old.channels)) p (held_settled turn.settled p (held_at p upstream.old.channels)) }
     ensures holder { IsSome result → (id : List ℕ) → holder_of upstream.new.sessions id ≡ holder_settled turn.settled turn.conn id (holder_of upstream.old.sessions id) }
 {
-    let Turn {
+    let PlannedTurn {
         conn,
         key,
         number,
@@ -75,7 +79,7 @@ pub(crate) fn commit_turn(seats: &mut Seats, upstream: &mut Upstream, turn: Turn
 }
 
 /// Whether the open request of a connection, which is kept under this key, asks for a pair of channels.
-fn is_for_a_pair(seats: &Seats, conn: u32, key: usize) -> bool
+fn is_for_a_pair(seats: &ConnectionTable, conn: u32, key: usize) -> bool
     requires { IsKeyOf seats.now conn key }
     ensures { result ≡ asks_pair (client_at seats.now conn) }
 {

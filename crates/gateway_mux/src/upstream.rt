@@ -5,28 +5,28 @@ ghost use Rattle.channel_map.specs.Pairs.{held_at, is_free, lowest_free};
 ghost use Rattle.up_books.specs.Ids.{holder_of};
 ghost use Rattle.up_books.specs.Numbers.{asker_of, next_number};
 ghost use Rattle.up_books.specs.declared.cseq.TheConstants.{LAST_NUMBER};
-ghost use Rattle.gateway_mux.specs.Settled.{held_by, holder_by, IsOwnSession, CanSettle, is_freed, binds, unbinds, asker_settled, held_settled, holder_settled};
+ghost use Rattle.gateway_mux.specs.Settlements.{held_by, holder_by, IsOwnSession, CanSettle, is_freed, binds, unbinds, asker_settled, held_settled, holder_settled};
 ghost use Rattle.gateway_mux.specs.Turn.{free_once, one_if};
 ghost use Rattle.gateway_mux.specs.Upstream.{reserved_by};
 
-use crate::settled::Settled;
+use crate::settlement::Settlement;
 use channel_map::{ChannelMap, Freed};
 use gate_bytes::{Memory, Text};
 use std::alloc::Global;
-use up_books::{CseqBook, SessionBook, Spent, Taken};
+use up_books::{BoundElsewhere, CseqBook, SessionBook, Spent};
 
 /// What is kept of the connection to the server: its open requests, its sessions, and its pairs of
 /// channels.
 #[derive(Drop)]
-pub(crate) struct Upstream {
+pub(crate) struct UpstreamBooks {
     pub requests: CseqBook,
     pub sessions: SessionBook,
     pub channels: ChannelMap,
 }
 
-impl Upstream {
+impl UpstreamBooks {
     /// Nothing is open, bound or held, and `first` is the next number. It takes no memory.
-    pub fn starting(alloc: Global, first: u32) -> Upstream
+    pub fn starting(alloc: Global, first: u32) -> UpstreamBooks
         requires low { 0 < first }
         requires high { first ≤ LAST_NUMBER }
         ensures issued { result.requests.issued + 1 ≡ first }
@@ -34,7 +34,7 @@ impl Upstream {
         ensures bound { (id : List ℕ) → holder_of result.sessions id ≡ None }
         ensures held { (p : ℕ) → held_at p result.channels ≡ None }
     {
-        Upstream {
+        UpstreamBooks {
             requests: CseqBook::starting(alloc, first),
             sessions: SessionBook::new(alloc),
             channels: ChannelMap::new(),
@@ -42,7 +42,7 @@ impl Upstream {
     }
 
     /// Settles what the final reply to a request of a connection settles, which had this session.
-    pub fn settle(&mut self, conn: u32, session: Option<&[u8]>, settled: Settled)
+    pub fn settle(&mut self, conn: u32, session: Option<&[u8]>, settled: Settlement)
         requires { CanSettle (λ n. asker_of self.old.requests n) (λ p. held_at p self.old.channels) (λ id. holder_of self.old.sessions id) self.old.sessions.spare conn (option_copied session) settled }
         ensures issued { self.new.requests.issued ≡ self.old.requests.issued }
         ensures open { (n : ℕ) → asker_of self.new.requests n ≡ (if n == settled.number then None else asker_of self.old.requests n) }
@@ -63,7 +63,7 @@ impl Upstream {
     }
 
     /// Settles what the final reply to a request of a connection settles, where one came.
-    pub fn settle_where(&mut self, conn: u32, session: Option<&[u8]>, settled: Option<Settled>)
+    pub fn settle_where(&mut self, conn: u32, session: Option<&[u8]>, settled: Option<Settlement>)
         requires { IfSome settled (CanSettle (λ n. asker_of self.old.requests n) (λ p. held_at p self.old.channels) (λ id. holder_of self.old.sessions id) self.old.sessions.spare conn (option_copied session)) }
         ensures issued { self.new.requests.issued ≡ self.old.requests.issued }
         ensures open { (n : ℕ) → asker_of self.new.requests n ≡ asker_settled settled n (asker_of self.old.requests n) }
@@ -78,7 +78,7 @@ impl Upstream {
     }
 
     /// The lowest pair of channels that is free once that is settled.
-    pub fn free_once(&self, settled: &Option<Settled>) -> Option<u8>
+    pub fn free_once(&self, settled: &Option<Settlement>) -> Option<u8>
         ensures free { result ≡ free_once settled.now (λ p. held_at p self.now.channels) }
         ensures low { IfSome result (λ pair. pair < 128) }
     {

@@ -1,12 +1,12 @@
 pub mod RecordLemmas
-pub mod FedLemmas
-pub mod LivingLemmas
+pub mod FeedLemmas
+pub mod AliveLemmas
 pub mod EndLemmas
 pub mod OneTranscriptLemmas
 pub mod OutcomeLemmas
 pub mod TellLemmas
 pub mod RunLemmas
-pub mod EnteredLemmas
+pub mod EnterLemmas
 pub mod ReplayLemmas
 pub mod SourceLemmas
 pub mod SoundLemmas

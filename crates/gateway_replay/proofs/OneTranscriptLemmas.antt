@@ -8,11 +8,11 @@ use Rattle.gate_transcript.specs.declared.entry.EntryKind.TheVariants.{Enter, Cl
 use Rattle.gate_transcript.specs.declared.entry.UpEndReason.{UpEndReason}
 use Rattle.gate_transcript.specs.Bodies.{end_reason_in}
 use Rattle.gate_transcript.specs.Transcript.{is_enter, has_entered}
-use Rattle.mux_history.specs.Cores.{ever_entered}
-use Rattle.mux_history.specs.Follows.{IsHistory}
-use Rattle.mux_history.specs.Happenings.{Happening, Entry as PastEntry, enters_here, happened}
-use Rattle.mux_history.specs.OnePlayer.{HasAll}
-use Rattle.mux_history.proofs.OnePlayerLemmas.{one_player}
+use Rattle.gateway_claim.specs.Cores.{ever_entered}
+use Rattle.gateway_claim.specs.Follows.{IsHistory}
+use Rattle.gateway_claim.specs.Happenings.{Happening, HistoryEntry, enters_here, happened}
+use Rattle.gateway_claim.specs.OnePlayer.{HasAll}
+use Rattle.gateway_claim.proofs.OnePlayerLemmas.{one_player}
 use Rattle.gateway_replay.specs.declared.streams.Speaker.{Speaker}
 use Rattle.gateway_replay.specs.declared.streams.Speaker.TheVariants as speaker
 use Rattle.gateway_replay.specs.Events.{new_items, stream_of, said_by, up_end_told, events_by, events_of}
@@ -37,7 +37,7 @@ turn_or true false = refl
 turn_or false true = refl
 turn_or false false = refl
 
-ever_told : (j : ℕ) (T : List PastEntry) → enters_in j (happened T) ≡ ever_entered j T
+ever_told : (j : ℕ) (T : List HistoryEntry) → enters_in j (happened T) ≡ ever_entered j T
 ever_told j [] = refl
 ever_told j (e ∷ T) =
     enters_both j (happened T) (e.happening ∷ [])
@@ -80,7 +80,7 @@ told_enters j (entry ∷ earlier) =
     ∙ ap (λ now. has_entered j earlier || now) (entry_enters j entry.kind entry earlier)
     ∙ swap_or (has_entered j earlier) (is_enter entry.kind && entry.conn == j)
 
-pub one_transcript : (bases : Bases) (entries : List Entry) (history : List PastEntry) (i : ℕ) → IsHistory bases history → happened history ≡ events_of entries → EntersAlone i entries → HasAll bases i history
+pub one_transcript : (bases : Bases) (entries : List Entry) (history : List HistoryEntry) (i : ℕ) → IsHistory bases history → happened history ≡ events_of entries → EntersAlone i entries → HasAll bases i history
 one_transcript bases entries history i is told alone =
     one_player bases history i is
     (λ j other. sym (ever_told j history) ∙ ap (enters_in j) told ∙ told_enters j entries ∙ alone j other)

@@ -4,14 +4,14 @@ use Rattle.std.specs.Prelude.{nat_le, nat_lt}
 use Rattle.std.proofs.lemmas.Bool.{leb-true, leb-false, ltb-true, ltb-false, ne_eqb, eqb-false}
 use Rattle.gate_outside.specs.Contents.{Grows, GrowsByFront, WritesAll}
 use Rattle.gate_outside.proofs.Fronts.{grows_twice}
-use Rattle.mux_history.specs.Happenings.{Entry}
-use Rattle.mux_history.specs.Tells.{IsFirstAlive}
-use Rattle.gate_machine.specs.declared.why.CloseWhy.TheVariants.{Upstream}
-use Rattle.gateway_replay.specs.Written.{close_record, ends_below, ends}
+use Rattle.gateway_claim.specs.Happenings.{HistoryEntry}
+use Rattle.gateway_claim.specs.Tells.{IsFirstAlive}
+use Rattle.client_machine.specs.declared.why.CloseWhy.TheVariants.{Upstream}
+use Rattle.gateway_replay.specs.RecordTexts.{close_record, ends_below, ends}
 use Rattle.gateway_replay.proofs.RecordLemmas.{front_longer, then_writes}
-use Rattle.gateway_replay.specs.declared.living.Living.{Living}
-use Rattle.gateway_replay.specs.Living.{lives, IsFirstLiving}
-use Rattle.gateway_replay.specs.Watching.{AreLiving, ClosesSoFar}
+use Rattle.gateway_replay.specs.declared.alive.Living.{Living}
+use Rattle.gateway_replay.specs.Alive.{lives, IsFirstLiving}
+use Rattle.gateway_replay.specs.CoreRecords.{AreLiving, ClosesSoFar}
 use Rattle.gateway_replay.proofs.EndLemmas.{ends_next, ends_last, ends_rest}
 use Rattle.gateway_replay.proofs.RunLemmas.{grows_nothing}
 
@@ -39,13 +39,13 @@ writes_last before one two three now a b c d r first second third last =
     (grows_twice before two three (a ++ b) c (grows_twice before one two a b first second) third) last
 
 -- the closes of those that are alive, one after another
-pub end_more : (from conn : ℕ) (T : List Entry) (before one now : Option (List ℕ)) → IsFirstAlive from T (Some conn) → Grows before one (ends_below from T)
+pub end_more : (from conn : ℕ) (T : List HistoryEntry) (before one now : Option (List ℕ)) → IsFirstAlive from T (Some conn) → Grows before one (ends_below from T)
     → Grows one now (close_record conn Upstream) → Grows before now (ends_below (suc conn) T)
 end_more from conn T before one now first so_far written =
     subst (λ (l : List ℕ). Grows before now l) (sym (ends_next from conn T first.0 first.1 first.2))
     (grows_twice before one now (ends_below from T) (close_record conn Upstream) so_far written)
 
-pub end_fails : (from conn : ℕ) (T : List Entry) (before one now : Option (List ℕ)) → IsFirstAlive from T (Some conn) → suc conn ≤ 4294967296
+pub end_fails : (from conn : ℕ) (T : List HistoryEntry) (before one now : Option (List ℕ)) → IsFirstAlive from T (Some conn) → suc conn ≤ 4294967296
     → Grows before one (ends_below from T) → GrowsByFront one now (close_record conn Upstream) → GrowsByFront before now (ends T)
 end_fails from conn T before one now first reach so_far part =
     let here = then_writes {T = Unit {0}} {E = Unit {0}} before one now (ends_below from T) (close_record conn Upstream) (Err tt) so_far part in
@@ -53,7 +53,7 @@ end_fails from conn T before one now first reach so_far part =
     subst (λ (l : List ℕ). GrowsByFront before now l) (ap (λ (l : List ℕ). l ++ rest.0) (sym (ends_next from conn T first.0 first.1 first.2)) ∙ rest.1)
     (front_longer before now (ends_below from T ++ close_record conn Upstream) rest.0 here)
 
-pub end_last : (from : ℕ) (T : List Entry) (before now : Option (List ℕ)) → from ≤ 4294967296 → IsFirstAlive from T None → Grows before now (ends_below from T)
+pub end_last : (from : ℕ) (T : List HistoryEntry) (before now : Option (List ℕ)) → from ≤ 4294967296 → IsFirstAlive from T None → Grows before now (ends_below from T)
     → Grows before now (ends T)
 end_last from T before now reach none so_far = subst (λ (l : List ℕ). Grows before now l) (ends_last from T reach none) so_far
 
@@ -68,7 +68,7 @@ first_from before now written_before written_now conn so_far first = by (nat_le 
     by true is = leb-true so_far.from conn is
     by false is = let gone = so_far.gone conn (leb-false so_far.from conn is) in let alive = first.is in cc
 
-first_alive : (before now : Living) (written_before written_now : Option (List ℕ)) (conn : ℕ) (T : List Entry) → (so_far : ClosesSoFar before now written_before written_now) → IsFirstLiving now conn
+first_alive : (before now : Living) (written_before written_now : Option (List ℕ)) (conn : ℕ) (T : List HistoryEntry) → (so_far : ClosesSoFar before now written_before written_now) → IsFirstLiving now conn
     → AreLiving before T → IsFirstAlive so_far.from T (Some conn)
 first_alive before now written_before written_now conn T so_far first alive =
     let reach = first_from before now written_before written_now conn so_far first in (
@@ -102,12 +102,12 @@ closes_more before now new written_before written_mid written_now conn fits so_f
       grown = λ T alive. end_more so_far.from conn T written_before written_mid written_now (first_alive before now written_before written_mid conn T so_far first alive) (so_far.grown T alive) written;
     }
 
-pub closes_fail : (before now : Living) (written_before written_mid written_now : Option (List ℕ)) (conn : ℕ) (T : List Entry) → conn < 4294967296 → ClosesSoFar before now written_before written_mid → IsFirstLiving now conn
+pub closes_fail : (before now : Living) (written_before written_mid written_now : Option (List ℕ)) (conn : ℕ) (T : List HistoryEntry) → conn < 4294967296 → ClosesSoFar before now written_before written_mid → IsFirstLiving now conn
     → AreLiving before T → GrowsByFront written_mid written_now (close_record conn Upstream) → GrowsByFront written_before written_now (ends T)
 closes_fail before now written_before written_mid written_now conn T fits so_far first alive part =
     end_fails so_far.from conn T written_before written_mid written_now (first_alive before now written_before written_mid conn T so_far first alive) (omega arith) (so_far.grown T alive) part
 
-pub closes_all : (before now : Living) (written_before written_now : Option (List ℕ)) (T : List Entry) → ClosesSoFar before now written_before written_now → ((i : ℕ) → lives now i ≡ false)
+pub closes_all : (before now : Living) (written_before written_now : Option (List ℕ)) (T : List HistoryEntry) → ClosesSoFar before now written_before written_now → ((i : ℕ) → lives now i ≡ false)
     → AreLiving before T → Grows written_before written_now (ends T)
 closes_all before now written_before written_now T so_far none alive =
     end_last so_far.from T written_before written_now so_far.reach (λ i from fits. sym (alive i) ∙ sym (so_far.left i from) ∙ none i) (so_far.grown T alive)

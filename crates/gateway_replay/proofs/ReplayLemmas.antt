@@ -2,7 +2,7 @@
 use Rattle.std.proofs.Common.{◌≡◌, ℕ, Bool, true, false, not, List, [], ◌∷◌, ◌++◌, Option, Some, None, Ok, Err, refl, sym, ◌∙◌, ap}
 use Rattle.std.proofs.lemmas.List.{append_assoc, append-nil}
 use Rattle.rtsp_uri.specs.declared.base.Bases.{Bases}
-use Rattle.mux_history.specs.Happenings.{Happening, Entry as PastEntry, happened}
+use Rattle.gateway_claim.specs.Happenings.{Happening, HistoryEntry, happened}
 use Rattle.gate_transcript.specs.declared.entry.Entry.{Entry}
 use Rattle.gate_transcript.specs.declared.entry.EntryKind.{EntryKind}
 use Rattle.gate_transcript.specs.declared.entry.EntryKind.TheVariants.{Enter, Client, Upstream, End, Slow, UpEnd}
@@ -15,21 +15,21 @@ use Rattle.gate_transcript.specs.Reads.{ReadsSo, NextSays}
 use Rattle.gate_transcript.proofs.ReaderLemmas.{given_front}
 use Rattle.gate_transcript.proofs.ProperLemmas.{reads_proper}
 use Rattle.gateway_replay.specs.declared.streams.Streams.{Streams}
-use Rattle.gateway_replay.specs.declared.watched.ProcessFault.{ProcessFault}
-use Rattle.gateway_replay.specs.declared.watched.ProcessFault.TheVariants.{Sink, Memory}
+use Rattle.gateway_replay.specs.declared.core_records.ProcessFault.{ProcessFault}
+use Rattle.gateway_replay.specs.declared.core_records.ProcessFault.TheVariants.{Sink, Memory}
 use Rattle.gateway_replay.specs.Events.{events_by, events_of}
-use Rattle.gateway_replay.specs.Watching.{Histories, Advances, EntersNew, with_new}
+use Rattle.gateway_replay.specs.CoreRecords.{Histories, Advances, EntersNew, with_new}
 use Rattle.gateway_replay.specs.Runs.{TakesEntry, ToldInPart}
 use Rattle.gateway_replay.specs.Stops.{stop_of_reader, stop_of_event}
 use Rattle.gateway_replay.specs.Replays.{ReplayedSoFar, TellsFront, IsInterrupted, ProcessedAll, ProcessedToFault, Processed}
-use Rattle.gateway_replay.proofs.EnteredLemmas.{entered_never}
+use Rattle.gateway_replay.proofs.EnterLemmas.{entered_never}
 use Rattle.gateway_replay.proofs.RunLemmas.{happened-append, grows_on, grows_on_in_part}
 
 not_true : (b : Bool) → not b ≡ true → b ≡ false
 not_true true e = cc
 not_true false e = refl
 
-new_by : (kind : EntryKind) (history : List PastEntry) (entries : List Entry) (conn : ℕ) → happened history ≡ events_of entries
+new_by : (kind : EntryKind) (history : List HistoryEntry) (entries : List Entry) (conn : ℕ) → happened history ≡ events_of entries
     → may_come (λ c. has_entered c entries) kind conn ≡ true → EntersNew kind conn history
 new_by Enter history entries conn told may = entered_never conn history entries told (not_true (has_entered conn entries) may)
 new_by Client history entries conn told may = tt
@@ -103,7 +103,7 @@ so_far_faulted made bases reader next streams stood bytes before now (entry_faul
 so_far_faulted made bases reader next streams stood bytes before now entry_fault.Memory sound s says = so_far_interrupted made bases reader streams stood bytes before now sound s
 
 -- an interruption within an entry
-tells_part : (next : EntryReader) (bytes : List ℕ) (entries : List Entry) (e : Entry) (history more : List PastEntry)
+tells_part : (next : EntryReader) (bytes : List ℕ) (entries : List Entry) (e : Entry) (history more : List HistoryEntry)
     → ReadsSo next bytes (e ∷ entries) → happened history ≡ events_of entries → ToldInPart (happened more) (events_by e.kind e entries)
     → TellsFront bytes (more ++ history)
 tells_part next bytes entries e history more reads told part =

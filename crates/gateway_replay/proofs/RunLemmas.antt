@@ -9,12 +9,12 @@ use Rattle.gate_outside.proofs.Fronts.{grows_twice}
 use Rattle.rtsp_head.specs.Items.{Shape, items_of}
 use Rattle.rtsp_head.specs.Shapes.{shape_of}
 use Rattle.rtsp_head.specs.declared.item.Item.{Item}
-use Rattle.rtsp_frame.specs.Framing.{Held, Framed, GivesNext}
+use Rattle.rtsp_frame.specs.FramerState.{HeldBytes, Framed, GivesNext}
 use Rattle.rtsp_frame.proofs.CutLemmas.{items_append}
 use Rattle.rtsp_uri.specs.declared.base.Bases.{Bases}
-use Rattle.mux_history.specs.declared.event.Event.{Event}
-use Rattle.mux_history.specs.declared.event.Outcome.{Outcome}
-use Rattle.mux_history.specs.Happenings.{Happening, ends, lags, up_ends, Entry as PastEntry, happened, happening_of, entry_of, entering}
+use Rattle.gateway_claim.specs.declared.event.Event.{Event}
+use Rattle.gateway_claim.specs.declared.event.Outcome.{Outcome}
+use Rattle.gateway_claim.specs.Happenings.{Happening, ends, lags, up_ends, HistoryEntry, happened, happening_of, entry_of, entering}
 use Rattle.gate_transcript.specs.declared.entry.Entry.{Entry}
 use Rattle.gate_transcript.specs.declared.entry.EntryKind.{EntryKind}
 use Rattle.gate_transcript.specs.declared.entry.EntryKind.TheVariants.{Enter, Client, Upstream, End, Slow, UpEnd}
@@ -23,13 +23,13 @@ use Rattle.gate_transcript.specs.Bodies.{end_reason_in}
 use Rattle.gateway_replay.specs.declared.streams.Streams.{Streams}
 use Rattle.gateway_replay.specs.declared.streams.Speaker.{Speaker}
 use Rattle.gateway_replay.specs.declared.streams.Speaker.TheVariants as speaker
-use Rattle.gateway_replay.specs.declared.watched.ProcessFault.{ProcessFault}
-use Rattle.gateway_replay.specs.declared.watched.ProcessFault.TheVariants.{Sink, Memory}
+use Rattle.gateway_replay.specs.declared.core_records.ProcessFault.{ProcessFault}
+use Rattle.gateway_replay.specs.declared.core_records.ProcessFault.TheVariants.{Sink, Memory}
 use Rattle.gateway_replay.specs.Events.{speaks, stream_of, said_by, why_of, up_end_told, events_by}
 use Rattle.gateway_replay.specs.Framers.{FramerFed}
 use Rattle.gateway_replay.specs.Streams.{framer_at}
-use Rattle.gateway_replay.specs.Written.{records, records_after, records_of}
-use Rattle.gateway_replay.specs.Watching.{Histories, Advances, EntersAs, EntersNew, with_new}
+use Rattle.gateway_replay.specs.RecordTexts.{records, records_after, records_of}
+use Rattle.gateway_replay.specs.CoreRecords.{Histories, Advances, EntersAs, EntersNew, with_new}
 use Rattle.gateway_replay.specs.Runs.{WritesAfter, EventTaken, TakesEvent, TakesPiece, TakesSome, TakesBytes, IsFront, StreamsFit, ToldBy, TakesEntry, TakesUpEnd}
 use Rattle.gateway_replay.proofs.RecordLemmas.{then_writes}
 use Rattle.gateway_replay.proofs.TellLemmas.{silent, told_items, told_in_part, told_client, told_server}
@@ -39,29 +39,29 @@ grows_nothing None = refl
 grows_nothing (Some bytes) = ap (λ (l : List ℕ). let told : Option (List ℕ) = Some l in told) (sym (append-nil bytes))
 
 -- histories, one after another
-pub happened-append : (one other : List PastEntry) → happened (one ++ other) ≡ happened other ++ happened one
+pub happened-append : (one other : List HistoryEntry) → happened (one ++ other) ≡ happened other ++ happened one
 happened-append [] other = sym (append-nil (happened other))
 happened-append (e ∷ one) other =
     ap (λ (l : List Happening). l ++ (e.happening ∷ [])) (happened-append one other) ∙ append_assoc (happened other) (happened one) (e.happening ∷ [])
 
-pub records-append : (one other : List PastEntry) → records (one ++ other) ≡ records other ++ records_after other one
+pub records-append : (one other : List HistoryEntry) → records (one ++ other) ≡ records other ++ records_after other one
 records-append [] other = sym (append-nil (records other))
 records-append (e ∷ one) other =
     ap (λ (l : List ℕ). l ++ records_of e.outcome (one ++ other)) (records-append one other)
     ∙ append_assoc (records other) (records_after other one) (records_of e.outcome (one ++ other))
 
-records_after-append : (T one other : List PastEntry) → records_after T (other ++ one) ≡ records_after T one ++ records_after (one ++ T) other
+records_after-append : (T one other : List HistoryEntry) → records_after T (other ++ one) ≡ records_after T one ++ records_after (one ++ T) other
 records_after-append T one [] = sym (append-nil (records_after T one))
 records_after-append T one (e ∷ other) =
     ap (λ (l : List ℕ). l ++ records_of e.outcome ((other ++ one) ++ T)) (records_after-append T one other)
     ∙ append_assoc (records_after T one) (records_after (one ++ T) other) (records_of e.outcome ((other ++ one) ++ T))
-    ∙ ap (λ (h : List PastEntry). records_after T one ++ (records_after (one ++ T) other ++ records_of e.outcome h)) (append_assoc other one T)
+    ∙ ap (λ (h : List HistoryEntry). records_after T one ++ (records_after (one ++ T) other ++ records_of e.outcome h)) (append_assoc other one T)
 
-pub advances_twice : (before between now : Histories) (one other : List PastEntry) → Advances before between one → Advances between now other → Advances before now (other ++ one)
+pub advances_twice : (before between now : Histories) (one other : List HistoryEntry) → Advances before between one → Advances between now other → Advances before now (other ++ one)
 advances_twice before between now one other first next =
-    λ bases T s. subst (λ (l : List PastEntry). now bases l) (sym (append_assoc other one T)) (next bases (one ++ T) (first bases T s))
+    λ bases T s. subst (λ (l : List HistoryEntry). now bases l) (sym (append_assoc other one T)) (next bases (one ++ T) (first bases T s))
 
-writes_twice : (T : List PastEntry) (before between now : Option (List ℕ)) (one other : List PastEntry) (r : Result (Unit {0}) ProcessFault)
+writes_twice : (T : List HistoryEntry) (before between now : Option (List ℕ)) (one other : List HistoryEntry) (r : Result (Unit {0}) ProcessFault)
     → Grows before between (records_after T one) → WritesAfter between now (one ++ T) other r → WritesAfter before now T (other ++ one) r
 writes_twice T before between now one other (Ok u) first next =
     subst (λ (l : List ℕ). Grows before now l) (sym (records_after-append T one other))
@@ -74,12 +74,12 @@ writes_twice T before between now one other (Err Memory) first next =
     (grows_twice before between now (records_after T one) (records_after (one ++ T) other) first next)
 
 -- what a multiplexer that stands for a history wrote after it is what all of the longer history writes
-pub grows_on : (before between now : Option (List ℕ)) (T more : List PastEntry) → Grows before between (records T) → Grows between now (records_after T more)
+pub grows_on : (before between now : Option (List ℕ)) (T more : List HistoryEntry) → Grows before between (records T) → Grows between now (records_after T more)
     → Grows before now (records (more ++ T))
 grows_on before between now T more first next =
     subst (λ (l : List ℕ). Grows before now l) (sym (records-append more T)) (grows_twice before between now (records T) (records_after T more) first next)
 
-pub grows_on_in_part : (before between now : Option (List ℕ)) (T more : List PastEntry) → Grows before between (records T) → GrowsByFront between now (records_after T more)
+pub grows_on_in_part : (before between now : Option (List ℕ)) (T more : List HistoryEntry) → Grows before between (records T) → GrowsByFront between now (records_after T more)
     → GrowsByFront before now (records (more ++ T))
 grows_on_in_part before between now T more first next =
     subst (λ (l : List ℕ). GrowsByFront before now l) (sym (records-append more T))
@@ -90,20 +90,20 @@ pub untaken : (made before now : Histories) (happening : Happening) (written : O
 untaken made before now happening written kept = record { more = []; told = refl; advances = kept; written = λ bases T s. grows_nothing written }
 
 pub taken : (made before now : Histories) (event : Event) (outcome : Outcome) (written_before written_now : Option (List ℕ))
-    → Advances before now (entry_of event outcome ∷ []) → ((bases : Bases) (T : List PastEntry) → before bases T → Grows written_before written_now (records_of outcome T))
+    → Advances before now (entry_of event outcome ∷ []) → ((bases : Bases) (T : List HistoryEntry) → before bases T → Grows written_before written_now (records_of outcome T))
     → TakesEvent made before now (happening_of event) written_before written_now (Ok tt)
 taken made before now event outcome written_before written_now steps grown = record { more = entry_of event outcome ∷ []; told = refl; advances = steps; written = grown }
 
 pub taken_in_part : (made before now : Histories) (event : Event) (outcome : Outcome) (written_before written_now : Option (List ℕ))
-    → Advances before made (entry_of event outcome ∷ []) → ((bases : Bases) (T : List PastEntry) → before bases T → GrowsByFront written_before written_now (records_of outcome T))
+    → Advances before made (entry_of event outcome ∷ []) → ((bases : Bases) (T : List HistoryEntry) → before bases T → GrowsByFront written_before written_now (records_of outcome T))
     → TakesEvent made before now (happening_of event) written_before written_now (Err Sink)
 taken_in_part made before now event outcome written_before written_now steps grown = record { more = entry_of event outcome ∷ []; told = refl; advances = steps; written = grown }
 
 -- the items of one stream
-fed_front : (framer : Held) (stream : List ℕ) (given : List Shape) → Framed framer stream given → IsFront given (items_of stream)
+fed_front : (framer : HeldBytes) (stream : List ℕ) (given : List Shape) → Framed framer stream given → IsFront given (items_of stream)
 fed_front framer stream given fed = record { more = framer.waiting; whole = fed.items }
 
-pub takes_none : (framer between : Held) (next : Option Item) (stood : Histories) (who : Speaker) (piece : List ℕ) (written : Option (List ℕ))
+pub takes_none : (framer between : HeldBytes) (next : Option Item) (stood : Histories) (who : Speaker) (piece : List ℕ) (written : Option (List ℕ))
     → ((stream : List ℕ) (given : List Shape) → Framed framer stream given → GivesNext between (stream ++ piece) given next)
     → TakesSome framer between next stood stood who piece written written
 takes_none framer between next stood who piece written feeds = record {
@@ -116,14 +116,14 @@ takes_none framer between next stood who piece written feeds = record {
 }
 
 -- what `next` says of a framer, whether it gave an item or none
-pub gives_next : (next : Option Item) (before now : Held)
+pub gives_next : (next : Option Item) (before now : HeldBytes)
     → IfSome next (λ item. (stream : List ℕ) (given : List Shape) → Framed before stream given → Framed now stream (given ++ shape_of item ∷ []))
     → IfNone next ((stream : List ℕ) (given : List Shape) → Framed before stream given → Framed now stream given × (given ≡ items_of stream))
     → (stream : List ℕ) (given : List Shape) → Framed before stream given → GivesNext now stream given next
 gives_next None before now some none = none
 gives_next (Some item) before now some none = some
 
-pub takes_one_more : (framer between framer_now : Held) (item : Item) (next : Option Item) (made before mid now : Histories) (who : Speaker) (piece : List ℕ) (written written_mid written_now : Option (List ℕ))
+pub takes_one_more : (framer between framer_now : HeldBytes) (item : Item) (next : Option Item) (made before mid now : Histories) (who : Speaker) (piece : List ℕ) (written written_mid written_now : Option (List ℕ))
     → TakesSome framer between (Some item) before mid who piece written written_mid
     → ((stream : List ℕ) (given : List Shape) → Framed between stream given → GivesNext framer_now stream given next)
     → TakesEvent made mid now (said_by who (shape_of item)) written_mid written_now (Ok tt)
@@ -145,7 +145,7 @@ takes_one_more framer between framer_now item next made before mid now who piece
 }
 
 -- where none is left, all were taken
-pub takes_all : (framer framer_now : Held) (made before now : Histories) (who : Speaker) (piece : List ℕ) (written written_now : Option (List ℕ))
+pub takes_all : (framer framer_now : HeldBytes) (made before now : Histories) (who : Speaker) (piece : List ℕ) (written written_now : Option (List ℕ))
     → TakesSome framer framer_now None before now who piece written written_now
     → TakesPiece framer framer_now made before now who piece written written_now (Ok tt)
 takes_all framer framer_now made before now who piece written written_now so_far = record {
@@ -161,7 +161,7 @@ takes_all framer framer_now made before now who piece written written_now so_far
 shorter_front : (given all : List Shape) (shape : Shape) → IsFront (given ++ shape ∷ []) all → IsFront given all
 shorter_front given all shape front = record { more = shape ∷ front.more; whole = sym (append_assoc given (shape ∷ []) front.more) ∙ front.whole }
 
-pub takes_to_fault : (framer between : Held) (item : Item) (made before mid now : Histories) (who : Speaker) (piece : List ℕ) (written written_mid written_now : Option (List ℕ)) (fault : ProcessFault)
+pub takes_to_fault : (framer between : HeldBytes) (item : Item) (made before mid now : Histories) (who : Speaker) (piece : List ℕ) (written written_mid written_now : Option (List ℕ)) (fault : ProcessFault)
     → TakesSome framer between (Some item) before mid who piece written written_mid
     → TakesEvent made mid now (said_by who (shape_of item)) written_mid written_now (Err fault)
     → TakesPiece framer between made before now who piece written written_now (Err fault)
@@ -195,7 +195,7 @@ takes_to_fault framer between item made before mid now who piece written written
 }
 
 -- nothing was taken where the framer's memory was wanting
-pub takes_no_piece : (framer framer_now : Held) (made before now : Histories) (who : Speaker) (piece : List ℕ) (written : Option (List ℕ)) → Advances before made [] → TakesPiece framer framer_now made before now who piece written written (Err Memory)
+pub takes_no_piece : (framer framer_now : HeldBytes) (made before now : Histories) (who : Speaker) (piece : List ℕ) (written : Option (List ℕ)) → Advances before made [] → TakesPiece framer framer_now made before now who piece written written (Err Memory)
 takes_no_piece framer framer_now made before now who piece written kept = record {
   more = [];
   shapes = [];
@@ -211,7 +211,7 @@ takes_no_piece framer framer_now made before now who piece written kept = record
 pub client_others : (conn : ℕ) (streams streams_now : Streams) → ((i : ℕ) → i ≢ conn → get nat_eq streams_now.clients i ≡ get nat_eq streams.clients i) → streams_now.server ≡ streams.server
     → (other : Speaker) → other ≢ speaker.Client conn → framer_at streams_now other ≡ framer_at streams other
 client_others conn streams streams_now others same (speaker.Client i) apart = others i (λ is. apart (ap speaker.Client is))
-client_others conn streams streams_now others same speaker.Server apart = ap (λ (held : Held). Some held) same
+client_others conn streams streams_now others same speaker.Server apart = ap (λ (held : HeldBytes). Some held) same
 
 -- where the server's did
 pub server_others : (streams streams_now : Streams) → streams_now.clients ≡ streams.clients → (other : Speaker) → other ≢ speaker.Server → framer_at streams_now other ≡ framer_at streams other
@@ -219,7 +219,7 @@ server_others streams streams_now same (speaker.Client i) apart = ap (λ clients
 server_others streams streams_now same speaker.Server apart = absurd (apart refl)
 
 -- the bytes of one speaker, by its framer before and now
-pub takes_bytes : (streams streams_now : Streams) (framer framer_now : Held) (made before now : Histories) (who : Speaker) (piece : List ℕ) (written written_now : Option (List ℕ)) (result : Result (Unit {0}) ProcessFault)
+pub takes_bytes : (streams streams_now : Streams) (framer framer_now : HeldBytes) (made before now : Histories) (who : Speaker) (piece : List ℕ) (written written_now : Option (List ℕ)) (result : Result (Unit {0}) ProcessFault)
     → ((stream : List ℕ) (given : List Shape) → FramerFed (framer_at streams who) stream given → Framed framer stream given)
     → framer_at streams_now who ≡ Some framer_now
     → ((other : Speaker) → other ≢ who → framer_at streams_now other ≡ framer_at streams other)
@@ -233,7 +233,7 @@ takes_bytes streams streams_now framer framer_now made before now who piece writ
 }
 
 -- and where they were not all taken, or memory was wanting for the framer afterwards
-pub takes_in_part : (streams streams_now : Streams) (framer framer_now : Held) (made before now : Histories) (who : Speaker) (piece : List ℕ) (written written_now : Option (List ℕ)) (fault : ProcessFault)
+pub takes_in_part : (streams streams_now : Streams) (framer framer_now : HeldBytes) (made before now : Histories) (who : Speaker) (piece : List ℕ) (written written_now : Option (List ℕ)) (fault : ProcessFault)
     → ((stream : List ℕ) (given : List Shape) → FramerFed (framer_at streams who) stream given → Framed framer stream given)
     → TakesPiece framer framer_now made before now who piece written written_now (Err fault)
     → TakesBytes streams streams_now made before now who piece written written_now (Err fault)
@@ -244,7 +244,7 @@ takes_in_part streams streams_now framer framer_now made before now who piece wr
   told = λ earlier fit. told_in_part streams framer who piece t.shapes (happened t.more) earlier is_framer (λ stream given fed. t.fed stream given fed) t.told fit;
 }
 
-pub takes_but_memory : (streams streams_now : Streams) (framer framer_now : Held) (made before now : Histories) (who : Speaker) (piece : List ℕ) (written written_now : Option (List ℕ))
+pub takes_but_memory : (streams streams_now : Streams) (framer framer_now : HeldBytes) (made before now : Histories) (who : Speaker) (piece : List ℕ) (written written_now : Option (List ℕ))
     → ((stream : List ℕ) (given : List Shape) → FramerFed (framer_at streams who) stream given → Framed framer stream given) → Advances now made []
     → TakesPiece framer framer_now made before now who piece written written_now (Ok tt)
     → TakesBytes streams streams_now made before now who piece written written_now (Err Memory)

@@ -9,7 +9,7 @@ use Rattle.gateway_mux.specs.declared.status.Status.TheVariants.{Done, Usage, So
 use Rattle.gateway_replay.specs.Events.{events_of}
 use Rattle.gateway_replay.specs.Replays.{limit, ends_by, ends_as, EndsReplay, IsAtEnd, ReplaySays, FaultRose}
 use Rattle.gateway_replay.specs.Sound.{IsSoundTranscript, IsReplayedWhole, EndsSoundReplay}
-use Rattle.gateway_replay.specs.Watching.{Histories}
+use Rattle.gateway_replay.specs.CoreRecords.{Histories}
 use Rattle.gateway_replay.proofs.SourceLemmas.{within}
 
 -- no other answer goes with its bytes

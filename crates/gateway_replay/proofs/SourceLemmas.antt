@@ -6,26 +6,26 @@ use Rattle.std.proofs.lemmas.List.{append_assoc, append-nil, length-append, take
 use Rattle.std.proofs.Math.Seq.{take-append-add, take-append_seam}
 use Rattle.gate_outside.specs.Contents.{Reads, TakesFront}
 use Rattle.rtsp_uri.specs.declared.base.Bases.{Bases}
-use Rattle.mux_history.specs.Happenings.{Entry as PastEntry, happened}
+use Rattle.gateway_claim.specs.Happenings.{HistoryEntry, happened}
 use Rattle.gate_transcript.specs.declared.entry.Entry.{Entry}
 use Rattle.gate_transcript.specs.declared.fault.BadEntry.{BadEntry}
 use Rattle.gate_transcript.specs.declared.fault.BadEntryKind.{BadEntryKind}
 use Rattle.gate_transcript.specs.declared.fault.BadEntryKind.TheVariants.{Magic, Kind, Conn, Length, Cut}
 use Rattle.gate_transcript.specs.declared.reader.EntryReader.{EntryReader}
-use Rattle.gate_transcript.specs.Transcript.{reading, Reading}
+use Rattle.gate_transcript.specs.Transcript.{reading, TranscriptReading}
 use Rattle.gate_transcript.specs.Reads.{ReadsSo, GivenWhole, IsLasting, StopsAt, MayGoOn, IsUnfinished}
 use Rattle.gateway_mux.specs.declared.status.Status.{Status}
 use Rattle.gateway_mux.specs.declared.status.Status.TheVariants.{BadTranscript, TooLong}
 use Rattle.gateway_replay.specs.declared.streams.Streams.{Streams}
 use Rattle.gateway_replay.specs.declared.streams.Speaker.{Speaker}
-use Rattle.gateway_replay.specs.declared.replaying.Stop.{Stop}
-use Rattle.gateway_replay.specs.declared.replaying.Stop.TheVariants as stop
+use Rattle.gateway_replay.specs.declared.whole_replay.Stop.{Stop}
+use Rattle.gateway_replay.specs.declared.whole_replay.Stop.TheVariants as stop
 use Rattle.gateway_replay.specs.Events.{events_of}
 use Rattle.gateway_replay.specs.Framers.{FramerFed}
 use Rattle.gateway_replay.specs.Streams.{framer_at}
 use Rattle.gateway_replay.specs.Stops.{status_of_stop}
 use Rattle.gateway_replay.specs.Replays.{limit, ends_by, cut_by_kind, cut_by_limit, ends_as, TakenFrom, ReplayedSoFar, IsInterrupted, ProcessedAll, Processed, IsAtEnd, EndsReplay, EndsBySourceFault, EndsWithoutMemory, ReplaySays, FaultRose, StopRose, IsReplaying, TakesWithin, TakesOne}
-use Rattle.gateway_replay.specs.Watching.{Histories, Advances}
+use Rattle.gateway_replay.specs.CoreRecords.{Histories, Advances}
 use Rattle.gateway_replay.proofs.RunLemmas.{grows_nothing}
 
 -- a piece more was fed
@@ -101,7 +101,7 @@ past bytes long =
     ap (λ b. cond b (ends_by (reading bytes).fault) (cut_by_limit (reading (take limit bytes)).fault)) (lt-leb (length bytes) limit long)
 
 -- at the end of the source
-whole_end : (all left : Option (List ℕ)) (bytes : List ℕ) (history : List PastEntry) (entries : List Entry) → TakenFrom all left bytes → IsAtEnd left → length bytes ≤ limit
+whole_end : (all left : Option (List ℕ)) (bytes : List ℕ) (history : List HistoryEntry) (entries : List Entry) → TakenFrom all left bytes → IsAtEnd left → length bytes ≤ limit
     → GivenWhole bytes entries → happened history ≡ events_of entries
     → IfSome all (λ whole. (ends_by (reading bytes).fault ≡ ends_as whole) × (happened history ≡ events_of (reading (take limit whole)).entries))
 whole_end None left bytes history entries taken at_end short given told = tt
@@ -148,18 +148,18 @@ lasting_ends : (bytes left : List ℕ) (bad : BadEntry) (entries : List Entry) (
     → (BadTranscript bad.place bad.kind ≡ ends_as (bytes ++ left)) × (entries ≡ (reading (take limit (bytes ++ left))).entries)
 lasting_ends bytes left bad entries true e short stops =
     let le : length (bytes ++ left) ≤ limit = leb-true (length (bytes ++ left)) limit e in (
-      sym (within (bytes ++ left) le ∙ ap (λ (r : Reading). ends_by r.fault) (stops.always left)),
-      sym (ap (λ (l : List ℕ). (reading l).entries) (take_short limit (bytes ++ left) le) ∙ ap (λ (r : Reading). r.entries) (stops.always left)),
+      sym (within (bytes ++ left) le ∙ ap (λ (r : TranscriptReading). ends_by r.fault) (stops.always left)),
+      sym (ap (λ (l : List ℕ). (reading l).entries) (take_short limit (bytes ++ left) le) ∙ ap (λ (r : TranscriptReading). r.entries) (stops.always left)),
     )
 lasting_ends bytes left bad entries false e short stops =
     let lt : limit < length (bytes ++ left) = leb-false (length (bytes ++ left)) limit e in
     let cut : take limit (bytes ++ left) ≡ bytes ++ take (limit - length bytes) left = take_past limit bytes left short in
     let reads : reading (take limit (bytes ++ left)) ≡ record { entries = entries; fault = Some bad } = ap reading cut ∙ stops.always (take (limit - length bytes) left) in (
-      sym (past (bytes ++ left) lt ∙ ap (λ (r : Reading). cut_by_limit r.fault) reads ∙ lasting_kind bad.kind bad stops.lasting),
-      sym (ap (λ (r : Reading). r.entries) reads),
+      sym (past (bytes ++ left) lt ∙ ap (λ (r : TranscriptReading). cut_by_limit r.fault) reads ∙ lasting_kind bad.kind bad stops.lasting),
+      sym (ap (λ (r : TranscriptReading). r.entries) reads),
     )
 
-fault_ends : (all left : Option (List ℕ)) (bytes : List ℕ) (history : List PastEntry) (entries : List Entry) (bad : BadEntry) → TakenFrom all left bytes → length bytes ≤ limit
+fault_ends : (all left : Option (List ℕ)) (bytes : List ℕ) (history : List HistoryEntry) (entries : List Entry) (bad : BadEntry) → TakenFrom all left bytes → length bytes ≤ limit
     → StopsAt bad bytes entries → happened history ≡ events_of entries
     → IfSome all (λ whole. (BadTranscript bad.place bad.kind ≡ ends_as whole) × (happened history ≡ events_of (reading (take limit whole)).entries))
 fault_ends None left bytes history entries bad taken short stops told = tt
@@ -206,7 +206,7 @@ unfinished_cut (Some bad) bytes long may = at bad.kind may
     at Length never = absurd never
     at Cut open_still = refl
 
-too_long_ends : (all left : Option (List ℕ)) (bytes : List ℕ) (history : List PastEntry) (entries : List Entry) → TakenFrom all left bytes → IfSome left (λ l. 0 < length l) → length bytes ≡ limit → 8 ≤ length bytes
+too_long_ends : (all left : Option (List ℕ)) (bytes : List ℕ) (history : List HistoryEntry) (entries : List Entry) → TakenFrom all left bytes → IfSome left (λ l. 0 < length l) → length bytes ≡ limit → 8 ≤ length bytes
     → GivenWhole bytes entries → happened history ≡ events_of entries
     → IfSome all (λ whole. (TooLong ≡ ends_as whole) × (happened history ≡ events_of (reading (take limit whole)).entries))
 too_long_ends None left bytes history entries taken more full long given told = tt

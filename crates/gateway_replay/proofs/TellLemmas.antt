@@ -5,15 +5,15 @@ use Rattle.std.proofs.lemmas.Bool.{cases_Bool, eqb-true, eqb-false, eq-eqb, ne_e
 use Rattle.std.proofs.lemmas.List.{append_assoc, append-nil, map-append}
 use Rattle.std.proofs.Math.Seq.{drop-append_seam}
 use Rattle.rtsp_head.specs.Items.{Shape, items_of}
-use Rattle.rtsp_frame.specs.Framing.{Held, Framed}
-use Rattle.mux_history.specs.Happenings.{Happening}
+use Rattle.rtsp_frame.specs.FramerState.{HeldBytes, Framed}
+use Rattle.gateway_claim.specs.Happenings.{Happening}
 use Rattle.gate_transcript.specs.declared.entry.Entry.{Entry}
 use Rattle.gate_transcript.specs.declared.entry.EntryKind.{EntryKind}
 use Rattle.gate_transcript.specs.declared.entry.EntryKind.TheVariants.{Client, Upstream}
 use Rattle.gateway_replay.specs.declared.streams.Streams.{Streams}
 use Rattle.gateway_replay.specs.declared.streams.Speaker.{Speaker}
 use Rattle.gateway_replay.specs.declared.streams.Speaker.TheVariants as speaker
-use Rattle.gateway_replay.specs.declared.watched.ProcessFault.{ProcessFault}
+use Rattle.gateway_replay.specs.declared.core_records.ProcessFault.{ProcessFault}
 use Rattle.gateway_replay.specs.Events.{speaks, bytes_here, stream_of, said_by, events_with, events_by}
 use Rattle.gateway_replay.specs.Framers.{FramerFed}
 use Rattle.gateway_replay.specs.Streams.{framer_at}
@@ -35,10 +35,10 @@ after_given : (given shapes all : List Shape) → given ++ shapes ≡ all → sh
 after_given given shapes all whole = sym (drop-append_seam given shapes) ∙ ap (drop (length given)) whole
 
 -- what was told of a piece that was not all taken
-abbrev pub IsFramer : Streams → Speaker → Held → Type 0
+abbrev pub IsFramer : Streams → Speaker → HeldBytes → Type 0
 IsFramer streams who framer = (stream : List ℕ) (given : List Shape) → FramerFed (framer_at streams who) stream given → Framed framer stream given
 
-pub told_in_part : (old : Streams) (framer : Held) (who : Speaker) (piece : List ℕ) (shapes : List Shape) (told : List Happening) (earlier : List Entry) → IsFramer old who framer
+pub told_in_part : (old : Streams) (framer : HeldBytes) (who : Speaker) (piece : List ℕ) (shapes : List Shape) (told : List Happening) (earlier : List Entry) → IsFramer old who framer
     → ((stream : List ℕ) (given : List Shape) → Framed framer stream given → IsFront (given ++ shapes) (items_of (stream ++ piece)))
     → told ≡ map (said_by who) shapes → StreamsFit old earlier → ToldInPart told (events_with who piece earlier)
 told_in_part old framer who piece shapes told earlier is_framer took is fit =
@@ -53,7 +53,7 @@ told_in_part old framer who piece shapes told earlier is_framer took is fit =
     }
 
 -- and of any piece, by what came of its items
-pub told_items : (result : Result (Unit {0}) ProcessFault) (old new : Streams) (framer framer_now : Held) (who : Speaker) (piece : List ℕ) (shapes : List Shape) (told : List Happening) (earlier : List Entry) → IsFramer old who framer
+pub told_items : (result : Result (Unit {0}) ProcessFault) (old new : Streams) (framer framer_now : HeldBytes) (who : Speaker) (piece : List ℕ) (shapes : List Shape) (told : List Happening) (earlier : List Entry) → IsFramer old who framer
     → framer_at new who ≡ Some framer_now
     → ((other : Speaker) → other ≢ who → framer_at new other ≡ framer_at old other)
     → ((stream : List ℕ) (given : List Shape) → Framed framer stream given → FedBy result framer_now (stream ++ piece) (given ++ shapes))
@@ -62,10 +62,10 @@ told_items (Ok u) old new framer framer_now who piece shapes told earlier is_fra
     let stream = stream_of who earlier in
     let done = took stream (items_of stream) (is_framer stream (items_of stream) (fit who)) in (
       record {
-        here = subst (λ (f : Option Held). FramerFed f (stream ++ piece) (items_of (stream ++ piece))) (sym is_now)
+        here = subst (λ (f : Option HeldBytes). FramerFed f (stream ++ piece) (items_of (stream ++ piece))) (sym is_now)
             (subst (λ (l : List Shape). Framed framer_now (stream ++ piece) l) done.1 done.0);
         others = λ other apart.
-            subst (λ (f : Option Held). FramerFed f (stream_of other earlier) (items_of (stream_of other earlier))) (sym (others other apart)) (fit other);
+            subst (λ (f : Option HeldBytes). FramerFed f (stream_of other earlier) (items_of (stream_of other earlier))) (sym (others other apart)) (fit other);
       },
       is ∙ ap (map (said_by who)) (after_given (items_of stream) shapes (items_of (stream ++ piece)) done.1),
     )

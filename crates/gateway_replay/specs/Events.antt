@@ -1,9 +1,9 @@
 -- What the entries of a transcript tell, as what happened to the gateway (this project's own).
 use Rattle.std.specs.Prelude.{ℕ, Bool, true, false, ◌==◌, List, [], ◌∷◌, ◌++◌, length, drop, map, Option, Some, None, if◌then◌else◌}
 use Rattle.rtsp_head.specs.Items.{Shape, items_of}
-use Rattle.mux_history.specs.Happenings.{Happening, enters, takes, ends, lags, hears, up_ends}
-use Rattle.mux_history.specs.declared.event.UpWhy.{UpWhy}
-use Rattle.mux_history.specs.declared.event.UpWhy.TheVariants as why
+use Rattle.gateway_claim.specs.Happenings.{Happening, enters, takes, ends, lags, hears, up_ends}
+use Rattle.gateway_claim.specs.declared.event.UpWhy.{UpWhy}
+use Rattle.gateway_claim.specs.declared.event.UpWhy.TheVariants as why
 use Rattle.gate_transcript.specs.declared.entry.Entry.{Entry}
 use Rattle.gate_transcript.specs.declared.entry.EntryKind.{EntryKind}
 use Rattle.gate_transcript.specs.declared.entry.EntryKind.TheVariants.{Enter, Client, Upstream, End, Slow, UpEnd}
@@ -33,6 +33,7 @@ speaks speaker.Server UpEnd conn = false
 abbrev pub bytes_here : Speaker → Entry → List ℕ
 bytes_here who entry = if speaks who entry.kind entry.conn then entry.body else []
 
+-- the bytes of one speaker, from all its entries
 abbrev pub stream_of : Speaker → List Entry → List ℕ
 stream_of who [] = []
 stream_of who (entry ∷ earlier) = stream_of who earlier ++ bytes_here who entry

@@ -1,6 +1,6 @@
 pub mod Events
 pub mod Framers
-pub mod Living
+pub mod Alive
 pub mod OneTranscript
 pub mod Records
 pub mod Replays
@@ -8,5 +8,5 @@ pub mod Runs
 pub mod Sound
 pub mod Stops
 pub mod Streams
-pub mod Watching
-pub mod Written
+pub mod CoreRecords
+pub mod RecordTexts

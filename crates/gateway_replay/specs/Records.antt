@@ -17,5 +17,6 @@ record_byte Fault = FAULT_BYTE
 abbrev pub record_head : ℕ → ℕ → ℕ → List ℕ
 record_head kind conn size = kind ∷ (to_be_bytes w32 conn ++ to_be_bytes w32 size)
 
+-- a record as it is spelled
 abbrev pub record_text : ℕ → ℕ → List ℕ → List ℕ
 record_text kind conn body = record_head kind conn (length body) ++ body

@@ -4,7 +4,7 @@ use Rattle.gate_outside.specs.Causes.{Rose}
 use Rattle.gate_outside.specs.Contents.{Grows, GrowsByFront}
 use Rattle.gate_outside.specs.declared.Failed.{Failed}
 use Rattle.rtsp_uri.specs.declared.base.Bases.{Bases}
-use Rattle.mux_history.specs.Happenings.{Entry as PastEntry, happened}
+use Rattle.gateway_claim.specs.Happenings.{HistoryEntry, happened}
 use Rattle.gate_transcript.specs.declared.entry.Entry.{Entry}
 use Rattle.gate_transcript.specs.declared.fault.BadEntry.{BadEntry}
 use Rattle.gate_transcript.specs.declared.fault.BadEntryKind.{BadEntryKind}
@@ -15,13 +15,13 @@ use Rattle.gate_transcript.specs.Reads.{ReadsSo, GivenWhole, StopsAt, MayGoOn}
 use Rattle.gateway_mux.specs.declared.status.Status.{Status}
 use Rattle.gateway_mux.specs.declared.status.Status.TheVariants.{Done, SourceFault, SinkFault, BadTranscript, TooLong, Memory}
 use Rattle.gateway_replay.specs.declared.streams.Streams.{Streams}
-use Rattle.gateway_replay.specs.declared.replaying.Stop.{Stop}
-use Rattle.gateway_replay.specs.declared.replaying.Stop.TheVariants as stop
-use Rattle.gateway_replay.specs.declared.replaying.TheConstants.{LONGEST_TRANSCRIPT}
+use Rattle.gateway_replay.specs.declared.whole_replay.Stop.{Stop}
+use Rattle.gateway_replay.specs.declared.whole_replay.Stop.TheVariants as stop
+use Rattle.gateway_replay.specs.declared.whole_replay.TheConstants.{LONGEST_TRANSCRIPT}
 use Rattle.gateway_replay.specs.Events.{events_of}
 use Rattle.gateway_replay.specs.Runs.{StreamsFit, ToldInPart}
-use Rattle.gateway_replay.specs.Watching.{Histories}
-use Rattle.gateway_replay.specs.Written.{records}
+use Rattle.gateway_replay.specs.CoreRecords.{Histories}
+use Rattle.gateway_replay.specs.RecordTexts.{records}
 
 -- the longest transcript that is replayed, in bytes
 unfoldable pub limit : ℕ
@@ -34,6 +34,7 @@ abbrev pub ends_by : Option BadEntry → Status
 ends_by None = Done
 ends_by (Some bad) = BadTranscript bad.place bad.kind
 
+-- an entry that the limit cuts has no fault of its own
 abbrev pub cut_by_kind : BadEntryKind → BadEntry → Status
 cut_by_kind Magic bad = BadTranscript bad.place bad.kind
 cut_by_kind Kind bad = BadTranscript bad.place bad.kind
@@ -41,10 +42,12 @@ cut_by_kind Conn bad = BadTranscript bad.place bad.kind
 cut_by_kind Length bad = BadTranscript bad.place bad.kind
 cut_by_kind Cut bad = TooLong
 
+-- how a replay ends whose source passes the limit
 abbrev pub cut_by_limit : Option BadEntry → Status
 cut_by_limit None = TooLong
 cut_by_limit (Some bad) = cut_by_kind bad.kind bad
 
+-- how a replay ends, by all that its source holds
 abbrev pub ends_as : List ℕ → Status
 ends_as all = if nat_le (length all) limit then ends_by (reading all).fault else cut_by_limit (reading (take limit all)).fault
 
@@ -62,13 +65,14 @@ pub record TakesWithin (most : ℕ) (all left : Option (List ℕ)) : Type 0 wher
 -- The replay so far: the reader gave these entries, they were processed, and the records of their history written.
 pub record ReplayedSoFar (bases : Bases) (reader : EntryReader) (streams : Streams) (stood : Histories) (bytes : List ℕ) (before now : Option (List ℕ)) : Type 0 where
   pub entries : List Entry
-  pub history : List PastEntry
+  pub history : List HistoryEntry
   pub reads : ReadsSo reader bytes entries
   pub fit : StreamsFit streams entries
   pub stands : stood bases history
   pub told : happened history ≡ events_of entries
   pub grown : Grows before now (records history)
 
+-- between some addresses this was replayed so far
 pub record SomeSoFar (reader : EntryReader) (streams : Streams) (stood : Histories) (now : Option (List ℕ)) : Type 0 where
   pub bases : Bases
   pub bytes : List ℕ
@@ -76,7 +80,7 @@ pub record SomeSoFar (reader : EntryReader) (streams : Streams) (stood : Histori
   pub so_far : ReplayedSoFar bases reader streams stood bytes before now
 
 -- What happened is the first part of what the whole entries of some front of the bytes tell.
-pub record TellsFront (bytes : List ℕ) (history : List PastEntry) : Type 0 where
+pub record TellsFront (bytes : List ℕ) (history : List HistoryEntry) : Type 0 where
   pub front : List ℕ
   pub rest : List ℕ
   pub whole : front ++ rest ≡ bytes
@@ -84,21 +88,24 @@ pub record TellsFront (bytes : List ℕ) (history : List PastEntry) : Type 0 whe
 
 -- A replay that was interrupted: by want of memory, between two events, or by the sink, in one event's records.
 pub record IsInterrupted (made : Histories) (bases : Bases) (bytes : List ℕ) (before now : Option (List ℕ)) : Type 0 where
-  pub history : List PastEntry
+  pub history : List HistoryEntry
   pub is_history : made bases history
   pub tells : TellsFront bytes history
   pub grown : Grows before now (records history)
 
+-- a replay ended amid an event's records
 pub record IsInterruptedInPart (made : Histories) (bases : Bases) (bytes : List ℕ) (before now : Option (List ℕ)) : Type 0 where
-  pub history : List PastEntry
+  pub history : List HistoryEntry
   pub is_history : made bases history
   pub tells : TellsFront bytes history
   pub grown : GrowsByFront before now (records history)
 
+-- all entries that are whole were processed
 pub record ProcessedAll (bases : Bases) (reader : EntryReader) (streams : Streams) (stood : Histories) (bytes : List ℕ) (before now : Option (List ℕ)) : Type 0 where
   pub so_far : ReplayedSoFar bases reader streams stood bytes before now
   pub whole : GivenWhole bytes so_far.entries
 
+-- all entries before the fault were processed
 pub record ProcessedToFault (bases : Bases) (bad : BadEntry) (reader : EntryReader) (streams : Streams) (stood : Histories) (bytes : List ℕ) (before now : Option (List ℕ)) : Type 0 where
   pub so_far : ReplayedSoFar bases reader streams stood bytes before now
   pub stops : StopsAt bad bytes so_far.entries
@@ -110,12 +117,14 @@ Processed made bases (Err (stop.Bad bad)) reader streams stood bytes before now 
 Processed made bases (Err stop.Sink) reader streams stood bytes before now = IsInterruptedInPart made bases bytes before now
 Processed made bases (Err stop.Memory) reader streams stood bytes before now = IsInterrupted made bases bytes before now
 
+-- a fault of the sink has its count
 abbrev pub StopRose : ℕ → ℕ → Result (Unit {0}) Stop → Type 0
 StopRose before now (Ok u) = Unit {0}
 StopRose before now (Err (stop.Bad bad)) = Unit {0}
 StopRose before now (Err stop.Sink) = Rose before now
 StopRose before now (Err stop.Memory) = Unit {0}
 
+-- the sink's count doesn't fall, and a fault of it has its count
 pub record StopCause (before now : ℕ) (result : Result (Unit {0}) Stop) : Type 0 where
   pub later : before ≤ now
   pub rose : StopRose before now result
@@ -128,7 +137,7 @@ IsAtEnd now = IfSome now (λ left. left ≡ [])
 -- told, the status that its bytes have, and the events that the whole entries tell which stand within the limit and
 -- before the first fault.
 pub record EndsReplay (made : Histories) (bases : Bases) (status : Status) (all before now : Option (List ℕ)) : Type 0 where
-  pub history : List PastEntry
+  pub history : List HistoryEntry
   pub is_history : made bases history
   pub grown : Grows before now (records history)
   pub ends : IfSome all (λ bytes. (status ≡ ends_as bytes) × (happened history ≡ events_of (reading (take limit bytes)).entries))
@@ -138,17 +147,19 @@ pub record EndsReplay (made : Histories) (bases : Bases) (status : Status) (all 
 pub record EndsBySourceFault (made : Histories) (bases : Bases) (all left before now : Option (List ℕ)) : Type 0 where
   pub bytes : List ℕ
   pub taken : TakenFrom all left bytes
-  pub history : List PastEntry
+  pub history : List HistoryEntry
   pub is_history : made bases history
   pub grown : Grows before now (records history)
   pub told : happened history ≡ events_of (reading bytes).entries
   pub sound : MayGoOn (reading bytes).fault bytes
 
+-- a replay whose sink failed
 pub record EndsBySinkFault (made : Histories) (bases : Bases) (all left before now : Option (List ℕ)) : Type 0 where
   pub bytes : List ℕ
   pub taken : TakenFrom all left bytes
   pub part : IsInterruptedInPart made bases bytes before now
 
+-- a replay that ran out of memory
 pub record EndsWithoutMemory (made : Histories) (bases : Bases) (all left before now : Option (List ℕ)) : Type 0 where
   pub bytes : List ℕ
   pub taken : TakenFrom all left bytes

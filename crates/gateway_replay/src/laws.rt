@@ -3,10 +3,10 @@ ghost use Rattle.std.specs.Prelude.{◌≡◌, ℕ, Option, Some, List};
 ghost use Rattle.gate_outside.specs.Causes.{Rose};
 ghost use Rattle.rtsp_uri.specs.declared.base.Bases.{Bases};
 ghost use Rattle.gate_transcript.specs.declared.entry.Entry.{Entry};
-ghost use Rattle.mux_history.specs.Happenings.{Entry as PastEntry, happened};
-ghost use Rattle.mux_history.specs.Cores.{IsCoreHistory};
-ghost use Rattle.mux_history.specs.Follows.{IsHistory};
-ghost use Rattle.mux_history.specs.OnePlayer.{HasAll};
+ghost use Rattle.gateway_claim.specs.Happenings.{HistoryEntry, happened};
+ghost use Rattle.gateway_claim.specs.Cores.{IsCoreHistory};
+ghost use Rattle.gateway_claim.specs.Follows.{IsHistory};
+ghost use Rattle.gateway_claim.specs.OnePlayer.{HasAll};
 ghost use Rattle.gateway_mux.specs.declared.status.Status.{Status};
 ghost use Rattle.gateway_replay.specs.Events.{events_of};
 ghost use Rattle.gateway_replay.specs.OneTranscript.{EntersAlone};
@@ -19,7 +19,7 @@ use gateway_mux::Core;
 /// connection's own, end to end. [`crate::replay`] writes the records of that history: so the bytes
 /// that it writes tell what a gateway for this player alone hands out on what the transcript tells.
 pub fn a_transcript_of_one_player_is_its_own()
-    ensures { (bases : Bases) (entries : List Entry) (history : List PastEntry) (i : ℕ) → IsHistory bases history → happened history ≡ events_of entries → EntersAlone i entries → HasAll bases i history }
+    ensures { (bases : Bases) (entries : List Entry) (history : List HistoryEntry) (i : ℕ) → IsHistory bases history → happened history ≡ events_of entries → EntersAlone i entries → HasAll bases i history }
 {}
 
 /// A transcript without a fault, and no longer than the limit, is replayed whole, where the counts of

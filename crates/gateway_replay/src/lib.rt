@@ -4,14 +4,14 @@
 //! Nothing of the core is known here but what the trait [`gateway_mux::Core`] says of every core.
 #![tactic(auto)]
 
+mod alive;
+mod core_records;
 mod laws;
-mod living;
 mod outcomes;
 mod records;
-mod replaying;
 mod run;
 mod streams;
-mod watched;
+mod whole_replay;
 
 pub use laws::{a_sound_transcript_is_replayed, a_transcript_of_one_player_is_its_own};
-pub use replaying::{LONGEST_TRANSCRIPT, READ_SIZE, replay};
+pub use whole_replay::{LONGEST_TRANSCRIPT, READ_SIZE, replay};

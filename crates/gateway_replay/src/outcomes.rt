@@ -2,19 +2,19 @@
 ghost use Rattle.std.specs.Prelude.{◌≡◌, ◌<◌, ◌^◌, [], ◌++◌, List, IfSome, OnOk, length, unwrap_or, decimal};
 ghost use Rattle.gate_outside.specs.Causes.{HasCause};
 ghost use Rattle.gate_outside.specs.Contents.{WritesAll};
-ghost use Rattle.mux_history.specs.Happenings.{Entry};
-ghost use Rattle.mux_history.specs.Short.{IsShort, piece_length, message_length, up_length};
-ghost use Rattle.gateway_replay.specs.Watching.{AreLiving, StayLiving};
-ghost use Rattle.gateway_replay.specs.Written.{bad_name, framing_name, piece_record, up_message_text, up_record, close_record, ends, closed_records, cause_record, fault_record, records_of};
+ghost use Rattle.gateway_claim.specs.Happenings.{HistoryEntry};
+ghost use Rattle.gateway_claim.specs.Short.{IsShort, piece_length, message_length, up_length};
+ghost use Rattle.gateway_replay.specs.CoreRecords.{AreLiving, StayLiving};
+ghost use Rattle.gateway_replay.specs.RecordTexts.{bad_name, framing_name, piece_record, up_message_text, up_record, close_record, ends, closed_records, cause_record, fault_record, records_of};
 ghost use Rattle.gateway_replay.specs.declared.records.TheConstants.{FAULT_BYTE};
 ghost use Rattle.gateway_replay.specs.Records.{record_text};
 
-use crate::living::Living;
+use crate::alive::Living;
 use crate::records::{RecordKind, write_parted_record, write_record};
 use gate_bytes::Text;
 use gate_outside::{Failed, Sink};
+use gateway_claim::close_byte;
 use gateway_mux::{CloseWhy, Closed, FramingFault, Outcome, ToClient, ToUp, UpCause, UpMessage};
-use mux_history::close_byte;
 use rtsp_head::BadKind;
 
 /// Writes the records of an event's outcome. The connections that were alive before the event become those after it.
@@ -24,7 +24,7 @@ pub fn write_outcome<K: Sink>(
     outcome: &Outcome,
 ) -> Result<(), Failed>
     requires { IsShort outcome.now }
-    ensures bytes { (T : List Entry) → AreLiving living.old T → WritesAll (K.written sink.old) (K.written sink.new) (records_of outcome.now T) result }
+    ensures bytes { (T : List HistoryEntry) → AreLiving living.old T → WritesAll (K.written sink.old) (K.written sink.new) (records_of outcome.now T) result }
     ensures living { OnOk result (StayLiving outcome.now.closed living.old living.new) }
     ensures cause { HasCause (K.faults sink.old) (K.faults sink.new) result }
 {
@@ -91,7 +91,7 @@ fn message_bytes(message: &Option<UpMessage>) -> &[u8]
 
 /// Writes the records of the connections that were closed, which are alive no longer.
 fn write_closed<K: Sink>(sink: &mut K, living: &mut Living, closed: Closed) -> Result<(), Failed>
-    ensures bytes { (T : List Entry) → AreLiving living.old T → WritesAll (K.written sink.old) (K.written sink.new) (closed_records closed T) result }
+    ensures bytes { (T : List HistoryEntry) → AreLiving living.old T → WritesAll (K.written sink.old) (K.written sink.new) (closed_records closed T) result }
     ensures living { OnOk result (StayLiving closed living.old living.new) }
     ensures cause { HasCause (K.faults sink.old) (K.faults sink.new) result }
 {
@@ -115,7 +115,7 @@ fn write_close<K: Sink>(sink: &mut K, conn: u32, why: CloseWhy) -> Result<(), Fa
 
 /// Writes the closes of all connections that are alive, by rising number, and none is alive then.
 fn write_ends<K: Sink>(sink: &mut K, living: &mut Living) -> Result<(), Failed>
-    ensures bytes { (T : List Entry) → AreLiving living.old T → WritesAll (K.written sink.old) (K.written sink.new) (ends T) result }
+    ensures bytes { (T : List HistoryEntry) → AreLiving living.old T → WritesAll (K.written sink.old) (K.written sink.new) (ends T) result }
     ensures living { OnOk result (StayLiving Closed.All living.old living.new) }
     ensures cause { HasCause (K.faults sink.old) (K.faults sink.new) result }
 {

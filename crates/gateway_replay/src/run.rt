@@ -1,14 +1,14 @@
 //! A run: the entries of a transcript, one after another, as the events that they tell.
 ghost use Rattle.std.specs.Prelude.{◌≡◌, ◌≤◌, ℕ, List, []};
 ghost use Rattle.rtsp_head.specs.Shapes.{shape_of};
-ghost use Rattle.mux_history.specs.Cores.{IsCoreHistory};
-ghost use Rattle.mux_history.specs.Happenings.{happening_of};
+ghost use Rattle.gateway_claim.specs.Cores.{IsCoreHistory};
+ghost use Rattle.gateway_claim.specs.Happenings.{happening_of};
 ghost use Rattle.gateway_replay.specs.Events.{said_by, why_of};
 ghost use Rattle.gateway_replay.specs.Runs.{TakesPiece, SinkCause};
-ghost use Rattle.gateway_replay.specs.Watching.{Watches};
+ghost use Rattle.gateway_replay.specs.CoreRecords.{Watches};
 
+use crate::core_records::{ProcessFault, Watched};
 use crate::streams::{Speaker, Streams};
-use crate::watched::{ProcessFault, Watched};
 use gate_bytes::Text;
 use gate_outside::Sink;
 use gate_transcript::{Entry, EntryKind, UpEndReason, end_reason_in};
@@ -72,7 +72,7 @@ impl<M: Core> Run<M> {
     ghost use Rattle.gateway_replay.specs.Framers.{FramerFed};
     ghost use Rattle.gateway_replay.specs.Streams.{framer_at};
     ghost use Rattle.gateway_replay.specs.Runs.{TakesEntry, TakesUpEnd, TakesBytes};
-    ghost use Rattle.gateway_replay.specs.Watching.{StandsForSome, with_new};
+    ghost use Rattle.gateway_replay.specs.CoreRecords.{StandsForSome, with_new};
     ghost use Rattle.gate_transcript.specs.Bodies.{end_reason_in};
 
     /// The state before the first entry.

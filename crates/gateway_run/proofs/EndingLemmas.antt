@@ -7,28 +7,28 @@ use Rattle.gate_outside.specs.Causes.{Rose}
 use Rattle.gate_outside.specs.Contents.{WritesAll}
 use Rattle.rtsp_uri.specs.declared.base.Bases.{Bases}
 use Rattle.gate_transcript.specs.declared.entry.Entry.{Entry as Noted}
-use Rattle.gate_world.specs.declared.tally.Tally.{Tally}
-use Rattle.mux_history.specs.declared.event.UpCause.{UpCause}
-use Rattle.mux_history.specs.declared.event.UpCause.TheVariants as causes
-use Rattle.mux_history.specs.Happenings.{Entry}
-use Rattle.mux_history.specs.Cores.{IsCoreHistory}
+use Rattle.serve_world.specs.declared.tally.WorldTally.{WorldTally}
+use Rattle.gateway_claim.specs.declared.event.UpCause.{UpCause}
+use Rattle.gateway_claim.specs.declared.event.UpCause.TheVariants as causes
+use Rattle.gateway_claim.specs.Happenings.{HistoryEntry}
+use Rattle.gateway_claim.specs.Cores.{IsCoreHistory}
 use Rattle.gateway_mux.specs.declared.status.Status.{Status}
 use Rattle.gateway_mux.specs.declared.status.Status.TheVariants.{Done, Usage, SourceFault, SinkFault, BadTranscript, Upstream, ListenFault, RecordFault, CrewRefused, Memory, TooLong, AcceptFault, DialFault, NumbersSpent}
 use Rattle.gateway_hub.specs.declared.desk.Desk.{Desk}
 use Rattle.gateway_hub.specs.declared.receipts.Receipts.{Receipts}
-use Rattle.hub_places.specs.declared.ending.Ending.{Ending}
-use Rattle.hub_places.specs.declared.ending.Ending.TheVariants as endings
-use Rattle.hub_places.specs.declared.ending.StopWhy.TheVariants as stops
-use Rattle.gateway_hub.specs.Closing.{TellsOver}
-use Rattle.gateway_hub.specs.Kept.{Keeps, KeepsSome, EndsRightly}
+use Rattle.hub_queues.specs.declared.ending.Ending.{Ending}
+use Rattle.hub_queues.specs.declared.ending.Ending.TheVariants as endings
+use Rattle.hub_queues.specs.declared.ending.StopWhy.TheVariants as stops
+use Rattle.gateway_hub.specs.Close.{TellsOver}
+use Rattle.gateway_hub.specs.Keeps.{Keeps, KeepsSome, EndsRightly}
 use Rattle.gateway_hub.specs.Receipts.{ClosesWith}
-use Rattle.run_report.specs.declared.told.Told.{Told}
+use Rattle.run_report.specs.declared.run_end.RunEnd.{RunEnd}
 use Rattle.run_report.specs.Report.{report_text}
 use Rattle.run_report.specs.Endings.{GoesWith, unrecorded, unreported, met_by}
-use Rattle.gateway_run.specs.Serving.{EndsHistory, HasShown, HasLeftNone, NoneIsLeft, LinkShows, RanTo, WroteReport, TakesBack, AreSameAddresses}
+use Rattle.gateway_run.specs.WholeRun.{EndsHistory, HasShown, HasLeftNone, NoneIsLeft, LinkShows, RanTo, WroteReport, TakesBack, AreSameAddresses}
 
 -- the history ends as the status says, before what is written last is looked at
-ends_so : (status : Status) (told : Told) (faults : ℕ) (desk : Desk) (history : List Entry) → GoesWith status told → told.ending ≡ desk.ending
+ends_so : (status : Status) (told : RunEnd) (faults : ℕ) (desk : Desk) (history : List HistoryEntry) → GoesWith status told → told.ending ≡ desk.ending
     → EndsRightly faults (length desk.places.items) desk.ending history → TellsOver told.over desk.places.items history → EndsHistory status desk history
 ends_so Done told faults desk history goes same right over = over.over goes.2
 ends_so (Upstream cause) told faults desk history goes same right over =
@@ -48,7 +48,7 @@ ends_so ListenFault told faults desk history goes same right over = absurd goes
 ends_so DialFault told faults desk history goes same right over = absurd goes
 
 -- it ends so too where what is written last fails
-ends_unrecorded : (status : Status) (desk : Desk) (history : List Entry) → EndsHistory status desk history → EndsHistory (unrecorded status) desk history
+ends_unrecorded : (status : Status) (desk : Desk) (history : List HistoryEntry) → EndsHistory status desk history → EndsHistory (unrecorded status) desk history
 ends_unrecorded Done desk history ends = tt
 ends_unrecorded (Upstream cause) desk history ends = ends
 ends_unrecorded NumbersSpent desk history ends = ends
@@ -64,7 +64,7 @@ ends_unrecorded TooLong desk history ends = ends
 ends_unrecorded ListenFault desk history ends = ends
 ends_unrecorded DialFault desk history ends = ends
 
-ends_unreported : (status : Status) (desk : Desk) (history : List Entry) → EndsHistory status desk history → EndsHistory (unreported status) desk history
+ends_unreported : (status : Status) (desk : Desk) (history : List HistoryEntry) → EndsHistory status desk history → EndsHistory (unreported status) desk history
 ends_unreported Done desk history ends = ends
 ends_unreported (Upstream cause) desk history ends = ends
 ends_unreported NumbersSpent desk history ends = ends
@@ -81,7 +81,7 @@ ends_unreported ListenFault desk history ends = ends
 ends_unreported DialFault desk history ends = ends
 
 -- the status after the recording was written to its end, and after the report was written
-after_both : {E F : Type 0} (status flushed_status last : Status) (flushed : Result (Unit {0}) E) (written : Result (Unit {0}) F) (desk : Desk) (history : List Entry)
+after_both : {E F : Type 0} (status flushed_status last : Status) (flushed : Result (Unit {0}) E) (written : Result (Unit {0}) F) (desk : Desk) (history : List HistoryEntry)
     → OnOk flushed (flushed_status ≡ status) → OnErr flushed (flushed_status ≡ unrecorded status)
     → OnOk written (last ≡ flushed_status) → OnErr written (last ≡ unreported flushed_status) → EndsHistory status desk history → EndsHistory last desk history
 after_both status flushed_status last (Ok u) (Ok v) desk history a b c d ends = subst (λ (s : Status). EndsHistory s desk history) (sym (c ∙ a)) ends
@@ -98,7 +98,7 @@ wrote_report before now a b text (Ok u) wrote rose = inl wrote
 wrote_report before now a b text (Err e) wrote rose = inr (rose, wrote)
 
 -- What the workers met shows in the counts of what comes back: of the door, the two halves of the server's link, and the recorder.
-pub record Met (told : Told) (refused : Bool) (df de lf lo le rf : ℕ) : Type 0 where
+pub record Met (told : RunEnd) (refused : Bool) (df de lf lo le rf : ℕ) : Type 0 where
   pub failed : told.failed ≡ true → 0 < df
   pub ended : told.ended ≡ true → 0 < de
   pub read : told.run.read_failed ≡ true → 0 < lf
@@ -108,7 +108,7 @@ pub record Met (told : Told) (refused : Bool) (df de lf lo le rf : ℕ) : Type 0
   pub recorder : told.ending ≡ Some (endings.Stopped stops.Record) → 0 < rf
 
 -- the end of the server's connection shows at its link
-link_shows : (cause : UpCause) (told : Told) (refused : Bool) (df de lf lo le rf : ℕ) (before now : Tally) → met_by cause told.run ≡ true → Met told refused df de lf lo le rf
+link_shows : (cause : UpCause) (told : RunEnd) (refused : Bool) (df de lf lo le rf : ℕ) (before now : WorldTally) → met_by cause told.run ≡ true → Met told refused df de lf lo le rf
     → TakesBack refused df de lf lo le rf before now → LinkShows cause before now
 link_shows causes.Ended told refused df de lf lo le rf before now met all back = back.inlet_end (all.up_ended met)
 link_shows causes.ReadFault told refused df de lf lo le rf before now met all back = back.inlet (all.read met)
@@ -121,7 +121,7 @@ link_shows causes.CseqSpent told refused df de lf lo le rf before now met all ba
 link_shows causes.UpFull told refused df de lf lo le rf before now met all back = tt
 
 -- the cause of a status shows, before what is written last is looked at
-shows : (status : Status) (told : Told) (refused : Bool) (df de lf lo le rf : ℕ) (before now : Tally) (a b : ℕ) → GoesWith status told → Met told refused df de lf lo le rf
+shows : (status : Status) (told : RunEnd) (refused : Bool) (df de lf lo le rf : ℕ) (before now : WorldTally) (a b : ℕ) → GoesWith status told → Met told refused df de lf lo le rf
     → TakesBack refused df de lf lo le rf before now → HasShown status before now a b
 shows Done told refused df de lf lo le rf before now a b goes all back = back.door_end (all.ended goes.1)
 shows (Upstream cause) told refused df de lf lo le rf before now a b goes all back = link_shows cause told refused df de lf lo le rf before now goes.1 all back
@@ -139,7 +139,7 @@ shows ListenFault told refused df de lf lo le rf before now a b goes all back = 
 shows DialFault told refused df de lf lo le rf before now a b goes all back = absurd goes
 
 -- it shows so too where the recording could not be written to its end
-shows_unrecorded : (status : Status) (before now : Tally) (a b : ℕ) → Rose before.record_faults now.record_faults → HasShown status before now a b → HasShown (unrecorded status) before now a b
+shows_unrecorded : (status : Status) (before now : WorldTally) (a b : ℕ) → Rose before.record_faults now.record_faults → HasShown status before now a b → HasShown (unrecorded status) before now a b
 shows_unrecorded Done before now a b rose shown = inr rose
 shows_unrecorded (Upstream cause) before now a b rose shown = shown
 shows_unrecorded NumbersSpent before now a b rose shown = shown
@@ -156,7 +156,7 @@ shows_unrecorded ListenFault before now a b rose shown = shown
 shows_unrecorded DialFault before now a b rose shown = shown
 
 -- and where the report could not be written
-shows_unreported : (status : Status) (before now : Tally) (a b : ℕ) → Rose a b → HasShown status before now a b → HasShown (unreported status) before now a b
+shows_unreported : (status : Status) (before now : WorldTally) (a b : ℕ) → Rose a b → HasShown status before now a b → HasShown (unreported status) before now a b
 shows_unreported Done before now a b rose shown = rose
 shows_unreported (Upstream cause) before now a b rose shown = shown
 shows_unreported NumbersSpent before now a b rose shown = shown
@@ -172,18 +172,18 @@ shows_unreported TooLong before now a b rose shown = shown
 shows_unreported ListenFault before now a b rose shown = shown
 shows_unreported DialFault before now a b rose shown = shown
 
-shown_flushed : {E : Type 0} (status flushed_status : Status) (flushed : Result (Unit {0}) E) (before now : Tally) (a b : ℕ) → OnOk flushed (flushed_status ≡ status)
+shown_flushed : {E : Type 0} (status flushed_status : Status) (flushed : Result (Unit {0}) E) (before now : WorldTally) (a b : ℕ) → OnOk flushed (flushed_status ≡ status)
     → OnErr flushed (flushed_status ≡ unrecorded status) → OnErr flushed (Rose before.record_faults now.record_faults) → HasShown status before now a b → HasShown flushed_status before now a b
 shown_flushed status flushed_status (Ok u) before now a b ok err rose shown = subst (λ (s : Status). HasShown s before now a b) (sym ok) shown
 shown_flushed status flushed_status (Err u) before now a b ok err rose shown = subst (λ (s : Status). HasShown s before now a b) (sym err) (shows_unrecorded status before now a b rose shown)
 
-shown_reported : {E : Type 0} (status last : Status) (written : Result (Unit {0}) E) (before now : Tally) (a b : ℕ) → OnOk written (last ≡ status)
+shown_reported : {E : Type 0} (status last : Status) (written : Result (Unit {0}) E) (before now : WorldTally) (a b : ℕ) → OnOk written (last ≡ status)
     → OnErr written (last ≡ unreported status) → OnErr written (Rose a b) → HasShown status before now a b → HasShown last before now a b
 shown_reported status last (Ok u) before now a b ok err rose shown = subst (λ (s : Status). HasShown s before now a b) (sym ok) shown
 shown_reported status last (Err u) before now a b ok err rose shown = subst (λ (s : Status). HasShown s before now a b) (sym err) (shows_unreported status before now a b rose shown)
 
 -- The cause of the answer shows.
-pub shown_last : {E F : Type 0} (status flushed_status last : Status) (told : Told) (refused : Bool) (df de lf lo le rf : ℕ) (before now : Tally) (a b : ℕ)
+pub shown_last : {E F : Type 0} (status flushed_status last : Status) (told : RunEnd) (refused : Bool) (df de lf lo le rf : ℕ) (before now : WorldTally) (a b : ℕ)
     (flushed : Result (Unit {0}) E) (written : Result (Unit {0}) F) → GoesWith status told → Met told refused df de lf lo le rf → TakesBack refused df de lf lo le rf before now
     → OnOk flushed (flushed_status ≡ status) → OnErr flushed (flushed_status ≡ unrecorded status) → OnErr flushed (Rose before.record_faults now.record_faults)
     → OnOk written (last ≡ flushed_status) → OnErr written (last ≡ unreported flushed_status) → OnErr written (Rose a b) → HasShown last before now a b
@@ -192,7 +192,7 @@ shown_last status flushed_status last told refused df de lf lo le rf before now 
     (shown_flushed status flushed_status flushed before now a b ok err flush_rose (shows status told refused df de lf lo le rf before now a b goes all back))
 
 -- where the run ended with the door, no link is left
-left_so : (status : Status) (told : Told) (left : Option ℕ) → GoesWith status told → (told.ended ≡ true → NoneIsLeft left) → HasLeftNone status left
+left_so : (status : Status) (told : RunEnd) (left : Option ℕ) → GoesWith status told → (told.ended ≡ true → NoneIsLeft left) → HasLeftNone status left
 left_so Done told left goes none = none goes.1
 left_so (Upstream cause) told left goes none = tt
 left_so NumbersSpent told left goes none = tt
@@ -251,7 +251,7 @@ left_reported status last (Ok u) left ok err none = subst (λ (s : Status). HasL
 left_reported status last (Err u) left ok err none = subst (λ (s : Status). HasLeftNone s left) (sym err) (left_unreported status left none)
 
 -- The answer tells no end of the door where a link is left.
-pub left_last : {E F : Type 0} (status flushed_status last : Status) (told : Told) (flushed : Result (Unit {0}) E) (written : Result (Unit {0}) F) (left : Option ℕ)
+pub left_last : {E F : Type 0} (status flushed_status last : Status) (told : RunEnd) (flushed : Result (Unit {0}) E) (written : Result (Unit {0}) F) (left : Option ℕ)
     → GoesWith status told → (told.ended ≡ true → NoneIsLeft left) → OnOk flushed (flushed_status ≡ status) → OnErr flushed (flushed_status ≡ unrecorded status)
     → OnOk written (last ≡ flushed_status) → OnErr written (last ≡ unreported flushed_status) → HasLeftNone last left
 left_last status flushed_status last told flushed written left goes none ok err done undone =
@@ -259,18 +259,18 @@ left_last status flushed_status last told flushed written left goes none ok err 
     (left_flushed status flushed_status flushed left ok err (left_so status told left goes none))
 
 -- A recorder that stopped the hub has failed.
-pub recorder_failed : (stands : List Entry → Type 0) (noted : Option (List Noted)) (faults : ℕ) (desk : Desk) → ∥ KeepsSome stands noted faults desk ∥₁
+pub recorder_failed : (stands : List HistoryEntry → Type 0) (noted : Option (List Noted)) (faults : ℕ) (desk : Desk) → ∥ KeepsSome stands noted faults desk ∥₁
     → desk.ending ≡ Some (endings.Stopped stops.Record) → 0 < faults
 recorder_failed stands noted faults desk keeps ending =
     ∥∥₁_elim keeps le_prop (λ (k : KeepsSome stands noted faults desk).
     (subst (λ (e : Option Ending). EndsRightly faults (length desk.places.items) e k.history) ending k.keeps.cause).0 refl)
 
 -- The history of the run, its receipts and its report.
-pub ran_to : {E F : Type 0} (follows : Bases → List Entry → Entry → Type 0) (kept_bases bases : Bases) (stands : List Entry → Type 0) (noted recorded : Option (List Noted)) (faults : ℕ)
-    (desk : Desk) (receipts : Receipts) (told : Told) (status flushed_status last : Status) (flushed : Result (Unit {0}) E) (written : Result (Unit {0}) F) (before now : Option (List ℕ)) (a b : ℕ)
-    → ∥ KeepsSome stands noted faults desk ∥₁ → ((T : List Entry) → stands T → IsCoreHistory follows kept_bases T) → AreSameAddresses kept_bases bases
-    → ((T : List Entry) → Keeps stands noted faults desk T → ClosesWith recorded desk receipts T)
-    → ((T : List Entry) → Keeps stands noted faults desk T → TellsOver told.over desk.places.items T)
+pub ran_to : {E F : Type 0} (follows : Bases → List HistoryEntry → HistoryEntry → Type 0) (kept_bases bases : Bases) (stands : List HistoryEntry → Type 0) (noted recorded : Option (List Noted)) (faults : ℕ)
+    (desk : Desk) (receipts : Receipts) (told : RunEnd) (status flushed_status last : Status) (flushed : Result (Unit {0}) E) (written : Result (Unit {0}) F) (before now : Option (List ℕ)) (a b : ℕ)
+    → ∥ KeepsSome stands noted faults desk ∥₁ → ((T : List HistoryEntry) → stands T → IsCoreHistory follows kept_bases T) → AreSameAddresses kept_bases bases
+    → ((T : List HistoryEntry) → Keeps stands noted faults desk T → ClosesWith recorded desk receipts T)
+    → ((T : List HistoryEntry) → Keeps stands noted faults desk T → TellsOver told.over desk.places.items T)
     → told.ending ≡ desk.ending → GoesWith status told
     → OnOk flushed (flushed_status ≡ status) → OnErr flushed (flushed_status ≡ unrecorded status) → OnOk written (last ≡ flushed_status) → OnErr written (last ≡ unreported flushed_status)
     → WroteReport before now a b (report_text receipts) → ∥ RanTo follows bases last recorded before now a b ∥₁

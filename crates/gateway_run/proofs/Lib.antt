@@ -1,4 +1,4 @@
 pub mod EndingLemmas
 pub mod LinkLemmas
 pub mod ReceiptLemmas
-pub mod UnhinderedLemmas
+pub mod FaultlessLemmas

@@ -4,7 +4,7 @@ use Rattle.std.specs.Option.{ForSome, option_map}
 use Rattle.gate_transcript.specs.declared.entry.Entry.{Entry as Noted}
 use Rattle.gateway_hub.specs.Notes.{TellsNotes}
 use Rattle.player_stations.specs.Gates.{NoneLeft}
-use Rattle.gateway_run.specs.Serving.{NoneIsLeft}
+use Rattle.gateway_run.specs.WholeRun.{NoneIsLeft}
 
 -- nothing was written, where that is told
 pub written_none : (written : Option (List ℕ)) → ForSome written (λ bytes. bytes ≡ []) → written ≡ option_map (λ bytes. []) written

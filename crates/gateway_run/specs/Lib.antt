@@ -1,2 +1,2 @@
-pub mod Serving
-pub mod Unhindered
+pub mod WholeRun
+pub mod FaultlessRun

@@ -2,11 +2,11 @@
 ghost use denote.Param.Send.{IsSend, IsSync};
 
 use gate_outside::{Door, Inlet, Outlet};
-use gate_world::{Refusal, Refused, beside};
 use gateway_hub::{Recorder, StopWhy};
 use gateway_mux::Core;
 use hub_workers::Common;
 use player_stations::{StationPost, work_stations};
+use serve_world::{NotBegun, ThreadRefusal, beside};
 use server_link::{ServerPost, UpBack, work_server};
 use std::sync::Wait;
 use std::thread::Threads;
@@ -25,20 +25,20 @@ pub fn work<
     common: &Common<'_, M, R, W>,
     stations: StationPost<'_, D>,
     server: ServerPost<'_, I, P>,
-) -> (UpBack<I, P>, Option<Refusal>)
+) -> (UpBack<I, P>, Option<ThreadRefusal>)
 where
     M::Plan: Send,
 {
-    let there = move || -> (UpBack<I, P>, Option<Refusal>)
+    let there = move || -> (UpBack<I, P>, Option<ThreadRefusal>)
         requires { IsSync W.row × IsSend I.row × IsSend P.row × IsSend M.row × IsSend M.Plan.row × IsSend R.row }
     { work_server(common, server) };
-    let here = move || -> Option<Refusal>
+    let here = move || -> Option<ThreadRefusal>
         requires { IsSync W.row × IsSend D.row × IsSend D.Inward.row × IsSend D.Outward.row × IsSend M.row × IsSend M.Plan.row × IsSend R.row }
     { work_stations(common, stations) };
     match beside(common.rt, there, here) {
         Ok(((back, refused_there), refused_here)) => (back, refused_there.or(refused_here)),
         Err(
-            Refused {
+            NotBegun {
                 refusal,
                 there,
                 here: _here,

@@ -3,14 +3,14 @@ ghost use Rattle.std.specs.Prelude.{◌≡◌, ◌<◌, ◌⊎◌, ℕ, List, le
 ghost use Rattle.gate_outside.specs.Contents.{Grows};
 ghost use Rattle.rtsp_uri.specs.declared.base.Bases.{Bases};
 ghost use Rattle.gate_transcript.specs.declared.entry.Entry.{Entry as Noted};
-ghost use Rattle.gate_world.specs.declared.tally.Tally.{Tally};
-ghost use Rattle.mux_history.specs.Happenings.{fault_in};
+ghost use Rattle.serve_world.specs.declared.tally.WorldTally.{WorldTally};
+ghost use Rattle.gateway_claim.specs.Happenings.{fault_in};
 ghost use Rattle.gateway_mux.specs.declared.status.Status.{Status};
 ghost use Rattle.gateway_mux.specs.declared.status.Status.TheVariants.{Done, Memory};
-ghost use Rattle.hub_places.specs.declared.limits.TheConstants.{MOST_CONNECTIONS};
+ghost use Rattle.hub_queues.specs.declared.limits.TheConstants.{MOST_CONNECTIONS};
 ghost use Rattle.run_report.specs.Report.{report_text};
-ghost use Rattle.gateway_run.specs.Serving.{ServeSays, HasShown, RanTo};
-ghost use Rattle.gateway_run.specs.Unhindered.{NothingFailed, EndsUnhindered};
+ghost use Rattle.gateway_run.specs.WholeRun.{ServeSays, HasShown, RanTo};
+ghost use Rattle.gateway_run.specs.FaultlessRun.{NothingFailed, EndsUnhindered};
 
 use gateway_mux::Core;
 
@@ -19,7 +19,7 @@ use gateway_mux::Core;
 /// numbers given; or for want of memory. Its whole report was written, or memory was wanting before
 /// it began. The first two premises are what [`crate::serve`] ensures of its answer.
 pub fn a_run_that_nothing_hinders_ends_well<M: Core>()
-    ensures { (bases : Bases) (status : Status) (recorded : Option (List Noted)) (opened closed : Tally) (before now : Option (List ℕ)) (a b : ℕ)
+    ensures { (bases : Bases) (status : Status) (recorded : Option (List Noted)) (opened closed : WorldTally) (before now : Option (List ℕ)) (a b : ℕ)
         → ServeSays M.follows bases status recorded opened closed before now a b → HasShown status opened closed a b → NothingFailed opened closed a b
         → EndsUnhindered M.follows bases status recorded before now a b }
 {}
@@ -27,7 +27,7 @@ pub fn a_run_that_nothing_hinders_ends_well<M: Core>()
 /// So where such a run's history has no end of the server's connection, and not all numbers were
 /// given in it, the answer is `Done`, or memory was wanting; and the whole report was written.
 pub fn a_run_without_a_fault_is_done<M: Core>()
-    ensures { (bases : Bases) (status : Status) (recorded : Option (List Noted)) (opened closed : Tally) (before now : Option (List ℕ)) (a b : ℕ)
+    ensures { (bases : Bases) (status : Status) (recorded : Option (List Noted)) (opened closed : WorldTally) (before now : Option (List ℕ)) (a b : ℕ)
         → (ran : RanTo M.follows bases status recorded before now a b) → HasShown status opened closed a b → NothingFailed opened closed a b
         → fault_in ran.history ≡ None → length ran.desk.places.items < MOST_CONNECTIONS
         → ((status ≡ Done) ⊎ (status ≡ Memory)) × Grows before now (report_text ran.receipts) }

@@ -8,7 +8,7 @@
 
 mod crew;
 mod laws;
-mod serving;
+mod whole_run;
 
 pub use laws::{a_run_that_nothing_hinders_ends_well, a_run_without_a_fault_is_done};
-pub use serving::serve;
+pub use whole_run::serve;

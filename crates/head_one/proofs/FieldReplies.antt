@@ -8,7 +8,7 @@ use Rattle.rtsp_small.specs.declared.cseq.TheConstants.{CSEQ_ONE_DIGITS}
 use Rattle.rtsp_head.specs.declared.start.Start.TheVariants.{Status}
 use Rattle.rtsp_head.specs.Messages.{is_added}
 use Rattle.rtsp_head.specs.Optional.{Field, field_headers}
-use Rattle.rtsp_head.specs.Written.{is_line_text, is_start, is_header}
+use Rattle.rtsp_head.specs.HeadText.{is_line_text, is_start, is_header}
 use Rattle.rtsp_head.proofs.MessageLemmas.{message_sound}
 use Rattle.rtsp_head.proofs.FieldLemmas.{EachField, HasValue, fields_sound, names_hold, fields_few}
 use Rattle.rtsp_status.specs.Reasons.{reason_of, has_reason, is_reason_byte}

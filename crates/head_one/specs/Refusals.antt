@@ -32,7 +32,7 @@ required headers = option_or (said (field_of headers (codes "Require"))) (said (
 
 -- What the rules look at. Each part is read once: the method, its name where it is known, the URI, the version, the
 -- number, and what is required.
-pub record Parts : Type 0 where
+pub record RequestFields : Type 0 where
   pub method : List ℕ
   pub known : Option Method
   pub uri : List ℕ
@@ -40,7 +40,8 @@ pub record Parts : Type 0 where
   pub cseq : Option ℕ
   pub required : Option (List ℕ)
 
-abbrev pub request_parts : List ℕ → List ℕ → List ℕ → List Header → Parts
+-- what the rules ask of a request
+abbrev pub request_parts : List ℕ → List ℕ → List ℕ → List Header → RequestFields
 request_parts method uri version headers =
     record { method = method; known = method_of method; uri = uri; version = version; cseq = client_cseq headers; required = required headers }
 
@@ -65,11 +66,12 @@ pub record Rule : Type 0 where
   pub applies : Bool
   pub code : ℕ
 
+-- a rule that applies or not, with its code
 abbrev pub rule : Bool → ℕ → Rule
 rule applies code = record { applies = applies; code = code }
 
 -- the rules on a request's head, in their order
-abbrev pub head_rules : Parts → List Rule
+abbrev pub head_rules : RequestFields → List Rule
 head_rules parts =
     rule (not (is_token parts.method)) 400
     ∷ rule (not (bytes_eq parts.version version_one)) 505
@@ -90,16 +92,17 @@ method_and_number (Some method) (Some cseq) = Ok (method, cseq)
 method_and_number (Some method) None = Err 400
 method_and_number None cseq = Err 501
 
-abbrev pub unless_refused : Option ℕ → Parts → Result (Method × ℕ) ℕ
+-- method and number, where no rule applied before
+abbrev pub unless_refused : Option ℕ → RequestFields → Result (Method × ℕ) ℕ
 unless_refused None parts = method_and_number parts.known parts.cseq
 unless_refused (Some code) parts = Err code
 
 -- the method and the number of a request, or the code of the first rule that applies
-abbrev pub parts_checked : Parts → Result (Method × ℕ) ℕ
+abbrev pub parts_checked : RequestFields → Result (Method × ℕ) ℕ
 parts_checked parts = unless_refused (first_code (head_rules parts)) parts
 
 -- a refusal with this code: the number where it could be read, and with 551 what is not supported (RFC 2326, 12.41)
-abbrev pub refusal : Parts → ℕ → Refusal
+abbrev pub refusal : RequestFields → ℕ → Refusal
 refusal parts code = record { code = code; cseq = parts.cseq; unsupported = if code == 551 then parts.required else None }
 
 -- what has no request line is no request

@@ -7,7 +7,7 @@ use Rattle.rtsp_head.specs.declared.header.Header.{Header}
 use Rattle.rtsp_head.specs.declared.start.Start.{Start}
 use Rattle.rtsp_head.specs.declared.start.Start.TheVariants.{Request, Status}
 use Rattle.rtsp_head.specs.Messages.{message_headers, is_added, own_fields, message_text, Message, message, message_of}
-use Rattle.rtsp_head.specs.Written.{CanBeWritten}
+use Rattle.rtsp_head.specs.HeadText.{CanBeWritten}
 use Rattle.rtsp_status.specs.Reasons.{reason_of}
 use Rattle.head_one.specs.declared.reply.Reply1.{Reply1}
 use Rattle.rtsp_small.specs.declared.cseq.TheConstants.{CSEQ_ONE_DIGITS}
@@ -22,6 +22,7 @@ reply_start reply = Status version_one reply.code (unwrap_or (reason_of reply.co
 abbrev pub reply_text : Reply1 → List ℕ
 reply_text reply = message_text (reply_start reply) reply.cseq reply.headers reply.body
 
+-- a reply of RTSP 1.0 that begins so
 abbrev pub client_reply_at : Start → List Header → List ℕ → Option Reply1
 client_reply_at (Status version code reason) headers body =
     if bytes_eq version version_one then Some (record { code = code; cseq = client_cseq headers; headers = own_fields headers; body = body }) else None

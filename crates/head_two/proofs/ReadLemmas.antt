@@ -25,7 +25,7 @@ use Rattle.rtsp_head.specs.declared.start.Start.{Start}
 use Rattle.rtsp_head.specs.declared.start.Start.TheVariants.{Request, Status}
 use Rattle.rtsp_head.specs.Messages.{message_headers, messages_of, IsReadable}
 use Rattle.rtsp_head.specs.Spellings.{begins_frame}
-use Rattle.rtsp_head.specs.Written.{start_text, is_start}
+use Rattle.rtsp_head.specs.HeadText.{start_text, is_start}
 use Rattle.rtsp_small.specs.declared.cseq.TheConstants.{CSEQ_TWO_DIGITS}
 use Rattle.rtsp_head.proofs.DigitLemmas.{own}
 use Rattle.rtsp_head.proofs.MessageLemmas.{fields_read}

@@ -23,22 +23,23 @@ abbrev pub answer_text : ℕ → ℕ → Option (List ℕ) → List ℕ
 answer_text code cseq session = message_text (Status version_two code (unwrap_or (reason_of code) [])) (Some cseq) (answer_headers code session) []
 
 -- an answer: its code, its number, and its other fields
-pub record Answer : Type 0 where
+pub record AnswerParts : Type 0 where
   pub code : ℕ
   pub cseq : ℕ
   pub fields : List Header
 
-abbrev pub answer_at : Start → List Header → Option Answer
+-- an answer of RTSP 2.0 that begins so
+abbrev pub answer_at : Start → List Header → Option AnswerParts
 answer_at (Status version code reason) headers =
     if bytes_eq version version_two then option_map (λ cseq. record { code = code; cseq = cseq; fields = own_fields headers }) (server_cseq headers) else None
 answer_at (Request method uri version) headers = None
 
 -- the answer that a message is
-abbrev pub server_answer : Message → Option Answer
+abbrev pub server_answer : Message → Option AnswerParts
 server_answer message = answer_at message.head.start message.head.headers
 
 -- the one answer that these bytes are
-abbrev pub answer_in : List ℕ → Option Answer
+abbrev pub answer_in : List ℕ → Option AnswerParts
 answer_in bytes = option_and_then server_answer (message_of bytes)
 
 -- the message that is written of an answer

@@ -18,6 +18,7 @@ abbrev pub reply_at_start : Start → Head → List ℕ → Result Reply2 TwoFau
 reply_at_start (Status version code reason) head body = result_map (λ cseq. record { code = code; cseq = cseq; head = head; body = body }) (checked_cseq version head.headers)
 reply_at_start (Request method uri version) head body = Err Version
 
+-- a reply with this head, or why it can't be read
 abbrev pub reply_of_head : Result Head HeadFault → List ℕ → Result Reply2 TwoFault
 reply_of_head (Ok head) body = reply_at_start head.start head body
 reply_of_head (Err fault) body = Err Version
@@ -31,6 +32,7 @@ abbrev pub ask_at_start : Start → Head → Result Ask2 TwoFault
 ask_at_start (Request method uri version) head = result_map (λ cseq. record { method = method; cseq = cseq; head = head }) (checked_cseq version head.headers)
 ask_at_start (Status version code reason) head = Err Version
 
+-- a request of the server with this head, or why it can't be read
 abbrev pub ask_of_head : Result Head HeadFault → Result Ask2 TwoFault
 ask_of_head (Ok head) = ask_at_start head.start head
 ask_of_head (Err fault) = Err Version

@@ -8,7 +8,7 @@ use Rattle.rtsp_head.specs.declared.start.Start.{Start}
 use Rattle.rtsp_head.specs.declared.start.Start.TheVariants.{Request, Status}
 use Rattle.rtsp_head.specs.Messages.{message_headers, message_text, Message, message, message_of, is_added, own_fields}
 use Rattle.rtsp_head.specs.Spellings.{begins_frame}
-use Rattle.rtsp_head.specs.Written.{CanBeWritten}
+use Rattle.rtsp_head.specs.HeadText.{CanBeWritten}
 use Rattle.rtsp_small.specs.declared.cseq.TheConstants.{CSEQ_TWO_DIGITS}
 use Rattle.head_two.specs.declared.request.Request2.{Request2}
 use Rattle.head_two.specs.Messages.{version_two, server_cseq}
@@ -23,6 +23,7 @@ pub record Numbered : Type 0 where
   pub number : ℕ
   pub request : Request2
 
+-- a request of RTSP 2.0 that begins so
 abbrev pub request_at : Start → List Header → List ℕ → Option Numbered
 request_at (Request method uri version) headers body =
     if bytes_eq version version_two

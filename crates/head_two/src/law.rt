@@ -2,7 +2,7 @@
 ghost use Rattle.std.specs.Prelude.{◌≡◌, ◌<◌, ◌^◌, ◌∷◌, ◌++◌, true, ℕ, List, Option, Some, None, IfSome};
 ghost use Rattle.std.specs.Option.{option_map};
 ghost use Rattle.rtsp_head.specs.Messages.{messages_of};
-ghost use Rattle.rtsp_head.specs.Written.{is_value};
+ghost use Rattle.rtsp_head.specs.HeadText.{is_value};
 ghost use Rattle.rtsp_status.specs.Reasons.{has_reason};
 ghost use Rattle.rtsp_small.specs.declared.cseq.TheConstants.{CSEQ_TWO_DIGITS};
 ghost use Rattle.head_two.specs.declared.request.Request2.{Request2};

@@ -1,10 +1,10 @@
 //! What the workers of a run share.
 ghost use Rattle.std.specs.Prelude.{◌≡◌, ◌≢◌, false};
-ghost use Rattle.gateway_hub.specs.Taking.{is_full_reason};
-ghost use Rattle.hub_places.specs.declared.ending.StopWhy.TheVariants as stops;
+ghost use Rattle.gateway_hub.specs.Take.{is_full_reason};
+ghost use Rattle.hub_queues.specs.declared.ending.StopWhy.TheVariants as stops;
 
+use gateway_claim::{Core, UpWhy};
 use gateway_hub::{Ending, Hub, HubFault, Recorder, StopWhy};
-use mux_history::{Core, UpWhy};
 use std::alloc::Global;
 use std::sync::{Mutex, Wait};
 use text_pool::TextPool;

@@ -5,8 +5,8 @@
 
 mod common;
 mod life;
-mod writing;
+mod writer_threads;
 
 pub use common::Common;
 pub use life::Life;
-pub use writing::write_from;
+pub use writer_threads::write_from;

@@ -2,8 +2,8 @@
 ghost use Rattle.std.specs.Prelude.{◌≡◌, false};
 
 use crate::common::Common;
+use gateway_claim::Core;
 use gateway_hub::Recorder;
-use mux_history::Core;
 use std::sync::Wait;
 
 /// Whether a link is over, as far as a thread that serves it knows.

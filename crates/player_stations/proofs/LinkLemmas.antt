@@ -3,8 +3,8 @@ use Rattle.std.proofs.Common.{◌≡◌, ℕ, List, Option, Some, length, sym, a
 use Rattle.std.proofs.lemmas.List.{length-map}
 use Rattle.rtsp_head.specs.Items.{items_of}
 use Rattle.client_ports.specs.declared.parcel.Parcel.{Parcel}
-use Rattle.link_reader.specs.Parcels.{parcel_shape}
-use Rattle.link_reader.specs.Reading.{PutAllSo}
+use Rattle.gateway_links.specs.PutParcels.{parcel_shape}
+use Rattle.gateway_links.specs.ReadItems.{PutAllSo}
 use Rattle.player_stations.specs.Clients.{CountsAll}
 
 -- all items were put, and counted

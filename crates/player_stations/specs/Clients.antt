@@ -1,12 +1,12 @@
 -- What is left of a player's connection, and why it ended (this project's own).
 use Rattle.std.specs.Prelude.{◌≡◌, ℕ, ◌<◌, Bool, true, false, List, length, Option, Some, None}
 use Rattle.rtsp_head.specs.Items.{items_of}
-use Rattle.gate_machine.specs.declared.why.CloseWhy.TheVariants as closes
+use Rattle.client_machine.specs.declared.why.CloseWhy.TheVariants as closes
 use Rattle.client_ports.specs.declared.parcel.Parcel.{Parcel}
-use Rattle.hub_places.specs.declared.ending.Ending.TheVariants as endings
-use Rattle.hub_places.specs.declared.receipt.Receipt.{Receipt}
-use Rattle.link_reader.specs.Reading.{GaveBytes}
-use Rattle.link_writer.specs.Parcels.{HasWritten}
+use Rattle.hub_queues.specs.declared.ending.Ending.TheVariants as endings
+use Rattle.hub_queues.specs.declared.receipt.Receipt.{Receipt}
+use Rattle.gateway_links.specs.ReadItems.{GaveBytes}
+use Rattle.gateway_links.specs.WrittenParcels.{HasWritten}
 use Rattle.player_stations.specs.declared.client.ClientWhy.{ClientWhy}
 use Rattle.player_stations.specs.declared.client.ClientWhy.TheVariants.{ClientEnd, ReadFault, WriteFault, Slow, Refused, Closed, Ended, Stopped, CrewRefused, Memory}
 
@@ -36,6 +36,7 @@ is_hubs (Stopped why) = true
 is_hubs CrewRefused = false
 is_hubs Memory = false
 
+-- why a player's connection ended goes with its receipt
 abbrev pub IfGoesWithReceipt : Option ClientWhy → Receipt → Type 0
 IfGoesWithReceipt None receipt = Unit {0}
 IfGoesWithReceipt (Some why) receipt = GoesWithReceipt why receipt × (is_hubs why ≡ true)

@@ -1,23 +1,21 @@
 //! A player's connection, from its entering to its receipt.
 ghost use Rattle.std.specs.Prelude.{◌≡◌, ℕ, ◌<◌, List, [], Option, true, length, IfSome};
-ghost use Rattle.link_reader.specs.Reading.{ReadsItems, PutAll};
+ghost use Rattle.gateway_links.specs.ReadItems.{ReadsItems, PutAll};
 ghost use Rattle.gate_outside.specs.Causes.{Rose};
 ghost use Rattle.client_ports.specs.Ends.{put_of, taken_of};
-ghost use Rattle.client_ports.specs.Takings.{taken_in};
+ghost use Rattle.client_ports.specs.PortTakes.{taken_in};
 ghost use Rattle.player_stations.specs.declared.client.ClientWhy.TheVariants as whys;
-ghost use Rattle.link_halves.specs.declared.reading.ReadEnd.TheVariants as ends;
+ghost use Rattle.gateway_links.specs.declared.link_read.ReadEnd.TheVariants as ends;
 ghost use Rattle.player_stations.specs.Clients.{GoesWithReceipt, IfGoesWithReceipt, CountsAll, WroteTaken};
 
-use crate::reading::read_on;
+use crate::read_loop::read_on;
+use client_machine::CloseWhy;
 use client_ports::{Putter, TakenParcels, Taker};
-use gate_machine::CloseWhy;
 use gate_outside::{Inlet, Outlet};
+use gateway_claim::{Core, UpCause};
 use gateway_hub::{Ending, Entered, HubFault, Receipt, Recorder, Seat, StopWhy};
+use gateway_links::{ReadEnd, Reader, Writer, WriterDesk, collect};
 use hub_workers::Common;
-use link_halves::{ReadEnd, collect};
-use link_reader::Reader;
-use link_writer::{Desk, Writer};
-use mux_history::{Core, UpCause};
 use std::sync::Wait;
 use std::time::Clock;
 
@@ -65,7 +63,7 @@ pub struct Retired<I, O> {
 /// this desk writes what it is handed. Nothing was read from the inlet or written to the outlet before.
 pub fn run_client<I: Inlet + Drop, O: Outlet + Drop, M: Core, R: Recorder, W: Wait + Clock>(
     common: &Common<'_, M, R, W>,
-    desk: &Desk<O>,
+    desk: &WriterDesk<O>,
     entered: Entered,
     inlet: I,
     outlet: O,
@@ -108,7 +106,7 @@ pub fn run_client<I: Inlet + Drop, O: Outlet + Drop, M: Core, R: Recorder, W: Wa
 /// Hands the writer to its thread, reads the link to its end, and waits until the writer comes back.
 fn read_link<I: Inlet + Drop, O: Outlet + Drop, M: Core, R: Recorder, W: Wait + Clock>(
     common: &Common<'_, M, R, W>,
-    desk: &Desk<O>,
+    desk: &WriterDesk<O>,
     seat: &Seat,
     reader: &mut Reader<I>,
     writer: Writer<O>,

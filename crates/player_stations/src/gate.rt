@@ -4,9 +4,9 @@ ghost use Rattle.player_stations.specs.Gates.{GivesNew, NoneLeft};
 
 use crate::next::Next;
 use gate_outside::{Arrived, Door, Failed};
+use gateway_claim::Core;
 use gateway_hub::{Recorder, StopWhy};
 use hub_workers::Common;
-use mux_history::Core;
 use std::sync::{Mutex, Wait};
 use std::time::Clock;
 

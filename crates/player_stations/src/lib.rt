@@ -7,7 +7,7 @@
 mod client;
 mod gate;
 mod next;
-mod reading;
+mod read_loop;
 mod stations;
 mod threads;
 

@@ -6,10 +6,10 @@ use crate::client::{Retired, run_client};
 use crate::gate::{Gate, next_link};
 use crate::next::Next;
 use gate_outside::{Door, Inlet, Outlet};
+use gateway_claim::Core;
 use gateway_hub::{Entered, HubFault, Recorder, StopWhy};
+use gateway_links::WriterDesk;
 use hub_workers::Common;
-use link_writer::Desk;
-use mux_history::Core;
 use std::sync::{Mutex, Wait};
 use std::thread;
 use std::time::Clock;
@@ -19,7 +19,7 @@ use std::time::Clock;
 pub fn station<D: Door + Drop, M: Core, R: Recorder, W: Wait + Clock>(
     common: &Common<'_, M, R, W>,
     gate: &Mutex<Gate<D>>,
-    desk: &Desk<D::Outward>,
+    desk: &WriterDesk<D::Outward>,
     buffer: &mut [u8],
 )
     requires { 0 < length buffer.old }
@@ -45,7 +45,7 @@ pub fn station<D: Door + Drop, M: Core, R: Recorder, W: Wait + Clock>(
 fn serve_link<D: Door + Drop, M: Core, R: Recorder, W: Wait + Clock>(
     common: &Common<'_, M, R, W>,
     gate: &Mutex<Gate<D>>,
-    desk: &Desk<D::Outward>,
+    desk: &WriterDesk<D::Outward>,
     inlet: D::Inward,
     outlet: D::Outward,
     buffer: &mut [u8],

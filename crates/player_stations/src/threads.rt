@@ -5,12 +5,11 @@ ghost use denote.Param.Send.{IsSend, IsSync};
 use crate::gate::Gate;
 use crate::stations::station;
 use gate_outside::Door;
-use gate_world::{Refusal, start};
+use gateway_claim::Core;
 use gateway_hub::{Recorder, StopWhy};
+use gateway_links::{ReadBuffer, WriterDesk};
 use hub_workers::{Common, write_from};
-use link_halves::ReadBuffer;
-use link_writer::Desk;
-use mux_history::Core;
+use serve_world::{ThreadRefusal, start};
 use std::sync::{Mutex, Wait};
 use std::thread;
 use std::thread::Threads;
@@ -22,7 +21,7 @@ pub struct StationPost<'a, D: Door + Drop> {
     /// The door under its lock.
     pub gate: &'a Mutex<Gate<D>>,
     /// A desk for each station.
-    pub desks: &'a [Desk<D::Outward>],
+    pub desks: &'a [WriterDesk<D::Outward>],
     /// The buffer of each station.
     pub buffers: Vec<ReadBuffer>,
 }
@@ -32,14 +31,14 @@ pub struct StationPost<'a, D: Door + Drop> {
 pub fn work_stations<D: Door + Drop, M: Core, R: Recorder, W: Threads + Wait + Clock + Sync>(
     common: &Common<'_, M, R, W>,
     post: StationPost<'_, D>,
-) -> Option<Refusal>
+) -> Option<ThreadRefusal>
 where
     M::Plan: Send,
 {
     thread::scope(
         thread::scope_env(),
         common.rt,
-        move |scope| -> Option<Refusal>
+        move |scope| -> Option<ThreadRefusal>
             requires { IsSync W.row × IsSend D.row × IsSend D.Inward.row × IsSend D.Outward.row × IsSend M.row × IsSend M.Plan.row × IsSend R.row }
         {
             let StationPost {

@@ -26,6 +26,7 @@ label_length = length label_name + LABEL_DIGITS
 abbrev pub is_label : List ℕ → Bool
 is_label text = length text == label_length && starts_with nat_eq text label_name && list_all is_ascii_hexdigit (drop (length label_name) text)
 
+-- the parameters of a group before the label of the next one, where that is one
 abbrev pub label_apart : List ℕ → List ℕ → Option (List ℕ)
 label_apart front end = if has_leading_blank end && is_label (drop 1 end) then Some front else None
 

@@ -4,4 +4,4 @@ pub mod Parameters
 pub mod Parts
 pub mod Specs
 pub mod Views
-pub mod Written
+pub mod InfoText

@@ -34,6 +34,7 @@ valued_parameter name value =
 abbrev pub lone_parameter : List ℕ → Option Says
 lone_parameter name = if is_token name && (not (bytes_eq name (codes "seq")) && not (bytes_eq name (codes "rtptime"))) then Some Other else None
 
+-- what a parameter says, with a value or without
 abbrev pub parameter_with : List ℕ → Option (List ℕ × List ℕ) → Option Says
 parameter_with text None = lone_parameter text
 parameter_with text (Some parts) = valued_parameter parts.0 parts.1
@@ -47,6 +48,7 @@ pub record Notes : Type 0 where
   pub seq : Option ℕ
   pub rtptime : Option ℕ
 
+-- nothing was said
 abbrev pub no_notes : Notes
 no_notes = record { seq = None; rtptime = None }
 
@@ -70,6 +72,7 @@ first_time (Seq n ∷ more) = first_time more
 first_time (Time n ∷ more) = Some n
 first_time (Other ∷ more) = first_time more
 
+-- the first seq and the first rtptime
 abbrev pub notes_of : List Says → Notes
 notes_of parameters = record { seq = first_seq parameters; rtptime = first_time parameters }
 

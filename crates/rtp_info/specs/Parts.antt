@@ -12,6 +12,7 @@ abbrev pub is_last : List (List ℕ) → Bool
 is_last [] = true
 is_last (part ∷ parts) = false
 
+-- all, where the first and all others can be read
 abbrev pub with_first : {A : Type 0} → Option A → Option (List A) → Option (List A)
 with_first first others = option_and_then (λ x. option_map (λ xs. x ∷ xs) others) first
 

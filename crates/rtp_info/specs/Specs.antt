@@ -17,6 +17,7 @@ is_url_byte b = is_ascii_graphic b && not (b == double_quote) && not (b == comma
 abbrev pub is_url : List ℕ → Bool
 is_url text = not (length text == 0) && list_all is_url_byte text
 
+-- what is said of one stream, where its URL and its groups can be read
 abbrev pub spec_with : List ℕ → List ℕ → Option InfoEntry
 spec_with url groups =
     if is_url url then option_map (λ notes. record { url = url; seq = notes.seq; rtptime = notes.rtptime }) (groups_of groups) else None

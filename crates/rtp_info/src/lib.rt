@@ -8,7 +8,7 @@ mod group;
 mod info;
 mod parameter;
 mod part;
-mod reading;
+mod read;
 mod spec;
 mod write;
 
@@ -17,5 +17,5 @@ pub use fault::InfoFault;
 pub use group::LABEL_DIGITS;
 pub use info::Info;
 pub use parameter::{LAST_RTPTIME, LAST_SEQ, RTPTIME_DIGITS, SEQ_DIGITS};
-pub use reading::read_two;
+pub use read::read_two;
 pub use write::write_one;

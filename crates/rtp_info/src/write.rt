@@ -1,7 +1,7 @@
 //! Writing an RTP-Info field of RTSP 1.0.
 ghost use Rattle.std.specs.Prelude.{◌≡◌, ◌++◌, IfOk, OnOk};
 ghost use Rattle.std.specs.List.{flat_map};
-ghost use Rattle.rtp_info.specs.Written.{seq_text, time_text, entry_text, further_text, info_text};
+ghost use Rattle.rtp_info.specs.InfoText.{seq_text, time_text, entry_text, further_text, info_text};
 
 use crate::{Info, InfoEntry};
 use gate_bytes::{Memory, Text, push_decimal};

@@ -3,9 +3,9 @@ pub mod ExtentLemmas
 pub mod CutLemmas
 pub mod LineLemmas
 pub mod AloneLemmas
-pub mod CuttingLemmas
-pub mod EndedLemmas
-pub mod FramedLemmas
+pub mod CutStepLemmas
+pub mod StreamEndLemmas
+pub mod FramerLemmas
 pub mod FaultLemmas
 pub mod WholeLemmas
 pub mod SpellLemmas

@@ -1,3 +1,3 @@
 pub mod Lines
-pub mod Framing
-pub mod Cutting
+pub mod FramerState
+pub mod CutItems

@@ -2,10 +2,10 @@
 ghost use Rattle.std.specs.Prelude.{◌≡◌, ℕ, List, [], ◌∷◌, ◌++◌, IfSome, IfNone, IfOk, OnOk, OnErr};
 ghost use Rattle.rtsp_head.specs.Items.{Shape, items_of};
 ghost use Rattle.rtsp_head.specs.Shapes.{shape_of};
-ghost use Rattle.rtsp_frame.specs.Framing.{Framed, IsAlone, GivesNext};
+ghost use Rattle.rtsp_frame.specs.FramerState.{Framed, IsAlone, GivesNext};
 
-use crate::cutting;
-use crate::cutting::Queue;
+use crate::cut_items;
+use crate::cut_items::Queue;
 use gate_bytes::{Memory, Text};
 use rtsp_head::{Item, Span};
 use std::alloc::Global;
@@ -26,9 +26,9 @@ pub struct Framer {
 impl Model for Framer {
     ghost use Rattle.std.specs.Option.{option_map};
     ghost use Rattle.rtsp_head.specs.Shapes.{shapes};
-    ghost use Rattle.rtsp_frame.specs.Framing.{Held};
+    ghost use Rattle.rtsp_frame.specs.FramerState.{HeldBytes};
 
-    ghost Value = { Held };
+    ghost Value = { HeldBytes };
 
     ghost view = { λ f. record {
       waiting = shapes f.queue.waiting.items;
@@ -67,7 +67,7 @@ impl Framer {
         let Some(rest) = &mut self.rest else {
             return Ok(());
         };
-        if !cutting::feed(alloc, &mut self.queue, rest, piece)? {
+        if !cut_items::feed(alloc, &mut self.queue, rest, piece)? {
             self.rest = None;
         }
         Ok(())
@@ -101,7 +101,9 @@ impl Framer {
         ensures { IfSome result (IsAlone self.now piece.now) }
     {
         match &self.rest {
-            Some(rest) if rest.is_empty() && self.queue.waiting.is_empty() => cutting::whole(piece),
+            Some(rest) if rest.is_empty() && self.queue.waiting.is_empty() => cut_items::whole(
+                piece,
+            ),
             _ => None,
         }
     }

@@ -5,7 +5,7 @@
 //! reading of the stream, and that what comes later changes none of the items before.
 #![tactic(auto)]
 
-mod cutting;
+mod cut_items;
 mod extent;
 mod framer;
 mod law;

@@ -9,7 +9,7 @@ use Rattle.std.proofs.lemmas.List.Splits.{length-slice_split}
 use Rattle.std.proofs.Math.Seq.{take-append_seam, get_or-append_seam}
 use Rattle.gate_bytes.specs.Ascii.{nul, lf, cr}
 use Rattle.rtsp_head.specs.Lines.{has_control}
-use Rattle.rtsp_head.specs.Written.{ended, is_line_text}
+use Rattle.rtsp_head.specs.HeadText.{ended, is_line_text}
 use Rattle.rtsp_head.proofs.LineLemmas.{ends_line, part_ended}
 
 -- a first part that is longer than the needle, or ends with a byte that the needle hasn't

@@ -9,7 +9,7 @@ use Rattle.std.proofs.lemmas.List.Folds.{list_all-append}
 use Rattle.gate_bytes.specs.Tokens.{is_token, equal_fold}
 use Rattle.rtsp_head.specs.Headers.{field_of}
 use Rattle.rtsp_head.specs.declared.header.Header.{Header}
-use Rattle.rtsp_head.specs.Written.{is_value, is_header}
+use Rattle.rtsp_head.specs.HeadText.{is_value, is_header}
 use Rattle.rtsp_head.specs.Optional.{header_with, Field, then_headers, field_headers, told_value}
 
 -- what holds of each field

@@ -10,7 +10,7 @@ use Rattle.gate_bytes.specs.Ascii.{lf, cr}
 use Rattle.gate_bytes.specs.Tokens.{without_front, without_end, trimmed}
 use Rattle.gate_bytes.specs.Places.{place_of, cut_at}
 use Rattle.rtsp_head.specs.Lines.{before_empty, head_lines, has_control}
-use Rattle.rtsp_head.specs.Written.{is_line_text}
+use Rattle.rtsp_head.specs.HeadText.{is_line_text}
 use Rattle.rtsp_head.proofs.LineLemmas.{ends_line}
 
 pub all_parts : (p : ℕ → Bool) (front back : List ℕ) → list_all p (front ++ back) ≡ true → (list_all p front ≡ true) × (list_all p back ≡ true)

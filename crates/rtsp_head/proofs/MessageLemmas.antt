@@ -13,7 +13,7 @@ use Rattle.gate_bytes.specs.Tokens.{is_blank, without_front, without_end, trimme
 use Rattle.rtsp_head.specs.declared.header.Header.{Header}
 use Rattle.rtsp_head.specs.declared.start.Start.{Start}
 use Rattle.rtsp_head.specs.Items.{head_from, head_len}
-use Rattle.rtsp_head.specs.Written.{ended, start_text, header_text, head_text, is_line_text, is_start, is_trimmed, is_value, is_header, CanBeWritten}
+use Rattle.rtsp_head.specs.HeadText.{ended, start_text, header_text, head_text, is_line_text, is_start, is_trimmed, is_value, is_header, CanBeWritten}
 use Rattle.rtsp_head.specs.Messages.{number_headers, length_headers, message_headers, is_added, own_fields}
 use Rattle.rtsp_head.proofs.DigitLemmas.{own}
 use Rattle.rtsp_head.specs.declared.headers.TheConstants.{MOST_HEADERS}

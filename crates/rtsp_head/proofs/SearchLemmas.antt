@@ -7,7 +7,7 @@ use Rattle.gate_bytes.specs.Ascii.{nul, lf, cr}
 use Rattle.gate_bytes.proofs.SeamLemmas.{lacks, lacks_append, cut_at_seam, cut_nowhere}
 use Rattle.memchr.specs.Find.{IsFirstByte, is_byte3}
 use Rattle.rtsp_head.specs.Lines.{first_line, line_apart}
-use Rattle.rtsp_head.specs.Written.{is_line_text}
+use Rattle.rtsp_head.specs.HeadText.{is_line_text}
 use Rattle.rtsp_head.proofs.CutLemmas.{stripped}
 
 -- what stands before a place: all of the text, where there is no such place

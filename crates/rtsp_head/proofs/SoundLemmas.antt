@@ -20,7 +20,7 @@ use Rattle.rtsp_head.specs.Lines.{and_then, result_map, head_lines, has_control}
 use Rattle.rtsp_head.specs.Starts.{is_unspaced, names_protocol, request_with, request_of, status_with, status_of, start_of}
 use Rattle.rtsp_head.specs.Headers.{header_limit, SoFar, Further, More, Begins, no_headers, closed, headers_in, goes_on, header_from, header_of, continued, with_header, with_further, further_of, with_line, after_lines, headers_of, field_of}
 use Rattle.rtsp_head.specs.Heads.{head_of_lines, head_of}
-use Rattle.rtsp_head.specs.Written.{is_line_text, is_start, is_trimmed, is_value, is_header, CanBeWritten}
+use Rattle.rtsp_head.specs.HeadText.{is_line_text, is_start, is_trimmed, is_value, is_header, CanBeWritten}
 use Rattle.rtsp_head.proofs.DigitLemmas.{number_small}
 use Rattle.rtsp_head.proofs.TrimLemmas.{trimmed_twice}
 use Rattle.rtsp_head.proofs.CutLemmas.{begins_apart, line_text_append}

@@ -22,7 +22,7 @@ use Rattle.rtsp_head.specs.Headers.{field_of}
 use Rattle.rtsp_head.specs.Heads.{head_within}
 use Rattle.rtsp_head.specs.Items.{begins_with_lf, begins_blank, blank_lines, head_from, head_len}
 use Rattle.rtsp_head.specs.Spellings.{begins_frame}
-use Rattle.rtsp_head.specs.Written.{ended, start_text, header_text, head_text, is_line_text, is_part, is_start}
+use Rattle.rtsp_head.specs.HeadText.{ended, start_text, header_text, head_text, is_line_text, is_part, is_start}
 use Rattle.rtsp_head.specs.Messages.{number_headers, length_headers, message_headers, is_added, message_text, Message, message, named_length, Front, with_body, with_head, message_at, first_message, messages_with, messages_by, messages_of, only_message, message_of, IsReadable}
 use Rattle.rtsp_head.proofs.DigitLemmas.{own}
 use Rattle.rtsp_head.proofs.WriteLemmas.{head_read, start_fits, start_long}

@@ -14,8 +14,8 @@ use Rattle.rtsp_head.specs.declared.header.Header.{Header}
 use Rattle.rtsp_head.specs.declared.facts.Length.{Length}
 use Rattle.rtsp_head.specs.declared.fault.HeadFault.{HeadFault}
 use Rattle.rtsp_head.specs.declared.fault.HeadFault.TheVariants as faults
-use Rattle.rtsp_head.specs.declared.tally.Part.{Part}
-use Rattle.rtsp_head.specs.declared.tally.Part.TheVariants as parts
+use Rattle.rtsp_head.specs.declared.tally.LengthPart.{LengthPart}
+use Rattle.rtsp_head.specs.declared.tally.LengthPart.TheVariants as parts
 use Rattle.rtsp_head.specs.declared.tally.Last.{Last}
 use Rattle.rtsp_head.specs.declared.tally.Last.TheVariants as lasts
 use Rattle.rtsp_head.specs.declared.tally.Tally.{Tally}
@@ -27,12 +27,12 @@ use Rattle.rtsp_head.specs.declared.headers.TheConstants.{MOST_HEADERS}
 use Rattle.rtsp_head.proofs.TrimLemmas.{front_blank, front_kept, end_blank, end_kept, blank_nothing, other_something, trimmed_twice}
 
 -- what two texts say that are joined by a space
-joined_nothing : (part : Part) → joined part parts.Blank ≡ part
+joined_nothing : (part : LengthPart) → joined part parts.Blank ≡ part
 joined_nothing parts.Blank = refl
 joined_nothing (parts.Number n) = refl
 joined_nothing parts.Other = refl
 
-nothing_joined : (part : Part) → joined parts.Blank part ≡ part
+nothing_joined : (part : LengthPart) → joined parts.Blank part ≡ part
 nothing_joined parts.Blank = refl
 nothing_joined (parts.Number n) = refl
 nothing_joined parts.Other = refl

@@ -21,7 +21,7 @@ use Rattle.rtsp_head.specs.Lines.{and_then, result_map, before_empty, head_lines
 use Rattle.rtsp_head.specs.Starts.{is_unspaced, names_protocol, request_with, request_of, code_of, status_with, status_of, start_of}
 use Rattle.rtsp_head.specs.Headers.{SoFar, has_room, More, Begins, no_headers, closed, headers_in, goes_on, header_from, header_of, with_further, further_of, with_line, after_lines, headers_of}
 use Rattle.rtsp_head.specs.Heads.{head_of_lines, head_within}
-use Rattle.rtsp_head.specs.Written.{ended, start_text, header_text, head_text, is_line_text, is_part, is_start, is_trimmed, is_value, is_header}
+use Rattle.rtsp_head.specs.HeadText.{ended, start_text, header_text, head_text, is_line_text, is_part, is_start, is_trimmed, is_value, is_header}
 use Rattle.rtsp_head.proofs.DigitLemmas.{own}
 use Rattle.rtsp_head.proofs.TrimLemmas.{trimmed_same}
 use Rattle.gate_bytes.proofs.SeamLemmas.{cut_at_seam}

@@ -16,6 +16,7 @@ abbrev pub header_from : Option (List ℕ × List ℕ) → Result Header HeadFau
 header_from None = Err Colon
 header_from (Some parts) = if is_token parts.0 then Ok (record { name = parts.0; value = trimmed parts.1 }) else Err Name
 
+-- the header that a line is (RFC 7826, 5.2)
 abbrev pub header_of : List ℕ → Result Header HeadFault
 header_of line = header_from (cut_at colon line)
 
@@ -29,6 +30,7 @@ abbrev pub closed : Option Header → List Header
 closed None = []
 closed (Some header) = record { name = header.name; value = trimmed header.value } ∷ []
 
+-- all headers so far
 abbrev pub headers_in : SoFar → List Header
 headers_in so_far = so_far.above ++ closed so_far.last
 
@@ -52,6 +54,7 @@ has_room (Some most) count = nat_lt count most
 abbrev pub header_limit : Option ℕ
 header_limit = Some MOST_HEADERS
 
+-- one header more, where there is room
 abbrev pub with_header : Option ℕ → SoFar → Header → Result SoFar HeadFault
 with_header limit so_far header =
     if has_room limit (length (headers_in so_far)) then Ok (record { above = headers_in so_far; last = Some header }) else Err Many
@@ -67,6 +70,7 @@ further_of line =
     if has_control line then Err Control
     else (if goes_on line then Ok (More (trimmed line)) else result_map Begins (header_of line))
 
+-- a line that goes on with the last header, or begins one
 abbrev pub with_further : Option ℕ → SoFar → Further → Result SoFar HeadFault
 with_further limit so_far (More text) = continued so_far text so_far.last
 with_further limit so_far (Begins header) = with_header limit so_far header
@@ -75,10 +79,12 @@ with_further limit so_far (Begins header) = with_header limit so_far header
 abbrev pub with_line : Option ℕ → SoFar → List ℕ → Result SoFar HeadFault
 with_line limit so_far line = and_then (with_further limit so_far) (further_of line)
 
+-- the headers after these lines, or the first fault
 abbrev pub after_lines : Option ℕ → SoFar → List (List ℕ) → Result SoFar HeadFault
 after_lines limit so_far [] = Ok so_far
 after_lines limit so_far (line ∷ lines) = and_then (λ next. after_lines limit next lines) (with_line limit so_far line)
 
+-- no line was read
 abbrev pub no_headers : SoFar
 no_headers = record { above = []; last = None }
 

@@ -30,6 +30,7 @@ head_within limit bytes = head_of_lines limit (head_lines bytes)
 abbrev pub head_of : List ℕ → Result Head HeadFault
 head_of bytes = head_within header_limit bytes
 
+-- whether a head is a request's
 abbrev pub is_request : Start → Bool
 is_request (Request method uri version) = true
 is_request (Status version code reason) = false
@@ -39,6 +40,7 @@ abbrev pub length_in : Option ℕ → Length
 length_in None = lengths.Bad
 length_in (Some n) = lengths.Bytes n
 
+-- what Content-Length says, where it is there (RFC 7826, 18.17)
 abbrev pub length_of : Option (List ℕ) → Length
 length_of None = lengths.Absent
 length_of (Some value) = length_in (number_in LENGTH_DIGITS value)

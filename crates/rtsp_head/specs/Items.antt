@@ -56,6 +56,7 @@ bad_kind faults.Name = bad.Name
 bad_kind faults.Many = bad.Many
 bad_kind faults.Memory = bad.Head
 
+-- a message is a request or a response
 abbrev pub message_kind : Bool → ItemKind
 message_kind request = if request then Request else Response
 
@@ -71,10 +72,12 @@ body_span kind come n (lengths.Bytes body) =
     else when_whole come (record { kind = kind; len = n + body; head = n })
 body_span kind come n lengths.Bad = Some (bad_span bad.Length n)
 
+-- where a message ends, by what its head says
 abbrev pub judged_span : ℕ → ℕ → Result Facts HeadFault → Option Span
 judged_span come n (Ok facts) = body_span (message_kind facts.request) come n facts.length
 judged_span come n (Err fault) = Some (bad_span (bad_kind fault) n)
 
+-- where a message ends whose head ends here, or doesn't yet
 abbrev pub headed_span : List ℕ → Option ℕ → Option Span
 headed_span bytes None = if nat_lt (length bytes) MOST_HEAD then None else Some (bad_span bad.Head MOST_HEAD)
 headed_span bytes (Some n) = judged_span (length bytes) n (facts_of (take n bytes))
@@ -123,6 +126,7 @@ pub record Cut : Type 0 where
 abbrev pub with_item : Shape → Cut → Cut
 with_item shape later = record { items = shape ∷ later.items; rest = later.rest }
 
+-- whether an item is Bad
 abbrev pub is_bad : ItemKind → Bool
 is_bad (Bad kind) = true
 is_bad Request = false
@@ -133,6 +137,7 @@ is_bad Frame = false
 abbrev pub behind : Bool → Shape → Cut → Cut
 behind bad shape later = if bad then record { items = shape ∷ []; rest = None } else with_item shape later
 
+-- the first item, and what is cut of the rest
 abbrev pub cut_with : Option Extent → List ℕ → (List ℕ → Cut) → Cut
 cut_with None bytes again = record { items = []; rest = Some (drop (blank_lines bytes) bytes) }
 cut_with (Some extent) bytes again =
@@ -147,5 +152,6 @@ cut_by (suc n) bytes = cut_with (first_extent bytes) bytes (cut_by n)
 abbrev pub cut : List ℕ → Cut
 cut bytes = cut_by (length bytes) bytes
 
+-- the items of a stream
 abbrev pub items_of : List ℕ → List Shape
 items_of bytes = (cut bytes).items

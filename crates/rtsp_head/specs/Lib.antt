@@ -9,4 +9,4 @@ pub mod Spellings
 pub mod Starts
 pub mod Tallies
 pub mod Views
-pub mod Written
+pub mod HeadText

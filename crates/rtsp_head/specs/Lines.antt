@@ -38,6 +38,7 @@ abbrev pub line_apart : List ℕ → Option (List ℕ × List ℕ) → List ℕ 
 line_apart bytes None = (bytes, [])
 line_apart bytes (Some parts) = (strip_carriage_return parts.0, parts.1)
 
+-- the first line, and what stands behind it
 abbrev pub first_line : List ℕ → List ℕ × List ℕ
 first_line bytes = line_apart bytes (cut_at lf bytes)
 

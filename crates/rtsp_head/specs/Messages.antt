@@ -12,7 +12,7 @@ use Rattle.rtsp_head.specs.Headers.{field_of}
 use Rattle.rtsp_head.specs.Heads.{head_within}
 use Rattle.rtsp_head.specs.Items.{blank_lines, head_len}
 use Rattle.rtsp_head.specs.Spellings.{begins_frame}
-use Rattle.rtsp_head.specs.Written.{start_text, head_text, CanBeWritten}
+use Rattle.rtsp_head.specs.HeadText.{start_text, head_text, CanBeWritten}
 
 -- the header with a message's number, where it has one (RFC 2326, 12.17; RFC 7826, 18.20)
 abbrev pub number_headers : Option ℕ → List Header
@@ -59,10 +59,12 @@ pub record Front : Type 0 where
   pub message : Message
   pub rest : List ℕ
 
+-- a message with its body, where that is whole
 abbrev pub with_body : Head → List ℕ → ℕ → Option Front
 with_body head bytes n =
     if nat_lt (length bytes) n then None else Some (record { message = record { head = head; body = take n bytes }; rest = drop n bytes })
 
+-- the message behind a head, where the head has no fault
 abbrev pub with_head : Result Head HeadFault → List ℕ → Option Front
 with_head (Ok head) bytes = option_and_then (with_body head bytes) (named_length (field_of head.headers (codes "Content-Length")))
 with_head (Err fault) bytes = None
@@ -75,6 +77,7 @@ message_at bytes = if begins_frame bytes then None else option_and_then (λ n. w
 abbrev pub first_message : List ℕ → Option Front
 first_message stream = message_at (drop (blank_lines stream) stream)
 
+-- a message before those behind it
 abbrev pub messages_with : Option Front → (List ℕ → Option (List Message)) → Option (List Message)
 messages_with None again = None
 messages_with (Some front) again = option_map (λ more. front.message ∷ more) (again front.rest)

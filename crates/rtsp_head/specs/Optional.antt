@@ -14,6 +14,7 @@ pub record Field : Type 0 where
   pub name : List ℕ
   pub value : Option (List ℕ)
 
+-- a header that is written where there is a value
 abbrev pub named : List ℕ → Option (List ℕ) → Field
 named name value = record { name = name; value = value }
 

@@ -7,5 +7,6 @@ use Rattle.rtsp_head.specs.declared.item.Item.{Item}
 abbrev pub shape_of : Item → Shape
 shape_of item = record { kind = item.kind; bytes = item.bytes; head = item.head }
 
+-- items, without where they lie in memory
 abbrev pub shapes : List Item → List Shape
 shapes items = map shape_of items

@@ -34,6 +34,7 @@ pub record IsFrame (bytes : List ℕ) : Type 0 where
   pub spelled : bytes ≡ dollar ∷ channel ∷ high ∷ low ∷ load
   pub counted : length load ≡ 256 * high + low
 
+-- whether a frame begins here
 abbrev pub begins_frame : List ℕ → Bool
 begins_frame [] = false
 begins_frame (b ∷ bytes) = b == dollar
@@ -49,6 +50,7 @@ pub record IsLine (line : List ℕ) : Type 0 where
   pub not_nothing : line ≡ [] → ⊥
   pub not_cr : line ≡ cr ∷ [] → ⊥
 
+-- each of these is a line
 abbrev pub AreLines : List (List ℕ) → Type 0
 AreLines [] = Unit {0}
 AreLines (line ∷ lines) = IsLine line × AreLines lines
@@ -112,6 +114,7 @@ pub record NamesTooMuch (bytes : List ℕ) : Type 0 where
   pub sound : facts_of bytes ≡ Ok (record { request = request; length = lengths.Bytes named })
   pub too_much : MOST_BODY < named
 
+-- how bytes of a Bad item of this kind are spelled
 abbrev pub IsBad : BadKind → List ℕ → Type 0
 IsBad bad.Head bytes = IsEndless bytes
 IsBad bad.Control bytes = HasFault faults.Control bytes

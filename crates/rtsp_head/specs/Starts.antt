@@ -26,6 +26,7 @@ abbrev pub request_with : List ℕ → List ℕ → List ℕ → Option Start
 request_with method uri version =
     if not (length method == 0) && not (length uri == 0) && (is_unspaced version && names_protocol version) then Some (Request method uri version) else None
 
+-- a request line (RFC 7826, 20.2.2)
 abbrev pub request_of : List ℕ → Option Start
 request_of line = option_and_then (λ first. option_and_then (λ second. request_with first.0 second.0 second.1) (cut_at space first.1)) (cut_at space line)
 
@@ -37,6 +38,7 @@ code_of text = option_and_then (λ code. if nat_le LEAST_CODE code then Some cod
 abbrev pub status_with : List ℕ → List ℕ × List ℕ → Option Start
 status_with version rest = option_and_then (λ code. Some (Status version code rest.1)) (code_of rest.0)
 
+-- a status line (RFC 7826, 20.2.2)
 abbrev pub status_of : List ℕ → Option Start
 status_of line = option_and_then (λ first. status_with first.0 (unwrap_or (cut_at space first.1) (first.1, []))) (cut_at space line)
 

@@ -5,7 +5,7 @@ use Rattle.rtsp_head.specs.declared.start.StartLine.{StartLine}
 use Rattle.rtsp_head.specs.declared.start.StartLine.TheVariants as start_lines
 use Rattle.rtsp_head.specs.declared.further.FurtherLine.{FurtherLine}
 use Rattle.rtsp_head.specs.declared.further.FurtherLine.TheVariants as further_lines
-use Rattle.rtsp_head.specs.declared.reading.Reading.{Reading}
+use Rattle.rtsp_head.specs.declared.header_lines.Reading.{Reading}
 use Rattle.rtsp_head.specs.Headers.{Further, More, Begins, SoFar}
 
 -- what a first line says whose parts are borrowed

@@ -4,10 +4,10 @@ ghost use Rattle.gate_bytes.specs.Outcomes.{UnlessMemory};
 ghost use Rattle.rtsp_head.specs.Lines.{head_refusal, head_lines};
 ghost use Rattle.rtsp_head.specs.Headers.{header_limit, field_of, headers_of};
 ghost use Rattle.rtsp_head.specs.Heads.{head_of};
-ghost use Rattle.rtsp_head.specs.Written.{is_value, CanBeWritten};
+ghost use Rattle.rtsp_head.specs.HeadText.{is_value, CanBeWritten};
 
+use crate::header_lines::Reading;
 use crate::line::next_line;
-use crate::reading::Reading;
 use crate::start::start_line;
 use crate::{HeadFault, Headers, Start};
 use std::alloc::Global;

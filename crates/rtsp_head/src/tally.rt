@@ -10,7 +10,7 @@ use gate_bytes::{eq_fold, read_decimal};
 
 /// What a text says, where it may be a part of a length's text.
 #[derive(Clone, Copy)]
-pub(crate) enum Part {
+pub(crate) enum LengthPart {
     /// Nothing.
     Blank,
     /// A number of 1 to [`LENGTH_DIGITS`] digits.
@@ -27,7 +27,7 @@ pub(crate) enum Last {
     /// It is no Content-Length.
     Other,
     /// It is one, whose value says this so far.
-    Length(Part),
+    Length(LengthPart),
 }
 
 /// What is kept of the headers so far: their number, the first Content-Length above the last header,
@@ -35,32 +35,32 @@ pub(crate) enum Last {
 #[derive(Clone, Copy)]
 pub(crate) struct Tally {
     pub(crate) count: usize,
-    pub(crate) found: Option<Part>,
+    pub(crate) found: Option<LengthPart>,
     pub(crate) last: Last,
 }
 
-impl Part {
+impl LengthPart {
     /// What a text says.
-    fn of(text: &[u8]) -> Part
+    fn of(text: &[u8]) -> LengthPart
         ensures { result ≡ part_of text.now }
     {
         if text.is_empty() {
-            return Part::Blank;
+            return LengthPart::Blank;
         }
         match read_decimal(text, LENGTH_DIGITS) {
-            Some(number) => Part::Number(number),
-            None => Part::Other,
+            Some(number) => LengthPart::Number(number),
+            None => LengthPart::Other,
         }
     }
 
     /// What two texts say that are joined by a space.
-    fn joined(self, more: Part) -> Part
+    fn joined(self, more: LengthPart) -> LengthPart
         ensures { result ≡ joined self more }
     {
         match (self, more) {
-            (part, Part::Blank) => part,
-            (Part::Blank, part) => part,
-            _ => Part::Other,
+            (part, LengthPart::Blank) => part,
+            (LengthPart::Blank, part) => part,
+            _ => LengthPart::Other,
         }
     }
 }
@@ -71,14 +71,14 @@ impl Last {
         ensures { result ≡ last_of name.now value.now }
     {
         if eq_fold(name, b"Content-Length") {
-            Last::Length(Part::of(value))
+            Last::Length(LengthPart::of(value))
         } else {
             Last::Other
         }
     }
 
     /// What its value says, where it is a Content-Length.
-    fn part(self) -> Option<Part>
+    fn part(self) -> Option<LengthPart>
         ensures { result ≡ last_part self }
     {
         match self {
@@ -105,13 +105,13 @@ impl Tally {
         ensures { result ≡ tally_line self line.entry }
     {
         match further_line(line)? {
-            FurtherLine::More(text) => self.with_more(Part::of(text)),
+            FurtherLine::More(text) => self.with_more(LengthPart::of(text)),
             FurtherLine::Begins { name, value } => self.with_header(name, value),
         }
     }
 
     /// The same with more text of the last header.
-    fn with_more(self, more: Part) -> Result<Tally, HeadFault>
+    fn with_more(self, more: LengthPart) -> Result<Tally, HeadFault>
         ensures { result ≡ tally_more self self.last more }
     {
         match self.last {
@@ -144,8 +144,8 @@ impl Tally {
     {
         match self.found.or(self.last.part()) {
             None => Length::Absent,
-            Some(Part::Number(number)) => Length::Bytes(number),
-            Some(Part::Blank | Part::Other) => Length::Bad,
+            Some(LengthPart::Number(number)) => Length::Bytes(number),
+            Some(LengthPart::Blank | LengthPart::Other) => Length::Bad,
         }
     }
 }

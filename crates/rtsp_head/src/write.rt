@@ -2,7 +2,7 @@
 ghost use Rattle.std.specs.Prelude.{◌≡◌, ◌++◌, length, take, Ok, IfOk, OnOk, OnErr};
 ghost use Rattle.std.specs.List.{flat_map};
 ghost use Rattle.rtsp_head.specs.Heads.{head_of};
-ghost use Rattle.rtsp_head.specs.Written.{ended, start_text, header_text, head_text, CanBeWritten};
+ghost use Rattle.rtsp_head.specs.HeadText.{ended, start_text, header_text, head_text, CanBeWritten};
 
 use crate::{Header, Headers, Start};
 use gate_bytes::{Memory, Text, push_decimal};

@@ -6,8 +6,8 @@ use Rattle.std.specs.Char.{is_ascii_digit}
 use Rattle.std.specs.Str.Parse.{digits_value}
 use Rattle.std.proofs.lemmas.Bool.{and_parts}
 use Rattle.rtsp_range.specs.Parts.{counted_digits}
-use Rattle.rtsp_range.specs.Written.{padded, is_zero_digit, without_zeros}
-use Rattle.rtsp_range.proofs.PaddedLemmas.{padded_digits, padded_long, padded_value}
+use Rattle.rtsp_range.specs.RangeText.{padded, is_zero_digit, without_zeros}
+use Rattle.rtsp_range.proofs.PadLemmas.{padded_digits, padded_long, padded_value}
 
 -- zeros alone are the first of enough zeros
 zeros_again : (digits zeros : List ℕ) → list_all is_zero_digit digits ≡ true → list_all is_zero_digit zeros ≡ true → length digits ≤ length zeros → take (length digits) zeros ≡ digits

@@ -4,9 +4,9 @@ use Rattle.rtsp_range.specs.declared.range.Range.{Range}
 use Rattle.rtsp_range.specs.declared.fault.RangeFault.{RangeFault}
 use Rattle.rtsp_range.specs.Meaning.{Version, One, meaning}
 use Rattle.rtsp_range.specs.Writable.{can_be_written}
-use Rattle.rtsp_range.specs.Written.{range_text}
+use Rattle.rtsp_range.specs.RangeText.{range_text}
 use Rattle.rtsp_range.proofs.MeaningMeans.{spelled_means}
-use Rattle.rtsp_range.proofs.WrittenSpelled.{written_spells}
+use Rattle.rtsp_range.proofs.RangeTextSpelling.{written_spells}
 
 pub written_means : (version : Version) (range : Range) → can_be_written range ≡ true → meaning version (range_text range) ≡ Ok range
 written_means version range h = spelled_means version (range_text range) range (written_spells range h)

@@ -2,7 +2,7 @@
 use Rattle.std.proofs.Common.{◌≡◌, ℕ, zero, suc, ◌+◌, ◌-◌, ◌<◌, ◌≤◌, ◌/◌, ◌%◌, true, false, List, [], ◌∷◌, ◌++◌, refl, sym, ◌∙◌, ap, append_assoc, arith}
 use Rattle.std.specs.List.{list_all}
 use Rattle.std.proofs.lemmas.List.Folds.{list_all-append}
-use Rattle.rtsp_range.specs.Written.{padded, is_zero_digit, without_zeros}
+use Rattle.rtsp_range.specs.RangeText.{padded, is_zero_digit, without_zeros}
 
 -- a zero at the end goes
 pub without_zeros-zero : (xs : List ℕ) (b : ℕ) → is_zero_digit b ≡ true → without_zeros (xs ++ (b ∷ [])) ≡ without_zeros xs

@@ -6,4 +6,4 @@ pub mod Clock
 pub mod Meaning
 pub mod Spellings
 pub mod Writable
-pub mod Written
+pub mod RangeText

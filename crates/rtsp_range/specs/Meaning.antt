@@ -53,6 +53,7 @@ abbrev pub names_parameter : Version → List ℕ → Bool
 names_parameter One text = has_time_parameter text
 names_parameter Two text = false
 
+-- the range that a text names, in this unit
 abbrev pub range_in : TimeUnit → List ℕ → Result Range RangeFault
 range_in units.Npt text = npt_range text
 range_in (units.Smpte rate) text = ok_or (smpte_range rate text) faults.Time
@@ -65,6 +66,7 @@ unit_and_times value = do
   unit ← unit_of parts.0
   Some (unit, parts.1)
 
+-- the range behind its unit; a time parameter is refused where the version has one
 abbrev pub range_behind : Version → Option (TimeUnit × List ℕ) → Result Range RangeFault
 range_behind version None = Err faults.Unit
 range_behind version (Some found) = if names_parameter version found.1 then Err faults.TimeParameter else range_in found.0 found.1

@@ -28,6 +28,7 @@ abbrev pub seconds_with : List ℕ → Option (List ℕ × List ℕ) → Option 
 seconds_with text None = whole_number text
 seconds_with text (Some parts) = clocked_seconds parts.0 parts.1
 
+-- whole seconds, in digits or as hours, minutes and seconds
 unfoldable pub seconds_of : List ℕ → Option ℕ
 seconds_of text = seconds_with text (cut_at colon text)
 
@@ -70,6 +71,7 @@ npt_pair (Some None) (Some (Some to)) = Some (ranges.Npt None (Some to))
 abbrev pub npt_between : Option (Option NptTime) → Option (Option NptTime) → Result Range RangeFault
 npt_between from to = if is_too_large from || is_too_large to then Err faults.TooLarge else ok_or (npt_pair from to) faults.Time
 
+-- the range between two times of normal play
 abbrev pub npt_with : Option (List ℕ × List ℕ) → Result Range RangeFault
 npt_with None = Err faults.Time
 npt_with (Some parts) = npt_between (npt_part parts.0) (npt_part parts.1)

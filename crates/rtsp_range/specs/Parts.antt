@@ -10,6 +10,7 @@ use Rattle.rtsp_range.specs.declared.part.TheConstants.{SHORT_DIGITS, FRACTION_D
 
 -- what comes next, where there is something
 infixl 10 ◌>>=◌
+-- what follows, where there is something
 abbrev pub ◌>>=◌ : {A B : Type 0} → Option A → (A → Option B) → Option B
 o >>= next = option_and_then next o
 
@@ -17,6 +18,7 @@ o >>= next = option_and_then next o
 abbrev pub split_before : ℕ → List ℕ → List ℕ × List ℕ
 split_before place text = (take place text, drop place text)
 
+-- a text before a mark, and the rest from it on
 abbrev pub part_at : ℕ → List ℕ → List ℕ × List ℕ
 part_at mark text = split_before (unwrap_or (place_of mark text) (length text)) text
 

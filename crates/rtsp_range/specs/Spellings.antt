@@ -67,6 +67,7 @@ pub record WritesClock (text : List ℕ) (number : ℕ) : Type 0 where
   pub writes_second : WritesShort LAST_SECOND seconds second
   pub total : hour * 3600 + minute * 60 + second ≡ number
 
+-- how whole seconds are spelled
 abbrev pub WritesSeconds : List ℕ → ℕ → Type 0
 WritesSeconds text number = WritesWhole text number ⊎ WritesClock text number
 

@@ -4,7 +4,7 @@ ghost use Rattle.rtsp_range.specs.declared.range.Range.{Range};
 ghost use Rattle.rtsp_range.specs.Meaning.{Version, Means};
 ghost use Rattle.rtsp_range.specs.Spellings.{SpellsRange};
 ghost use Rattle.rtsp_range.specs.Writable.{can_be_written};
-ghost use Rattle.rtsp_range.specs.Written.{range_text};
+ghost use Rattle.rtsp_range.specs.RangeText.{range_text};
 
 /// A value means a range exactly where it is a spelling of that range by the grammar, in both
 /// versions.

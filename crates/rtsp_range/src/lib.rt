@@ -11,10 +11,10 @@ mod laws;
 mod npt;
 mod part;
 mod range;
-mod reading;
+mod range_read;
+mod range_text;
 mod smpte;
 mod unit;
-mod writing;
 
 pub use clock::{
     LAST_DAY, LAST_HOUR, LAST_MONTH, LAST_NANO, LAST_YEAR, LEAP_SECOND, Moment, YEAR_DIGITS,
@@ -24,6 +24,6 @@ pub use laws::{one_form, reads_back, spelled_so, stays_writable};
 pub use npt::{LATEST_SECONDS, NptTime};
 pub use part::FRACTION_DIGITS;
 pub use range::Range;
-pub use reading::{read_one, read_two};
+pub use range_read::{read_one, read_two};
+pub use range_text::write;
 pub use smpte::{LAST_SHORT, Rate, Smpte};
-pub use writing::write;

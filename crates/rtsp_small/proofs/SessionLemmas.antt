@@ -17,7 +17,7 @@ use Rattle.gate_bytes.specs.Places.{parts_at}
 use Rattle.gate_bytes.proofs.PartLemmas.{parts_by_cut}
 use Rattle.gate_bytes.proofs.SeamLemmas.{lacks, digits_lack, parts_nowhere, parts_at_seam}
 use Rattle.rtsp_small.specs.declared.session.TheConstants.{LONGEST_SESSION_ID, TIMEOUT_DIGITS}
-use Rattle.rtsp_small.specs.Sessions.{Session, is_session_byte, is_session_id, timeout_in, first_timeout, session_with, session_in, session_of, timeout_text, session_text}
+use Rattle.rtsp_small.specs.Sessions.{SessionParts, is_session_byte, is_session_id, timeout_in, first_timeout, session_with, session_in, session_of, timeout_text, session_text}
 
 own : IsNumeralModel (λ ds. list_all is_ascii_digit ds ≡ true) (digits_value 10)
 own = numerals_by_value _ (search rules)
@@ -117,5 +117,5 @@ read_by id (Some seconds) h small =
     ∙ ap (session_with id) (timeout_read seconds small) ∙ id_read id (Some seconds) h
 
 -- what was written reads as it was
-pub session_read : (session : Session) → is_session_id session.id ≡ true → IfSome session.timeout (λ seconds. seconds < 10 ^ TIMEOUT_DIGITS) → session_of (session_text session) ≡ Some session
+pub session_read : (session : SessionParts) → is_session_id session.id ≡ true → IfSome session.timeout (λ seconds. seconds < 10 ^ TIMEOUT_DIGITS) → session_of (session_text session) ≡ Some session
 session_read session h small = read_by session.id session.timeout h small

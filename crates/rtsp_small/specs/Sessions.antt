@@ -11,7 +11,7 @@ use Rattle.gate_bytes.specs.Places.{cut_at, parts_at}
 use Rattle.rtsp_small.specs.declared.session.TheConstants.{LONGEST_SESSION_ID, TIMEOUT_DIGITS}
 
 -- what a Session field says: an id, and after how many seconds the server may close it
-pub record Session : Type 0 where
+pub record SessionParts : Type 0 where
   pub id : List ℕ
   pub timeout : Option ℕ
 
@@ -33,22 +33,24 @@ abbrev pub first_timeout : List (List ℕ) → Option ℕ
 first_timeout [] = None
 first_timeout (parameter ∷ more) = option_or (timeout_in (trimmed parameter)) (first_timeout more)
 
-abbrev pub session_with : List ℕ → Option ℕ → Option Session
+-- a session with an id that may be one
+abbrev pub session_with : List ℕ → Option ℕ → Option SessionParts
 session_with id timeout = if is_session_id id then Some (record { id = id; timeout = timeout }) else None
 
 -- Semicolons part the id and the parameters. The parameters are trimmed, and the id is not.
-abbrev pub session_in : List (List ℕ) → Option Session
+abbrev pub session_in : List (List ℕ) → Option SessionParts
 session_in [] = None
 session_in (id ∷ parameters) = session_with id (first_timeout parameters)
 
 -- what a Session field with this value says (RFC 2326, 12.37; RFC 7826, 18.49)
-abbrev pub session_of : List ℕ → Option Session
+abbrev pub session_of : List ℕ → Option SessionParts
 session_of value = session_in (parts_at semicolon value)
 
+-- how a timeout is written, where there is one
 abbrev pub timeout_text : Option ℕ → List ℕ
 timeout_text None = []
 timeout_text (Some seconds) = codes ";timeout=" ++ decimal seconds
 
 -- how a Session field is written
-abbrev pub session_text : Session → List ℕ
+abbrev pub session_text : SessionParts → List ℕ
 session_text session = session.id ++ timeout_text session.timeout

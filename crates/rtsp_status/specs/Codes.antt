@@ -32,9 +32,11 @@ code_rows =
     ∷ become 500 599 500
     ∷ []
 
+-- whether a row has a code
 abbrev pub holds : CodeRow → ℕ → Bool
 holds row code = nat_le row.first code && nat_le code row.last
 
+-- what the first row that has a code makes of it; else 502
 abbrev pub code_in : List CodeRow → ℕ → ℕ
 code_in [] code = 502
 code_in (row ∷ more) code = if holds row code then unwrap_or row.told code else code_in more code

@@ -9,6 +9,7 @@ pub record Reason : Type 0 where
   pub code : ℕ
   pub text : List ℕ
 
+-- a code and its reason
 abbrev pub reads : ℕ → List ℕ → Reason
 reads code text = record { code = code; text = text }
 
@@ -60,6 +61,7 @@ reason_in (one ∷ more) code = if code == one.code then Some one.text else reas
 abbrev pub reason_of : ℕ → Option (List ℕ)
 reason_of code = reason_in reasons code
 
+-- whether a code has a reason
 abbrev pub has_reason : ℕ → Bool
 has_reason code = is_some (reason_of code)
 

@@ -4,4 +4,4 @@ pub mod HexLemmas
 pub mod PlaceLemmas
 pub mod SourceLemmas
 pub mod SplitLemmas
-pub mod WrittenLemmas
+pub mod GrantTextLemmas

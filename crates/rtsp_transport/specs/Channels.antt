@@ -32,5 +32,6 @@ abbrev pub pair_with : List ℕ → Option (List ℕ × List ℕ) → Option Pai
 pair_with value None = first_channel value
 pair_with value (Some parts) = two_channels parts.0 parts.1
 
+-- a pair of channels, or the first of one
 abbrev pub pair_or_first : List ℕ → Option Pair
 pair_or_first value = pair_with value (cut_at hyphen value)

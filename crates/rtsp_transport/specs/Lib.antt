@@ -4,4 +4,4 @@ pub mod Parameters
 pub mod Sources
 pub mod Splits
 pub mod Wants
-pub mod Written
+pub mod GrantText

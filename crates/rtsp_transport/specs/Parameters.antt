@@ -10,9 +10,11 @@ use Rattle.rtsp_transport.specs.Splits.{unquoted_parts, unquoted_left}
 abbrev pub parameters_of : List ℕ → List (List ℕ)
 parameters_of alternative = map trimmed (unquoted_parts semicolon alternative)
 
+-- the parameters behind the first semicolon
 abbrev pub parameters_left : Option (List ℕ) → List (List ℕ)
 parameters_left rest = map trimmed (unquoted_left semicolon rest)
 
+-- the value of the parameter with this name; none where it has no `=`
 abbrev pub value_with : List ℕ → List ℕ → Option (List ℕ × List ℕ) → Option (Option (List ℕ))
 value_with name parameter None = if equal_fold parameter name then Some None else None
 value_with name parameter (Some parts) = if equal_fold parts.0 name then Some (Some parts.1) else None

@@ -17,6 +17,7 @@ source_number text = if length text == SSRC_DIGITS && list_all is_ascii_hexdigit
 abbrev pub source_named : Option (Option (List ℕ)) → Option ℕ
 source_named value = option_and_then (λ value. option_and_then (λ text. source_number (up_to slash text)) value) value
 
+-- the source that a parameter names
 abbrev pub source_in : List ℕ → Option ℕ
 source_in parameter = source_named (value_in (codes "ssrc") parameter)
 

@@ -1,7 +1,7 @@
 //! Writing Transport fields.
 ghost use Rattle.std.specs.Prelude.{◌≡◌, ◌≢◌, ◌++◌, None, Ok, IfOk, OnOk};
 ghost use Rattle.rtsp_transport.specs.Grants.{grant_of};
-ghost use Rattle.rtsp_transport.specs.Written.{pair_text, source_text, grant_text};
+ghost use Rattle.rtsp_transport.specs.GrantText.{pair_text, source_text, grant_text};
 
 use crate::channels::Pair;
 use crate::ssrc::push_source;

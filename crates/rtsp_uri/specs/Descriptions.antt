@@ -10,6 +10,7 @@ use Rattle.rtsp_uri.specs.Swaps.{swapped}
 abbrev pub control : List ℕ
 control = codes "a=control:"
 
+-- whether a line of a description is a control attribute
 abbrev pub is_control : List ℕ → Bool
 is_control line = starts_with nat_eq line control
 

@@ -70,6 +70,7 @@ abbrev pub places_with : List ℕ → ℕ → Option ℕ × ℕ → Option UriPl
 places_with body host port =
     if is_rest (drop (host + port.1) body) then Some (record { host_end = SCHEME_BYTES + host; port = port.0; rest = SCHEME_BYTES + (host + port.1) }) else None
 
+-- where the parts of a URI end, behind the scheme
 abbrev pub places_behind : List ℕ → Option UriPlaces
 places_behind body = option_and_then (λ host. option_and_then (places_with body host) (port_part (drop host body))) (host_len body)
 

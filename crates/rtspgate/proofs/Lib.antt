@@ -1,2 +1,2 @@
 pub mod UsageLemmas
-pub mod ServedLemmas
+pub mod ServeLemmas

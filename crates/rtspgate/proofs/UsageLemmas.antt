@@ -3,16 +3,16 @@ use Rattle.std.proofs.Common.{◌≡◌, ℕ, ◌+◌, Bool, true, false, cond, 
 use Rattle.std.specs.Prelude.{OnOk, OnErr}
 use Rattle.gate_outside.specs.declared.Failed.{Failed}
 use Rattle.gate_outside.specs.Causes.{Rose}
-use Rattle.gateway_drill.specs.Reports.{DrillSays, IsDrilledHistory}
+use Rattle.drill_run.specs.Reports.{DrillSays, IsDrilledHistory}
 use Rattle.gateway_mux.specs.declared.status.Status.{Status}
 use Rattle.gateway_mux.specs.declared.status.Status.TheVariants.{Done, Usage, SourceFault, SinkFault, BadTranscript, TooLong, Memory, Upstream, ListenFault, RecordFault, CrewRefused, AcceptFault, DialFault, NumbersSpent}
-use Rattle.gateway_words.specs.declared.words.Command.{Command}
-use Rattle.gateway_words.specs.declared.words.Command.TheVariants.{Replay, Drill, Serve}
-use Rattle.gateway_words.specs.declared.kinds.WordsFault.{WordsFault}
-use Rattle.gateway_words.specs.declared.kinds.WordsFault.TheVariants as word
-use Rattle.gateway_words.specs.declared.kinds.Kind.{Kind}
-use Rattle.gateway_words.specs.Kinds.{is_of, first_fault}
-use Rattle.gateway_words.specs.Words.{replay_word, drill_word, serve_word, replay_kinds, serve_kinds, word_fault, ReadsWords, MayLackMemory, Names, asks_to_serve}
+use Rattle.command_line.specs.declared.words.Command.{Command}
+use Rattle.command_line.specs.declared.words.Command.TheVariants.{Replay, Drill, Serve}
+use Rattle.command_line.specs.declared.kinds.WordsFault.{WordsFault}
+use Rattle.command_line.specs.declared.kinds.WordsFault.TheVariants as word
+use Rattle.command_line.specs.declared.kinds.Kind.{Kind}
+use Rattle.command_line.specs.Kinds.{is_of, first_fault}
+use Rattle.command_line.specs.Words.{replay_word, drill_word, serve_word, replay_kinds, serve_kinds, word_fault, ReadsWords, MayLackMemory, NamesCommand, asks_to_serve}
 use Rattle.rtspgate.specs.Usage.{fault_or_serve, plain_fault, TellsUsage, TellsUsageAfterFlush}
 use Rattle.rtspgate.specs.Stops.{status_of_words}
 use Rattle.gateway_replay.specs.Replays.{FaultRose}
@@ -88,7 +88,7 @@ plain_of : (words line : List (List ℕ)) → words ≡ line → word_fault word
 plain_of words line words_are accepted = ap₂ fault_or_serve accepted (ap asks_to_serve words_are)
 
 -- what is told of the command that the words name
-pub named_usage : (words : List (List ℕ)) (command : Command) (status : Status) (all left before now : Option (List ℕ)) → Names command words → word_fault words ≡ None →
+pub named_usage : (words : List (List ℕ)) (command : Command) (status : Status) (all left before now : Option (List ℕ)) → NamesCommand command words → word_fault words ≡ None →
     CommandSays command status all left before now → TellsUsage status (plain_fault words)
 named_usage words (Replay bases) status all left before now names accepted says =
     tells_none status (plain_fault words) (plain_of words (replay_word ∷ names.front ∷ names.up ∷ []) names.words_are accepted)
@@ -105,7 +105,7 @@ refusal_says words (word.Place at) all written says = record { source = refl; si
 refusal_says words word.Memory all written says = inl (record { may = says; untouched = record { source = refl; sink = refl } })
 
 -- what the command that the words name says
-pub plain_says : (words : List (List ℕ)) (command : Command) (status : Status) (all left before now : Option (List ℕ)) → Names command words → CommandSays command status all left before now →
+pub plain_says : (words : List (List ℕ)) (command : Command) (status : Status) (all left before now : Option (List ℕ)) → NamesCommand command words → CommandSays command status all left before now →
     PlainSays words status all left before now
 plain_says words command Done all left before now names says = record { command = command; names = names; says = says }
 plain_says words (Replay bases) (Usage place) all left before now names says = absurd says

@@ -1,13 +1,13 @@
 -- What the top call says, by the words that it was called with (this project's own).
 use Rattle.std.specs.Prelude.{◌≡◌, ℕ, List, Option, ◌⊎◌}
-use Rattle.mux_history.specs.Follows.{IsHistory}
+use Rattle.gateway_claim.specs.Follows.{IsHistory}
 use Rattle.gateway_mux.specs.declared.status.Status.{Status}
 use Rattle.gateway_mux.specs.declared.status.Status.TheVariants.{Done, Usage, SourceFault, SinkFault, BadTranscript, TooLong, Memory}
 use Rattle.gateway_replay.specs.Replays.{ReplaySays}
-use Rattle.gateway_drill.specs.Reports.{DrillSays, IsDrilledHistory}
-use Rattle.gateway_words.specs.declared.words.Command.{Command}
-use Rattle.gateway_words.specs.declared.words.Command.TheVariants.{Replay, Drill, Serve}
-use Rattle.gateway_words.specs.Words.{Names, MayLackMemory}
+use Rattle.drill_run.specs.Reports.{DrillSays, IsDrilledHistory}
+use Rattle.command_line.specs.declared.words.Command.{Command}
+use Rattle.command_line.specs.declared.words.Command.TheVariants.{Replay, Drill, Serve}
+use Rattle.command_line.specs.Words.{NamesCommand, MayLackMemory}
 
 -- Where the words are refused, nothing was read and nothing written.
 pub record IsUntouched (all left before now : Option (List ℕ)) : Type 0 where
@@ -23,7 +23,7 @@ CommandSays (Serve options) status all left before now = (status ≡ Usage 0) ×
 -- Where the words were accepted: what is said of the command that they name.
 pub record SaysNamed (words : List (List ℕ)) (status : Status) (all left before now : Option (List ℕ)) : Type 0 where
   pub command : Command
-  pub names : Names command words
+  pub names : NamesCommand command words
   pub says : CommandSays command status all left before now
 
 -- Where memory ran out while the words were read: nothing was done.

@@ -1,4 +1,4 @@
 pub mod Commands
 pub mod Stops
 pub mod Usage
-pub mod Served
+pub mod ServeAnswers

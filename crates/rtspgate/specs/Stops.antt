@@ -1,9 +1,10 @@
 -- The answer to words that are refused (this project's own).
-use Rattle.gateway_words.specs.declared.kinds.WordsFault.{WordsFault}
-use Rattle.gateway_words.specs.declared.kinds.WordsFault.TheVariants as word
+use Rattle.command_line.specs.declared.kinds.WordsFault.{WordsFault}
+use Rattle.command_line.specs.declared.kinds.WordsFault.TheVariants as word
 use Rattle.gateway_mux.specs.declared.status.Status.{Status}
 use Rattle.gateway_mux.specs.declared.status.Status.TheVariants as status
 
+-- how a run ends whose words are refused
 abbrev pub status_of_words : WordsFault → Status
 status_of_words (word.Place place) = status.Usage place
 status_of_words word.Memory = status.Memory

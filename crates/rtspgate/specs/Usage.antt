@@ -2,7 +2,7 @@
 use Rattle.std.specs.Prelude.{◌≡◌, ℕ, Bool, true, false, List, Option, Some, None, ◌⊎◌}
 use Rattle.gateway_mux.specs.declared.status.Status.{Status}
 use Rattle.gateway_mux.specs.declared.status.Status.TheVariants.{Usage, Memory, SinkFault}
-use Rattle.gateway_words.specs.Words.{asks_to_serve, word_fault}
+use Rattle.command_line.specs.Words.{asks_to_serve, word_fault}
 
 -- the place of a refusal; and the first place where there is none, but players are to be served
 abbrev pub fault_or_serve : Option ℕ → Bool → Option ℕ

@@ -1,18 +1,18 @@
 //! The top call: all that the program does, over any source, sink and world.
 ghost use Rattle.std.specs.Prelude.{◌≡◌, ◌≤◌, ◌+◌, true, false, Some, map, string_bytes};
 ghost use Rattle.gateway_mux.specs.declared.status.Status.TheVariants as ends;
-ghost use Rattle.gateway_words.specs.Words.{asks_to_serve, word_fault};
+ghost use Rattle.command_line.specs.Words.{asks_to_serve, word_fault};
 ghost use Rattle.rtspgate.specs.Usage.{TellsUsage};
 ghost use Rattle.rtspgate.specs.Commands.{PlainSays};
-ghost use Rattle.rtspgate.specs.Served.{ServesWords};
+ghost use Rattle.rtspgate.specs.ServeAnswers.{ServesWords};
 ghost use Rattle.gateway_replay.specs.Replays.{TakesWithin, FaultRose, limit};
 
 use crate::plain::plain;
-use crate::served::serve_words;
+use crate::serve::serve_words;
+use command_line::asks_to_serve;
 use gate_outside::{Sink, Source};
-use gate_world::World;
 use gateway_mux::Status;
-use gateway_words::asks_to_serve;
+use serve_world::World;
 use std::alloc::Global;
 use std::sync::Wait;
 use std::thread::Threads;

@@ -1,25 +1,25 @@
 //! rtspgate: a gateway between players of RTSP 1.0 and a server of RTSP 2.0.
 #![tactic(auto)]
 
-mod flushed;
+mod flush;
 mod gateway;
 mod plain;
-mod served;
+mod serve;
 mod standard;
 mod tables;
 
 use crate::standard::run_between;
 use crate::tables::end_of_help;
-use gateway_mux::Status;
-use gateway_words::{
+use command_line::{
     Argument, Form, command_help, given_for, program_help, program_version, refusal_line, usage_for,
 };
+use gateway_mux::Status;
+use serve_world_tcp::TcpWorld;
 use std::alloc::AllocError;
 use std::env::{Env, FillError};
 use std::io::ErrorKind;
 use std::process::ExitCode;
 use std::{env, io, str};
-use tcp_world::TcpWorld;
 
 /// Where a word that is no UTF-8 is looked for, one of more bytes is told in its place: no word may have as many.
 const WORD_ROOM: usize = 256;

@@ -1,14 +1,14 @@
 //! Readers and writers of std as source and sink, and a run over them. They tell no content: they are the trusted edge.
 ghost use Rattle.std.specs.Prelude.{◌≡◌, None, map, string_bytes};
 ghost use Rattle.gate_outside.specs.Causes.{HasCause};
-ghost use Rattle.gateway_words.specs.Words.{word_fault};
+ghost use Rattle.command_line.specs.Words.{word_fault};
 ghost use Rattle.rtspgate.specs.Usage.{TellsUsageAfterFlush};
 
-use crate::flushed::after_flush;
+use crate::flush::after_flush;
 use crate::gateway::gateway;
 use gate_outside::{Failed, Sink, Source};
-use gate_world::World;
 use gateway_mux::Status;
+use serve_world::World;
 use std::alloc::Global;
 use std::io::{BufWriter, Read, Write};
 use std::sync::Wait;

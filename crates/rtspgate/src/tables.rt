@@ -2,20 +2,20 @@
 //! the pages on how to run the program say the same, and `tools/check_pages` compares them.
 
 use channel_map::PAIRS;
+use command_line::{Form, MOST_STATIONS};
 use gate_transcript::BadEntryKind;
+use gateway_links::MOST_HELD;
 use gateway_mux::{Status, UpCause};
 use gateway_replay::LONGEST_TRANSCRIPT;
-use gateway_words::{Form, MOST_STATIONS};
-use hub_places::{
+use hub_queues::{
     INWARD_CAPACITY, MOST_CONNECTIONS, OUTWARD_CAPACITY, SERVER_CAPACITY, SERVER_INWARD_CAPACITY,
 };
-use link_writer::MOST_HELD;
 use play_queue::MOST_PLAYS;
 use rtsp_head::{MOST_BODY, MOST_HEAD, MOST_HEADERS};
 use rtsp_small::LAST_CSEQ_TWO;
+use serve_world_tcp::QUEUE_BYTES;
 use session_one::MOST_TRACKS;
 use std::alloc::{AllocError, Global};
-use tcp_world::QUEUE_BYTES;
 
 /// What is counted, and the most of it.
 const LIMITS: [(&str, u64); 16] = [

@@ -1,9 +1,9 @@
 -- The report at the end of a run: a line for each connection that entered (this project's own).
 use Rattle.std.specs.Prelude.{ℕ, zero, suc, codes, decimal, List, [], ◌∷◌, ◌++◌, Option, Some, None}
-use Rattle.hub_places.specs.declared.receipt.Receipt.{Receipt}
+use Rattle.hub_queues.specs.declared.receipt.Receipt.{Receipt}
 use Rattle.gateway_hub.specs.declared.receipts.Receipts.{Receipts}
 use Rattle.gateway_hub.specs.Receipts.{last_receipt, receipt_count}
-use Rattle.mux_history.specs.Closes.{close_byte}
+use Rattle.gateway_claim.specs.Closes.{close_byte}
 
 -- a name and a number
 abbrev pub name_and_number : List ℕ → ℕ → List ℕ
@@ -21,6 +21,7 @@ went_text receipt = name_and_number (codes " handed ") receipt.handed ++ (name_a
 abbrev pub receipt_line : Receipt → List ℕ
 receipt_line receipt = came_text receipt ++ went_text receipt
 
+-- the line of a receipt, where there is one
 abbrev pub receipt_line_in : Option Receipt → List ℕ
 receipt_line_in None = []
 receipt_line_in (Some receipt) = receipt_line receipt

@@ -3,14 +3,14 @@ ghost use Rattle.std.specs.Prelude.{◌≤◌, ◌++◌, ◌∷◌, codes};
 ghost use Rattle.gate_outside.specs.Causes.{HasCause};
 ghost use Rattle.gate_outside.specs.Contents.{WritesAll};
 ghost use Rattle.gateway_hub.specs.Receipts.{receipt_count};
-ghost use Rattle.hub_places.specs.declared.limits.TheConstants.{MOST_CONNECTIONS};
-ghost use Rattle.mux_history.specs.Closes.{close_byte};
+ghost use Rattle.hub_queues.specs.declared.limits.TheConstants.{MOST_CONNECTIONS};
+ghost use Rattle.gateway_claim.specs.Closes.{close_byte};
 ghost use Rattle.run_report.specs.Report.{name_and_number, came_text, went_text, receipt_line, receipt_line_in, lines_below, report_text};
 
 use gate_outside::{Failed, Sink, write_all};
+use gateway_claim::close_byte;
 use gateway_hub::{Receipt, Receipts};
 use gateway_mux::CloseWhy;
-use mux_history::close_byte;
 
 /// Writes the report: a line for each connection that entered, by rising number, and how often the server was dialled. It
 /// takes no memory.

@@ -5,7 +5,7 @@
 #![tactic(auto)]
 
 mod pace;
-mod taking;
+mod take;
 mod threads;
 mod upstream;
 

@@ -6,9 +6,9 @@
 //! found too slow. One that goes on taking has its pauses back: a burst is no reason to close it. Only time counts in which its
 //! socket took nothing: a writer that does not come to write, since the machine is busy, is no fault of its player.
 
+use gateway_claim::Core;
 use gateway_hub::{Hub, OUTWARD_CAPACITY, Recorder};
 use hub_workers::Common;
-use mux_history::Core;
 use std::alloc::Global;
 use std::sync::Wait;
 use std::thread;
@@ -36,7 +36,7 @@ const MOST_REMEMBERED: usize = 64;
 
 /// How many pauses a player has had.
 #[derive(Clone, Copy)]
-struct Spent {
+struct PausesHad {
     conn: u32,
     pauses: u32,
 }
@@ -59,7 +59,7 @@ struct Handed {
 /// last wait, whose bells are to ring, how many parcels had been put for the server, and whether a player was found too slow.
 #[derive(Drop)]
 pub struct Pace {
-    spent: Vec<Spent>,
+    spent: Vec<PausesHad>,
     handed: Option<Handed>,
     least: Option<Room>,
     due: Due,
@@ -177,7 +177,7 @@ impl Pace {
         if self.spent.len() >= MOST_REMEMBERED {
             self.spent.clear();
         }
-        let _ = self.spent.push(Spent { conn, pauses });
+        let _ = self.spent.push(PausesHad { conn, pauses });
     }
 }
 

@@ -1,15 +1,14 @@
 //! The threads of the server's link.
 ghost use denote.Param.Send.{IsSend, IsSync};
 
-use crate::taking::{Taking, take_on};
+use crate::take::{Taking, take_on};
 use crate::upstream::{UpBack, Upstream, run_upstream};
 use gate_outside::{Inlet, Outlet};
-use gate_world::{Refusal, start};
+use gateway_claim::Core;
 use gateway_hub::{Recorder, StopWhy};
+use gateway_links::{ReadBuffer, WriterDesk};
 use hub_workers::{Common, write_from};
-use link_halves::ReadBuffer;
-use link_writer::Desk;
-use mux_history::Core;
+use serve_world::{ThreadRefusal, start};
 use std::sync::Wait;
 use std::thread;
 use std::thread::Threads;
@@ -19,7 +18,7 @@ use std::time::Clock;
 #[derive(Drop)]
 pub struct ServerPost<'a, I: Inlet + Drop, P: Outlet + Drop> {
     /// The desk.
-    pub desk: &'a Desk<P>,
+    pub desk: &'a WriterDesk<P>,
     /// The buffer.
     pub buffer: ReadBuffer,
     /// The link.
@@ -34,7 +33,7 @@ pub fn work_server<
     M: Core,
     R: Recorder,
     W: Threads + Wait + Clock + Sync,
->(common: &Common<'_, M, R, W>, post: ServerPost<'_, I, P>) -> (UpBack<I, P>, Option<Refusal>)
+>(common: &Common<'_, M, R, W>, post: ServerPost<'_, I, P>) -> (UpBack<I, P>, Option<ThreadRefusal>)
 where
     M::Plan: Send,
 {
@@ -43,7 +42,7 @@ where
     thread::scope(
         thread::scope_env(),
         common.rt,
-        move |scope| -> (UpBack<I, P>, Option<Refusal>)
+        move |scope| -> (UpBack<I, P>, Option<ThreadRefusal>)
             requires { IsSync W.row × IsSend I.row × IsSend P.row × IsSend M.row × IsSend M.Plan.row × IsSend R.row }
         {
             let ServerPost {

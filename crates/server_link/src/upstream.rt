@@ -2,23 +2,21 @@
 ghost use Rattle.std.specs.Prelude.{◌≡◌, ℕ, ◌<◌, ◌≤◌, [], List, Option, Some, None, true, length};
 ghost use Rattle.gate_outside.specs.Causes.{Rose};
 ghost use Rattle.client_ports.specs.Ends.{put_of, taken_of};
-ghost use Rattle.link_reader.specs.Reading.{ReadsItems, ReadsFront, PutAll, PutAllSo};
-ghost use Rattle.link_writer.specs.Parcels.{HasWritten};
-ghost use Rattle.link_halves.specs.declared.reading.ReadEnd.TheVariants as ends;
-ghost use Rattle.link_halves.specs.declared.putting.Put.TheVariants as puts;
-ghost use Rattle.server_link.specs.declared.taking.Heard.TheVariants as heard;
-ghost use Rattle.link_reader.specs.Promise.{BeginsGiven};
+ghost use Rattle.gateway_links.specs.ReadItems.{ReadsItems, ReadsFront, PutAll, PutAllSo};
+ghost use Rattle.gateway_links.specs.WrittenParcels.{HasWritten};
+ghost use Rattle.gateway_links.specs.declared.link_read.ReadEnd.TheVariants as ends;
+ghost use Rattle.gateway_links.specs.declared.put.Put.TheVariants as puts;
+ghost use Rattle.server_link.specs.declared.take.TakingEnd.TheVariants as heard;
+ghost use Rattle.gateway_links.specs.Promise.{BeginsGiven};
 ghost use Rattle.std.specs.Option.{option_map};
 
-use crate::taking::{Heard, Taking, take_all, take_few};
+use crate::take::{Taking, TakingEnd, take_all, take_few};
 use client_ports::{Putter, Taker};
 use gate_outside::{Inlet, Outlet};
+use gateway_claim::{Core, UpWhy};
 use gateway_hub::{Recorder, StopWhy};
+use gateway_links::{Put, ReadEnd, Reader, Writer, WriterDesk, collect, put_some, read_reusing};
 use hub_workers::{Common, Life};
-use link_halves::{Put, ReadEnd, collect, put_some, read_reusing};
-use link_reader::Reader;
-use link_writer::{Desk, Writer};
-use mux_history::{Core, UpWhy};
 use run_report::UpRun;
 use std::sync::Wait;
 use std::thread;
@@ -72,7 +70,7 @@ pub struct UpBack<I: Inlet, O: Outlet> {
 /// or written to the outlet before.
 pub fn run_upstream<I: Inlet + Drop, O: Outlet + Drop, M: Core, R: Recorder, W: Wait + Clock>(
     common: &Common<'_, M, R, W>,
-    desk: &Desk<O>,
+    desk: &WriterDesk<O>,
     taking: &Taking,
     upstream: Upstream<I, O>,
     buffer: &mut [u8],
@@ -122,7 +120,7 @@ fn run_of(end: ReadEnd, write_failed: bool) -> UpRun
 /// Hands the writer to its thread, reads the server's link to its end, and waits until the writer comes back.
 fn hear_link<I: Inlet + Drop, O: Outlet + Drop, M: Core, R: Recorder, W: Wait + Clock>(
     common: &Common<'_, M, R, W>,
-    desk: &Desk<O>,
+    desk: &WriterDesk<O>,
     taking: &Taking,
     reader: &mut Reader<I>,
     writer: Writer<O>,
@@ -157,7 +155,7 @@ fn tell_end<M: Core, R: Recorder, W: Wait>(common: &Common<'_, M, R, W>, end: Re
 /// Reads what the server says, and has it taken, until its link ends or an ending is kept.
 fn hear_on<I: Inlet + Drop, O: Outlet + Drop, M: Core, R: Recorder, W: Wait + Clock>(
     common: &Common<'_, M, R, W>,
-    desk: &Desk<O>,
+    desk: &WriterDesk<O>,
     taking: &Taking,
     reader: &mut Reader<I>,
     buffer: &mut [u8],
@@ -173,9 +171,9 @@ fn hear_on<I: Inlet + Drop, O: Outlet + Drop, M: Core, R: Recorder, W: Wait + Cl
     let mut life = Life::new();
     for _ in common.rt.forever() {
         match put_all(common, taking, &mut life, reader) {
-            Heard::Empty => {}
-            Heard::Kept => return ReadEnd::Over,
-            Heard::Memory => return ReadEnd::Memory,
+            TakingEnd::Empty => {}
+            TakingEnd::Kept => return ReadEnd::Over,
+            TakingEnd::Memory => return ReadEnd::Memory,
         }
         if let Some(end) = read_reusing(
             common.rt,
@@ -197,7 +195,7 @@ fn put_all<I: Inlet + Drop, M: Core, R: Recorder, W: Wait + Clock>(
     taking: &Taking,
     life: &mut Life,
     reader: &mut Reader<I>,
-) -> Heard
+) -> TakingEnd
     ensures inlet { reader.new.inlet ≡ reader.old.inlet }
     ensures reads { (first : Option (List ℕ)) → ReadsItems I.rest first reader.old → ReadsItems I.rest first reader.new }
     ensures front { (first : Option (List ℕ)) → ReadsFront I.rest first reader.old → ReadsFront I.rest first reader.new }
@@ -210,10 +208,10 @@ fn put_all<I: Inlet + Drop, M: Core, R: Recorder, W: Wait + Clock>(
         let put = put_some(common.rt, reader, u32::MAX, false);
         taking.came.ring(common.rt);
         if life.is_over(common, None) {
-            return Heard::Kept;
+            return TakingEnd::Kept;
         }
         if put == Put::All {
-            return Heard::Empty;
+            return TakingEnd::Empty;
         }
         thread::sleep(common.rt, Duration::from_micros(FULL_PAUSE_MICROS));
     }
@@ -231,7 +229,7 @@ fn end_after_rest<M: Core, R: Recorder, W: Wait + Clock>(
 {
     let heard = take_all(common, &mut taking.pace.lock(common.rt));
     match heard {
-        Heard::Memory => ReadEnd::Memory,
-        Heard::Empty | Heard::Kept => end,
+        TakingEnd::Memory => ReadEnd::Memory,
+        TakingEnd::Empty | TakingEnd::Kept => end,
     }
 }

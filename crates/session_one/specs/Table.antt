@@ -15,6 +15,7 @@ pub record Transition : Type 0 where
   pub method : Method
   pub next : State
 
+-- a row of the table
 abbrev pub transition : State → Method → State → Transition
 transition state method next = record { state = state; method = method; next = next }
 
@@ -34,6 +35,7 @@ transitions =
     ∷ transition Init SetParameter Init ∷ transition Ready SetParameter Ready ∷ transition Playing SetParameter Playing
     ∷ []
 
+-- whether two states are the same
 abbrev pub same_state : State → State → Bool
 same_state Init Init = true
 same_state Init Ready = false
@@ -54,6 +56,7 @@ abbrev pub next_in : List Transition → State → Method → Option State
 next_in [] state method = None
 next_in (one ∷ more) state method = if same_state one.state state && same_method one.method method then Some one.next else next_in more state method
 
+-- the state after a method; none where it is not allowed
 abbrev pub next_of : State → Method → Option State
 next_of state method = next_in transitions state method
 

@@ -6,6 +6,7 @@ use Rattle.rtsp_small.specs.Notices.{request_status_of}
 use Rattle.session_two.specs.declared.names.Names.{Names}
 use Rattle.session_two.specs.declared.names.Names.TheVariants.{Unsaid, This}
 
+-- the request that a notify names, where it names one
 abbrev pub names_at : Option ℕ → Names
 names_at None = Unsaid
 names_at (Some number) = This number

@@ -4,7 +4,7 @@
 #![tactic(auto)]
 
 mod names;
-mod running;
+mod running_play;
 
 pub use names::Names;
-pub use running::Running;
+pub use running_play::Running;

@@ -2,19 +2,19 @@
 
 use crate::words::Words;
 use crate::{keys, numbers, pairs, plays};
-use case_text::Answer;
 use channel_map::ChannelMap;
-use connection_directory::Directory;
+use connection_table::Directory;
 use gate_bytes::Memory;
 use play_queue::PlayQueue;
 use session_two::Running;
 use std::alloc::Global;
+use test_text::CaseAnswer;
 use text_pool::TextPool;
 use up_books::{CseqBook, SessionBook};
 
 /// One of each book, and two pools.
 #[derive(Drop)]
-pub struct Books {
+pub struct FieldBooks {
     numbers: CseqBook,
     sessions: SessionBook,
     pairs: ChannelMap,
@@ -25,11 +25,11 @@ pub struct Books {
     other: TextPool,
 }
 
-impl Books {
+impl FieldBooks {
     /// Empty books.
-    pub fn new(alloc: Global) -> Result<Books, Memory> {
+    pub fn new(alloc: Global) -> Result<FieldBooks, Memory> {
         let plays = PlayQueue::new(alloc)?;
-        Ok(Books {
+        Ok(FieldBooks {
             numbers: CseqBook::starting(alloc, 1),
             sessions: SessionBook::new(alloc),
             pairs: ChannelMap::new(),
@@ -42,7 +42,7 @@ impl Books {
     }
 
     /// Tells the answers of a case with the name of a book, one for each step; whether it has one.
-    pub fn tell(&mut self, name: &str, mut words: Words<'_>, answer: &mut Answer) -> bool {
+    pub fn tell(&mut self, name: &str, mut words: Words<'_>, answer: &mut CaseAnswer) -> bool {
         for _ in 0..u64::MAX {
             if !self.step(name, &mut words, answer) {
                 return false;
@@ -56,7 +56,7 @@ impl Books {
     }
 
     /// Does a step with a book, and tells the answer; whether there is this book.
-    fn step(&mut self, name: &str, words: &mut Words<'_>, answer: &mut Answer) -> bool {
+    fn step(&mut self, name: &str, words: &mut Words<'_>, answer: &mut CaseAnswer) -> bool {
         match name {
             "numbers" => numbers::step(&mut self.numbers, words, answer),
             "sessions" => numbers::step_session(&mut self.sessions, words, answer),

@@ -2,14 +2,14 @@
 
 use crate::answer::{keep, push_bytes, push_made, push_option, push_truth};
 use crate::words::{Words, copy_of, some_of};
-use case_text::{Answer, CaseFault};
 use gate_bytes::{
     MOST_DIGITS, Text, after, before, eq_fold, find, is_token, push_decimal, read_decimal,
     split_once, trim, up_to,
 };
+use test_text::{CaseAnswer, CaseFault};
 
 /// Tells the answer of a case with one of these names; whether it has one.
-pub fn tell(name: &str, words: Words<'_>, answer: &mut Answer) -> bool {
+pub fn tell(name: &str, words: Words<'_>, answer: &mut CaseAnswer) -> bool {
     match name {
         "token" => push_truth(answer, is_token(words.whole)),
         "trim" => push_bytes(answer, trim(words.whole)),
@@ -25,7 +25,7 @@ pub fn tell(name: &str, words: Words<'_>, answer: &mut Answer) -> bool {
 }
 
 /// Tells the answer of a case with a text; whether it is one.
-pub fn tell_text(name: &str, mut words: Words<'_>, answer: &mut Answer) -> bool {
+pub fn tell_text(name: &str, mut words: Words<'_>, answer: &mut CaseAnswer) -> bool {
     match name {
         "text" => tell_pushed(words, answer),
         "set" => tell_set(words, answer),
@@ -40,21 +40,21 @@ pub fn tell_text(name: &str, mut words: Words<'_>, answer: &mut Answer) -> bool 
 }
 
 /// The number that a text of so many digits at most writes.
-fn tell_decimal(mut words: Words<'_>, answer: &mut Answer) {
+fn tell_decimal(mut words: Words<'_>, answer: &mut CaseAnswer) {
     let most = words.short(answer).min(MOST_DIGITS);
     let digits = words.all(answer);
     push_option(answer, read_decimal(digits.as_bytes(), most));
 }
 
 /// Whether two words are equal without ASCII case.
-fn tell_same(mut words: Words<'_>, answer: &mut Answer) {
+fn tell_same(mut words: Words<'_>, answer: &mut CaseAnswer) {
     let one = words.next(answer);
     let other = words.next(answer);
     push_truth(answer, eq_fold(one.as_bytes(), other.as_bytes()));
 }
 
 /// A word with a number behind it.
-fn tell_appended(mut words: Words<'_>, answer: &mut Answer) {
+fn tell_appended(mut words: Words<'_>, answer: &mut CaseAnswer) {
     let mut written = words.next(answer);
     let appended = push_decimal(&mut written, words.number(answer));
     keep(answer, appended);
@@ -62,7 +62,7 @@ fn tell_appended(mut words: Words<'_>, answer: &mut Answer) {
 }
 
 /// What stands before the first place of a byte in the text behind it, and what stands from there on.
-fn tell_place(whole: &[u8], answer: &mut Answer) {
+fn tell_place(whole: &[u8], answer: &mut CaseAnswer) {
     match whole {
         [byte, text @ ..] => match find(*byte, text) {
             Some(at) => push_two(answer, before(text, at), after(text, at)),
@@ -73,7 +73,7 @@ fn tell_place(whole: &[u8], answer: &mut Answer) {
 }
 
 /// What stands before the first place of a byte in the text behind it, or all of that.
-fn tell_front(whole: &[u8], answer: &mut Answer) {
+fn tell_front(whole: &[u8], answer: &mut CaseAnswer) {
     match whole {
         [byte, text @ ..] => push_bytes(answer, up_to(*byte, text)),
         [] => answer.unreadable(),
@@ -81,7 +81,7 @@ fn tell_front(whole: &[u8], answer: &mut Answer) {
 }
 
 /// The parts of the text behind a byte, before and after its first place.
-fn tell_parts(whole: &[u8], answer: &mut Answer) {
+fn tell_parts(whole: &[u8], answer: &mut CaseAnswer) {
     match whole {
         [byte, text @ ..] => match split_once(*byte, text) {
             Some((front, rest)) => push_two(answer, front, rest),
@@ -92,14 +92,14 @@ fn tell_parts(whole: &[u8], answer: &mut Answer) {
 }
 
 /// Tells two parts of a text.
-fn push_two(answer: &mut Answer, front: &[u8], rest: &[u8]) {
+fn push_two(answer: &mut CaseAnswer, front: &[u8], rest: &[u8]) {
     push_bytes(answer, front);
     answer.push(b" and ");
     push_bytes(answer, rest);
 }
 
 /// A text to which words were appended one by one.
-fn tell_pushed(mut words: Words<'_>, answer: &mut Answer) {
+fn tell_pushed(mut words: Words<'_>, answer: &mut CaseAnswer) {
     let mut made = Text::new(words.alloc);
     for _ in 0..u64::MAX {
         if words.is_empty() {
@@ -114,7 +114,7 @@ fn tell_pushed(mut words: Words<'_>, answer: &mut Answer) {
 }
 
 /// The text behind two bytes with the second at the first place of the first.
-fn tell_set(words: Words<'_>, answer: &mut Answer) {
+fn tell_set(words: Words<'_>, answer: &mut CaseAnswer) {
     match words.whole {
         [old, new, text @ ..] => match find(*old, text) {
             Some(at) => {
@@ -131,7 +131,7 @@ fn tell_set(words: Words<'_>, answer: &mut Answer) {
 }
 
 /// A copy of a text, or of none where the case has no word.
-fn tell_copied(words: Words<'_>, answer: &mut Answer) {
+fn tell_copied(words: Words<'_>, answer: &mut CaseAnswer) {
     match Text::copied(words.alloc, some_of(words.whole)) {
         Ok(Some(copy)) => push_bytes(answer, copy.as_bytes()),
         Ok(None) => answer.push(b"none"),

@@ -1,12 +1,12 @@
 //! Cases, one after another.
 
-use crate::books::Books;
+use crate::books::FieldBooks;
 use crate::words::{Words, name_in, read_meant};
 use crate::{bytes, code, command, head, longer, one, small, stream, two, uri};
-use case_text::{Answer, CasesFault, Play, first_word, play_all};
 use gate_bytes::{Memory, Text};
 use rtsp_frame::Framer;
 use std::alloc::Global;
+use test_text::{CaseAnswer, CasePlayer, CasesFault, first_word, play_all};
 
 /// All readers and writers that cases are handed to: what they keep from case to case.
 #[derive(Drop)]
@@ -14,11 +14,11 @@ struct Readers {
     /// The framer of what comes bit by bit.
     framer: Framer,
     /// The books.
-    books: Books,
+    books: FieldBooks,
 }
 
-impl Play for Readers {
-    fn play(&mut self, alloc: Global, line: &[u8], answer: &mut Answer) {
+impl CasePlayer for Readers {
+    fn play(&mut self, alloc: Global, line: &[u8], answer: &mut CaseAnswer) {
         let (word, left) = first_word(line);
         let name = name_in(word);
         let whole = read_meant(alloc, left, answer);
@@ -42,7 +42,7 @@ impl Play for Readers {
 impl Readers {
     /// Nothing has come.
     fn new(alloc: Global) -> Result<Readers, Memory> {
-        let books = Books::new(alloc)?;
+        let books = FieldBooks::new(alloc)?;
         Ok(Readers {
             framer: Framer::new(alloc),
             books,
@@ -51,7 +51,7 @@ impl Readers {
 }
 
 /// Tells the answer of a case with a message; whether it is one.
-fn tell_message(name: &str, words: Words<'_>, answer: &mut Answer) -> bool {
+fn tell_message(name: &str, words: Words<'_>, answer: &mut CaseAnswer) -> bool {
     match name {
         "request" => one::tell_request(words, answer),
         "write-reply" => one::tell_reply(words, answer),
@@ -65,7 +65,7 @@ fn tell_message(name: &str, words: Words<'_>, answer: &mut Answer) -> bool {
 }
 
 /// Tells the answer of a case with a code or with words of the command line; whether it is one.
-fn tell_line(name: &str, words: Words<'_>, answer: &mut Answer) -> bool {
+fn tell_line(name: &str, words: Words<'_>, answer: &mut CaseAnswer) -> bool {
     match name {
         "status" => code::tell_status(words, answer),
         "reason" => code::tell_reason(words, answer),

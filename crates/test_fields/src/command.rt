@@ -1,14 +1,14 @@
 //! Commands, as their words spell them.
 
 use crate::words::Words;
-use case_text::{Answer, CaseFault};
-use gateway_words::{Command, ServeOptions, WordsFault, read_words, refusal_line, usage_for};
+use command_line::{Command, ServeOptions, WordsFault, read_words, refusal_line, usage_for};
 use rtsp_uri::Bases;
 use std::alloc::{AllocError, Global};
 use std::str;
+use test_text::{CaseAnswer, CaseFault};
 
 /// Tells the command that words spell, or the place of the first that is refused.
-pub fn tell_words(words: Words<'_>, answer: &mut Answer) {
+pub fn tell_words(words: Words<'_>, answer: &mut CaseAnswer) {
     let list = words_of(words, answer);
     match read_words(words.alloc, list.as_slice()) {
         Ok(Command::Replay(bases)) => push_bases(answer, b"replay between ", &bases),
@@ -23,7 +23,7 @@ pub fn tell_words(words: Words<'_>, answer: &mut Answer) {
 }
 
 /// The texts that all words mean.
-fn words_of(mut words: Words<'_>, answer: &mut Answer) -> Vec<String> {
+fn words_of(mut words: Words<'_>, answer: &mut CaseAnswer) -> Vec<String> {
     let mut list = Vec::new(words.alloc);
     for _ in 0..u64::MAX {
         if words.is_empty() {
@@ -46,7 +46,7 @@ fn push_word(alloc: Global, list: &mut Vec<String>, word: &[u8]) -> Result<(), C
 }
 
 /// Tells two numbers of a drill.
-fn push_drill(answer: &mut Answer, clients: u32, number: u64) {
+fn push_drill(answer: &mut CaseAnswer, clients: u32, number: u64) {
     answer.push(b"drill ");
     answer.push_number(u64::from(clients));
     answer.push(b" from ");
@@ -54,7 +54,7 @@ fn push_drill(answer: &mut Answer, clients: u32, number: u64) {
 }
 
 /// Tells the two sides of a run behind a word.
-fn push_bases(answer: &mut Answer, name: &[u8], bases: &Bases) {
+fn push_bases(answer: &mut CaseAnswer, name: &[u8], bases: &Bases) {
     answer.push(name);
     answer.push(bases.front.text.as_bytes());
     answer.push(b" and ");
@@ -62,7 +62,7 @@ fn push_bases(answer: &mut Answer, name: &[u8], bases: &Bases) {
 }
 
 /// Tells how players are served.
-fn push_options(answer: &mut Answer, options: &ServeOptions) {
+fn push_options(answer: &mut CaseAnswer, options: &ServeOptions) {
     push_bases(answer, b"serve between ", &options.bases);
     answer.push(b" at ");
     answer.push(options.listen.as_bytes());
@@ -73,7 +73,7 @@ fn push_options(answer: &mut Answer, options: &ServeOptions) {
 }
 
 /// Tells what is wrong with the first of some words that is refused.
-pub fn tell_refusal(words: Words<'_>, answer: &mut Answer) {
+pub fn tell_refusal(words: Words<'_>, answer: &mut CaseAnswer) {
     let alloc = words.alloc;
     let list = words_of(words, answer);
     match read_words(alloc, list.as_slice()) {
@@ -86,14 +86,14 @@ pub fn tell_refusal(words: Words<'_>, answer: &mut Answer) {
 }
 
 /// Tells the usage that these words ask for.
-pub fn tell_usage(words: Words<'_>, answer: &mut Answer) {
+pub fn tell_usage(words: Words<'_>, answer: &mut CaseAnswer) {
     let alloc = words.alloc;
     let list = words_of(words, answer);
     push_text(answer, usage_for(alloc, list.as_slice()));
 }
 
 /// Tells a text that was made.
-fn push_text(answer: &mut Answer, text: Result<String, AllocError>) {
+fn push_text(answer: &mut CaseAnswer, text: Result<String, AllocError>) {
     match text {
         Ok(text) => answer.push_shown(text.as_bytes()),
         Err(AllocError) => answer.fail(CaseFault::Memory),

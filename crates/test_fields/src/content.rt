@@ -2,11 +2,11 @@
 
 use crate::answer::keep;
 use crate::words::{Words, copy_of};
-use case_text::Answer;
 use gate_bytes::{Text, split_once, trim, up_to};
 use rtsp_frame::{Framer, Item};
 use rtsp_head::Headers;
 use std::alloc::Global;
+use test_text::CaseAnswer;
 
 /// What follows the number of a message.
 #[derive(Drop)]
@@ -18,7 +18,7 @@ pub struct Content {
 }
 
 /// The content that is left of a case: a line for each header, an empty line, and the body.
-pub fn content_of(words: Words<'_>, answer: &mut Answer) -> Content {
+pub fn content_of(words: Words<'_>, answer: &mut CaseAnswer) -> Content {
     let all = words.all(answer);
     let mut headers = Headers::new(words.alloc);
     let body = push_headers(words.alloc, &mut headers, all.as_bytes(), answer);
@@ -33,7 +33,7 @@ fn push_headers<'a>(
     alloc: Global,
     headers: &mut Headers,
     lines: &'a [u8],
-    answer: &mut Answer,
+    answer: &mut CaseAnswer,
 ) -> &'a [u8] {
     let mut left = lines;
     for _ in 0..lines.len() {
@@ -51,13 +51,13 @@ fn push_headers<'a>(
 }
 
 /// The first item of a stream.
-pub fn item_of(alloc: Global, stream: &[u8], answer: &mut Answer) -> Option<Item> {
+pub fn item_of(alloc: Global, stream: &[u8], answer: &mut CaseAnswer) -> Option<Item> {
     let mut framer = fed(alloc, stream, answer);
     framer.next()
 }
 
 /// A framer of a stream of which this has come.
-pub fn fed(alloc: Global, stream: &[u8], answer: &mut Answer) -> Framer {
+pub fn fed(alloc: Global, stream: &[u8], answer: &mut CaseAnswer) -> Framer {
     let mut framer = Framer::new(alloc);
     let taken = framer.feed(alloc, stream);
     keep(answer, taken);

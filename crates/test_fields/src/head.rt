@@ -1,16 +1,16 @@
 //! Heads.
-ghost use Rattle.rtsp_head.specs.Written.{CanBeWritten};
+ghost use Rattle.rtsp_head.specs.HeadText.{CanBeWritten};
 
 use crate::answer::{keep, push_bytes, push_made, push_named, push_part};
 use crate::content::content_of;
 use crate::words::Words;
-use case_text::Answer;
 use gate_bytes::Text;
 use rtsp_head::{Facts, Head, Length, Start, check_head, push_message, read_head, write_head};
 use std::alloc::Global;
+use test_text::CaseAnswer;
 
 /// Tells the answer of a case with one of these names; whether it has one.
-pub fn tell(name: &str, words: Words<'_>, answer: &mut Answer) -> bool {
+pub fn tell(name: &str, words: Words<'_>, answer: &mut CaseAnswer) -> bool {
     match name {
         "check" => tell_checked(words.alloc, words.whole, answer),
         "head" => tell_read(words.alloc, words.whole, answer),
@@ -23,7 +23,7 @@ pub fn tell(name: &str, words: Words<'_>, answer: &mut Answer) -> bool {
 }
 
 /// What a head says of its message, or its first fault.
-fn tell_checked(alloc: Global, bytes: &[u8], answer: &mut Answer) {
+fn tell_checked(alloc: Global, bytes: &[u8], answer: &mut CaseAnswer) {
     match check_head(bytes) {
         Ok(facts) => push_facts(answer, facts),
         Err(fault) => answer.push_debug(alloc, &fault),
@@ -31,7 +31,7 @@ fn tell_checked(alloc: Global, bytes: &[u8], answer: &mut Answer) {
 }
 
 /// Tells what a head says of its message.
-fn push_facts(answer: &mut Answer, facts: Facts) {
+fn push_facts(answer: &mut CaseAnswer, facts: Facts) {
     if facts.request {
         answer.push(b"request, ");
     } else {
@@ -45,7 +45,7 @@ fn push_facts(answer: &mut Answer, facts: Facts) {
 }
 
 /// The first line of a head, how many headers it has, and how it is written again; or its first fault.
-fn tell_read(alloc: Global, bytes: &[u8], answer: &mut Answer) {
+fn tell_read(alloc: Global, bytes: &[u8], answer: &mut CaseAnswer) {
     match read_head(alloc, bytes) {
         Ok(head) => push_head(alloc, answer, &head),
         Err(fault) => answer.push_debug(alloc, &fault),
@@ -53,7 +53,7 @@ fn tell_read(alloc: Global, bytes: &[u8], answer: &mut Answer) {
 }
 
 /// Tells the first line of a head, how many headers it has, and how it is written again.
-fn push_head(alloc: Global, answer: &mut Answer, head: &Head)
+fn push_head(alloc: Global, answer: &mut CaseAnswer, head: &Head)
     requires { CanBeWritten head.now.start head.now.headers }
 {
     push_counted(answer, head);
@@ -62,7 +62,7 @@ fn push_head(alloc: Global, answer: &mut Answer, head: &Head)
 }
 
 /// Tells the first line of a head, and how many headers it has.
-fn push_counted(answer: &mut Answer, head: &Head) {
+fn push_counted(answer: &mut CaseAnswer, head: &Head) {
     push_start(answer, &head.start);
     answer.push(b", ");
     answer.push_number(head.headers.len() as u64);
@@ -70,7 +70,7 @@ fn push_counted(answer: &mut Answer, head: &Head) {
 }
 
 /// Tells what a first line says.
-fn push_start(answer: &mut Answer, start: &Start) {
+fn push_start(answer: &mut CaseAnswer, start: &Start) {
     match start {
         Start::Request {
             method,
@@ -96,7 +96,7 @@ fn push_start(answer: &mut Answer, start: &Start) {
 }
 
 /// The value of a head's field.
-fn tell_field(mut words: Words<'_>, answer: &mut Answer) {
+fn tell_field(mut words: Words<'_>, answer: &mut CaseAnswer) {
     let name = words.next(answer);
     let bytes = words.all(answer);
     match read_head(words.alloc, bytes.as_bytes()) {
@@ -106,7 +106,7 @@ fn tell_field(mut words: Words<'_>, answer: &mut Answer) {
 }
 
 /// Tells the value of a head's field.
-fn push_field(answer: &mut Answer, head: &Head, name: &[u8]) {
+fn push_field(answer: &mut CaseAnswer, head: &Head, name: &[u8]) {
     match head.field(name) {
         Some(value) => push_bytes(answer, value),
         None => answer.push(b"none"),
@@ -114,7 +114,7 @@ fn push_field(answer: &mut Answer, head: &Head, name: &[u8]) {
 }
 
 /// What is said of a head that has a header so many times: by a check, and by reading it.
-fn tell_many(mut words: Words<'_>, answer: &mut Answer) {
+fn tell_many(mut words: Words<'_>, answer: &mut CaseAnswer) {
     let count = words.number(answer);
     let header = words.next(answer);
     let mut bytes = words.all(answer);
@@ -130,7 +130,7 @@ fn tell_many(mut words: Words<'_>, answer: &mut Answer) {
 }
 
 /// The first line of a head that is read, and how many headers it has; or its first fault.
-fn tell_counted(alloc: Global, bytes: &[u8], answer: &mut Answer) {
+fn tell_counted(alloc: Global, bytes: &[u8], answer: &mut CaseAnswer) {
     match read_head(alloc, bytes) {
         Ok(head) => push_counted(answer, &head),
         Err(fault) => answer.push_debug(alloc, &fault),
@@ -138,7 +138,7 @@ fn tell_counted(alloc: Global, bytes: &[u8], answer: &mut Answer) {
 }
 
 /// What follows the first line of a message with this number and content.
-fn tell_message(mut words: Words<'_>, answer: &mut Answer) {
+fn tell_message(mut words: Words<'_>, answer: &mut CaseAnswer) {
     let number = words.optional_number();
     let content = content_of(words, answer);
     let mut written = Text::new(words.alloc);

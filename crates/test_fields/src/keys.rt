@@ -2,12 +2,12 @@
 
 use crate::answer::{push_made, push_named, push_short};
 use crate::words::Words;
-use case_text::{Answer, CaseFault};
-use connection_directory::Directory;
+use connection_table::Directory;
+use test_text::{CaseAnswer, CaseFault};
 use text_pool::TextPool;
 
 /// Does a step with the directory.
-pub fn step(directory: &mut Directory, words: &mut Words<'_>, answer: &mut Answer) {
+pub fn step(directory: &mut Directory, words: &mut Words<'_>, answer: &mut CaseAnswer) {
     let name = words.name();
     let conn = words.short(answer);
     match name {
@@ -25,7 +25,7 @@ pub fn step(directory: &mut Directory, words: &mut Words<'_>, answer: &mut Answe
 }
 
 /// Adds a number that is not there, with its key.
-fn add(directory: &mut Directory, conn: u32, key: usize, answer: &mut Answer) {
+fn add(directory: &mut Directory, conn: u32, key: usize, answer: &mut CaseAnswer) {
     match directory.reserve() {
         Ok(()) => {
             if directory.key(conn).is_none() {
@@ -38,7 +38,7 @@ fn add(directory: &mut Directory, conn: u32, key: usize, answer: &mut Answer) {
 }
 
 /// Tells the key of a number, and the first number from this one on.
-fn find(directory: &Directory, conn: u32, answer: &mut Answer) {
+fn find(directory: &Directory, conn: u32, answer: &mut CaseAnswer) {
     match directory.key(conn) {
         Some(key) => answer.push_number(key as u64),
         None => answer.push(b"none"),
@@ -52,7 +52,7 @@ pub fn step_pool(
     pool: &mut TextPool,
     other: &mut TextPool,
     words: &mut Words<'_>,
-    answer: &mut Answer,
+    answer: &mut CaseAnswer,
 ) {
     match words.name() {
         "keep" => {
@@ -79,7 +79,7 @@ pub fn step_pool(
 }
 
 /// Joins two words.
-fn join(pool: &mut TextPool, words: &mut Words<'_>, answer: &mut Answer) {
+fn join(pool: &mut TextPool, words: &mut Words<'_>, answer: &mut CaseAnswer) {
     let front = words.next(answer);
     let back = words.next(answer);
     push_made(

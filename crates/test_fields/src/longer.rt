@@ -5,15 +5,15 @@ ghost use Rattle.rtsp_transport.specs.Wants.{NamesApart};
 
 use crate::answer::{push_bytes, push_made, push_named};
 use crate::words::Words;
-use case_text::{Answer, CaseFault};
 use gate_bytes::Memory;
 use rtp_info::{Info, InfoEntry, read_two as read_info, write_one as write_info};
 use rtsp_range::{Range, RangeFault, read_one, read_two, write};
 use rtsp_transport::{Grant, Pair, TransportFault, Wanted, pick, read_grant, write_one, write_two};
 use std::alloc::Global;
+use test_text::{CaseAnswer, CaseFault};
 
 /// Tells the answer of a case with one of these names; whether it has one.
-pub fn tell(name: &str, words: Words<'_>, answer: &mut Answer) -> bool {
+pub fn tell(name: &str, words: Words<'_>, answer: &mut CaseAnswer) -> bool {
     match name {
         "range-one" => tell_range(words.alloc, read_one(words.whole), answer),
         "range-two" => tell_range(words.alloc, read_two(words.whole), answer),
@@ -30,7 +30,7 @@ pub fn tell(name: &str, words: Words<'_>, answer: &mut Answer) -> bool {
 }
 
 /// How a range is written, and its fields; or its first fault, and what is printed of that.
-fn tell_range(alloc: Global, read: Result<Range, RangeFault>, answer: &mut Answer) {
+fn tell_range(alloc: Global, read: Result<Range, RangeFault>, answer: &mut CaseAnswer) {
     match read {
         Ok(range) => {
             push_made(answer, write(alloc, &range));
@@ -46,7 +46,7 @@ fn tell_range(alloc: Global, read: Result<Range, RangeFault>, answer: &mut Answe
 }
 
 /// What a player wants, and how the server is asked for these channels.
-fn tell_wanted(alloc: Global, wanted: Result<Wanted, TransportFault>, answer: &mut Answer)
+fn tell_wanted(alloc: Global, wanted: Result<Wanted, TransportFault>, answer: &mut CaseAnswer)
     requires { IfOk wanted NamesApart }
 {
     match wanted {
@@ -61,7 +61,7 @@ fn tell_wanted(alloc: Global, wanted: Result<Wanted, TransportFault>, answer: &m
 }
 
 /// What a server grants, and how a player is granted that.
-fn tell_grant(alloc: Global, granted: Result<Grant, TransportFault>, answer: &mut Answer)
+fn tell_grant(alloc: Global, granted: Result<Grant, TransportFault>, answer: &mut CaseAnswer)
     requires { IfOk granted (λ grant. AreApart grant.pair) }
 {
     match granted {
@@ -76,14 +76,14 @@ fn tell_grant(alloc: Global, granted: Result<Grant, TransportFault>, answer: &mu
 }
 
 /// Tells two channels.
-fn push_pair(answer: &mut Answer, pair: &Pair) {
+fn push_pair(answer: &mut CaseAnswer, pair: &Pair) {
     answer.push_number(u64::from(pair.rtp));
     answer.push(b"-");
     answer.push_number(u64::from(pair.rtcp));
 }
 
 /// A list of two entries that is made of words: two URLs, and the sequence number of the second.
-fn tell_made(mut words: Words<'_>, answer: &mut Answer) {
+fn tell_made(mut words: Words<'_>, answer: &mut CaseAnswer) {
     let first = InfoEntry {
         url: words.next(answer),
         seq: None,
@@ -112,7 +112,7 @@ fn info_of(alloc: Global, first: InfoEntry, second: InfoEntry) -> Result<Info, M
 }
 
 /// The entries of a list in their order, and how it is written.
-fn tell_info(alloc: Global, info: &Info, answer: &mut Answer) {
+fn tell_info(alloc: Global, info: &Info, answer: &mut CaseAnswer) {
     for place in 0..info.len() {
         push_entry(answer, info.at(place));
     }
@@ -121,7 +121,7 @@ fn tell_info(alloc: Global, info: &Info, answer: &mut Answer) {
 }
 
 /// Tells an entry.
-fn push_entry(answer: &mut Answer, entry: &InfoEntry) {
+fn push_entry(answer: &mut CaseAnswer, entry: &InfoEntry) {
     push_bytes(answer, entry.url.as_bytes());
     push_named(answer, b" seq ", entry.seq.map(u64::from));
     push_named(answer, b" rtptime ", entry.rtptime.map(u64::from));

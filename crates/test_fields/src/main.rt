@@ -3,7 +3,7 @@
 //!
 //! A case is a line: the name of a reader or writer, and what it is handed. The line is printed, and behind `: ` the answer:
 //! what was read and, where it can be written, how it is written again; or the name of the fault. A line that is empty or
-//! begins with `#` is printed alone. Texts have the notation of `case_text`.
+//! begins with `#` is printed alone. Texts have the notation of `test_text`.
 //!
 //! A case that begins with the name of a book has one step behind another: each is a word and what it is handed, and has its
 //! own answer. A book keeps what came from case to case.

@@ -2,12 +2,12 @@
 
 use crate::answer::{push_named, push_short};
 use crate::words::Words;
-use case_text::{Answer, CaseFault};
 use gate_bytes::Text;
+use test_text::{CaseAnswer, CaseFault};
 use up_books::{CseqBook, LAST_NUMBER, SessionBook};
 
 /// Does a step with the book of open requests.
-pub fn step(book: &mut CseqBook, words: &mut Words<'_>, answer: &mut Answer) {
+pub fn step(book: &mut CseqBook, words: &mut Words<'_>, answer: &mut CaseAnswer) {
     match words.name() {
         "from" => {
             let first = words.short(answer).max(1).min(LAST_NUMBER);
@@ -33,7 +33,7 @@ pub fn step(book: &mut CseqBook, words: &mut Words<'_>, answer: &mut Answer) {
 }
 
 /// Issues the next number to a connection; `none` where all were issued.
-fn ask(book: &mut CseqBook, conn: u32, answer: &mut Answer) {
+fn ask(book: &mut CseqBook, conn: u32, answer: &mut CaseAnswer) {
     match book.room() {
         Ok(()) => push_short(answer, book.issue(conn).ok()),
         Err(_memory) => answer.fail(CaseFault::Memory),
@@ -41,7 +41,7 @@ fn ask(book: &mut CseqBook, conn: u32, answer: &mut Answer) {
 }
 
 /// Does a step with the book of sessions.
-pub fn step_session(book: &mut SessionBook, words: &mut Words<'_>, answer: &mut Answer) {
+pub fn step_session(book: &mut SessionBook, words: &mut Words<'_>, answer: &mut CaseAnswer) {
     let name = words.name();
     let id = words.next(answer);
     match name {
@@ -59,7 +59,7 @@ pub fn step_session(book: &mut SessionBook, words: &mut Words<'_>, answer: &mut 
 }
 
 /// Binds an id to a connection, where no connection has it.
-fn bind(book: &mut SessionBook, id: Text, conn: u32, answer: &mut Answer) {
+fn bind(book: &mut SessionBook, id: Text, conn: u32, answer: &mut CaseAnswer) {
     match book.room() {
         Ok(()) => match book.bind(id, conn) {
             Ok(()) => answer.push(b"bound"),

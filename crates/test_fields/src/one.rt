@@ -4,14 +4,14 @@ use crate::answer::{push_bytes, push_made, push_named, push_part};
 use crate::code::next_code;
 use crate::content::{content_of, item_of};
 use crate::words::Words;
-use case_text::{Answer, CaseFault};
 use head_one::{Refusal, Reply1, Request1, RequestFault, read_request, write_reply};
 use rtsp_frame::Item;
 use rtsp_head::Head;
 use std::alloc::Global;
+use test_text::{CaseAnswer, CaseFault};
 
 /// The request that a stream begins with, or how it is refused.
-pub fn tell_request(words: Words<'_>, answer: &mut Answer) {
+pub fn tell_request(words: Words<'_>, answer: &mut CaseAnswer) {
     match item_of(words.alloc, words.whole, answer) {
         Some(item) => push_read(words.alloc, answer, &item),
         None => answer.unreadable(),
@@ -19,7 +19,7 @@ pub fn tell_request(words: Words<'_>, answer: &mut Answer) {
 }
 
 /// Tells the request that an item is, or how it is refused.
-fn push_read(alloc: Global, answer: &mut Answer, item: &Item) {
+fn push_read(alloc: Global, answer: &mut CaseAnswer, item: &Item) {
     match read_request(alloc, item) {
         Ok(request) => push_request(alloc, answer, &request),
         Err(RequestFault::Refused(refusal)) => push_refusal(answer, &refusal),
@@ -28,7 +28,7 @@ fn push_read(alloc: Global, answer: &mut Answer, item: &Item) {
 }
 
 /// Tells a request.
-fn push_request(alloc: Global, answer: &mut Answer, request: &Request1) {
+fn push_request(alloc: Global, answer: &mut CaseAnswer, request: &Request1) {
     answer.push_debug(alloc, &request.method);
     answer.push(b" of ");
     push_bytes(answer, request.uri.as_bytes());
@@ -37,7 +37,7 @@ fn push_request(alloc: Global, answer: &mut Answer, request: &Request1) {
 }
 
 /// Tells how long a body is by the head, where that says it, and the body.
-pub fn push_body(answer: &mut Answer, head: &Head, body: &[u8]) {
+pub fn push_body(answer: &mut CaseAnswer, head: &Head, body: &[u8]) {
     if let Some(length) = head.field(b"content-length") {
         push_part(answer, b" content-length ", length);
     }
@@ -45,7 +45,7 @@ pub fn push_body(answer: &mut Answer, head: &Head, body: &[u8]) {
 }
 
 /// Tells a refusal.
-fn push_refusal(answer: &mut Answer, refusal: &Refusal) {
+fn push_refusal(answer: &mut CaseAnswer, refusal: &Refusal) {
     push_named(answer, b"refused with ", Some(u64::from(refusal.code)));
     push_named(answer, b" cseq ", refusal.cseq);
     if let Some(options) = &refusal.unsupported {
@@ -55,7 +55,7 @@ fn push_refusal(answer: &mut Answer, refusal: &Refusal) {
 }
 
 /// How a reply is written.
-pub fn tell_reply(mut words: Words<'_>, answer: &mut Answer) {
+pub fn tell_reply(mut words: Words<'_>, answer: &mut CaseAnswer) {
     let code = next_code(&mut words, answer);
     let cseq = words.optional_number();
     let content = content_of(words, answer);

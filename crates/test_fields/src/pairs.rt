@@ -2,11 +2,11 @@
 
 use crate::answer::{push_named, push_option};
 use crate::words::Words;
-use case_text::Answer;
 use channel_map::{ChannelMap, Freed, PAIRS};
+use test_text::CaseAnswer;
 
 /// Does a step with the table of pairs, and tells how many are held then.
-pub fn step(map: &mut ChannelMap, words: &mut Words<'_>, answer: &mut Answer) {
+pub fn step(map: &mut ChannelMap, words: &mut Words<'_>, answer: &mut CaseAnswer) {
     match words.name() {
         "reserve" => {
             let conn = words.short(answer);
@@ -39,7 +39,7 @@ pub fn step(map: &mut ChannelMap, words: &mut Words<'_>, answer: &mut Answer) {
 }
 
 /// What a reply frees: `nothing`, a `pair`, or all that were `granted` to a connection.
-fn freed_by(words: &mut Words<'_>, answer: &mut Answer) -> Freed {
+fn freed_by(words: &mut Words<'_>, answer: &mut CaseAnswer) -> Freed {
     match words.name() {
         "pair" => Freed::Pair(words.byte(answer)),
         "granted" => Freed::Granted(words.short(answer)),
@@ -52,7 +52,7 @@ fn freed_by(words: &mut Words<'_>, answer: &mut Answer) -> Freed {
 }
 
 /// Grants a pair that is held.
-fn grant(map: &mut ChannelMap, pair: u8, answer: &mut Answer) {
+fn grant(map: &mut ChannelMap, pair: u8, answer: &mut CaseAnswer) {
     if usize::from(pair) < PAIRS && map.owner(2 * pair).is_some() {
         map.grant(pair);
         answer.push(b"granted");
@@ -60,7 +60,7 @@ fn grant(map: &mut ChannelMap, pair: u8, answer: &mut Answer) {
 }
 
 /// Releases a pair that is held.
-fn release(map: &mut ChannelMap, pair: u8, answer: &mut Answer) {
+fn release(map: &mut ChannelMap, pair: u8, answer: &mut CaseAnswer) {
     if usize::from(pair) < PAIRS && map.owner(2 * pair).is_some() {
         map.release(pair);
         answer.push(b"released");

@@ -2,12 +2,12 @@
 
 use crate::answer::{push_named, push_short, push_truth};
 use crate::words::{Words, some_of};
-use case_text::Answer;
 use play_queue::PlayQueue;
 use session_two::{Names, Running};
+use test_text::CaseAnswer;
 
 /// Does a step with the PLAYs that wait, and tells how many there are then.
-pub fn step(queue: &mut PlayQueue<u32>, words: &mut Words<'_>, answer: &mut Answer) {
+pub fn step(queue: &mut PlayQueue<u32>, words: &mut Words<'_>, answer: &mut CaseAnswer) {
     match words.name() {
         "put" => {
             let play = words.short(answer);
@@ -26,7 +26,7 @@ pub fn step(queue: &mut PlayQueue<u32>, words: &mut Words<'_>, answer: &mut Answ
 }
 
 /// Puts a PLAY at the end.
-fn put(queue: &mut PlayQueue<u32>, play: u32, answer: &mut Answer) {
+fn put(queue: &mut PlayQueue<u32>, play: u32, answer: &mut CaseAnswer) {
     match queue.put(play) {
         Ok(()) => answer.push(b"put"),
         Err(play) => push_named(answer, b"given back ", Some(u64::from(play))),
@@ -34,7 +34,7 @@ fn put(queue: &mut PlayQueue<u32>, play: u32, answer: &mut Answer) {
 }
 
 /// Does a step with the PLAY that runs, and tells which one runs then.
-pub fn step_running(running: &mut Running, words: &mut Words<'_>, answer: &mut Answer) {
+pub fn step_running(running: &mut Running, words: &mut Words<'_>, answer: &mut CaseAnswer) {
     match words.name() {
         "started" => {
             running.started(words.short(answer));
@@ -59,7 +59,7 @@ pub fn step_running(running: &mut Running, words: &mut Words<'_>, answer: &mut A
 }
 
 /// Which request the field Request-Status names that the next word is; there is none where that is empty.
-fn names_in(words: &mut Words<'_>, answer: &mut Answer) -> Names {
+fn names_in(words: &mut Words<'_>, answer: &mut CaseAnswer) -> Names {
     let value = words.next(answer);
     Names::read(some_of(value.as_bytes()))
 }

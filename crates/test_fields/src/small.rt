@@ -4,19 +4,19 @@ ghost use Rattle.rtsp_small.specs.Sessions.{is_session_id};
 
 use crate::answer::{keep, push_bytes, push_made, push_named, push_option, push_short, push_truth};
 use crate::words::Words;
-use case_text::Answer;
 use gate_bytes::{Memory, Text};
 use rtsp_small::{
     SessionField, is_scale, push_methods, read_cseq_one, read_cseq_two, read_method, read_reason,
     read_request_status, read_session, write_session,
 };
 use std::alloc::Global;
+use test_text::CaseAnswer;
 
 /// The longest timeout of a session.
 const LONGEST: u64 = 9_999_999_999;
 
 /// Tells the answer of a case with one of these names; whether it has one.
-pub fn tell(name: &str, words: Words<'_>, answer: &mut Answer) -> bool {
+pub fn tell(name: &str, words: Words<'_>, answer: &mut CaseAnswer) -> bool {
     match name {
         "method" => tell_method(words, answer),
         "append-methods" => tell_methods(words, answer),
@@ -33,7 +33,7 @@ pub fn tell(name: &str, words: Words<'_>, answer: &mut Answer) -> bool {
 }
 
 /// The method with a name, and its name again.
-fn tell_method(words: Words<'_>, answer: &mut Answer) {
+fn tell_method(words: Words<'_>, answer: &mut CaseAnswer) {
     match read_method(words.whole) {
         Some(method) => {
             answer.push_debug(words.alloc, &method);
@@ -45,7 +45,7 @@ fn tell_method(words: Words<'_>, answer: &mut Answer) {
 }
 
 /// A text with the names of all methods behind it.
-fn tell_methods(words: Words<'_>, answer: &mut Answer) {
+fn tell_methods(words: Words<'_>, answer: &mut CaseAnswer) {
     let mut written = words.all(answer);
     let appended = push_methods(&mut written);
     keep(answer, appended);
@@ -60,7 +60,7 @@ fn session_in(value: &[u8]) -> Option<SessionField<'_>>
 }
 
 /// The id and the timeout of a Session field, and how they are written again.
-fn tell_session(words: Words<'_>, answer: &mut Answer) {
+fn tell_session(words: Words<'_>, answer: &mut CaseAnswer) {
     match session_in(words.whole) {
         Some(field) => {
             push_bytes(answer, field.id);
@@ -73,7 +73,7 @@ fn tell_session(words: Words<'_>, answer: &mut Answer) {
 }
 
 /// How a session's id and timeout are written.
-fn tell_written(mut words: Words<'_>, answer: &mut Answer) {
+fn tell_written(mut words: Words<'_>, answer: &mut CaseAnswer) {
     let id = words.next(answer);
     match session_in(id.as_bytes()) {
         Some(field) => push_made(
@@ -95,7 +95,7 @@ fn written(alloc: Global, id: &[u8], timeout: Option<u64>) -> Result<Text, Memor
 }
 
 /// The reason that a Notify-Reason field names.
-fn tell_reason(words: Words<'_>, answer: &mut Answer) {
+fn tell_reason(words: Words<'_>, answer: &mut CaseAnswer) {
     match read_reason(words.whole) {
         Some(reason) => answer.push_debug(words.alloc, &reason),
         None => answer.push(b"none"),

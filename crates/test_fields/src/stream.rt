@@ -4,16 +4,16 @@ ghost use Rattle.std.specs.Prelude.{◌<◌};
 use crate::answer::{keep, push_named, push_part};
 use crate::content::fed;
 use crate::words::Words;
-use case_text::{Answer, CaseFault};
 use gate_bytes::{after, before};
 use rtsp_frame::{Framer, Item};
 use std::alloc::Global;
+use test_text::{CaseAnswer, CaseFault};
 
 /// The bytes of the longest stream that is cut everywhere. A longer one comes byte by byte alone, since each cut costs time.
 const LONGEST_CUT: usize = 128;
 
 /// Tells the answer of a case with one of these names; whether it has one.
-pub fn tell(framer: &mut Framer, name: &str, words: Words<'_>, answer: &mut Answer) -> bool {
+pub fn tell(framer: &mut Framer, name: &str, words: Words<'_>, answer: &mut CaseAnswer) -> bool {
     match name {
         "items" => tell_items(words, answer),
         "new-stream" => {
@@ -28,7 +28,7 @@ pub fn tell(framer: &mut Framer, name: &str, words: Words<'_>, answer: &mut Answ
 }
 
 /// The item that a piece is which is moved in, or the first that it gives.
-fn tell_taken(framer: &mut Framer, words: Words<'_>, answer: &mut Answer) {
+fn tell_taken(framer: &mut Framer, words: Words<'_>, answer: &mut CaseAnswer) {
     let piece = words.all(answer);
     match framer.take(words.alloc, piece) {
         Ok(item) => push_item(words.alloc, answer, &item),
@@ -37,7 +37,7 @@ fn tell_taken(framer: &mut Framer, words: Words<'_>, answer: &mut Answer) {
 }
 
 /// Tells an item, and `nothing` where there is none.
-fn push_item(alloc: Global, answer: &mut Answer, item: &Option<Item>) {
+fn push_item(alloc: Global, answer: &mut CaseAnswer, item: &Option<Item>) {
     match item {
         Some(item) => push_whole(alloc, answer, item),
         None => answer.push(b"nothing"),
@@ -45,14 +45,14 @@ fn push_item(alloc: Global, answer: &mut Answer, item: &Option<Item>) {
 }
 
 /// Tells an item: what it is, its head and its body.
-fn push_whole(alloc: Global, answer: &mut Answer, item: &Item) {
+fn push_whole(alloc: Global, answer: &mut CaseAnswer, item: &Item) {
     answer.push_debug(alloc, &item.kind);
     push_part(answer, b" head ", item.head_bytes());
     push_part(answer, b" body ", item.body_bytes());
 }
 
 /// The items of a stream, and the cuts that give others.
-fn tell_items(words: Words<'_>, answer: &mut Answer) {
+fn tell_items(words: Words<'_>, answer: &mut CaseAnswer) {
     let mut framer = fed(words.alloc, words.whole, answer);
     push_item(words.alloc, answer, &framer.next());
     for _ in 0..u64::MAX {
@@ -66,7 +66,7 @@ fn tell_items(words: Words<'_>, answer: &mut Answer) {
 }
 
 /// Tells a line for each way to cut a stream in which other items come of it than of the whole.
-fn push_differences(alloc: Global, stream: &[u8], answer: &mut Answer) {
+fn push_differences(alloc: Global, stream: &[u8], answer: &mut CaseAnswer) {
     let cuts = if stream.len() > LONGEST_CUT {
         1
     } else {
@@ -83,7 +83,7 @@ fn push_differences(alloc: Global, stream: &[u8], answer: &mut Answer) {
 }
 
 /// Whether the same items come of a stream in pieces of so many bytes, each taken as soon as it came.
-fn is_same_in_pieces(alloc: Global, stream: &[u8], size: usize, answer: &mut Answer) -> bool
+fn is_same_in_pieces(alloc: Global, stream: &[u8], size: usize, answer: &mut CaseAnswer) -> bool
     requires { 0 < size }
 {
     let mut whole = fed(alloc, stream, answer);
@@ -98,7 +98,7 @@ fn is_same_in_pieces(alloc: Global, stream: &[u8], size: usize, answer: &mut Ans
 }
 
 /// Whether the same items come of a stream in two pieces, the first of so many bytes at most.
-fn is_same_cut(alloc: Global, stream: &[u8], at: usize, answer: &mut Answer) -> bool {
+fn is_same_cut(alloc: Global, stream: &[u8], at: usize, answer: &mut CaseAnswer) -> bool {
     let at = at.min(stream.len());
     let mut whole = fed(alloc, stream, answer);
     let mut framer = fed(alloc, before(stream, at), answer);

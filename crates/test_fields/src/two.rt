@@ -5,13 +5,13 @@ use crate::code::next_code;
 use crate::content::{content_of, item_of};
 use crate::one::push_body;
 use crate::words::{Words, some_of};
-use case_text::Answer;
 use head_two::{Reply2, Request2, read_ask, read_reply, write_answer, write_request};
 use rtsp_frame::Item;
 use std::alloc::Global;
+use test_text::CaseAnswer;
 
 /// The reply that a stream begins with, or its fault.
-pub fn tell_reply(words: Words<'_>, answer: &mut Answer) {
+pub fn tell_reply(words: Words<'_>, answer: &mut CaseAnswer) {
     match item_of(words.alloc, words.whole, answer) {
         Some(item) => push_read(words.alloc, answer, &item),
         None => answer.unreadable(),
@@ -19,7 +19,7 @@ pub fn tell_reply(words: Words<'_>, answer: &mut Answer) {
 }
 
 /// Tells the reply that an item is, or its fault.
-fn push_read(alloc: Global, answer: &mut Answer, item: &Item) {
+fn push_read(alloc: Global, answer: &mut CaseAnswer, item: &Item) {
     match read_reply(alloc, item) {
         Ok(reply) => push_reply(answer, &reply),
         Err(fault) => answer.push_debug(alloc, &fault),
@@ -27,14 +27,14 @@ fn push_read(alloc: Global, answer: &mut Answer, item: &Item) {
 }
 
 /// Tells a reply.
-fn push_reply(answer: &mut Answer, reply: &Reply2) {
+fn push_reply(answer: &mut CaseAnswer, reply: &Reply2) {
     answer.push_number(u64::from(reply.code));
     push_named(answer, b" cseq ", Some(u64::from(reply.cseq)));
     push_body(answer, &reply.head, reply.body.as_bytes());
 }
 
 /// The request of the server that a stream begins with, or its fault.
-pub fn tell_ask(words: Words<'_>, answer: &mut Answer) {
+pub fn tell_ask(words: Words<'_>, answer: &mut CaseAnswer) {
     match item_of(words.alloc, words.whole, answer) {
         Some(item) => push_ask(words.alloc, answer, &item),
         None => answer.unreadable(),
@@ -42,7 +42,7 @@ pub fn tell_ask(words: Words<'_>, answer: &mut Answer) {
 }
 
 /// Tells the method and the number of the request that an item is, or its fault.
-fn push_ask(alloc: Global, answer: &mut Answer, item: &Item) {
+fn push_ask(alloc: Global, answer: &mut CaseAnswer, item: &Item) {
     match read_ask(alloc, item) {
         Ok(ask) => {
             push_bytes(answer, ask.method.as_bytes());
@@ -53,7 +53,7 @@ fn push_ask(alloc: Global, answer: &mut Answer, item: &Item) {
 }
 
 /// How a request to the server is written.
-pub fn tell_request(mut words: Words<'_>, answer: &mut Answer) {
+pub fn tell_request(mut words: Words<'_>, answer: &mut CaseAnswer) {
     let method = words.next(answer);
     let uri = words.next(answer);
     let number = words.short(answer);
@@ -68,7 +68,7 @@ pub fn tell_request(mut words: Words<'_>, answer: &mut Answer) {
 }
 
 /// How an answer to a request of the server is written.
-pub fn tell_answer(mut words: Words<'_>, answer: &mut Answer) {
+pub fn tell_answer(mut words: Words<'_>, answer: &mut CaseAnswer) {
     let code = next_code(&mut words, answer);
     let cseq = words.short(answer);
     let session = words.all(answer);

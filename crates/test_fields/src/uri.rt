@@ -2,14 +2,14 @@
 
 use crate::answer::{push_bytes, push_made, push_named};
 use crate::words::Words;
-use case_text::{Answer, CaseFault};
 use gate_bytes::{after, before};
 use rtsp_uri::{Base, BaseFault, Bases, cut, read_base, rewrite_sdp, swap_authority};
 use std::alloc::Global;
 use std::str;
+use test_text::{CaseAnswer, CaseFault};
 
 /// Tells the answer of a case with one of these names; whether it has one.
-pub fn tell(name: &str, words: Words<'_>, answer: &mut Answer) -> bool {
+pub fn tell(name: &str, words: Words<'_>, answer: &mut CaseAnswer) -> bool {
     match name {
         "uri" => tell_uri(words.whole, answer),
         "base" => tell_base(words, answer),
@@ -21,7 +21,7 @@ pub fn tell(name: &str, words: Words<'_>, answer: &mut Answer) -> bool {
 }
 
 /// A URI up to the end of its host, its port, and its rest.
-fn tell_uri(uri: &[u8], answer: &mut Answer) {
+fn tell_uri(uri: &[u8], answer: &mut CaseAnswer) {
     match cut(uri) {
         Some(places) => {
             push_bytes(answer, before(uri, places.host_end));
@@ -34,7 +34,7 @@ fn tell_uri(uri: &[u8], answer: &mut Answer) {
 }
 
 /// The text of the base that a word names, its host and its port.
-fn tell_base(words: Words<'_>, answer: &mut Answer) {
+fn tell_base(words: Words<'_>, answer: &mut CaseAnswer) {
     match base_in(words.alloc, words.whole) {
         Ok(base) => {
             push_bytes(answer, base.text.as_bytes());
@@ -56,14 +56,14 @@ fn base_in(alloc: Global, word: &[u8]) -> Result<Base, BaseFault> {
 }
 
 /// The two bases that the next words name.
-fn next_bases(words: &mut Words<'_>, answer: &mut Answer) -> Result<Bases, BaseFault> {
+fn next_bases(words: &mut Words<'_>, answer: &mut CaseAnswer) -> Result<Bases, BaseFault> {
     let front = base_in(words.alloc, words.next(answer).as_bytes())?;
     let up = base_in(words.alloc, words.next(answer).as_bytes())?;
     Ok(Bases { front, up })
 }
 
 /// A text with the authority of another base in the place of that of a base.
-fn tell_swapped(mut words: Words<'_>, answer: &mut Answer) {
+fn tell_swapped(mut words: Words<'_>, answer: &mut CaseAnswer) {
     let bases = next_bases(&mut words, answer);
     let uri = words.all(answer);
     match bases {
@@ -76,7 +76,7 @@ fn tell_swapped(mut words: Words<'_>, answer: &mut Answer) {
 }
 
 /// A session description whose control URIs are swapped from a base to another.
-fn tell_description(mut words: Words<'_>, answer: &mut Answer) {
+fn tell_description(mut words: Words<'_>, answer: &mut CaseAnswer) {
     let bases = next_bases(&mut words, answer);
     let body = words.all(answer);
     match bases {

@@ -1,9 +1,9 @@
 //! The words of a case.
 
-use case_text::{Answer, CaseFault, first_word, meant};
 use gate_bytes::Text;
 use std::alloc::Global;
 use std::str;
+use test_text::{CaseAnswer, CaseFault, first_word, meant};
 
 /// What is left of a case's line. Spaces part its words.
 #[derive(Clone, Copy)]
@@ -39,13 +39,13 @@ impl<'a> Words<'a> {
     }
 
     /// The bytes that the next word means; none where no word is left.
-    pub fn next(&mut self, answer: &mut Answer) -> Text {
+    pub fn next(&mut self, answer: &mut CaseAnswer) -> Text {
         let word = self.word();
         read_meant(self.alloc, word, answer)
     }
 
     /// The bytes that all that is left means.
-    pub fn all(&self, answer: &mut Answer) -> Text {
+    pub fn all(&self, answer: &mut CaseAnswer) -> Text {
         read_meant(self.alloc, self.left, answer)
     }
 
@@ -55,7 +55,7 @@ impl<'a> Words<'a> {
     }
 
     /// The number that the next word is.
-    pub fn number(&mut self, answer: &mut Answer) -> u64 {
+    pub fn number(&mut self, answer: &mut CaseAnswer) -> u64 {
         match self.optional_number() {
             Some(number) => number,
             None => {
@@ -66,7 +66,7 @@ impl<'a> Words<'a> {
     }
 
     /// The number below 2 to the power of 32 that the next word is.
-    pub fn short(&mut self, answer: &mut Answer) -> u32 {
+    pub fn short(&mut self, answer: &mut CaseAnswer) -> u32 {
         match u32::try_from(self.number(answer)) {
             Ok(number) => number,
             Err(_fault) => {
@@ -77,7 +77,7 @@ impl<'a> Words<'a> {
     }
 
     /// The number below 256 that the next word is.
-    pub fn byte(&mut self, answer: &mut Answer) -> u8 {
+    pub fn byte(&mut self, answer: &mut CaseAnswer) -> u8 {
         match u8::try_from(self.number(answer)) {
             Ok(number) => number,
             Err(_fault) => {
@@ -88,7 +88,7 @@ impl<'a> Words<'a> {
     }
 
     /// The number below 65,536 that the next word is.
-    pub fn small(&mut self, answer: &mut Answer) -> u16 {
+    pub fn small(&mut self, answer: &mut CaseAnswer) -> u16 {
         match u16::try_from(self.number(answer)) {
             Ok(number) => number,
             Err(_fault) => {
@@ -108,7 +108,7 @@ pub fn name_in(word: &[u8]) -> &str {
 }
 
 /// The bytes that a text means.
-pub fn read_meant(alloc: Global, text: &[u8], answer: &mut Answer) -> Text {
+pub fn read_meant(alloc: Global, text: &[u8], answer: &mut CaseAnswer) -> Text {
     match meant(alloc, text) {
         Ok(bytes) => bytes,
         Err(fault) => {
@@ -119,7 +119,7 @@ pub fn read_meant(alloc: Global, text: &[u8], answer: &mut Answer) -> Text {
 }
 
 /// A copy of bytes.
-pub fn copy_of(alloc: Global, bytes: &[u8], answer: &mut Answer) -> Text {
+pub fn copy_of(alloc: Global, bytes: &[u8], answer: &mut CaseAnswer) -> Text {
     match Text::copy(alloc, bytes) {
         Ok(copy) => copy,
         Err(_memory) => {

@@ -2,8 +2,7 @@
 
 use crate::over::{connection_in, word_in};
 use crate::parcels::{put_framed, put_item, tell_next, tell_put};
-use crate::stage::{SceneHub, Stage};
-use case_text::{Answer, CaseFault, first_number, meant};
+use crate::stage::{HubStage, SceneHub};
 use client_ports::Putter;
 use gate_bytes::Text;
 use gateway_hub::{Entered, StopWhy};
@@ -11,14 +10,15 @@ use gateway_mux::UpWhy;
 use rtsp_frame::Framer;
 use std::alloc::Global;
 use std::sync::Wait;
+use test_text::{CaseAnswer, CaseFault, first_number, meant};
 
 /// Makes the call of a line, once or as often as it says, and tells what came.
 pub fn call_open<W: Wait>(
     rt: &W,
     alloc: Global,
-    stage: &mut Stage,
+    stage: &mut HubStage,
     line: &[u8],
-    answer: &mut Answer,
+    answer: &mut CaseAnswer,
 ) {
     let (word, more) = word_in(line);
     if word != "times" {
@@ -34,15 +34,15 @@ pub fn call_open<W: Wait>(
 fn call_often<W: Wait>(
     rt: &W,
     alloc: Global,
-    stage: &mut Stage,
+    stage: &mut HubStage,
     count: u64,
     line: &[u8],
-    answer: &mut Answer,
+    answer: &mut CaseAnswer,
 ) {
-    let mut last = Answer::new(alloc);
+    let mut last = CaseAnswer::new(alloc);
     let mut in_a_row: u64 = 0;
     for _ in 0..count {
-        let mut one = Answer::new(alloc);
+        let mut one = CaseAnswer::new(alloc);
         call(rt, alloc, stage, line, &mut one);
         if one.as_bytes() != last.as_bytes() {
             in_a_row = 0;
@@ -59,7 +59,13 @@ fn call_often<W: Wait>(
 }
 
 /// Makes the call of a line, and tells what came.
-fn call<W: Wait>(rt: &W, alloc: Global, stage: &mut Stage, line: &[u8], answer: &mut Answer) {
+fn call<W: Wait>(
+    rt: &W,
+    alloc: Global,
+    stage: &mut HubStage,
+    line: &[u8],
+    answer: &mut CaseAnswer,
+) {
     let (word, more) = word_in(line);
     match word {
         "enter" => enter(alloc, stage, answer),
@@ -82,7 +88,7 @@ fn call<W: Wait>(rt: &W, alloc: Global, stage: &mut Stage, line: &[u8], answer: 
 }
 
 /// Asks the hub what a word says, and tells it.
-fn look(alloc: Global, hub: &mut SceneHub, word: &str, answer: &mut Answer) {
+fn look(alloc: Global, hub: &mut SceneHub, word: &str, answer: &mut CaseAnswer) {
     match word {
         "asked" => answer.push_debug(alloc, &hub.asked()),
         "last" => answer.push_debug(alloc, &hub.last_handed()),
@@ -92,7 +98,7 @@ fn look(alloc: Global, hub: &mut SceneHub, word: &str, answer: &mut Answer) {
 }
 
 /// A connection enters. Its number is told.
-fn enter(alloc: Global, stage: &mut Stage, answer: &mut Answer) {
+fn enter(alloc: Global, stage: &mut HubStage, answer: &mut CaseAnswer) {
     match stage.hub.enter(alloc) {
         Ok(entered) => {
             answer.push_number(u64::from(entered.seat.number()));
@@ -108,11 +114,11 @@ fn enter(alloc: Global, stage: &mut Stage, answer: &mut Answer) {
 fn call_at<W: Wait>(
     rt: &W,
     alloc: Global,
-    stage: &mut Stage,
+    stage: &mut HubStage,
     word: &str,
     conn: u32,
     more: &[u8],
-    answer: &mut Answer,
+    answer: &mut CaseAnswer,
 ) {
     match word {
         "room" => answer.push_debug(alloc, &stage.hub.room(rt, conn)),
@@ -128,7 +134,13 @@ fn call_at<W: Wait>(
 }
 
 /// A connection is retired. Its receipt is told.
-fn retire<W: Wait>(rt: &W, alloc: Global, stage: &mut Stage, conn: u32, answer: &mut Answer) {
+fn retire<W: Wait>(
+    rt: &W,
+    alloc: Global,
+    stage: &mut HubStage,
+    conn: u32,
+    answer: &mut CaseAnswer,
+) {
     match leaving(&mut stage.players, conn as usize) {
         Some(player) => {
             let hub = &mut stage.hub;
@@ -156,7 +168,7 @@ fn call_player<W: Wait>(
     player: &mut Entered,
     word: &str,
     more: &[u8],
-    answer: &mut Answer,
+    answer: &mut CaseAnswer,
 ) {
     match word {
         "put" => tell_put(rt, alloc, &mut player.inward, more, answer),
@@ -182,7 +194,7 @@ fn drive<W: Wait>(
     hub: &mut SceneHub,
     player: &mut Entered,
     more: &[u8],
-    answer: &mut Answer,
+    answer: &mut CaseAnswer,
 ) {
     match counted(alloc, more) {
         Ok((count, bytes)) => {
@@ -208,7 +220,7 @@ fn drive_up<W: Wait>(
     says: &mut Putter,
     player: &mut Entered,
     more: &[u8],
-    answer: &mut Answer,
+    answer: &mut CaseAnswer,
 ) {
     match counted(alloc, more) {
         Ok((count, bytes)) => {

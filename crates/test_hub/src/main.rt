@@ -2,7 +2,7 @@
 //! of the server, and at a port. It prints what each call answers, and the gate compares that with what it must print.
 //!
 //! A scene is lines, each of a word and what it is about. Each is printed with what came behind a colon, and so are lines
-//! that are empty or begin with `#`, which say nothing. Bytes have the notation of the crate `case_text`. A call that
+//! that are empty or begin with `#`, which say nothing. Bytes have the notation of the crate `test_text`. A call that
 //! answers a value of a type of those crates is told as that type's `Debug` tells it.
 //!
 //! At a hub:
@@ -55,10 +55,10 @@ mod ports;
 mod stage;
 
 use crate::play::HubPlay;
-use case_text::play_all;
 use std::io;
 use std::io::{Read, Write};
 use std::process::ExitCode;
+use test_text::play_all;
 
 fn main(rt: HostRuntime) -> io::Result<ExitCode> {
     let alloc = rt.alloc();

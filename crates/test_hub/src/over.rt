@@ -1,7 +1,6 @@
 //! What is left once a hub is closed.
 
 use crate::stage::{calm, new_mux};
-use case_text::{Answer, CaseFault, first_number, first_word};
 use gate_bytes::Text;
 use gate_outside::{MemorySink, MemorySource};
 use gate_transcript::{Entry, LONGEST_BODY, MAGIC, MemoryRecorder, write_entry};
@@ -10,6 +9,7 @@ use gateway_mux::Status;
 use gateway_replay::replay;
 use std::alloc::Global;
 use std::str;
+use test_text::{CaseAnswer, CaseFault, first_number, first_word};
 
 /// What a closed hub gave back.
 #[derive(Drop)]
@@ -22,7 +22,7 @@ pub struct Over {
 
 impl Over {
     /// Makes the call of a line, and tells what came.
-    pub fn call(&self, alloc: Global, line: &[u8], answer: &mut Answer) {
+    pub fn call(&self, alloc: Global, line: &[u8], answer: &mut CaseAnswer) {
         let (word, more) = word_in(line);
         let entries = self.recorder.as_slice();
         match word {
@@ -40,7 +40,7 @@ impl Over {
 }
 
 /// The receipt of the connection of a line is told.
-fn tell_receipt(alloc: Global, receipts: &Receipts, more: &[u8], answer: &mut Answer) {
+fn tell_receipt(alloc: Global, receipts: &Receipts, more: &[u8], answer: &mut CaseAnswer) {
     match connection_in(more) {
         Some((connection, _)) => answer.push_debug(alloc, &receipts.get(connection)),
         None => answer.unreadable(),
@@ -63,7 +63,7 @@ pub fn connection_in(line: &[u8]) -> Option<(u32, &[u8])> {
 }
 
 /// Entries are told, each in a line below.
-fn tell_noted(alloc: Global, entries: &[Entry], answer: &mut Answer) {
+fn tell_noted(alloc: Global, entries: &[Entry], answer: &mut CaseAnswer) {
     match spelled(alloc, b"", entries).done() {
         Ok(bytes) => {
             answer.push(b"\n");
@@ -74,7 +74,7 @@ fn tell_noted(alloc: Global, entries: &[Entry], answer: &mut Answer) {
 }
 
 /// How many entries there are is told, and the last ones, so many of them.
-fn tell_last(alloc: Global, entries: &[Entry], count: u64, answer: &mut Answer) {
+fn tell_last(alloc: Global, entries: &[Entry], count: u64, answer: &mut CaseAnswer) {
     answer.push_number(entries.len() as u64);
     let left_out = (entries.len() as u64).saturating_sub(count);
     match entries.get(left_out as usize..) {
@@ -84,8 +84,8 @@ fn tell_last(alloc: Global, entries: &[Entry], count: u64, answer: &mut Answer) 
 }
 
 /// The bytes of entries as a transcript has them, behind these bytes.
-fn spelled(alloc: Global, front: &[u8], entries: &[Entry]) -> Answer {
-    let mut bytes = Answer::new(alloc);
+fn spelled(alloc: Global, front: &[u8], entries: &[Entry]) -> CaseAnswer {
+    let mut bytes = CaseAnswer::new(alloc);
     bytes.push(front);
     for entry in entries {
         let body = entry.body.as_bytes();
@@ -100,7 +100,7 @@ fn spelled(alloc: Global, front: &[u8], entries: &[Entry]) -> Answer {
 }
 
 /// How the replay of entries by a new multiplexer ends is told, and its records, each in a line below.
-fn tell_replayed(alloc: Global, entries: &[Entry], answer: &mut Answer) {
+fn tell_replayed(alloc: Global, entries: &[Entry], answer: &mut CaseAnswer) {
     match spelled(alloc, &MAGIC, entries).done() {
         Ok(bytes) => {
             let mut sink = MemorySink::new(alloc, calm(alloc));

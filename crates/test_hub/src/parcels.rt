@@ -2,12 +2,12 @@
 ghost use Rattle.std.specs.Prelude.{◌≡◌};
 ghost use Rattle.client_ports.specs.Ends.{takers_port};
 
-use case_text::{Answer, CaseFault, meant};
 use client_ports::{Parcel, Putter, Taker};
 use rtsp_frame::Framer;
 use rtsp_head::Item;
 use std::alloc::Global;
 use std::sync::Wait;
+use test_text::{CaseAnswer, CaseFault, meant};
 
 /// Puts the item that a body means. Tells `full` where there is no room for it, and answers whether it was put.
 pub fn put_item<W: Wait>(
@@ -15,7 +15,7 @@ pub fn put_item<W: Wait>(
     alloc: Global,
     end: &mut Putter,
     body: &[u8],
-    answer: &mut Answer,
+    answer: &mut CaseAnswer,
 ) -> bool {
     match meant(alloc, body) {
         Ok(bytes) => put_bytes(rt, alloc, end, bytes.as_bytes(), answer),
@@ -32,7 +32,7 @@ fn put_bytes<W: Wait>(
     alloc: Global,
     end: &mut Putter,
     bytes: &[u8],
-    answer: &mut Answer,
+    answer: &mut CaseAnswer,
 ) -> bool {
     put_framed(rt, alloc, &mut Framer::new(alloc), end, bytes, answer)
 }
@@ -44,7 +44,7 @@ pub fn put_framed<W: Wait>(
     framer: &mut Framer,
     end: &mut Putter,
     bytes: &[u8],
-    answer: &mut Answer,
+    answer: &mut CaseAnswer,
 ) -> bool {
     match item_of(alloc, framer, bytes) {
         Ok(item) => {
@@ -73,7 +73,7 @@ pub fn tell_put<W: Wait>(
     alloc: Global,
     end: &mut Putter,
     body: &[u8],
-    answer: &mut Answer,
+    answer: &mut CaseAnswer,
 ) {
     if put_item(rt, alloc, end, body, answer) {
         answer.push(b"put");
@@ -81,7 +81,7 @@ pub fn tell_put<W: Wait>(
 }
 
 /// Takes the next parcel of an end, and tells its bytes; `none` where there is none.
-pub fn tell_next<W: Wait>(rt: &W, end: &mut Taker, answer: &mut Answer)
+pub fn tell_next<W: Wait>(rt: &W, end: &mut Taker, answer: &mut CaseAnswer)
     ensures { takers_port end.new ≡ takers_port end.old }
 {
     match end.take(rt) {
@@ -91,7 +91,7 @@ pub fn tell_next<W: Wait>(rt: &W, end: &mut Taker, answer: &mut Answer)
 }
 
 /// Tells the bytes of a parcel.
-pub fn tell_parcel(parcel: &Parcel, answer: &mut Answer) {
+pub fn tell_parcel(parcel: &Parcel, answer: &mut CaseAnswer) {
     match parcel {
         Parcel::Bytes(bytes) => answer.push_shown(bytes.as_bytes()),
         Parcel::Item(item) => {
@@ -102,7 +102,7 @@ pub fn tell_parcel(parcel: &Parcel, answer: &mut Answer) {
 }
 
 /// Tells the bytes of an item that was taken; `none` where there was none.
-pub fn tell_item(item: &Option<Item>, answer: &mut Answer) {
+pub fn tell_item(item: &Option<Item>, answer: &mut CaseAnswer) {
     match item {
         Some(item) => answer.push_shown(item.bytes.as_bytes()),
         None => answer.push(b"none"),

@@ -2,16 +2,16 @@
 
 use crate::over::{connection_in, word_in};
 use crate::parcels::{tell_item, tell_next, tell_put};
-use case_text::{Answer, CaseFault, first_word, meant};
 use client_ports::{Putter, Taker, port};
-use hub_places::{
-    Line, Place, Server, count_arrival, hand_out, is_seated, next_of, note_close, put_first,
-    room_of,
+use gateway_claim::{CloseWhy, Closed, ToClient, ToUp, UpMessage};
+use hub_queues::{
+    HubConnection, Place, Server, count_arrival, hand_out, is_seated, next_of, note_close,
+    put_first, room_of,
 };
-use mux_history::{CloseWhy, Closed, ToClient, ToUp, UpMessage};
 use rtsp_head::Item;
 use std::alloc::Global;
 use std::sync::Wait;
+use test_text::{CaseAnswer, CaseFault, first_word, meant};
 
 /// How many parcels each port holds.
 const CAPACITY: usize = 2;
@@ -60,7 +60,7 @@ impl PlacesPlay {
     }
 
     /// A connection takes its place.
-    fn seat(&mut self, alloc: Global, answer: &mut Answer) {
+    fn seat(&mut self, alloc: Global, answer: &mut CaseAnswer) {
         match new_place(alloc) {
             Ok((client, place)) => {
                 let is_seated = self.places.push(place).is_ok();
@@ -74,7 +74,7 @@ impl PlacesPlay {
     }
 
     /// Makes the call of a line, and tells what came.
-    pub fn call<W: Wait>(&mut self, rt: &W, alloc: Global, line: &[u8], answer: &mut Answer) {
+    pub fn call<W: Wait>(&mut self, rt: &W, alloc: Global, line: &[u8], answer: &mut CaseAnswer) {
         let (word, more) = word_in(line);
         match word {
             "seat" => self.seat(alloc, answer),
@@ -97,13 +97,13 @@ impl PlacesPlay {
     }
 
     /// Tells an item that was taken, and keeps it.
-    fn keep(&mut self, item: Option<Item>, answer: &mut Answer) {
+    fn keep(&mut self, item: Option<Item>, answer: &mut CaseAnswer) {
         tell_item(&item, answer);
         self.taken = item;
     }
 
     /// The server is handed an answer and a request. Whether its port was full is told.
-    fn hand_up<W: Wait>(&mut self, rt: &W, alloc: Global, more: &[u8], answer: &mut Answer) {
+    fn hand_up<W: Wait>(&mut self, rt: &W, alloc: Global, more: &[u8], answer: &mut CaseAnswer) {
         match to_up(alloc, more) {
             Ok(up) => answer.push_debug(alloc, &self.server.hand_out(rt, up)),
             Err(fault) => answer.fail(fault),
@@ -118,7 +118,7 @@ impl PlacesPlay {
         word: &str,
         conn: u32,
         more: &[u8],
-        answer: &mut Answer,
+        answer: &mut CaseAnswer,
     ) {
         let places = &mut self.places;
         match word {
@@ -154,7 +154,7 @@ fn ends(alloc: Global) -> Result<(PlaceEnds, Taker, Putter), CaseFault> {
 /// The place of a new connection, and its client's ends.
 fn new_place(alloc: Global) -> Result<(PlaceEnds, Place), CaseFault> {
     let (client, inward, outward) = ends(alloc)?;
-    let line = Box::new(alloc, Line::new(inward, outward))?;
+    let line = Box::new(alloc, HubConnection::new(inward, outward))?;
     Ok((client, Place::Seated(line)))
 }
 
@@ -175,7 +175,7 @@ fn tell_handed<W: Wait>(
     places: &mut Vec<Place>,
     conn: u32,
     body: &[u8],
-    answer: &mut Answer,
+    answer: &mut CaseAnswer,
 ) {
     match meant(alloc, body) {
         Ok(bytes) => {
@@ -187,7 +187,7 @@ fn tell_handed<W: Wait>(
 }
 
 /// What is kept of a connection that is not retired is told.
-fn tell_line(alloc: Global, places: &[Place], conn: u32, answer: &mut Answer) {
+fn tell_line(alloc: Global, places: &[Place], conn: u32, answer: &mut CaseAnswer) {
     match places.get(conn as usize) {
         Some(Place::Seated(line)) => {
             answer.push(b"arrived ");
@@ -206,7 +206,7 @@ fn call_client<W: Wait>(
     ends: &mut PlaceEnds,
     word: &str,
     more: &[u8],
-    answer: &mut Answer,
+    answer: &mut CaseAnswer,
 ) {
     match word {
         "put" => tell_put(rt, alloc, &mut ends.inward, more, answer),

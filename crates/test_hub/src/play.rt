@@ -4,12 +4,12 @@ use crate::calls::call_open;
 use crate::over::{Over, word_in};
 use crate::places::PlacesPlay;
 use crate::ports::{play_bell, play_port};
-use crate::stage::{Stage, calm};
-use case_text::{Answer, CaseFault, Play, first_number};
+use crate::stage::{HubStage, calm};
 use gate_outside::Script;
 use std::alloc::Global;
 use std::sync::Wait;
 use std::time::Clock;
+use test_text::{CaseAnswer, CaseFault, CasePlayer, first_number};
 
 /// What stands of a scene: an open hub before places, and these before a hub that is closed. Each is in a box, since what is
 /// dropped through a reference is dear to prove where it lies in the struct itself.
@@ -17,7 +17,7 @@ use std::time::Clock;
 pub struct HubPlay<'a, W: Wait + Clock> {
     rt: &'a W,
     /// A hub that is open.
-    stage: Option<Box<Stage>>,
+    stage: Option<Box<HubStage>>,
     /// What a hub that is closed gave back.
     over: Option<Box<Over>>,
     /// Places.
@@ -36,15 +36,15 @@ impl<'a, W: Wait + Clock> HubPlay<'a, W> {
     }
 
     /// Begins a hub whose recorder fails as this script says.
-    fn begin(&mut self, alloc: Global, script: Script, answer: &mut Answer) {
-        match Stage::new(alloc, script) {
+    fn begin(&mut self, alloc: Global, script: Script, answer: &mut CaseAnswer) {
+        match HubStage::new(alloc, script) {
             Ok(stage) => self.stage = Some(stage),
             Err(fault) => answer.fail(fault),
         }
     }
 
     /// Begins a hub whose recorder fails at the note with the number of a line.
-    fn begin_failing(&mut self, alloc: Global, more: &[u8], answer: &mut Answer) {
+    fn begin_failing(&mut self, alloc: Global, more: &[u8], answer: &mut CaseAnswer) {
         let Some((number, _)) = first_number(more) else {
             return answer.unreadable();
         };
@@ -56,7 +56,7 @@ impl<'a, W: Wait + Clock> HubPlay<'a, W> {
     }
 
     /// Begins places, behind which no hub is open.
-    fn begin_places(&mut self, alloc: Global, answer: &mut Answer) {
+    fn begin_places(&mut self, alloc: Global, answer: &mut CaseAnswer) {
         self.stage = None;
         match PlacesPlay::new(alloc) {
             Ok(places) => self.places = Some(places),
@@ -65,7 +65,7 @@ impl<'a, W: Wait + Clock> HubPlay<'a, W> {
     }
 
     /// Closes the hub.
-    fn close(&mut self, alloc: Global, answer: &mut Answer) {
+    fn close(&mut self, alloc: Global, answer: &mut CaseAnswer) {
         match self.stage.take() {
             Some(stage) => match Box::into_inner(stage).close(alloc) {
                 Ok(over) => {
@@ -79,7 +79,7 @@ impl<'a, W: Wait + Clock> HubPlay<'a, W> {
     }
 
     /// Makes the call of a line at what stands, and tells what came.
-    fn call(&mut self, alloc: Global, line: &[u8], answer: &mut Answer) {
+    fn call(&mut self, alloc: Global, line: &[u8], answer: &mut CaseAnswer) {
         if let Some(stage) = &mut self.stage {
             call_open(self.rt, alloc, stage, line, answer);
         } else if let Some(places) = &mut self.places {
@@ -92,8 +92,8 @@ impl<'a, W: Wait + Clock> HubPlay<'a, W> {
     }
 }
 
-impl<'a, W: Wait + Clock> Play for HubPlay<'a, W> {
-    fn play(&mut self, alloc: Global, line: &[u8], answer: &mut Answer) {
+impl<'a, W: Wait + Clock> CasePlayer for HubPlay<'a, W> {
+    fn play(&mut self, alloc: Global, line: &[u8], answer: &mut CaseAnswer) {
         let (word, more) = word_in(line);
         match word {
             "scene" => self.begin(alloc, calm(alloc), answer),

@@ -3,12 +3,12 @@ ghost use Rattle.std.specs.Prelude.{◌≡◌};
 ghost use Rattle.client_ports.specs.Ends.{OfOnePort, putters_port};
 
 use crate::parcels::{tell_next, tell_parcel};
-use case_text::{Answer, CaseFault, first_word};
 use client_ports::{Bell, Parcel, Putter, Taker, meet, port};
 use gate_bytes::Text;
 use std::alloc::Global;
 use std::sync::Wait;
 use std::time::{Clock, Duration};
+use test_text::{CaseAnswer, CaseFault, first_word};
 
 /// The two ends of one port.
 #[derive(Drop)]
@@ -20,7 +20,7 @@ struct PortEnds {
 
 impl PortEnds {
     /// Has a word put, or a parcel taken where it is `take`, and tells what came.
-    fn play<W: Wait>(&mut self, rt: &W, alloc: Global, word: &[u8], answer: &mut Answer) {
+    fn play<W: Wait>(&mut self, rt: &W, alloc: Global, word: &[u8], answer: &mut CaseAnswer) {
         if word == b"take".as_slice() {
             tell_next(rt, &mut self.taker, answer);
         } else {
@@ -31,7 +31,7 @@ impl PortEnds {
 
     /// Tells how many parcels wait, and how many the port holds; how many were put, how often it was full, and how many were
     /// taken; and what its two ends come to.
-    fn end<W: Wait>(self, rt: &W, alloc: Global, answer: &mut Answer) {
+    fn end<W: Wait>(self, rt: &W, alloc: Global, answer: &mut CaseAnswer) {
         let PortEnds {
             mut putter,
             mut taker,
@@ -47,7 +47,7 @@ impl PortEnds {
 
 /// Has the words of a line put at a new port that holds two parcels, and taken from it where they are `take`. What came of
 /// each is told, and then what the port came to.
-pub fn play_port<W: Wait>(rt: &W, alloc: Global, words: &[u8], answer: &mut Answer) {
+pub fn play_port<W: Wait>(rt: &W, alloc: Global, words: &[u8], answer: &mut CaseAnswer) {
     match port(alloc, 2) {
         Ok((putter, taker)) => {
             let mut ends = PortEnds { putter, taker };
@@ -64,7 +64,7 @@ fn play_words<W: Wait>(
     alloc: Global,
     ends: &mut PortEnds,
     words: &[u8],
-    answer: &mut Answer,
+    answer: &mut CaseAnswer,
 ) {
     let mut left = words;
     for _ in 0..words.len() {
@@ -78,7 +78,7 @@ fn play_words<W: Wait>(
 }
 
 /// Puts these bytes, and tells whether there was room, and else the bytes that came back.
-fn put<W: Wait>(rt: &W, alloc: Global, putter: &mut Putter, bytes: &[u8], answer: &mut Answer)
+fn put<W: Wait>(rt: &W, alloc: Global, putter: &mut Putter, bytes: &[u8], answer: &mut CaseAnswer)
     ensures { putters_port putter.new ≡ putters_port putter.old }
 {
     match Text::copy(alloc, bytes) {
@@ -95,7 +95,7 @@ fn put<W: Wait>(rt: &W, alloc: Global, putter: &mut Putter, bytes: &[u8], answer
 
 /// Rings a bell twice before a pause. How often it rang is told, by the pause and by the bell, and again by the bell after a
 /// pause of a millisecond.
-pub fn play_bell<W: Wait + Clock>(rt: &W, answer: &mut Answer) {
+pub fn play_bell<W: Wait + Clock>(rt: &W, answer: &mut CaseAnswer) {
     let bell = Bell::new();
     let seen = bell.rings(rt);
     bell.ring(rt);

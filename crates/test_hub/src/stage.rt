@@ -3,7 +3,6 @@ ghost use Rattle.std.specs.Prelude.{[], IfOk};
 ghost use Rattle.gateway_mux.specs.Stands.{Stands};
 
 use crate::over::Over;
-use case_text::CaseFault;
 use client_ports::{Putter, Taker};
 use gate_outside::{Numbers, Script};
 use gate_transcript::MemoryRecorder;
@@ -11,13 +10,14 @@ use gateway_hub::{Entered, Hub};
 use gateway_mux::{Base, Bases, Mux};
 use rtsp_uri::read_base;
 use std::alloc::Global;
+use test_text::CaseFault;
 
 /// The hub of all scenes.
 pub type SceneHub = Hub<Mux, MemoryRecorder>;
 
 /// A hub, and who speaks to it.
 #[derive(Drop)]
-pub struct Stage {
+pub struct HubStage {
     /// The hub.
     pub hub: SceneHub,
     /// The end that puts what the server says.
@@ -28,16 +28,16 @@ pub struct Stage {
     pub players: Vec<Option<Entered>>,
 }
 
-impl Stage {
+impl HubStage {
     /// A hub to which nothing happened, whose recorder fails as this script says.
-    pub fn new(alloc: Global, script: Script) -> Result<Box<Stage>, CaseFault> {
+    pub fn new(alloc: Global, script: Script) -> Result<Box<HubStage>, CaseFault> {
         let mux = new_mux(alloc)?;
         match Hub::new(alloc, mux, MemoryRecorder::new(alloc, script)) {
             Ok((hub, says, hears)) => {
                 let players = Vec::new(alloc);
                 Ok(Box::new(
                     alloc,
-                    Stage {
+                    HubStage {
                         hub,
                         says,
                         hears,

@@ -1,10 +1,10 @@
 //! How the next thing of a scene behaves, and what it says.
 
-use case_text::{Answer, CaseFault, first_number, meant};
 use gate_bytes::{Memory, Text};
 use gate_outside::{Links, MemoryInlet, MemoryOutlet, NewLink, Numbers, Part, Parts, Script};
 use std::alloc::Global;
 use std::{mem, str};
+use test_text::{CaseAnswer, CaseFault, first_number, meant};
 
 /// The most bytes that one call moves where no line says so.
 const PIECE: usize = 100_000;
@@ -64,7 +64,7 @@ impl Draft {
     }
 
     /// Does what a line says that begins with a word.
-    pub fn obey(&mut self, alloc: Global, word: &[u8], more: &[u8], answer: &mut Answer) {
+    pub fn obey(&mut self, alloc: Global, word: &[u8], more: &[u8], answer: &mut CaseAnswer) {
         match str::from_utf8(word).unwrap_or("") {
             "say" => self.say(alloc, more, answer),
             "link" => self.give_link(alloc, answer),
@@ -76,7 +76,14 @@ impl Draft {
     }
 
     /// Does what a line says in which a word has a number behind it.
-    fn count(&mut self, alloc: Global, word: &[u8], number: u64, body: &[u8], answer: &mut Answer) {
+    fn count(
+        &mut self,
+        alloc: Global,
+        word: &[u8],
+        number: u64,
+        body: &[u8],
+        answer: &mut CaseAnswer,
+    ) {
         match str::from_utf8(word).unwrap_or("") {
             "piece" => self.script.piece = number.max(1) as usize,
             "fail" => push(&mut self.script.fails, number, answer),
@@ -88,7 +95,7 @@ impl Draft {
     }
 
     /// What is said next waits until this outlet has taken these bytes more.
-    fn wait(&mut self, alloc: Global, outlet: u32, body: &[u8], answer: &mut Answer) {
+    fn wait(&mut self, alloc: Global, outlet: u32, body: &[u8], answer: &mut CaseAnswer) {
         if outlet != self.outlet {
             self.outlet = outlet;
             self.after = 0;
@@ -100,7 +107,7 @@ impl Draft {
     }
 
     /// These bytes are said.
-    fn say(&mut self, alloc: Global, body: &[u8], answer: &mut Answer) {
+    fn say(&mut self, alloc: Global, body: &[u8], answer: &mut CaseAnswer) {
         match meant(alloc, body) {
             Ok(bytes) => self.add(bytes, answer),
             Err(fault) => answer.fail(fault),
@@ -108,7 +115,7 @@ impl Draft {
     }
 
     /// The same of bytes that were read.
-    fn add(&mut self, bytes: Text, answer: &mut Answer) {
+    fn add(&mut self, bytes: Text, answer: &mut CaseAnswer) {
         let part = Part {
             bytes,
             outlet: self.outlet,
@@ -120,7 +127,7 @@ impl Draft {
     }
 
     /// A link is given that says what was said, and whose outlet behaves as the draft says.
-    fn give_link(&mut self, alloc: Global, answer: &mut Answer) {
+    fn give_link(&mut self, alloc: Global, answer: &mut CaseAnswer) {
         let parts = self.take_parts(alloc);
         let script = self.take_script(alloc);
         keep(push_link(alloc, parts, script, &mut self.links), answer);
@@ -149,7 +156,7 @@ fn push_link(
 }
 
 /// Keeps the fault of a thing that was not made.
-pub fn keep(made: Result<(), CaseFault>, answer: &mut Answer) {
+pub fn keep(made: Result<(), CaseFault>, answer: &mut CaseAnswer) {
     if let Err(fault) = made {
         answer.fail(fault);
     }
@@ -167,7 +174,7 @@ pub fn short(number: u64) -> u32 {
 }
 
 /// Appends a number.
-pub fn push(numbers: &mut Numbers, number: u64, answer: &mut Answer) {
+pub fn push(numbers: &mut Numbers, number: u64, answer: &mut CaseAnswer) {
     if numbers.push(number).is_err() {
         answer.fail(CaseFault::Memory);
     }

@@ -1,15 +1,15 @@
 //! The world over TCP and files.
 
-use case_text::{Answer, first_word};
 use gate_outside::{Arrived, Door, Failed, Got, Inlet, Outlet, Sink};
 use gate_transcript::{EntryKind, Recorder};
-use gate_world::World;
+use serve_world::World;
+use serve_world_tcp::{TcpDoor, TcpInlet, TcpOutlet, TcpWorld};
 use std::alloc::Global;
 use std::net::{Net, TcpListener, TcpStream};
 use std::thread::Threads;
 use std::time::Duration;
 use std::{fs, str, thread};
-use tcp_world::{TcpDoor, TcpInlet, TcpOutlet, TcpWorld};
+use test_text::{CaseAnswer, first_word};
 
 /// How often a recording is looked at that is not closed.
 const MOST_LOOKS: u32 = 200;
@@ -23,7 +23,7 @@ pub fn tell_edge<R: Net<Listener = TcpListener, Stream = TcpStream> + Threads>(
     host: HostRuntime,
     alloc: Global,
     line: &[u8],
-    answer: &mut Answer,
+    answer: &mut CaseAnswer,
 ) {
     let (word, name) = first_word(line);
     match str::from_utf8(word).unwrap_or("") {
@@ -42,7 +42,7 @@ fn tell_loopback<R: Net<Listener = TcpListener, Stream = TcpStream> + Threads>(
     rt: &R,
     host: HostRuntime,
     alloc: Global,
-    answer: &mut Answer,
+    answer: &mut CaseAnswer,
 ) {
     let mut world = TcpWorld::new(rt, host, alloc);
     match world.listen(b"127.0.0.1:0") {
@@ -62,7 +62,7 @@ fn tell_door<W: World<Door = TcpDoor, UpIn = TcpInlet, UpOut = TcpOutlet>>(
     alloc: Global,
     world: &mut W,
     door: TcpDoor,
-    answer: &mut Answer,
+    answer: &mut CaseAnswer,
 ) {
     let mut door = door;
     let had_none = matches!(door.accept(), Ok(Arrived::NotYet));
@@ -127,7 +127,7 @@ fn tell_note<R: Net<Listener = TcpListener, Stream = TcpStream> + Threads>(
     host: HostRuntime,
     alloc: Global,
     name: &[u8],
-    answer: &mut Answer,
+    answer: &mut CaseAnswer,
 ) {
     let mut world = TcpWorld::new(rt, host, alloc);
     match world.recorder(name) {
@@ -148,7 +148,7 @@ fn tell_live<R: Net<Listener = TcpListener, Stream = TcpStream> + Threads>(
     rt: &R,
     host: HostRuntime,
     alloc: Global,
-    answer: &mut Answer,
+    answer: &mut CaseAnswer,
 ) {
     let mut world = TcpWorld::new(rt, host, alloc);
     match world.recorder(b"live") {
@@ -182,7 +182,7 @@ fn length_of(host: &HostRuntime, name: &str) -> Option<usize> {
 }
 
 /// The bytes of the file `transcript` are told.
-fn tell_file(host: &HostRuntime, answer: &mut Answer) {
+fn tell_file(host: &HostRuntime, answer: &mut CaseAnswer) {
     match fs::read(host, "transcript") {
         Ok(bytes) => answer.push_shown(bytes.as_slice()),
         Err(_fault) => answer.unreadable(),
@@ -195,7 +195,7 @@ fn tell_refused<R: Net<Listener = TcpListener, Stream = TcpStream> + Threads>(
     rt: &R,
     host: HostRuntime,
     alloc: Global,
-    answer: &mut Answer,
+    answer: &mut CaseAnswer,
 ) {
     let mut world = TcpWorld::new(rt, host, alloc);
     let made = [

@@ -2,15 +2,15 @@
 
 use crate::draft::{Draft, boxed, keep, short};
 use crate::worlds::{call_world, new_world};
-use case_text::{Answer, CaseFault, first_number, meant};
 use gate_bytes::Memory;
 use gate_outside::{
     Arrived, Door, Failed, Got, Inlet, MemoryDoor, MemoryInlet, MemoryLink, MemoryOutlet, Outlet,
     Script, Sink,
 };
-use gate_world::MemoryWorld;
+use serve_world::MemoryWorld;
 use std::alloc::Global;
 use std::{mem, str};
+use test_text::{CaseAnswer, CaseFault, first_number, meant};
 
 /// What a scene has of doors and links.
 #[derive(Drop)]
@@ -46,7 +46,7 @@ impl LinkPlay {
         draft: &mut Draft,
         word: &[u8],
         more: &[u8],
-        answer: &mut Answer,
+        answer: &mut CaseAnswer,
     ) {
         match str::from_utf8(word).unwrap_or("") {
             "inlet" => keep(self.make_inlet(alloc, draft, more), answer),
@@ -69,7 +69,7 @@ impl LinkPlay {
         draft: &mut Draft,
         word: &[u8],
         more: &[u8],
-        answer: &mut Answer,
+        answer: &mut CaseAnswer,
     ) {
         match &mut self.hand {
             Some(link) => call_link(alloc, link, draft, word, more, answer),
@@ -78,7 +78,7 @@ impl LinkPlay {
     }
 
     /// Makes the call that a word is at the world.
-    fn call_world(&mut self, alloc: Global, word: &[u8], answer: &mut Answer) {
+    fn call_world(&mut self, alloc: Global, word: &[u8], answer: &mut CaseAnswer) {
         match &mut self.world {
             Some(world) => call_world(alloc, world, &mut self.door, &mut self.hand, word, answer),
             None => answer.unreadable(),
@@ -128,7 +128,7 @@ impl LinkPlay {
     }
 
     /// Asks the door for a link, which is the one at hand then.
-    fn accept(&mut self, alloc: Global, answer: &mut Answer) {
+    fn accept(&mut self, alloc: Global, answer: &mut CaseAnswer) {
         match &mut self.door {
             Some(door) => accept(alloc, door, &mut self.hand, answer),
             None => answer.unreadable(),
@@ -136,7 +136,7 @@ impl LinkPlay {
     }
 
     /// Gives the link at hand back to the door.
-    fn give_back(&mut self, answer: &mut Answer) {
+    fn give_back(&mut self, answer: &mut CaseAnswer) {
         let link = self.hand.take();
         match &mut self.door {
             Some(door) => give_back(door, link, answer),
@@ -145,7 +145,7 @@ impl LinkPlay {
     }
 
     /// The door is told.
-    fn tell_door(&self, answer: &mut Answer) {
+    fn tell_door(&self, answer: &mut CaseAnswer) {
         match &self.door {
             Some(door) => tell_door(door, answer),
             None => answer.unreadable(),
@@ -177,7 +177,7 @@ fn accept(
     alloc: Global,
     door: &mut MemoryDoor,
     hand: &mut Option<Box<MemoryLink>>,
-    answer: &mut Answer,
+    answer: &mut CaseAnswer,
 ) {
     match door.accept() {
         Ok(Arrived::Link(inlet, outlet)) => {
@@ -194,7 +194,7 @@ fn accept(
 pub fn put<T: Drop>(
     made: Result<Box<T>, CaseFault>,
     place: &mut Option<Box<T>>,
-    answer: &mut Answer,
+    answer: &mut CaseAnswer,
 ) {
     match made {
         Ok(thing) => *place = Some(thing),
@@ -203,7 +203,7 @@ pub fn put<T: Drop>(
 }
 
 /// Gives a link back to a door.
-fn give_back(door: &mut MemoryDoor, link: Option<Box<MemoryLink>>, answer: &mut Answer) {
+fn give_back(door: &mut MemoryDoor, link: Option<Box<MemoryLink>>, answer: &mut CaseAnswer) {
     match link {
         Some(link) => {
             let link = Box::into_inner(link);
@@ -215,7 +215,7 @@ fn give_back(door: &mut MemoryDoor, link: Option<Box<MemoryLink>>, answer: &mut 
 
 /// How often a door failed is told, how often it came to its end, and what was written to each link that came back, each in a
 /// line below.
-fn tell_door(door: &MemoryDoor, answer: &mut Answer) {
+fn tell_door(door: &MemoryDoor, answer: &mut CaseAnswer) {
     answer.push(b"faults ");
     answer.push_number(door.faults());
     answer.push(b", ends ");
@@ -242,7 +242,7 @@ fn call_link(
     draft: &mut Draft,
     word: &[u8],
     more: &[u8],
-    answer: &mut Answer,
+    answer: &mut CaseAnswer,
 ) {
     match str::from_utf8(word).unwrap_or("") {
         "read" => read(alloc, &mut link.inlet, answer),
@@ -255,7 +255,7 @@ fn call_link(
 }
 
 /// Reads an inlet once. The answer and the bytes that came are told.
-fn read(alloc: Global, inlet: &mut MemoryInlet, answer: &mut Answer) {
+fn read(alloc: Global, inlet: &mut MemoryInlet, answer: &mut CaseAnswer) {
     let mut buffer = [0u8; 20];
     let got = inlet.read(&mut buffer);
     answer.push_debug(alloc, &got);
@@ -266,7 +266,7 @@ fn read(alloc: Global, inlet: &mut MemoryInlet, answer: &mut Answer) {
 }
 
 /// Writes the bytes that a body means to an outlet, once.
-fn write(alloc: Global, outlet: &mut MemoryOutlet, body: &[u8], answer: &mut Answer) {
+fn write(alloc: Global, outlet: &mut MemoryOutlet, body: &[u8], answer: &mut CaseAnswer) {
     match meant(alloc, body) {
         Ok(bytes) if !bytes.is_empty() => {
             answer.push_debug(alloc, &outlet.write(bytes.as_bytes()));

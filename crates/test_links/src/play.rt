@@ -6,12 +6,12 @@ use crate::links::{LinkPlay, put};
 use crate::reader::read_all;
 use crate::streams::{StreamsPlay, tell_numbers};
 use crate::writers::{DeskPlay, WriterPlay};
-use case_text::{Answer, CaseFault, Play, first_word};
 use std::alloc::Global;
 use std::net::{Net, TcpListener, TcpStream};
 use std::str;
 use std::sync::Wait;
 use std::thread::Threads;
+use test_text::{CaseAnswer, CaseFault, CasePlayer, first_word};
 
 /// The things of a scene, and how the next one behaves.
 #[derive(Drop)]
@@ -43,7 +43,7 @@ impl LinksScene {
         alloc: Global,
         word: &[u8],
         more: &[u8],
-        answer: &mut Answer,
+        answer: &mut CaseAnswer,
     ) {
         match str::from_utf8(word).unwrap_or("") {
             "source" => self.streams.open(alloc, &mut self.draft, more, answer),
@@ -62,7 +62,7 @@ impl LinksScene {
         alloc: Global,
         word: &[u8],
         more: &[u8],
-        answer: &mut Answer,
+        answer: &mut CaseAnswer,
     ) {
         match str::from_utf8(word).unwrap_or("") {
             "numbers" => tell_numbers(alloc, more, answer),
@@ -84,7 +84,7 @@ impl LinksScene {
         alloc: Global,
         word: &[u8],
         more: &[u8],
-        answer: &mut Answer,
+        answer: &mut CaseAnswer,
     ) {
         let draft = &mut self.draft;
         if let Some(writer) = &mut self.writer {
@@ -116,9 +116,9 @@ impl<'a, R: Wait + Net<Listener = TcpListener, Stream = TcpStream> + Threads> Li
     }
 }
 
-impl<'a, R: Wait + Net<Listener = TcpListener, Stream = TcpStream> + Threads> Play
+impl<'a, R: Wait + Net<Listener = TcpListener, Stream = TcpStream> + Threads> CasePlayer
     for LinksPlay<'a, R> {
-    fn play(&mut self, alloc: Global, line: &[u8], answer: &mut Answer) {
+    fn play(&mut self, alloc: Global, line: &[u8], answer: &mut CaseAnswer) {
         let (word, more) = first_word(line);
         if word == b"scene".as_slice() {
             put(new_scene(alloc), &mut self.scene, answer);

@@ -3,13 +3,13 @@ ghost use Rattle.std.specs.Prelude.{◌<◌};
 
 use crate::draft::Draft;
 use crate::links::{new_inlet, number_in};
-use case_text::{Answer, CaseFault};
 use client_ports::{Parcel, Taker, port};
 use gate_bytes::{Memory, Text};
 use gate_outside::MemoryInlet;
-use link_reader::{Push, Read, Reader};
+use gateway_links::{Push, Read, Reader};
 use std::alloc::Global;
 use std::sync::Wait;
+use test_text::{CaseAnswer, CaseFault};
 use text_pool::TextPool;
 
 /// The most reads of one inlet.
@@ -24,7 +24,7 @@ pub fn read_all<W: Wait>(
     alloc: Global,
     draft: &mut Draft,
     more: &[u8],
-    answer: &mut Answer,
+    answer: &mut CaseAnswer,
 ) {
     match new_reader(alloc, draft, more) {
         Ok((mut reader, mut taker)) => {
@@ -65,9 +65,9 @@ fn read_to_end<W: Wait>(
     alloc: Global,
     reader: &mut Reader<MemoryInlet>,
     taker: &mut Taker,
-    answer: &mut Answer,
+    answer: &mut CaseAnswer,
 ) -> bool {
-    let mut came = Answer::new(alloc);
+    let mut came = CaseAnswer::new(alloc);
     let mut was_full = false;
     let mut buffer = [0u8; 100];
     for _ in 0..MOST_READS {
@@ -95,7 +95,7 @@ fn push_all<W: Wait>(rt: &W, reader: &mut Reader<MemoryInlet>) -> Push {
 }
 
 /// Takes the items that are there, and lays their bytes one behind another.
-fn take_all<W: Wait>(rt: &W, taker: &mut Taker, into: &mut Answer) {
+fn take_all<W: Wait>(rt: &W, taker: &mut Taker, into: &mut CaseAnswer) {
     for _ in 0..MOST_PARCELS {
         match taker.take(rt) {
             Some(Parcel::Item(item)) => into.push(item.bytes.as_bytes()),

@@ -1,10 +1,10 @@
 //! A source and a sink in memory, and a list of numbers.
 
 use crate::draft::{Draft, boxed, calm, push};
-use case_text::{Answer, CaseFault, first_number, first_word, meant};
 use gate_bytes::Text;
 use gate_outside::{MemorySink, MemorySource, Numbers, Script, Source, write_all};
 use std::alloc::Global;
+use test_text::{CaseAnswer, CaseFault, first_number, first_word, meant};
 
 /// A source, the buffer into which it is read, and a sink.
 #[derive(Drop)]
@@ -25,7 +25,7 @@ impl StreamsPlay {
     }
 
     /// A source of the bytes that a body means, which behaves as the draft says.
-    pub fn open(&mut self, alloc: Global, draft: &mut Draft, body: &[u8], answer: &mut Answer) {
+    pub fn open(&mut self, alloc: Global, draft: &mut Draft, body: &[u8], answer: &mut CaseAnswer) {
         match new_source(alloc, body, draft.take_script(alloc)) {
             Ok(source) => self.source = source,
             Err(fault) => answer.fail(fault),
@@ -33,7 +33,7 @@ impl StreamsPlay {
     }
 
     /// A sink that behaves as the draft says.
-    pub fn make_sink(&mut self, alloc: Global, draft: &mut Draft, answer: &mut Answer) {
+    pub fn make_sink(&mut self, alloc: Global, draft: &mut Draft, answer: &mut CaseAnswer) {
         match boxed(alloc, MemorySink::new(alloc, draft.take_script(alloc))) {
             Ok(sink) => self.sink = sink,
             Err(fault) => answer.fail(fault),
@@ -41,14 +41,14 @@ impl StreamsPlay {
     }
 
     /// Reads the source once. The answer and the whole buffer are told.
-    pub fn read(&mut self, alloc: Global, answer: &mut Answer) {
+    pub fn read(&mut self, alloc: Global, answer: &mut CaseAnswer) {
         answer.push_debug(alloc, &self.source.read(&mut self.buffer));
         answer.push(b" ");
         answer.push_shown(&self.buffer);
     }
 
     /// Writes the bytes that a body means to the sink.
-    pub fn write(&mut self, alloc: Global, body: &[u8], answer: &mut Answer) {
+    pub fn write(&mut self, alloc: Global, body: &[u8], answer: &mut CaseAnswer) {
         match meant(alloc, body) {
             Ok(bytes) => write(alloc, &mut self.sink, bytes.as_bytes(), answer),
             Err(fault) => answer.fail(fault),
@@ -56,7 +56,7 @@ impl StreamsPlay {
     }
 
     /// What was written to the sink is told.
-    pub fn tell_sink(&self, answer: &mut Answer) {
+    pub fn tell_sink(&self, answer: &mut CaseAnswer) {
         answer.push_shown(self.sink.as_bytes());
     }
 }
@@ -68,13 +68,13 @@ fn new_source(alloc: Global, body: &[u8], script: Script) -> Result<Box<MemorySo
 }
 
 /// Writes bytes to a sink, and tells whether it took them all.
-fn write(alloc: Global, sink: &mut MemorySink, bytes: &[u8], answer: &mut Answer) {
+fn write(alloc: Global, sink: &mut MemorySink, bytes: &[u8], answer: &mut CaseAnswer) {
     answer.push_debug(alloc, &write_all(sink, bytes));
 }
 
 /// Tells of the list of the numbers of a line whether it was empty first, how many it has, the one at place 2, and whether it
 /// holds 0 and 1. A word that is no number stands for the greatest one.
-pub fn tell_numbers(alloc: Global, line: &[u8], answer: &mut Answer) {
+pub fn tell_numbers(alloc: Global, line: &[u8], answer: &mut CaseAnswer) {
     let mut numbers = Numbers::new(alloc);
     let was_empty = numbers.is_empty();
     let mut left = line;
@@ -94,7 +94,7 @@ pub fn tell_numbers(alloc: Global, line: &[u8], answer: &mut Answer) {
 }
 
 /// How many numbers a list has is told, the one at place 2, and whether it holds 0 and 1.
-fn tell_list(alloc: Global, numbers: &Numbers, answer: &mut Answer) {
+fn tell_list(alloc: Global, numbers: &Numbers, answer: &mut CaseAnswer) {
     if numbers.len() < 3 {
         return answer.unreadable();
     }

@@ -2,13 +2,13 @@
 
 use crate::draft::{Draft, boxed, calm, new_link};
 use crate::links::put;
-use case_text::{Answer, CaseFault};
 use gate_bytes::Memory;
 use gate_outside::{Failed, Links, MemoryDoor, MemoryLink, NewLink};
 use gate_transcript::MemoryRecorder;
-use gate_world::{MemoryWorld, World};
+use serve_world::{MemoryWorld, World};
 use std::alloc::Global;
 use std::str;
+use test_text::{CaseAnswer, CaseFault};
 
 /// A world whose door gives the links of the draft, and whose link to the server gives what was said.
 pub fn new_world(alloc: Global, draft: &mut Draft) -> Result<Box<MemoryWorld>, CaseFault> {
@@ -33,7 +33,7 @@ pub fn call_world(
     door: &mut Option<Box<MemoryDoor>>,
     hand: &mut Option<Box<MemoryLink>>,
     word: &[u8],
-    answer: &mut Answer,
+    answer: &mut CaseAnswer,
 ) {
     match str::from_utf8(word).unwrap_or("") {
         "listen" => listen(alloc, world, door, answer),
@@ -51,7 +51,7 @@ fn listen(
     alloc: Global,
     world: &mut MemoryWorld,
     place: &mut Option<Box<MemoryDoor>>,
-    answer: &mut Answer,
+    answer: &mut CaseAnswer,
 ) {
     match world.listen(b"gate.example:554") {
         Ok(door) => {
@@ -63,7 +63,7 @@ fn listen(
 }
 
 /// Closes a door.
-fn close_door(world: &mut MemoryWorld, door: Option<Box<MemoryDoor>>, answer: &mut Answer) {
+fn close_door(world: &mut MemoryWorld, door: Option<Box<MemoryDoor>>, answer: &mut CaseAnswer) {
     match door {
         Some(door) => world.close_door(Box::into_inner(door)),
         None => answer.unreadable(),
@@ -75,7 +75,7 @@ fn dial(
     alloc: Global,
     world: &mut MemoryWorld,
     hand: &mut Option<Box<MemoryLink>>,
-    answer: &mut Answer,
+    answer: &mut CaseAnswer,
 ) {
     match world.dial(b"media.example", 554) {
         Ok((inlet, outlet)) => {
@@ -87,7 +87,7 @@ fn dial(
 }
 
 /// Closes a link.
-fn close_link(world: &mut MemoryWorld, link: Option<Box<MemoryLink>>, answer: &mut Answer) {
+fn close_link(world: &mut MemoryWorld, link: Option<Box<MemoryLink>>, answer: &mut CaseAnswer) {
     match link {
         Some(link) => {
             let link = Box::into_inner(link);
@@ -98,7 +98,7 @@ fn close_link(world: &mut MemoryWorld, link: Option<Box<MemoryLink>>, answer: &m
 }
 
 /// Makes a recorder, and closes it.
-fn record(alloc: Global, world: &mut MemoryWorld, answer: &mut Answer) {
+fn record(alloc: Global, world: &mut MemoryWorld, answer: &mut CaseAnswer) {
     match world.recorder(b"name") {
         Ok(recorder) => answer.push_debug(alloc, &world.close_recorder(recorder)),
         Err(Failed) => answer.push(b"Err(Failed)"),
@@ -106,7 +106,7 @@ fn record(alloc: Global, world: &mut MemoryWorld, answer: &mut Answer) {
 }
 
 /// Whether the door, the link and the recorder came back is told, and how often each was handed out and refused.
-fn tell_world(alloc: Global, world: &MemoryWorld, answer: &mut Answer) {
+fn tell_world(alloc: Global, world: &MemoryWorld, answer: &mut CaseAnswer) {
     let back = [
         world.door().is_some(),
         world.upstream().is_some(),

@@ -3,14 +3,14 @@ ghost use Rattle.std.specs.Prelude.{◌≡◌};
 
 use crate::draft::{Draft, boxed, calm, short};
 use crate::links::{number_in, put};
-use case_text::{Answer, CaseFault, meant};
 use client_ports::{Parcel, Putter, port};
 use gate_bytes::Memory;
 use gate_outside::{MemoryOutlet, Outlet, Script};
-use link_writer::{Desk, Writer};
+use gateway_links::{Writer, WriterDesk};
 use std::alloc::Global;
 use std::sync::Wait;
 use std::{mem, str};
+use test_text::{CaseAnswer, CaseFault, meant};
 use text_pool::TextPool;
 
 /// How many parcels a port holds.
@@ -70,7 +70,7 @@ impl WriterPlay {
         draft: &mut Draft,
         word: &[u8],
         more: &[u8],
-        answer: &mut Answer,
+        answer: &mut CaseAnswer,
     ) {
         match str::from_utf8(word).unwrap_or("") {
             "put" => put_parcel(rt, alloc, &mut self.ends.putter, more, answer),
@@ -83,7 +83,7 @@ impl WriterPlay {
     }
 
     /// Ends the writer, and begins the next one, whose outlet behaves so. How many bytes were written is told, whether the outlet is shut, and how many texts are kept.
-    fn end(&mut self, alloc: Global, script: Script, answer: &mut Answer) {
+    fn end(&mut self, alloc: Global, script: Script, answer: &mut CaseAnswer) {
         match new_ends(alloc, script) {
             Ok(next) => tell_ends(alloc, mem::replace(&mut self.ends, next), answer),
             Err(fault) => answer.fail(fault),
@@ -97,7 +97,7 @@ fn put_parcel<W: Wait>(
     alloc: Global,
     putter: &mut Putter,
     body: &[u8],
-    answer: &mut Answer,
+    answer: &mut CaseAnswer,
 ) {
     match meant(alloc, body) {
         Ok(bytes) => match putter.put(rt, Parcel::Bytes(bytes)) {
@@ -109,13 +109,13 @@ fn put_parcel<W: Wait>(
 }
 
 /// Has a writer write, and tells what it answers.
-fn turn<W: Wait>(rt: &W, alloc: Global, ends: &mut WriterEnds, answer: &mut Answer) {
+fn turn<W: Wait>(rt: &W, alloc: Global, ends: &mut WriterEnds, answer: &mut CaseAnswer) {
     let turn = ends.writer.turn(rt, &mut ends.spent);
     answer.push_debug(alloc, &turn);
 }
 
 /// Ends a writer, and tells of its outlet.
-fn tell_ends(alloc: Global, ends: Box<WriterEnds>, answer: &mut Answer) {
+fn tell_ends(alloc: Global, ends: Box<WriterEnds>, answer: &mut CaseAnswer) {
     let ends = Box::into_inner(ends);
     let kept = ends.spent.len();
     let (outlet, _taker, _failed) = ends.writer.into_ends();
@@ -123,7 +123,7 @@ fn tell_ends(alloc: Global, ends: Box<WriterEnds>, answer: &mut Answer) {
 }
 
 /// How many bytes were written to an outlet is told, whether it is shut, and how many texts are kept.
-fn tell_outlet(alloc: Global, outlet: &MemoryOutlet, kept: usize, answer: &mut Answer) {
+fn tell_outlet(alloc: Global, outlet: &MemoryOutlet, kept: usize, answer: &mut CaseAnswer) {
     answer.push(b"written ");
     answer.push_number(outlet.as_bytes().len() as u64);
     answer.push(b", shut ");
@@ -140,21 +140,21 @@ fn shared<T: Sync>(value: &T) -> &T
 }
 
 /// A desk may be shared by threads, whatever its outlets are.
-fn shared_desk<O: Outlet + Drop>(desk: &Desk<O>) -> &Desk<O> {
+fn shared_desk<O: Outlet + Drop>(desk: &WriterDesk<O>) -> &WriterDesk<O> {
     shared(desk)
 }
 
 /// A desk, and the writer that was taken from it and not given back.
 #[derive(Drop)]
 pub struct DeskPlay {
-    desk: Box<Desk<MemoryOutlet>>,
+    desk: Box<WriterDesk<MemoryOutlet>>,
     taken: Option<Box<Writer<MemoryOutlet>>>,
 }
 
 impl DeskPlay {
     /// A desk with no writer.
     pub fn new(alloc: Global) -> Result<Box<DeskPlay>, CaseFault> {
-        let desk = boxed(alloc, Desk::new())?;
+        let desk = boxed(alloc, WriterDesk::new())?;
         boxed(alloc, DeskPlay { desk, taken: None })
     }
 
@@ -165,7 +165,7 @@ impl DeskPlay {
         alloc: Global,
         word: &[u8],
         more: &[u8],
-        answer: &mut Answer,
+        answer: &mut CaseAnswer,
     ) {
         match str::from_utf8(word).unwrap_or("") {
             "hand" => hand(rt, alloc, &self.desk, more, answer),
@@ -179,7 +179,7 @@ impl DeskPlay {
     }
 
     /// Takes the writer, as the thread does that runs it.
-    fn take<W: Wait>(&mut self, rt: &W, alloc: Global, answer: &mut Answer) {
+    fn take<W: Wait>(&mut self, rt: &W, alloc: Global, answer: &mut CaseAnswer) {
         match self.desk.take(rt) {
             Some(writer) => {
                 answer.push(b"Some");
@@ -194,9 +194,9 @@ impl DeskPlay {
 fn hand<W: Wait>(
     rt: &W,
     alloc: Global,
-    desk: &Desk<MemoryOutlet>,
+    desk: &WriterDesk<MemoryOutlet>,
     more: &[u8],
-    answer: &mut Answer,
+    answer: &mut CaseAnswer,
 ) {
     match numbered_writer(alloc, more) {
         Ok(writer) => match shared_desk(desk).hand(rt, writer) {
@@ -210,9 +210,9 @@ fn hand<W: Wait>(
 /// Gives a writer back to a desk.
 fn give_back<W: Wait>(
     rt: &W,
-    desk: &Desk<MemoryOutlet>,
+    desk: &WriterDesk<MemoryOutlet>,
     writer: Option<Box<Writer<MemoryOutlet>>>,
-    answer: &mut Answer,
+    answer: &mut CaseAnswer,
 ) {
     match writer {
         Some(writer) => desk.give_back(rt, Box::into_inner(writer)),

@@ -1,1 +1,1 @@
-pub mod RefusingLemmas
+pub mod RefuserLemmas

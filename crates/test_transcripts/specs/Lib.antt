@@ -1,2 +1,2 @@
-pub mod Refusing
-pub mod RefusingLaws
+pub mod Refuser
+pub mod RefuserLaws

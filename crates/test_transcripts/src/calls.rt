@@ -3,11 +3,11 @@
 use crate::gateway::with_two_players;
 use crate::items::item_in;
 use crate::outcomes::tell_outcome;
-use case_text::{Answer, CaseFault, first_number, first_word, meant};
 use gateway_mux::{Event, Mux, Status, UpCause, UpWhy};
 use rtsp_frame::Framer;
 use std::alloc::Global;
 use std::str;
+use test_text::{CaseAnswer, CaseFault, first_number, first_word, meant};
 
 /// Makes the call that a line is, and tells its answer:
 ///
@@ -19,7 +19,7 @@ use std::str;
 ///   is busy then;
 /// - `alive CONNECTION`, `waiting CONNECTION` (how many of its requests wait), `next NUMBER` (the first connection from a number
 ///   on that is alive), `dropped` (frames) and `ended` (the cause).
-pub fn call(alloc: Global, mux: &mut Box<Mux>, line: &[u8], answer: &mut Answer) {
+pub fn call(alloc: Global, mux: &mut Box<Mux>, line: &[u8], answer: &mut CaseAnswer) {
     let (word, rest) = first_word(line);
     let (number, text) = first_number(rest).unwrap_or((0, b""));
     let conn = u32::try_from(number).unwrap_or(0);
@@ -34,7 +34,7 @@ pub fn call(alloc: Global, mux: &mut Box<Mux>, line: &[u8], answer: &mut Answer)
 }
 
 /// Makes the call that a word is, which says nothing to the multiplexer but the item of a plan.
-fn look(alloc: Global, mux: &mut Mux, word: &str, conn: u32, text: &[u8], answer: &mut Answer) {
+fn look(alloc: Global, mux: &mut Mux, word: &str, conn: u32, text: &[u8], answer: &mut CaseAnswer) {
     match word {
         "plan" => tell_plan(alloc, mux, conn, text, answer),
         "alive" => push_yes(mux.alive(conn), answer),
@@ -47,7 +47,7 @@ fn look(alloc: Global, mux: &mut Mux, word: &str, conn: u32, text: &[u8], answer
 }
 
 /// Another gateway.
-fn renew(alloc: Global, mux: &mut Box<Mux>, answer: &mut Answer) {
+fn renew(alloc: Global, mux: &mut Box<Mux>, answer: &mut CaseAnswer) {
     match with_two_players(alloc) {
         Ok(other) => *mux = other,
         Err(_memory) => answer.fail(CaseFault::Memory),
@@ -55,7 +55,7 @@ fn renew(alloc: Global, mux: &mut Box<Mux>, answer: &mut Answer) {
 }
 
 /// Appends the number of a connection, where there is one.
-fn push_next(conn: Option<u32>, answer: &mut Answer) {
+fn push_next(conn: Option<u32>, answer: &mut CaseAnswer) {
     match conn {
         Some(conn) => answer.push_number(u64::from(conn)),
         None => answer.push(b"none"),
@@ -63,7 +63,7 @@ fn push_next(conn: Option<u32>, answer: &mut Answer) {
 }
 
 /// Appends why the connection to the server ended, where it did.
-fn push_end(alloc: Global, cause: Option<UpCause>, answer: &mut Answer) {
+fn push_end(alloc: Global, cause: Option<UpCause>, answer: &mut CaseAnswer) {
     match cause {
         Some(cause) => answer.push_display(alloc, &Status::Upstream { cause }),
         None => answer.push(b"no"),
@@ -71,12 +71,12 @@ fn push_end(alloc: Global, cause: Option<UpCause>, answer: &mut Answer) {
 }
 
 /// Appends yes or no.
-pub fn push_yes(value: bool, answer: &mut Answer) {
+pub fn push_yes(value: bool, answer: &mut CaseAnswer) {
     answer.push(if value { b"yes".as_slice() } else { b"no" });
 }
 
 /// Has an event happen, and tells what it hands out.
-fn tell_event(alloc: Global, mux: &mut Mux, event: Event, answer: &mut Answer) {
+fn tell_event(alloc: Global, mux: &mut Mux, event: Event, answer: &mut CaseAnswer) {
     match mux.step(alloc, event) {
         Ok(outcome) => tell_outcome(alloc, &outcome, answer),
         Err((_event, _memory)) => answer.fail(CaseFault::Memory),
@@ -84,7 +84,13 @@ fn tell_event(alloc: Global, mux: &mut Mux, event: Event, answer: &mut Answer) {
 }
 
 /// Has a player say bytes, or the server, and tells what each of their items hands out.
-fn tell_said(alloc: Global, mux: &mut Mux, conn: Option<u32>, text: &[u8], answer: &mut Answer) {
+fn tell_said(
+    alloc: Global,
+    mux: &mut Mux,
+    conn: Option<u32>,
+    text: &[u8],
+    answer: &mut CaseAnswer,
+) {
     match framer_of(alloc, text) {
         Ok(mut framer) => tell_items(alloc, mux, conn, &mut framer, text.len(), answer),
         Err(fault) => answer.fail(fault),
@@ -106,7 +112,7 @@ fn tell_items(
     conn: Option<u32>,
     framer: &mut Framer,
     most: usize,
-    answer: &mut Answer,
+    answer: &mut CaseAnswer,
 ) {
     for _ in 0..most {
         let Some(item) = framer.next() else {
@@ -122,7 +128,7 @@ fn tell_items(
 
 /// Has a player's first item planned and carried out, and tells what it hands out, and whether the player was busy before and is
 /// busy then.
-fn tell_plan(alloc: Global, mux: &mut Mux, conn: u32, text: &[u8], answer: &mut Answer) {
+fn tell_plan(alloc: Global, mux: &mut Mux, conn: u32, text: &[u8], answer: &mut CaseAnswer) {
     let before = mux.busy(conn);
     match item_in(alloc, text) {
         Ok(item) => tell_planned(alloc, mux, Event::Client(conn, item), answer),
@@ -135,7 +141,7 @@ fn tell_plan(alloc: Global, mux: &mut Mux, conn: u32, text: &[u8], answer: &mut 
 }
 
 /// Has an event planned and carried out, and tells what it hands out.
-fn tell_planned(alloc: Global, mux: &mut Mux, event: Event, answer: &mut Answer) {
+fn tell_planned(alloc: Global, mux: &mut Mux, event: Event, answer: &mut CaseAnswer) {
     match mux.plan(alloc, &event) {
         Ok(plan) => tell_outcome(alloc, &mux.commit(event, plan), answer),
         Err(_memory) => answer.fail(CaseFault::Memory),

@@ -1,8 +1,7 @@
 //! What becomes of a player's request.
 
 use crate::items::item_in;
-use crate::telling::{tell, tell_written};
-use case_text::{Answer, CaseFault, first_number, first_word};
+use crate::print::{tell, tell_written};
 use gate_bytes::{Memory, Text};
 use head_two::{Request2, write_request};
 use rtsp_transport::Pair;
@@ -10,6 +9,7 @@ use rtsp_uri::Bases;
 use session_one::{MOST_TRACKS, State, Track};
 use std::alloc::Global;
 use std::str;
+use test_text::{CaseAnswer, CaseFault, first_number, first_word};
 use translate_up::{Decision, View, decide, with_transport};
 
 /// The number of what goes up.
@@ -80,7 +80,7 @@ pub fn tell_decision(
     bases: &Bases,
     tracks: &[Track],
     line: &[u8],
-    answer: &mut Answer,
+    answer: &mut CaseAnswer,
 ) {
     match decided(alloc, bases, tracks, line) {
         Ok(Decision::Answer(text)) => tell(b"answer ", text.as_bytes(), answer),
@@ -102,7 +102,13 @@ fn written_setup(alloc: Global, up: Request2) -> Result<Text, Memory> {
 }
 
 /// Tells what is kept of the request of a line.
-pub fn tell_kept(alloc: Global, bases: &Bases, tracks: &[Track], line: &[u8], answer: &mut Answer) {
+pub fn tell_kept(
+    alloc: Global,
+    bases: &Bases,
+    tracks: &[Track],
+    line: &[u8],
+    answer: &mut CaseAnswer,
+) {
     match decided(alloc, bases, tracks, line) {
         Ok(decision) => push_kept(&decision, answer),
         Err(fault) => answer.fail(fault),
@@ -111,7 +117,7 @@ pub fn tell_kept(alloc: Global, bases: &Bases, tracks: &[Track], line: &[u8], an
 
 /// Appends what is kept of a SETUP until its reply comes: its number, whether the session was named, its URI, and the channels
 /// that the player gets on its connection. Of a PLAY that waits it is the URI and the scale.
-fn push_kept(decision: &Decision, answer: &mut Answer) {
+fn push_kept(decision: &Decision, answer: &mut CaseAnswer) {
     match decision {
         Decision::Setup(_, asked, pair) => {
             answer.push(b"\n= setup ");

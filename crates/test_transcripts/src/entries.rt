@@ -1,15 +1,15 @@
 //! The entries of a transcript.
 
-use crate::played::keep;
-use case_text::{Answer, CaseFault, first_number, first_word, meant};
+use crate::target::keep;
 use gate_transcript::{
     BadEntry, Entry, EntryFault, EntryKind, EntryReader, LONGEST_BODY, end_reason_in, write_entry,
 };
 use std::alloc::Global;
 use std::str;
+use test_text::{CaseAnswer, CaseFault, first_number, first_word, meant};
 
 /// Tells the entries of a transcript that is read in pieces of a size, and its first fault.
-pub fn tell_entries(alloc: Global, transcript: &[u8], size: usize, answer: &mut Answer) {
+pub fn tell_entries(alloc: Global, transcript: &[u8], size: usize, answer: &mut CaseAnswer) {
     let mut reader = EntryReader::new(alloc);
     for piece in transcript.chunks(size.max(1)) {
         tell_piece(alloc, &mut reader, piece, answer);
@@ -18,7 +18,7 @@ pub fn tell_entries(alloc: Global, transcript: &[u8], size: usize, answer: &mut 
 }
 
 /// Feeds a reader a piece, and tells the entries that it can give then: as many as bytes were fed, at most.
-fn tell_piece(alloc: Global, reader: &mut EntryReader, piece: &[u8], answer: &mut Answer) {
+fn tell_piece(alloc: Global, reader: &mut EntryReader, piece: &[u8], answer: &mut CaseAnswer) {
     if reader.feed(piece).is_err() {
         return answer.fail(CaseFault::Memory);
     }
@@ -34,7 +34,7 @@ fn tell_piece(alloc: Global, reader: &mut EntryReader, piece: &[u8], answer: &mu
 fn tell_next(
     alloc: Global,
     reader: &mut EntryReader,
-    answer: &mut Answer,
+    answer: &mut CaseAnswer,
 ) -> Result<bool, BadEntry> {
     match reader.next(alloc) {
         Ok(Some(entry)) => {
@@ -51,7 +51,7 @@ fn tell_next(
 }
 
 /// Appends a line for an entry, as it is written.
-pub fn push_entry_read(alloc: Global, entry: &Entry, answer: &mut Answer) {
+pub fn push_entry_read(alloc: Global, entry: &Entry, answer: &mut CaseAnswer) {
     let body = entry.body.as_bytes();
     if body.len() > LONGEST_BODY as usize {
         return answer.unreadable();
@@ -63,7 +63,7 @@ pub fn push_entry_read(alloc: Global, entry: &Entry, answer: &mut Answer) {
 }
 
 /// Appends what is wrong with a transcript, where something is.
-fn push_bad(alloc: Global, front: &[u8], bad: Option<BadEntry>, answer: &mut Answer) {
+fn push_bad(alloc: Global, front: &[u8], bad: Option<BadEntry>, answer: &mut CaseAnswer) {
     if let Some(bad) = bad {
         answer.push(front);
         answer.push_number(bad.place);
@@ -75,7 +75,7 @@ fn push_bad(alloc: Global, front: &[u8], bad: Option<BadEntry>, answer: &mut Ans
 
 /// Makes the call of a line at a reader, and tells what it answers: nothing where there is no entry yet, or where the
 /// transcript is whole.
-pub fn call_reader(alloc: Global, reader: &mut EntryReader, line: &[u8], answer: &mut Answer) {
+pub fn call_reader(alloc: Global, reader: &mut EntryReader, line: &[u8], answer: &mut CaseAnswer) {
     let (word, rest) = first_word(line);
     match str::from_utf8(word).unwrap_or("") {
         "feed" => keep(feed(alloc, reader, rest), answer),
@@ -94,7 +94,7 @@ fn feed(alloc: Global, reader: &mut EntryReader, text: &[u8]) -> Result<(), Case
 }
 
 /// Tells the reason of a server's end that some bytes are.
-pub fn tell_reason(alloc: Global, line: &[u8], answer: &mut Answer) {
+pub fn tell_reason(alloc: Global, line: &[u8], answer: &mut CaseAnswer) {
     match end_reason_in(line) {
         Some(reason) => answer.push_debug(alloc, &reason),
         None => answer.push(b"none"),
@@ -102,7 +102,7 @@ pub fn tell_reason(alloc: Global, line: &[u8], answer: &mut Answer) {
 }
 
 /// Tells the entry of a player's bytes, as it is written.
-pub fn tell_written(alloc: Global, line: &[u8], answer: &mut Answer) {
+pub fn tell_written(alloc: Global, line: &[u8], answer: &mut CaseAnswer) {
     let (conn, body) = first_number(line).unwrap_or((0, b""));
     if body.len() > LONGEST_BODY as usize {
         return answer.unreadable();

@@ -1,20 +1,20 @@
 //! What events of a connection do.
-ghost use Rattle.gate_machine.specs.Plans.{incoming_seen, CanCome, IsReady};
+ghost use Rattle.client_machine.specs.Plans.{incoming_seen, CanCome, IsReady};
 
 use crate::items::item_in;
 use crate::trial::Trial;
-use case_text::{Answer, CaseFault, first_word};
-use client_slot::Slot;
-use gate_machine::{
-    Answer as Told, CloseWhy, Done, Incoming, Plan, channel_for, grant_said, half_for, plan,
+use client_machine::{
+    CloseWhy, Done, Incoming, Plan, ServerReply, channel_for, grant_said, half_for, plan,
     plan_close,
 };
+use client_slot::Slot;
 use head_two::{Reply2, read_reply};
 use rtsp_head::ItemKind;
 use rtsp_small::NotifyReason;
 use session_two::Names;
 use std::alloc::Global;
 use std::str;
+use test_text::{CaseAnswer, CaseFault, first_word};
 
 /// The pair of channels to the server that is free.
 const FREE_PAIR: u8 = 5;
@@ -27,7 +27,7 @@ impl Trial {
     /// - `tell REPLY`: the server replies to its open request;
     /// - `end`: the server tells the end of what plays;
     /// - `close`: the player's connection ends.
-    pub fn event(&mut self, alloc: Global, line: &[u8], answer: &mut Answer) {
+    pub fn event(&mut self, alloc: Global, line: &[u8], answer: &mut CaseAnswer) {
         answer.push(b"\n= ");
         let (word, rest) = first_word(line);
         match str::from_utf8(word).unwrap_or("") {
@@ -48,13 +48,13 @@ impl Trial {
     }
 
     /// The player's connection ends.
-    fn close(&mut self, alloc: Global, answer: &mut Answer) {
+    fn close(&mut self, alloc: Global, answer: &mut CaseAnswer) {
         let plan = plan_close(alloc, &self.slot, CloseWhy::Ended);
         self.carry_out(plan, answer);
     }
 
     /// The player asks the request that a text means.
-    fn ask(&mut self, alloc: Global, text: &[u8], answer: &mut Answer) {
+    fn ask(&mut self, alloc: Global, text: &[u8], answer: &mut CaseAnswer) {
         match item_in(alloc, text) {
             Ok(item) => match item.kind {
                 ItemKind::Request => self.come(alloc, &Incoming::Request(&item), answer),
@@ -65,14 +65,14 @@ impl Trial {
     }
 
     /// The server tells the reply that a text means.
-    fn hear(&mut self, alloc: Global, text: &[u8], answer: &mut Answer) {
+    fn hear(&mut self, alloc: Global, text: &[u8], answer: &mut CaseAnswer) {
         match reply_in(alloc, text) {
             Ok(reply) => {
                 let source = match grant_said(&reply) {
                     Some(grant) => grant.ssrc,
                     None => None,
                 };
-                let told = Told {
+                let told = ServerReply {
                     reply: &reply,
                     source,
                 };
@@ -83,7 +83,7 @@ impl Trial {
     }
 
     /// Something comes.
-    fn come(&mut self, alloc: Global, incoming: &Incoming<'_>, answer: &mut Answer)
+    fn come(&mut self, alloc: Global, incoming: &Incoming<'_>, answer: &mut CaseAnswer)
         requires { CanCome (incoming_seen incoming.now) }
     {
         let next = self.number.wrapping_add(1);
@@ -101,7 +101,7 @@ impl Trial {
     }
 
     /// Carries a plan out, and counts the request that goes up.
-    fn carry_out(&mut self, plan: Plan, answer: &mut Answer)
+    fn carry_out(&mut self, plan: Plan, answer: &mut CaseAnswer)
         requires { IsReady self.old.slot plan }
     {
         let open = self.number;
@@ -125,7 +125,7 @@ fn reply_in(alloc: Global, text: &[u8]) -> Result<Reply2, CaseFault> {
 
 /// Appends what was done: what the player is handed; behind `^` the request that goes up; and `!` where the connection closes.
 /// A dash is nothing.
-fn push_done(done: &Done, answer: &mut Answer) {
+fn push_done(done: &Done, answer: &mut CaseAnswer) {
     answer.push_shown(done.hand.as_bytes());
     if let Some(request) = &done.request {
         answer.push(b"^");
@@ -140,7 +140,7 @@ fn push_done(done: &Done, answer: &mut Answer) {
 }
 
 /// Appends whether the channels agree.
-fn push_agreement(agree: bool, answer: &mut Answer) {
+fn push_agreement(agree: bool, answer: &mut CaseAnswer) {
     answer.push(if agree {
         b"\n= channels agree".as_slice()
     } else {

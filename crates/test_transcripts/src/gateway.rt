@@ -1,6 +1,6 @@
 //! A gateway that two connections have entered.
 ghost use Rattle.std.specs.Prelude.{[], ◌∷◌, IfOk};
-ghost use Rattle.mux_history.specs.Happenings.{entering};
+ghost use Rattle.gateway_claim.specs.Happenings.{entering};
 ghost use Rattle.gateway_mux.specs.Stands.{Stands};
 
 use gate_bytes::Memory;

@@ -1,8 +1,8 @@
 //! Items of streams, by their text.
 
-use case_text::{CaseFault, meant};
 use rtsp_frame::{Framer, Item};
 use std::alloc::Global;
+use test_text::{CaseFault, meant};
 
 /// The first item of the stream that a text means.
 pub fn item_in(alloc: Global, text: &[u8]) -> Result<Item, CaseFault> {

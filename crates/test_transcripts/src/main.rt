@@ -3,7 +3,7 @@
 //! connections. It reads cases, and prints what came of each. The gate compares that with what must come.
 //!
 //! A case is a line, and what came of it stands behind its colon. Empty lines and lines with `#` at their front are printed as
-//! they are. Bytes have the notation of [`case_text`]. The player calls the gateway `rtsp://gate.example`, and the gateway the
+//! they are. Bytes have the notation of [`test_text`]. The player calls the gateway `rtsp://gate.example`, and the gateway the
 //! server `rtsp://media.example`.
 //!
 //! Entries, in the notation of `tools/transcript`, are put together to a transcript:
@@ -53,25 +53,25 @@
 
 mod calls;
 mod decisions;
-mod drilling;
+mod drills;
 mod entries;
 mod events;
 mod gateway;
 mod items;
 mod outcomes;
-mod played;
-mod recording;
+mod print;
+mod recorders;
 mod refuser;
-mod replaying;
+mod replays;
 mod replies;
-mod seating;
+mod seats;
 mod states;
 mod statuses;
 mod steps;
-mod telling;
+mod target;
 mod trial;
 
-use crate::played::tell_all;
+use crate::target::tell_all;
 use std::io;
 use std::io::{Read, Write};
 use std::process::ExitCode;

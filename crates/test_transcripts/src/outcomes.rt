@@ -1,13 +1,13 @@
 //! What an event hands out.
 
-use case_text::Answer;
 use gate_bytes::Text;
+use gateway_claim::close_byte;
 use gateway_mux::{Closed, Outcome, Status, ToClient, UpCause, UpMessage};
-use mux_history::close_byte;
 use std::alloc::Global;
+use test_text::CaseAnswer;
 
 /// Tells an outcome: to the player, to the server, the closes and the fault, each in brackets.
-pub fn tell_outcome(alloc: Global, outcome: &Outcome, answer: &mut Answer) {
+pub fn tell_outcome(alloc: Global, outcome: &Outcome, answer: &mut CaseAnswer) {
     let before = answer.as_bytes().len();
     push_to_client(&outcome.to_client, answer);
     push_up(outcome.to_up.answer.as_ref(), answer);
@@ -20,7 +20,7 @@ pub fn tell_outcome(alloc: Global, outcome: &Outcome, answer: &mut Answer) {
 }
 
 /// Appends what a player is handed.
-fn push_to_client(piece: &Option<ToClient>, answer: &mut Answer) {
+fn push_to_client(piece: &Option<ToClient>, answer: &mut CaseAnswer) {
     if let Some(piece) = piece {
         answer.push(b"[T ");
         answer.push_number(u64::from(piece.conn));
@@ -40,7 +40,7 @@ fn message_in(message: &Option<UpMessage>) -> Option<&Text> {
 }
 
 /// Appends what the server is handed.
-fn push_up(message: Option<&Text>, answer: &mut Answer) {
+fn push_up(message: Option<&Text>, answer: &mut CaseAnswer) {
     if let Some(message) = message {
         answer.push(b"[Y ");
         answer.push_shown(message.as_bytes());
@@ -49,7 +49,7 @@ fn push_up(message: Option<&Text>, answer: &mut Answer) {
 }
 
 /// Appends which connections close.
-fn push_closed(closed: Closed, answer: &mut Answer) {
+fn push_closed(closed: Closed, answer: &mut CaseAnswer) {
     match closed {
         Closed::Nobody => {}
         Closed::One(conn, why) => {
@@ -62,7 +62,7 @@ fn push_closed(closed: Closed, answer: &mut Answer) {
 }
 
 /// Appends why the connection to the server ended.
-fn push_fault(alloc: Global, fault: Option<UpCause>, answer: &mut Answer) {
+fn push_fault(alloc: Global, fault: Option<UpCause>, answer: &mut CaseAnswer) {
     if let Some(cause) = fault {
         answer.push(b"[");
         answer.push_display(alloc, &Status::Upstream { cause });

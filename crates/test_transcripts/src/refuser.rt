@@ -1,10 +1,10 @@
 //! A core that refuses: it answers every request of a player with 501, and asks the server nothing.
 ghost use Rattle.std.specs.Prelude.{◌≡◌, ◌∷◌, [], ℕ, false, None, Some, nat_eq};
 ghost use Rattle.std.specs.HashSet.{contains};
-ghost use Rattle.mux_history.specs.Cores.{stays_alive};
-ghost use Rattle.mux_history.specs.Happenings.{happening_of, nothing_up, silent, cause_of};
-ghost use Rattle.mux_history.specs.Orderly.{closing_all};
-ghost use Rattle.test_transcripts.specs.Refusing.{refused_text, handing, closed_if, item_refused, refusing, text_for, text_planned, StandsRefusing};
+ghost use Rattle.gateway_claim.specs.Cores.{stays_alive};
+ghost use Rattle.gateway_claim.specs.Happenings.{happening_of, nothing_up, silent, cause_of};
+ghost use Rattle.gateway_claim.specs.Orderly.{closing_all};
+ghost use Rattle.test_transcripts.specs.Refuser.{refused_text, handing, closed_if, item_refused, refusing, text_for, text_planned, StandsRefusing};
 
 use gate_bytes::{Memory, Text};
 use gateway_mux::{Bases, CloseWhy, Closed, Core, Event, Outcome, ToClient, ToUp, UpCause, UpWhy};
@@ -25,7 +25,7 @@ pub struct Refuser {
 
 /// The answer to a request, where the event is one of a connection that is alive.
 #[derive(Drop)]
-pub struct Answer {
+pub struct RefuserPlan {
     text: Option<Text>,
 }
 
@@ -64,7 +64,7 @@ fn cause_of(why: UpWhy) -> UpCause
 }
 
 impl Refuser {
-    ghost use Rattle.mux_history.specs.declared.event.Event.{Event};
+    ghost use Rattle.gateway_claim.specs.declared.event.Event.{Event};
 
     /// A core to which nothing happened. It takes no memory.
     pub fn new(alloc: Global, bases: Bases) -> Refuser
@@ -155,10 +155,10 @@ fn answered(conn: u32, text: Option<Text>) -> Outcome
 impl Core for Refuser {
     ghost use Rattle.std.specs.Prelude.{◌≡◌, false, nat_eq, refl};
     ghost use Rattle.std.specs.HashSet.{contains};
-    ghost use Rattle.test_transcripts.specs.Refusing.{StandsRefusing, FollowsRefusing, text_planned};
-    ghost use Rattle.test_transcripts.specs.RefusingLaws.{one_refusal, refusals_orderly};
+    ghost use Rattle.test_transcripts.specs.Refuser.{StandsRefusing, FollowsRefusing, text_planned};
+    ghost use Rattle.test_transcripts.specs.RefuserLaws.{one_refusal, refusals_orderly};
 
-    type Plan = Answer;
+    type Plan = RefuserPlan;
 
     ghost bases = { λ core. core.bases };
 
@@ -188,7 +188,7 @@ impl Core for Refuser {
         Ok(())
     }
 
-    fn plan(&self, alloc: Global, event: &Event) -> Result<Answer, Memory> {
+    fn plan(&self, alloc: Global, event: &Event) -> Result<RefuserPlan, Memory> {
         let needed = match event {
             Event::Client(conn, item) => {
                 item.kind == ItemKind::Request && self.numbers.contains(conn)
@@ -196,14 +196,14 @@ impl Core for Refuser {
             _ => false,
         };
         if needed {
-            return Ok(Answer {
+            return Ok(RefuserPlan {
                 text: Some(Text::copy(alloc, REFUSAL)?),
             });
         }
-        Ok(Answer { text: None })
+        Ok(RefuserPlan { text: None })
     }
 
-    fn commit(&mut self, event: Event, plan: Answer) -> Outcome {
+    fn commit(&mut self, event: Event, plan: RefuserPlan) -> Outcome {
         if self.over.is_some() {
             return nothing();
         }

@@ -2,8 +2,7 @@
 ghost use Rattle.std.specs.Prelude.{◌≡◌, IfOk};
 ghost use Rattle.translate_down.specs.Settings.{setting_of, CanBeTold};
 
-use crate::telling::tell_written;
-use case_text::{Answer, CaseFault, first_word, meant};
+use crate::print::tell_written;
 use gate_bytes::{Memory, Text};
 use head_two::Reply2;
 use rtsp_head::{Head, Start, read_head};
@@ -13,13 +12,14 @@ use rtsp_uri::Bases;
 use session_one::Asked;
 use std::alloc::Global;
 use std::str;
+use test_text::{CaseAnswer, CaseFault, first_word, meant};
 use translate_down::{Context, reply_one};
 
 /// The player's channels.
 const CHANNELS: Pair = Pair { rtp: 0, rtcp: 1 };
 
 /// Tells what players get of the reply of a line: one with a session, and one without.
-pub fn tell_reply(alloc: Global, bases: &Bases, line: &[u8], answer: &mut Answer) {
+pub fn tell_reply(alloc: Global, bases: &Bases, line: &[u8], answer: &mut CaseAnswer) {
     let (method, line) = first_word(line);
     let (named, line) = first_word(line);
     let (source, line) = first_word(line);

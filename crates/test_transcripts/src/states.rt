@@ -1,15 +1,15 @@
 //! The states of a session.
 
-use case_text::{Answer, first_number, first_word};
 use rtsp_small::{Method, read_method};
 use session_one::{State, after, allowed};
 use std::alloc::Global;
+use test_text::{CaseAnswer, first_number, first_word};
 
 /// The states, in the order in which they are told.
 const STATES: [State; 3] = [State::Init, State::Ready, State::Playing];
 
 /// Tells in which states the method of a line is allowed.
-pub fn tell_allowed(line: &[u8], answer: &mut Answer) {
+pub fn tell_allowed(line: &[u8], answer: &mut CaseAnswer) {
     let Some(method) = read_method(line) else {
         return answer.unreadable();
     };
@@ -24,7 +24,7 @@ pub fn tell_allowed(line: &[u8], answer: &mut Answer) {
 }
 
 /// Tells the state after a reply of a line, by the state before it.
-pub fn tell_after(alloc: Global, line: &[u8], answer: &mut Answer) {
+pub fn tell_after(alloc: Global, line: &[u8], answer: &mut CaseAnswer) {
     let Some((method, code)) = reply_in(line) else {
         return answer.unreadable();
     };

@@ -1,10 +1,10 @@
 //! How a run ended, and how that is told.
 
-use case_text::Answer;
 use gate_transcript::BadEntryKind;
 use gateway_mux::{FramingFault, Status, UpCause};
 use rtsp_head::BadKind;
 use std::alloc::Global;
+use test_text::CaseAnswer;
 
 /// Ends of runs.
 const ENDS: [Status; 38] = [
@@ -106,9 +106,9 @@ const ENDS: [Status; 38] = [
 ];
 
 /// Tells the exit status and the fault line of a run that ended so.
-pub fn tell_status(alloc: Global, line: &[u8], answer: &mut Answer) {
+pub fn tell_status(alloc: Global, line: &[u8], answer: &mut CaseAnswer) {
     for status in ENDS {
-        let mut name = Answer::new(alloc);
+        let mut name = CaseAnswer::new(alloc);
         name.push_debug(alloc, &status);
         if name.as_bytes() == line {
             answer.push_number(u64::from(status.exit_code()));

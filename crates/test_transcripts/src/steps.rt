@@ -3,10 +3,9 @@ ghost use Rattle.std.specs.Prelude.{◌≡◌, true, IfOk, IfSome};
 ghost use Rattle.rtsp_small.specs.Sessions.{is_session_id};
 
 use crate::items::item_in;
+use crate::print::{push_optional, tell};
 use crate::replies::asked;
-use crate::telling::{push_optional, tell};
 use crate::trial::Trial;
-use case_text::{Answer, CaseFault, first_number, first_word};
 use client_slot::{LONGEST_URI, MOST_WAITING, Pending, Slot, Waiting};
 use gate_bytes::{Memory, Text};
 use play_queue::MOST_PLAYS;
@@ -17,6 +16,7 @@ use session_one::{MOST_TRACKS, Play, Track};
 use session_two::Names;
 use std::alloc::Global;
 use std::str;
+use test_text::{CaseAnswer, CaseFault, first_number, first_word};
 
 impl Trial {
     /// Takes the step of a line, and tells the connection after it:
@@ -32,7 +32,7 @@ impl Trial {
     /// - `close`: the connection closes;
     /// - `closing NUMBER`: its TEARDOWN goes up with this number;
     /// - `new`: another connection enters.
-    pub fn step(&mut self, alloc: Global, line: &[u8], answer: &mut Answer) {
+    pub fn step(&mut self, alloc: Global, line: &[u8], answer: &mut CaseAnswer) {
         let (word, rest) = first_word(line);
         match str::from_utf8(word).unwrap_or("") {
             "new" => self.renew(alloc, answer),
@@ -50,7 +50,7 @@ impl Trial {
     /// - `plays`: the URI of the first PLAY that waits, and of the PLAY that is due;
     /// - `requests`: the requests that wait;
     /// - `closing NUMBER`: the closing TEARDOWN, which goes up with this number.
-    pub fn show(&mut self, line: &[u8], answer: &mut Answer) {
+    pub fn show(&mut self, line: &[u8], answer: &mut CaseAnswer) {
         let (word, rest) = first_word(line);
         match str::from_utf8(word).unwrap_or("") {
             "plays" => show_plays(&self.slot, answer),
@@ -62,7 +62,7 @@ impl Trial {
 }
 
 /// The same of the other steps. Any word that is none is a method.
-fn advance(alloc: Global, slot: &mut Slot, word: &[u8], rest: &[u8], answer: &mut Answer) {
+fn advance(alloc: Global, slot: &mut Slot, word: &[u8], rest: &[u8], answer: &mut CaseAnswer) {
     match str::from_utf8(word).unwrap_or("") {
         "wait" => wait(alloc, slot, rest, answer),
         "next" => drop(slot.next_waiting()),
@@ -87,7 +87,7 @@ fn end(slot: &mut Slot, word: &[u8]) {
 }
 
 /// The player's request with this method goes up, and a SETUP with the stream that it sets up.
-fn ask(alloc: Global, slot: &mut Slot, method: &[u8], uri: &[u8], answer: &mut Answer) {
+fn ask(alloc: Global, slot: &mut Slot, method: &[u8], uri: &[u8], answer: &mut CaseAnswer) {
     let Some(method) = read_method(method) else {
         return answer.unreadable();
     };
@@ -118,7 +118,7 @@ fn track(alloc: Global, method: Method, uri: &[u8]) -> Result<Option<Track>, Mem
 }
 
 /// A final reply comes.
-fn reply(alloc: Global, slot: &mut Slot, line: &[u8], answer: &mut Answer) {
+fn reply(alloc: Global, slot: &mut Slot, line: &[u8], answer: &mut CaseAnswer) {
     let (number, line) = first_word(line);
     let (code, id) = first_number(line).unwrap_or((0, b""));
     let Ok(id) = id_in(alloc, id) else {
@@ -143,7 +143,7 @@ fn id_in(alloc: Global, word: &[u8]) -> Result<Option<Text>, Memory>
 }
 
 /// A PLAY of this URI waits.
-fn queue(alloc: Global, slot: &mut Slot, uri: &[u8], answer: &mut Answer) {
+fn queue(alloc: Global, slot: &mut Slot, uri: &[u8], answer: &mut CaseAnswer) {
     let Ok(range) = read_one(b"npt=20-30") else {
         return answer.unreadable();
     };
@@ -162,7 +162,7 @@ fn queue(alloc: Global, slot: &mut Slot, uri: &[u8], answer: &mut Answer) {
 }
 
 /// The request that a text means waits.
-fn wait(alloc: Global, slot: &mut Slot, text: &[u8], answer: &mut Answer) {
+fn wait(alloc: Global, slot: &mut Slot, text: &[u8], answer: &mut CaseAnswer) {
     match waiting_in(alloc, text) {
         Ok(waiting) if slot.waiting() < MOST_WAITING => slot.wait(waiting),
         Ok(_waiting) => answer.unreadable(),
@@ -189,7 +189,7 @@ fn waiting_in(alloc: Global, text: &[u8]) -> Result<Waiting, CaseFault> {
 /// 7. how many requests wait;
 /// 8. what the open request is for: its method, released or closing;
 /// 9. whether it is alive or closed.
-fn push_slot(alloc: Global, slot: &Slot, answer: &mut Answer) {
+fn push_slot(alloc: Global, slot: &Slot, answer: &mut CaseAnswer) {
     answer.push_debug(alloc, &slot.state());
     answer.push(b" ");
     push_optional(slot.session(), answer);
@@ -211,7 +211,7 @@ fn push_slot(alloc: Global, slot: &Slot, answer: &mut Answer) {
 }
 
 /// Appends the number of the PLAY that runs, or a dash.
-fn push_running(number: Option<u32>, answer: &mut Answer) {
+fn push_running(number: Option<u32>, answer: &mut CaseAnswer) {
     match number {
         Some(number) => answer.push_number(u64::from(number)),
         None => answer.push(b"-"),
@@ -229,7 +229,7 @@ fn purpose(slot: &Slot) -> &'static [u8] {
 }
 
 /// Appends the closing TEARDOWN, or a dash.
-fn show_closing(closing: Option<Text>, answer: &mut Answer) {
+fn show_closing(closing: Option<Text>, answer: &mut CaseAnswer) {
     match closing {
         Some(text) => tell(b"", text.as_bytes(), answer),
         None => answer.push(b"\n= -"),
@@ -237,7 +237,7 @@ fn show_closing(closing: Option<Text>, answer: &mut Answer) {
 }
 
 /// Appends the URI of the first PLAY that waits, and of the PLAY that is due.
-fn show_plays(slot: &Slot, answer: &mut Answer) {
+fn show_plays(slot: &Slot, answer: &mut CaseAnswer) {
     answer.push(b"\n=");
     for play in [slot.first_queued(), slot.due()] {
         answer.push(b" ");
@@ -249,7 +249,7 @@ fn show_plays(slot: &Slot, answer: &mut Answer) {
 }
 
 /// Appends the requests that wait.
-fn show_requests(slot: &Slot, answer: &mut Answer) {
+fn show_requests(slot: &Slot, answer: &mut CaseAnswer) {
     for at in 0..slot.waiting() {
         if let Some(item) = slot.waiting_at(at) {
             tell(b"", item.bytes.as_bytes(), answer);

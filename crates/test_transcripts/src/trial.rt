@@ -4,13 +4,13 @@ use crate::decisions::{tell_decision, tell_kept, tracks};
 use crate::gateway::bases;
 use crate::replies::tell_reply;
 use crate::states::{tell_after, tell_allowed};
-use case_text::{Answer, CaseFault};
-use client_seats::Seats;
 use client_slot::Slot;
+use connection_table::ConnectionTable;
 use gate_bytes::Memory;
 use rtsp_uri::Bases;
 use session_one::Track;
 use std::alloc::Global;
+use test_text::{CaseAnswer, CaseFault};
 
 /// What cases of one connection are played at: this connection, and the number of the last request that went up from it; streams that other
 /// connections have set up; and the connections that a gateway keeps.
@@ -19,7 +19,7 @@ pub struct Trial {
     pub(crate) bases: Bases,
     pub(crate) slot: Slot,
     pub(crate) number: u32,
-    pub(crate) seats: Seats,
+    pub(crate) seats: ConnectionTable,
     tracks: Vec<Track>,
 }
 
@@ -31,13 +31,13 @@ impl Trial {
             tracks: tracks(alloc)?,
             slot: Slot::new(alloc)?,
             number: 0,
-            seats: Seats::new(alloc),
+            seats: ConnectionTable::new(alloc),
         };
         Ok(Box::new(alloc, trial)?)
     }
 
     /// Does what a word and the rest of its line say, and tells what came.
-    pub fn tell(&mut self, alloc: Global, word: &str, rest: &[u8], answer: &mut Answer) {
+    pub fn tell(&mut self, alloc: Global, word: &str, rest: &[u8], answer: &mut CaseAnswer) {
         match word {
             "decide" => tell_decision(alloc, &self.bases, &self.tracks, rest, answer),
             "keep" => tell_kept(alloc, &self.bases, &self.tracks, rest, answer),
@@ -49,7 +49,7 @@ impl Trial {
     }
 
     /// The same of a word that changes the connection, or tells it.
-    fn change(&mut self, alloc: Global, word: &str, rest: &[u8], answer: &mut Answer) {
+    fn change(&mut self, alloc: Global, word: &str, rest: &[u8], answer: &mut CaseAnswer) {
         match word {
             "step" => self.step(alloc, rest, answer),
             "show" => self.show(rest, answer),
@@ -60,7 +60,7 @@ impl Trial {
     }
 
     /// Another connection enters.
-    pub(crate) fn renew(&mut self, alloc: Global, answer: &mut Answer) {
+    pub(crate) fn renew(&mut self, alloc: Global, answer: &mut CaseAnswer) {
         match Slot::new(alloc) {
             Ok(slot) => self.slot = slot,
             Err(_memory) => answer.fail(CaseFault::Memory),

@@ -13,7 +13,7 @@ use Rattle.rtp_info.specs.Parameters.{Says, Seq, Time, Other, seq_of, time_of, p
 use Rattle.rtp_info.specs.Groups.{has_leading_blank, is_label, before_label, group_of, each_group, first_note, first_group, groups_of}
 use Rattle.rtp_info.specs.Specs.{is_url_byte, is_url, spec_with, spec_of}
 use Rattle.rtp_info.specs.Infos.{info_of}
-use Rattle.rtp_info.specs.Written.{seq_text, time_text, entry_text, further_text, info_text}
+use Rattle.rtp_info.specs.InfoText.{seq_text, time_text, entry_text, further_text, info_text}
 use Rattle.rtsp_uri.specs.Swaps.{swapped}
 use Rattle.translate_down.specs.Infos.{swapped_entry, swapped_entries}
 use Rattle.translate_down.proofs.VisibleLemmas.{is_visible, visible_more, kind_visible, decimal_visible}

@@ -1,5 +1,5 @@
 pub mod FieldLemmas
-pub mod ToldLemmas
+pub mod PlayerLemmas
 pub mod VisibleLemmas
 pub mod ValueLemmas
 pub mod InfoLemmas

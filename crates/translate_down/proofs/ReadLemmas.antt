@@ -4,18 +4,18 @@ use Rattle.std.specs.Prelude.{codes, option_map, option_and_then}
 use Rattle.std.specs.List.{list_all}
 use Rattle.rtsp_head.specs.Headers.{field_of}
 use Rattle.rtsp_head.specs.Messages.{messages_of}
-use Rattle.rtsp_head.specs.Written.{is_value, is_header}
+use Rattle.rtsp_head.specs.HeadText.{is_value, is_header}
 use Rattle.rtsp_head.proofs.SoundLemmas.{field_sound}
 use Rattle.rtsp_small.specs.declared.method.Method.{Method}
 use Rattle.rtsp_small.specs.declared.method.Method.TheVariants.{Options, Describe, Setup, Play, Pause, Teardown, GetParameter, SetParameter}
 use Rattle.rtsp_small.specs.Sessions.{is_session_id, session_text}
 use Rattle.rtsp_small.specs.Scales.{is_scale}
 use Rattle.rtsp_transport.specs.declared.channels.Pair.{Pair}
-use Rattle.rtsp_transport.specs.Written.{grant_text}
+use Rattle.rtsp_transport.specs.GrantText.{grant_text}
 use Rattle.rtsp_range.specs.declared.range.Range.{Range}
 use Rattle.rtsp_range.specs.declared.fault.RangeFault.{RangeFault}
 use Rattle.rtsp_range.specs.Meaning.{Two, meaning}
-use Rattle.rtsp_range.specs.Written.{range_text}
+use Rattle.rtsp_range.specs.RangeText.{range_text}
 use Rattle.rtsp_range.proofs.MeaningSound.{meaning_sound}
 use Rattle.rtsp_status.proofs.RowLemmas.{told_has_reason}
 use Rattle.rtsp_uri.specs.Swaps.{swapped}
@@ -33,7 +33,7 @@ use Rattle.translate_down.specs.Contents.{comes_with_description, comes_with_bod
 use Rattle.rtsp_small.specs.Methods.{methods_text}
 use Rattle.session_one.specs.Table.{is_success}
 use Rattle.translate_down.specs.Replies.{Told, unsupported_value, refusal_of, tells_methods, success_fields, success_of, reply_down, reply_text_of}
-use Rattle.translate_down.specs.Readings.{CanBeRead}
+use Rattle.translate_down.specs.Readable.{CanBeRead}
 use Rattle.translate_down.proofs.VisibleLemmas.{is_visible, visible_value}
 use Rattle.translate_down.proofs.ValueLemmas.{session_visible, grant_visible, range_visible, base_visible, swapped_holds}
 use Rattle.rtsp_small.specs.declared.session.TheConstants.{TIMEOUT_DIGITS}

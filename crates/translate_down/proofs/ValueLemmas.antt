@@ -8,7 +8,7 @@ use Rattle.std.proofs.lemmas.List.{drop_at, length-append}
 use Rattle.rtsp_small.specs.Sessions.{is_session_byte, is_session_id, timeout_text, session_text}
 use Rattle.rtsp_transport.specs.declared.channels.Pair.{Pair}
 use Rattle.rtsp_transport.specs.Sources.{source_digits}
-use Rattle.rtsp_transport.specs.Written.{pair_text, source_text, grant_text}
+use Rattle.rtsp_transport.specs.GrantText.{pair_text, source_text, grant_text}
 use Rattle.rtsp_transport.proofs.HexLemmas.{source_hex}
 use Rattle.rtsp_range.specs.declared.npt.NptTime.{NptTime}
 use Rattle.rtsp_range.specs.declared.npt.NptTime.TheVariants.{Now, At}
@@ -20,8 +20,8 @@ use Rattle.rtsp_range.specs.declared.range.Range.{Range}
 use Rattle.rtsp_range.specs.declared.range.Range.TheVariants as ranges
 use Rattle.rtsp_range.specs.Npt.{latest}
 use Rattle.rtsp_range.specs.Writable.{if_there, is_npt_time, can_be_written}
-use Rattle.rtsp_range.specs.Written.{padded, without_zeros, fraction_text, npt_text, frames_text, parts_text, smpte_main, smpte_text, clock_text, moment_text, text_if, rate_text, range_text}
-use Rattle.rtsp_range.proofs.PaddedLemmas.{padded_digits}
+use Rattle.rtsp_range.specs.RangeText.{padded, without_zeros, fraction_text, npt_text, frames_text, parts_text, smpte_main, smpte_text, clock_text, moment_text, text_if, rate_text, range_text}
+use Rattle.rtsp_range.proofs.PadLemmas.{padded_digits}
 use Rattle.rtsp_range.proofs.FractionLemmas.{nanos_digits}
 use Rattle.rtsp_uri.specs.declared.grammar.UriPlaces.{UriPlaces}
 use Rattle.rtsp_uri.specs.Uris.{scheme, is_name_byte, is_address_byte, is_rest, is_rest_byte, places_of}

@@ -7,7 +7,7 @@ use Rattle.std.proofs.lemmas.Bool.{and_parts}
 use Rattle.std.proofs.lemmas.Fmt.{digits_decimal}
 use Rattle.std.proofs.lemmas.List.Folds.{list_all-append}
 use Rattle.gate_bytes.specs.Tokens.{is_blank, without_front, without_end, trimmed}
-use Rattle.rtsp_head.specs.Written.{is_line_text, is_trimmed, is_value}
+use Rattle.rtsp_head.specs.HeadText.{is_line_text, is_trimmed, is_value}
 use Rattle.rtsp_head.proofs.DigitLemmas.{own}
 use Rattle.rtsp_uri.specs.Uris.{is_rest_byte}
 

@@ -3,12 +3,13 @@ use Rattle.std.specs.Prelude.{ℕ, List, map, Option, option_map}
 use Rattle.rtsp_uri.specs.Swaps.{swapped}
 use Rattle.rtp_info.specs.declared.entry.InfoEntry.{InfoEntry}
 use Rattle.rtp_info.specs.Infos.{info_of}
-use Rattle.rtp_info.specs.Written.{info_text}
+use Rattle.rtp_info.specs.InfoText.{info_text}
 
 -- what is said of a stream, under the player's address
 abbrev pub swapped_entry : List ℕ → List ℕ → InfoEntry → InfoEntry
 swapped_entry from to entry = record { url = swapped from to entry.url; seq = entry.seq; rtptime = entry.rtptime }
 
+-- entries whose URLs a player can use
 abbrev pub swapped_entries : List ℕ → List ℕ → List InfoEntry → List InfoEntry
 swapped_entries from to entries = map (swapped_entry from to) entries
 

@@ -1,7 +1,7 @@
 pub mod Contents
 pub mod Infos
 pub mod Plays
-pub mod Readings
+pub mod Readable
 pub mod Replies
 pub mod Sessions
 pub mod Settings

@@ -8,7 +8,7 @@ use Rattle.rtsp_small.specs.Scales.{is_scale}
 use Rattle.rtsp_range.specs.declared.range.Range.{Range}
 use Rattle.rtsp_range.specs.declared.fault.RangeFault.{RangeFault}
 use Rattle.rtsp_range.specs.Meaning.{Two, meaning}
-use Rattle.rtsp_range.specs.Written.{range_text}
+use Rattle.rtsp_range.specs.RangeText.{range_text}
 use Rattle.rtsp_head.specs.Optional.{said_where}
 use Rattle.translate_down.specs.Settings.{Setting}
 use Rattle.translate_down.specs.Infos.{info_told}
@@ -24,6 +24,7 @@ moves Play = true
 moves Pause = true
 moves method = false
 
+-- a range that can be read, as it is written
 abbrev pub range_with : Result Range RangeFault → Option (List ℕ)
 range_with (Ok range) = Some (range_text range)
 range_with (Err fault) = None

@@ -39,6 +39,7 @@ refusal_of asked told = record {
   body = [];
 }
 
+-- whether the reply to this method lists methods
 abbrev pub tells_methods : Method → Bool
 tells_methods Options = true
 tells_methods method = false

@@ -3,7 +3,7 @@ use Rattle.std.specs.Prelude.{ℕ, Bool, true, false, List, Option, None, option
 use Rattle.rtsp_small.specs.declared.method.Method.{Method}
 use Rattle.rtsp_small.specs.declared.method.Method.TheVariants.{Setup, Teardown}
 use Rattle.rtsp_small.specs.Sessions.{session_text}
-use Rattle.rtsp_transport.specs.Written.{grant_text}
+use Rattle.rtsp_transport.specs.GrantText.{grant_text}
 use Rattle.session_one.specs.declared.parts.Asked.{Asked}
 use Rattle.rtsp_head.specs.Optional.{said_where}
 use Rattle.translate_down.specs.Settings.{Setting}
@@ -20,6 +20,7 @@ tells_session_of Setup named = true
 tells_session_of Teardown named = false
 tells_session_of method named = named
 
+-- whether the reply tells the session
 abbrev pub tells_session : Asked → Bool
 tells_session asked = tells_session_of asked.method asked.named
 

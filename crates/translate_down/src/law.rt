@@ -8,7 +8,7 @@ ghost use Rattle.std.specs.Option.{option_map};
 ghost use Rattle.head_one.specs.Replies.{reply_message, client_reply_in};
 ghost use Rattle.session_one.specs.declared.parts.Asked.{Asked};
 ghost use Rattle.translate_down.specs.Settings.{Setting};
-ghost use Rattle.translate_down.specs.Readings.{CanBeRead};
+ghost use Rattle.translate_down.specs.Readable.{CanBeRead};
 ghost use Rattle.translate_down.specs.Replies.{Told, is_no_transport, public_value, success_fields, reply_down, reply_text_of};
 ghost use Rattle.translate_down.specs.Sessions.{session_value, transport_value};
 ghost use Rattle.translate_down.specs.Plays.{range_value, scale_value, info_value};

@@ -11,7 +11,7 @@ use Rattle.rtsp_head.specs.declared.head.Head.{Head}
 use Rattle.rtsp_head.specs.declared.start.Start.{Start}
 use Rattle.rtsp_head.specs.declared.start.Start.TheVariants.{Request, Status}
 use Rattle.rtsp_head.specs.declared.fault.HeadFault.{HeadFault}
-use Rattle.rtsp_head.specs.Written.{is_header, CanBeWritten}
+use Rattle.rtsp_head.specs.HeadText.{is_header, CanBeWritten}
 use Rattle.rtsp_head.specs.Optional.{Field, named, field_headers}
 use Rattle.rtsp_head.proofs.SoundLemmas.{field_sound, read_sound}
 use Rattle.rtsp_head.proofs.FieldLemmas.{EachField, HasValue}
@@ -24,11 +24,11 @@ use Rattle.gate_bytes.specs.Tokens.{is_token}
 use Rattle.rtsp_small.specs.Methods.{methods_text}
 use Rattle.rtsp_status.specs.Reasons.{has_reason}
 use Rattle.rtsp_range.specs.declared.range.Range.{Range}
-use Rattle.rtsp_range.specs.Written.{range_text}
+use Rattle.rtsp_range.specs.RangeText.{range_text}
 use Rattle.head_one.specs.declared.request.Request1.{Request1}
 use Rattle.head_one.specs.declared.reply.Reply1.{Reply1}
 use Rattle.head_one.specs.declared.refusal.Refusal.{Refusal}
-use Rattle.head_one.specs.Refusals.{Parts, request_parts, said, required, first_code, parts_checked, refusal, no_request}
+use Rattle.head_one.specs.Refusals.{RequestFields, request_parts, said, required, first_code, parts_checked, refusal, no_request}
 use Rattle.head_one.specs.Replies.{IsReply}
 use Rattle.head_one.specs.Requests.{request_checked, request_at_start, request_of_head, request_of_item}
 use Rattle.head_one.proofs.ReadLemmas.{reply_read, replies_read}
@@ -161,7 +161,7 @@ when_551 : (test : Bool) (value : Option (List ℕ)) → AreValues value → Are
 when_551 true value v = v
 when_551 false value v = tt
 
-checked_told : (checked : Result (Method × ℕ) ℕ) (parts : Parts) (head : Head) (body : List ℕ) (refused : Refusal) → IfSome parts.cseq (λ n. n < 10 ^ CSEQ_ONE_DIGITS) → AreValues parts.required →
+checked_told : (checked : Result (Method × ℕ) ℕ) (parts : RequestFields) (head : Head) (body : List ℕ) (refused : Refusal) → IfSome parts.cseq (λ n. n < 10 ^ CSEQ_ONE_DIGITS) → AreValues parts.required →
     request_checked checked parts head body ≡ Err refused → IsToldRefusal refused
 checked_told (Ok both) parts head body refused small value e = cc
 checked_told (Err code) parts head body refused small value e =

@@ -14,8 +14,8 @@ use Rattle.rtsp_range.specs.declared.range.Range.{Range}
 use Rattle.rtsp_range.specs.declared.range.Range.TheVariants as ranges
 use Rattle.rtsp_range.specs.Npt.{latest}
 use Rattle.rtsp_range.specs.Writable.{if_there, is_npt_time, can_be_written}
-use Rattle.rtsp_range.specs.Written.{padded, without_zeros, fraction_text, npt_text, frames_text, parts_text, smpte_main, smpte_text, clock_text, moment_text, text_if, rate_text, range_text}
-use Rattle.rtsp_range.proofs.PaddedLemmas.{padded_digits}
+use Rattle.rtsp_range.specs.RangeText.{padded, without_zeros, fraction_text, npt_text, frames_text, parts_text, smpte_main, smpte_text, clock_text, moment_text, text_if, rate_text, range_text}
+use Rattle.rtsp_range.proofs.PadLemmas.{padded_digits}
 use Rattle.rtsp_range.proofs.FractionLemmas.{nanos_digits}
 use Rattle.translate_up.proofs.VisibleLemmas.{is_visible, all_joined, digits_visible, decimal_visible}
 

@@ -5,7 +5,7 @@ use Rattle.std.proofs.lemmas.Bool.{and_parts}
 use Rattle.rtsp_head.specs.Items.{Shape}
 use Rattle.rtsp_head.specs.Heads.{head_of}
 use Rattle.rtsp_head.specs.Starts.{names_protocol}
-use Rattle.rtsp_head.specs.Written.{is_part, is_line_text, is_start, is_header, CanBeWritten}
+use Rattle.rtsp_head.specs.HeadText.{is_part, is_line_text, is_start, is_header, CanBeWritten}
 use Rattle.rtsp_head.specs.declared.head.Head.{Head}
 use Rattle.rtsp_head.specs.declared.start.Start.{Start}
 use Rattle.rtsp_head.specs.declared.start.Start.TheVariants.{Request, Status}
@@ -13,7 +13,7 @@ use Rattle.rtsp_head.specs.declared.fault.HeadFault.{HeadFault}
 use Rattle.rtsp_head.proofs.SoundLemmas.{read_sound}
 use Rattle.rtsp_small.specs.declared.method.Method.{Method}
 use Rattle.head_one.specs.declared.request.Request1.{Request1}
-use Rattle.head_one.specs.Refusals.{Parts, request_parts, client_cseq, head_rules, first_code, method_and_number, unless_refused, parts_checked}
+use Rattle.head_one.specs.Refusals.{RequestFields, request_parts, client_cseq, head_rules, first_code, method_and_number, unless_refused, parts_checked}
 use Rattle.rtsp_small.specs.declared.cseq.TheConstants.{CSEQ_ONE_DIGITS}
 use Rattle.gate_bytes.specs.Numbers.{number_in}
 use Rattle.gate_bytes.proofs.DigitLemmas.{number_small}
@@ -47,7 +47,7 @@ number_read (Some method) (Some cseq) both small e =
 number_read (Some method) None both small e = cc
 number_read None cseq both small e = cc
 
-unless_small : (code : Option ℕ) (parts : Parts) (both : Method × ℕ) → IfSome parts.cseq (λ n. n < 10 ^ CSEQ_ONE_DIGITS) → unless_refused code parts ≡ Ok both → both.1 < 10 ^ CSEQ_ONE_DIGITS
+unless_small : (code : Option ℕ) (parts : RequestFields) (both : Method × ℕ) → IfSome parts.cseq (λ n. n < 10 ^ CSEQ_ONE_DIGITS) → unless_refused code parts ≡ Ok both → both.1 < 10 ^ CSEQ_ONE_DIGITS
 unless_small None parts both small e = number_read parts.known parts.cseq both small e
 unless_small (Some code) parts both small e = cc
 
@@ -59,7 +59,7 @@ cseq_by (Some text) = number_small CSEQ_ONE_DIGITS text
 pub cseq_small : (headers : List Header) → IfSome (client_cseq headers) (λ n. n < 10 ^ CSEQ_ONE_DIGITS)
 cseq_small headers = cseq_by (field_of headers (codes "CSeq"))
 
-checked_read : (checked : Result (Method × ℕ) ℕ) (parts : Parts) (head : Head) (body : List ℕ) (request : Request1) → ((both : Method × ℕ) → checked ≡ Ok both → both.1 < 10 ^ CSEQ_ONE_DIGITS) →
+checked_read : (checked : Result (Method × ℕ) ℕ) (parts : RequestFields) (head : Head) (body : List ℕ) (request : Request1) → ((both : Method × ℕ) → checked ≡ Ok both → both.1 < 10 ^ CSEQ_ONE_DIGITS) →
     is_target parts.uri ≡ true → list_all is_header head.headers ≡ true → length body < 2 ^ 64 → request_checked checked parts head body ≡ Ok request → Read request
 checked_read (Ok both) parts head body request small u h b e =
     let made : Request1 = record { method = both.0; uri = parts.uri; cseq = both.1; head = head; body = body } in

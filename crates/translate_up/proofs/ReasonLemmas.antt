@@ -11,7 +11,7 @@ use Rattle.rtsp_head.specs.declared.start.Start.TheVariants.{Request, Status}
 use Rattle.rtsp_head.specs.declared.fault.HeadFault.{HeadFault}
 use Rattle.rtsp_small.specs.declared.method.Method.{Method}
 use Rattle.head_one.specs.declared.refusal.Refusal.{Refusal}
-use Rattle.head_one.specs.Refusals.{Rule, Parts, request_parts, head_rules, first_code, method_and_number, unless_refused, parts_checked, refusal, no_request}
+use Rattle.head_one.specs.Refusals.{Rule, RequestFields, request_parts, head_rules, first_code, method_and_number, unless_refused, parts_checked, refusal, no_request}
 use Rattle.head_one.specs.Requests.{request_checked, request_at_start, request_of_head, request_of_item}
 
 -- What holds of the code of each rule holds of the first that applies.
@@ -30,11 +30,11 @@ read_reason (Some method) (Some cseq) code e = cc
 read_reason (Some method) None code e = let same : 400 ≡ code = cc in subst (λ (c : ℕ). has_reason c ≡ true) same refl
 read_reason None cseq code e = let same : 501 ≡ code = cc in subst (λ (c : ℕ). has_reason c ≡ true) same refl
 
-unless_reason : (found : Option ℕ) (parts : Parts) (code : ℕ) → ((one : ℕ) → found ≡ Some one → has_reason one ≡ true) → unless_refused found parts ≡ Err code → has_reason code ≡ true
+unless_reason : (found : Option ℕ) (parts : RequestFields) (code : ℕ) → ((one : ℕ) → found ≡ Some one → has_reason one ≡ true) → unless_refused found parts ≡ Err code → has_reason code ≡ true
 unless_reason None parts code known e = read_reason parts.known parts.cseq code e
 unless_reason (Some one) parts code known e = let same : one ≡ code = cc in subst (λ (c : ℕ). has_reason c ≡ true) same (known one refl)
 
-checked_reason : (checked : Result (Method × ℕ) ℕ) (parts : Parts) (head : Head) (body : List ℕ) (refused : Refusal) → ((code : ℕ) → checked ≡ Err code → has_reason code ≡ true) →
+checked_reason : (checked : Result (Method × ℕ) ℕ) (parts : RequestFields) (head : Head) (body : List ℕ) (refused : Refusal) → ((code : ℕ) → checked ≡ Err code → has_reason code ≡ true) →
     request_checked checked parts head body ≡ Err refused → has_reason refused.code ≡ true
 checked_reason (Ok both) parts head body refused known e = cc
 checked_reason (Err code) parts head body refused known e =

@@ -8,7 +8,7 @@ use Rattle.gate_bytes.specs.Tokens.{equal_fold}
 use Rattle.rtsp_head.specs.declared.header.Header.{Header}
 use Rattle.rtsp_head.specs.declared.start.Start.TheVariants.{Request}
 use Rattle.rtsp_head.specs.Messages.{is_added}
-use Rattle.rtsp_head.specs.Written.{is_part, is_line_text, is_value, is_start, is_header}
+use Rattle.rtsp_head.specs.HeadText.{is_part, is_line_text, is_value, is_start, is_header}
 use Rattle.rtsp_head.proofs.SoundLemmas.{field_sound}
 use Rattle.rtsp_head.proofs.MessageLemmas.{message_sound}
 use Rattle.rtsp_small.specs.declared.method.Method.{Method}
@@ -17,7 +17,7 @@ use Rattle.rtsp_small.specs.Methods.{method_name}
 use Rattle.rtsp_small.specs.Scales.{is_scale}
 use Rattle.rtsp_small.specs.Sessions.{is_session_id}
 use Rattle.rtsp_range.specs.declared.range.Range.{Range}
-use Rattle.rtsp_range.specs.Written.{range_text}
+use Rattle.rtsp_range.specs.RangeText.{range_text}
 use Rattle.rtsp_range.specs.Writable.{can_be_written}
 use Rattle.rtsp_transport.specs.declared.channels.Pair.{Pair}
 use Rattle.head_one.specs.declared.request.Request1.{Request1}

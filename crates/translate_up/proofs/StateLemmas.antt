@@ -10,7 +10,7 @@ use Rattle.rtsp_head.specs.Items.{Shape}
 use Rattle.rtsp_head.specs.Heads.{head_of}
 use Rattle.rtsp_head.specs.Headers.{field_of}
 use Rattle.rtsp_head.specs.Optional.{Field, named, field_headers}
-use Rattle.rtsp_head.specs.Written.{is_header, CanBeWritten}
+use Rattle.rtsp_head.specs.HeadText.{is_header, CanBeWritten}
 use Rattle.rtsp_head.specs.declared.header.Header.{Header}
 use Rattle.rtsp_head.specs.declared.head.Head.{Head}
 use Rattle.rtsp_head.specs.declared.start.Start.{Start}
@@ -26,13 +26,13 @@ use Rattle.rtsp_small.specs.Sessions.{is_session_id}
 use Rattle.rtsp_status.specs.Reasons.{has_reason}
 use Rattle.rtsp_range.specs.declared.range.Range.{Range}
 use Rattle.rtsp_range.specs.declared.fault.RangeFault.{RangeFault}
-use Rattle.rtsp_range.specs.Written.{range_text}
+use Rattle.rtsp_range.specs.RangeText.{range_text}
 use Rattle.rtsp_transport.specs.declared.channels.Pair.{Pair}
 use Rattle.rtsp_transport.specs.Channels.{AreApart}
 use Rattle.head_one.specs.declared.request.Request1.{Request1}
 use Rattle.head_one.specs.declared.reply.Reply1.{Reply1}
 use Rattle.head_one.specs.declared.refusal.Refusal.{Refusal}
-use Rattle.head_one.specs.Refusals.{Rule, Parts, request_parts, head_rules, said, required, first_code, method_and_number, unless_refused, parts_checked, refusal, no_request}
+use Rattle.head_one.specs.Refusals.{Rule, RequestFields, request_parts, head_rules, said, required, first_code, method_and_number, unless_refused, parts_checked, refusal, no_request}
 use Rattle.head_one.specs.Replies.{reply_text, IsReply}
 use Rattle.head_one.specs.Requests.{request_checked, request_at_start, request_of_head, request_of_item}
 use Rattle.head_one.proofs.FieldReplies.{is_own, numbered_reply}
@@ -137,7 +137,7 @@ read_refuses (Some method) (Some cseq) code e = cc
 read_refuses (Some method) None code e = let same : 400 ≡ code = cc in subst (λ (c : ℕ). refuses c ≡ true) same refl
 read_refuses None cseq code e = let same : 501 ≡ code = cc in subst (λ (c : ℕ). refuses c ≡ true) same refl
 
-unless_refuses : (found : Option ℕ) (parts : Parts) (code : ℕ) → ((one : ℕ) → found ≡ Some one → refuses one ≡ true) → unless_refused found parts ≡ Err code → refuses code ≡ true
+unless_refuses : (found : Option ℕ) (parts : RequestFields) (code : ℕ) → ((one : ℕ) → found ≡ Some one → refuses one ≡ true) → unless_refused found parts ≡ Err code → refuses code ≡ true
 unless_refuses None parts code known e = read_refuses parts.known parts.cseq code e
 unless_refuses (Some one) parts code known e = let same : one ≡ code = cc in subst (λ (c : ℕ). refuses c ≡ true) same (known one refl)
 
@@ -163,7 +163,7 @@ when_551 : (test : Bool) (value : Option (List ℕ)) → AreValues value → Are
 when_551 true value v = v
 when_551 false value v = tt
 
-checked_told : (checked : Result (Method × ℕ) ℕ) (parts : Parts) (head : Head) (body : List ℕ) (refused : Refusal) → ((code : ℕ) → checked ≡ Err code → refuses code ≡ true) → IsShortNumber parts.cseq → AreValues parts.required →
+checked_told : (checked : Result (Method × ℕ) ℕ) (parts : RequestFields) (head : Head) (body : List ℕ) (refused : Refusal) → ((code : ℕ) → checked ≡ Err code → refuses code ≡ true) → IsShortNumber parts.cseq → AreValues parts.required →
     request_checked checked parts head body ≡ Err refused → IsToldRefusal refused
 checked_told (Ok both) parts head body refused known small value e = cc
 checked_told (Err code) parts head body refused known small value e =

@@ -5,7 +5,7 @@ use Rattle.std.specs.Str.{bytes_eq}
 use Rattle.std.proofs.lemmas.Bool.{and_parts}
 use Rattle.std.proofs.Math.Seq.{drop-append_seam}
 use Rattle.rtsp_head.specs.Starts.{is_unspaced}
-use Rattle.rtsp_head.specs.Written.{is_part, is_line_text}
+use Rattle.rtsp_head.specs.HeadText.{is_part, is_line_text}
 use Rattle.rtsp_uri.specs.declared.grammar.UriPlaces.{UriPlaces}
 use Rattle.rtsp_uri.specs.Uris.{scheme, is_name_byte, is_address_byte, is_rest_byte, is_rest, places_of}
 use Rattle.rtsp_uri.specs.Grammar.{IsHost, IsPort}

@@ -8,11 +8,11 @@ use Rattle.std.proofs.lemmas.Fmt.{digits_decimal}
 use Rattle.std.proofs.lemmas.List.Folds.{list_all-append}
 use Rattle.gate_bytes.specs.Tokens.{is_blank, without_front, without_end, trimmed}
 use Rattle.rtsp_head.specs.Starts.{is_unspaced}
-use Rattle.rtsp_head.specs.Written.{is_line_text, is_value}
+use Rattle.rtsp_head.specs.HeadText.{is_line_text, is_value}
 use Rattle.rtsp_head.proofs.DigitLemmas.{own}
 use Rattle.rtsp_small.specs.Sessions.{is_session_byte, is_session_id}
 use Rattle.rtsp_transport.specs.declared.channels.Pair.{Pair}
-use Rattle.rtsp_transport.specs.Written.{grant_text}
+use Rattle.rtsp_transport.specs.GrantText.{grant_text}
 use Rattle.rtsp_transport.proofs.CleanLemmas.{end_kept}
 use Rattle.rtsp_small.specs.declared.session.TheConstants.{LONGEST_SESSION_ID}
 use Rattle.rtsp_uri.specs.Uris.{is_rest_byte}

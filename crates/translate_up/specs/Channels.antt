@@ -38,6 +38,7 @@ pair_for tracks (Ok Any) = Some (free_pair tracks)
 pair_for tracks (Ok (Exact pair)) = if is_taken tracks pair then None else Some pair
 pair_for tracks (Err fault) = None
 
+-- the channels that a player's SETUP gets, where it has a Transport
 abbrev pub client_pair : List Track → Option (List ℕ) → Option Pair
 client_pair tracks None = None
 client_pair tracks (Some value) = pair_for tracks (wanted_of value)

@@ -4,7 +4,7 @@ use Rattle.rtsp_head.specs.Items.{Shape}
 use Rattle.rtsp_small.specs.declared.method.Method.{Method}
 use Rattle.rtsp_small.specs.declared.method.Method.TheVariants.{Options}
 use Rattle.rtsp_range.specs.declared.range.Range.{Range}
-use Rattle.rtsp_range.specs.Written.{range_text}
+use Rattle.rtsp_range.specs.RangeText.{range_text}
 use Rattle.head_one.specs.declared.request.Request1.{Request1}
 use Rattle.head_one.specs.declared.refusal.Refusal.{Refusal}
 use Rattle.head_one.specs.Requests.{request_of_item}
@@ -31,6 +31,7 @@ play_on given request said uri None = Answer (play_text request.cseq (session_sa
 play_on given request said uri (Some range) =
     Queue (record { uri = uri; range = range; scale = scale_of request }) (play_text request.cseq (session_said given said) (Some (range_text range)))
 
+-- a PLAY in each state: one that comes while a PLAY runs waits, or is refused
 abbrev pub play_in : State → Given → Request1 → Said → List ℕ → Option Range → Decision
 play_in Init given request said uri range = forward given request said uri range
 play_in Ready given request said uri range = forward given request said uri range
@@ -60,6 +61,7 @@ decide_request given request =
     let uri = uri_up given request.uri in
     by_rules given request said uri (rules_checked given request.method said uri)
 
+-- what becomes of a request that was read, or refused by its head
 abbrev pub decide_read : Given → Result Request1 Refusal → Decision
 decide_read given (Ok request) = decide_request given request
 decide_read given (Err refusal) = Answer (refusal_text refusal)

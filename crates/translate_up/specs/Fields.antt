@@ -21,15 +21,19 @@ use Rattle.translate_up.specs.Channels.{client_pair}
 abbrev pub field : Request1 → List ℕ → Option (List ℕ)
 field request name = field_of request.head.headers name
 
+-- whether it is DESCRIBE
 abbrev pub is_describe : Method → Bool
 is_describe method = same_method method Describe
 
+-- whether it is SETUP
 abbrev pub is_setup : Method → Bool
 is_setup method = same_method method Setup
 
+-- whether it is PLAY
 abbrev pub is_play : Method → Bool
 is_play method = same_method method Play
 
+-- whether it is PAUSE
 abbrev pub is_pause : Method → Bool
 is_pause method = same_method method Pause
 
@@ -41,6 +45,7 @@ pub record Said : Type 0 where
   pub channels : Option Pair
   pub range : Option (Result Range RangeFault)
 
+-- what a request says, each field where its method has it
 abbrev pub said_of : List Track → Request1 → Said
 said_of tracks request = record {
   session = field request (codes "Session");

@@ -1,12 +1,12 @@
 pub mod Admissions
 pub mod Answers
-pub mod Borrowed
+pub mod SeenFields
 pub mod Channels
 pub mod Decisions
 pub mod Fields
 pub mod Leads
 pub mod OneReply
-pub mod Queued
+pub mod QueuedPlay
 pub mod Rules
 pub mod Setups
 pub mod Sound

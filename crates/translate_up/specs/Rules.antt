@@ -90,6 +90,7 @@ admission Teardown said = Ok Other
 admission GetParameter said = Ok Other
 admission SetParameter said = Ok Other
 
+-- a rule that refuses comes before what follows
 abbrev pub unless_code : Option ℕ → Result Admission ℕ → Result Admission ℕ
 unless_code None admitted = admitted
 unless_code (Some code) admitted = Err code

@@ -1,6 +1,6 @@
 -- What goes up can be written under every number, and read back (RFC 7826, 7 and 20.2).
 use Rattle.std.specs.Prelude.{◌≡◌, ℕ, ◌<◌, ◌^◌, Bool, true, ◌&&◌, List, IfSome, IsTrue}
-use Rattle.rtsp_head.specs.Written.{is_part, is_line_text, is_value}
+use Rattle.rtsp_head.specs.HeadText.{is_part, is_line_text, is_value}
 use Rattle.rtsp_small.specs.Sessions.{is_session_id}
 use Rattle.rtsp_small.specs.declared.cseq.TheConstants.{CSEQ_TWO_DIGITS}
 use Rattle.rtsp_range.specs.Writable.{can_be_written}

@@ -9,9 +9,9 @@ use Rattle.rtsp_small.specs.declared.method.Method.{Method}
 use Rattle.rtsp_small.specs.declared.method.Method.TheVariants.{Options, Describe, Setup, Play, Pause, Teardown, GetParameter, SetParameter}
 use Rattle.rtsp_small.specs.Methods.{method_name}
 use Rattle.rtsp_range.specs.declared.range.Range.{Range}
-use Rattle.rtsp_range.specs.Written.{range_text}
+use Rattle.rtsp_range.specs.RangeText.{range_text}
 use Rattle.rtsp_transport.specs.declared.channels.Pair.{Pair}
-use Rattle.rtsp_transport.specs.Written.{grant_text}
+use Rattle.rtsp_transport.specs.GrantText.{grant_text}
 use Rattle.rtsp_uri.specs.Swaps.{swapped}
 use Rattle.head_one.specs.declared.request.Request1.{Request1}
 use Rattle.head_two.specs.declared.request.Request2.{Request2}

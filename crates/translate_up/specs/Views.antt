@@ -34,5 +34,6 @@ given_of view = record {
 abbrev pub with_pair : (ℕ → ℕ) → Track → Track
 with_pair pairs track = record track { pair = pairs track.pair }
 
+-- a session in another numbering of pairs
 abbrev pub with_pairs : (ℕ → ℕ) → Given → Given
 with_pairs pairs given = record given { tracks = map (with_pair pairs) given.tracks }

@@ -2,13 +2,13 @@
 ghost use Rattle.std.specs.Prelude.{◌≡◌, IfOk};
 ghost use Rattle.rtsp_head.specs.Shapes.{shape_of};
 ghost use Rattle.translate_up.specs.Views.{given_of};
-ghost use Rattle.translate_up.specs.Borrowed.{said_seen};
+ghost use Rattle.translate_up.specs.SeenFields.{said_seen};
 ghost use Rattle.translate_up.specs.Decisions.{decide, decide_request, is_for_gateway};
 
+use crate::accept::serve;
 use crate::answer::{answer, options_text, refusal_text};
 use crate::field::SaidFields;
 use crate::rule::check_rules;
-use crate::serving::serve;
 use crate::upward::uri_up;
 use crate::view::View;
 use gate_bytes::{Memory, Text};

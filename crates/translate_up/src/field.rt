@@ -1,7 +1,7 @@
 //! What a player's request says of its session, its channels, its range and its scale.
 ghost use Rattle.std.specs.Prelude.{◌≡◌, IfSome, IfOk, IsTrue};
 ghost use Rattle.std.specs.Option.{option_copied};
-ghost use Rattle.translate_up.specs.Borrowed.{said_seen, HasWritableRange};
+ghost use Rattle.translate_up.specs.SeenFields.{said_seen, HasWritableRange};
 ghost use Rattle.translate_up.specs.Views.{given_of};
 ghost use Rattle.rtsp_head.specs.Optional.{said_where};
 ghost use Rattle.translate_up.specs.Fields.{said_of, is_describe, is_setup, is_play, is_named, id_of, are_same, needs_session, brings_body_up, is_track, scale_of};

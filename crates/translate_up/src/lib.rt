@@ -2,14 +2,14 @@
 //! or sends it up as a request of RTSP 2.0.
 #![tactic(auto)]
 
+mod accept;
 mod answer;
 mod channels;
 mod decision;
 mod field;
 mod laws;
-mod queued;
+mod queued_play;
 mod rule;
-mod serving;
 mod transport;
 mod upward;
 mod view;
@@ -20,6 +20,6 @@ pub use laws::{
     the_lowest_free_channels_are_given, the_numbers_of_pairs_make_no_difference,
     what_goes_up_can_be_written, what_is_answered_is_one_reply,
 };
-pub use queued::play_up;
+pub use queued_play::play_up;
 pub use transport::with_transport;
 pub use view::View;

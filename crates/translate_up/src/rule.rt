@@ -3,7 +3,7 @@ ghost use Rattle.std.specs.Prelude.{◌≡◌, true, IfOk, IfErr, IsTrue, IfSome
 ghost use Rattle.std.specs.Option.{option_copied};
 ghost use Rattle.rtsp_status.specs.Reasons.{has_reason};
 ghost use Rattle.translate_up.specs.Views.{given_of};
-ghost use Rattle.translate_up.specs.Borrowed.{said_seen, HasWritableRange, AdmitsWritable};
+ghost use Rattle.translate_up.specs.SeenFields.{said_seen, HasWritableRange, AdmitsWritable};
 ghost use Rattle.translate_up.specs.Rules.{rules_checked, names_no_session, sets_up_again, is_out_of_turn, names_one_of_many, must_wait, finds_no_place};
 ghost use Rattle.translate_up.specs.Admissions.{channels_and_range};
 

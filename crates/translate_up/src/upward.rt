@@ -2,9 +2,9 @@
 ghost use Rattle.std.specs.Prelude.{◌≡◌, [], if◌then◌else◌, IfOk, IfSome, IsTrue, option_map};
 ghost use Rattle.rtsp_head.specs.Optional.{field_headers};
 ghost use Rattle.rtsp_range.specs.Writable.{can_be_written};
-ghost use Rattle.rtsp_range.specs.Written.{range_text};
+ghost use Rattle.rtsp_range.specs.RangeText.{range_text};
 ghost use Rattle.translate_up.specs.Views.{given_of};
-ghost use Rattle.translate_up.specs.Borrowed.{said_seen};
+ghost use Rattle.translate_up.specs.SeenFields.{said_seen};
 ghost use Rattle.translate_up.specs.Upward.{uri_up, method_up, has_body_up, fields_up, request_up, asked_of};
 
 use crate::field::{

@@ -3,7 +3,7 @@ use Rattle.std.proofs.Common.{◌≡◌, ◌∙◌, ℕ, zero, suc, ◌+◌, ◌
 use Rattle.std.specs.List.{position, position_from, remove}
 use Rattle.std.proofs.lemmas.Iterator.Adapters.{position_from-zero}
 use Rattle.std.proofs.lemmas.List.Quantifiers.{position-Some}
-use Rattle.up_books.specs.declared.entry.Entry.{Entry}
+use Rattle.up_books.specs.declared.entry.BookEntry.{BookEntry}
 use Rattle.up_books.specs.Entries.{conn_of_key, HasEachKeyOnce}
 
 -- a test of keys that tells them apart
@@ -16,31 +16,31 @@ none_by : (b : Bool) (i conn : ℕ) (place rest : Option ℕ) → (place ≡ Non
 none_by true i conn place rest later none = cc
 none_by false i conn place rest later none = later none
 
-conn_of_key-none_from : (K : Type 0) (same : K → K → Bool) (key : K) (entries : List (Entry K)) (i : ℕ) → position_from (λ entry. same entry.key key) i entries ≡ None → conn_of_key same key entries ≡ None
+conn_of_key-none_from : (K : Type 0) (same : K → K → Bool) (key : K) (entries : List (BookEntry K)) (i : ℕ) → position_from (λ entry. same entry.key key) i entries ≡ None → conn_of_key same key entries ≡ None
 conn_of_key-none_from K same key [] i none = refl
 conn_of_key-none_from K same key (entry ∷ entries) i none =
     none_by (same entry.key key) i entry.conn (position_from (λ one. same one.key key) (i + 1) entries) (conn_of_key same key entries)
     (conn_of_key-none_from K same key entries (i + 1)) none
 
-pub conn_of_key-none : (K : Type 0) (same : K → K → Bool) (key : K) (entries : List (Entry K)) → position (λ entry. same entry.key key) entries ≡ None → conn_of_key same key entries ≡ None
+pub conn_of_key-none : (K : Type 0) (same : K → K → Bool) (key : K) (entries : List (BookEntry K)) → position (λ entry. same entry.key key) entries ≡ None → conn_of_key same key entries ≡ None
 conn_of_key-none K same key entries none =
     conn_of_key-none_from K same key entries 0 (sym (position_from-zero (λ entry. same entry.key key) entries) ∙ none)
 
 -- the entry at a place is the first that has the key
-pub record IsFirst {K : Type 0} (same : K → K → Bool) (key : K) (entries : List (Entry K)) (at : ℕ) (d : Entry K) : Type 0 where
+pub record IsFirst {K : Type 0} (same : K → K → Bool) (key : K) (entries : List (BookEntry K)) (at : ℕ) (d : BookEntry K) : Type 0 where
   pub low : at < length entries
   pub here : same (get_or entries at d).key key ≡ true
   pub before : (k : ℕ) → k < at → same (get_or entries k d).key key ≡ false
 
-pub first-position : (K : Type 0) (same : K → K → Bool) (key : K) (entries : List (Entry K)) (at : ℕ) (d : Entry K) → position (λ entry. same entry.key key) entries ≡ Some at → IsFirst same key entries at d
+pub first-position : (K : Type 0) (same : K → K → Bool) (key : K) (entries : List (BookEntry K)) (at : ℕ) (d : BookEntry K) → position (λ entry. same entry.key key) entries ≡ Some at → IsFirst same key entries at d
 first-position K same key entries at d is =
     let facts = position-Some (λ entry. same entry.key key) entries at d is in
     record { low = facts.0; here = facts.1; before = facts.2 }
 
-first-tail : (K : Type 0) (same : K → K → Bool) (key : K) (entry : Entry K) (entries : List (Entry K)) (at : ℕ) (d : Entry K) → IsFirst same key (entry ∷ entries) (suc at) d → IsFirst same key entries at d
+first-tail : (K : Type 0) (same : K → K → Bool) (key : K) (entry : BookEntry K) (entries : List (BookEntry K)) (at : ℕ) (d : BookEntry K) → IsFirst same key (entry ∷ entries) (suc at) d → IsFirst same key entries at d
 first-tail K same key entry entries at d is = record { low = omega (arith, is.low); here = is.here; before = λ k lower. is.before (suc k) (omega arith) }
 
-pub conn_of_key-some : (K : Type 0) (same : K → K → Bool) (key : K) (entries : List (Entry K)) (at : ℕ) (d : Entry K) → IsFirst same key entries at d → conn_of_key same key entries ≡ Some (get_or entries at d).conn
+pub conn_of_key-some : (K : Type 0) (same : K → K → Bool) (key : K) (entries : List (BookEntry K)) (at : ℕ) (d : BookEntry K) → IsFirst same key entries at d → conn_of_key same key entries ≡ Some (get_or entries at d).conn
 conn_of_key-some K same key [] at d is = absurd (omega (arith, is.low))
 conn_of_key-some K same key (entry ∷ entries) zero d is = let here : same entry.key key ≡ true = is.here in rw here
 conn_of_key-some K same key (entry ∷ entries) (suc at) d is =
@@ -59,7 +59,7 @@ fresh_by : (b : Bool) (conn : ℕ) (rest : Option ℕ) → (if b then Some conn 
 fresh_by true conn rest none = cc
 fresh_by false conn rest none = (refl, none)
 
-fresh-tail : (K : Type 0) (same : K → K → Bool) (key : K) (entry : Entry K) (entries : List (Entry K)) → conn_of_key same key (entry ∷ entries) ≡ None → (same entry.key key ≡ false) × (conn_of_key same key entries ≡ None)
+fresh-tail : (K : Type 0) (same : K → K → Bool) (key : K) (entry : BookEntry K) (entries : List (BookEntry K)) → conn_of_key same key (entry ∷ entries) ≡ None → (same entry.key key ≡ false) × (conn_of_key same key entries ≡ None)
 fresh-tail K same key entry entries none = fresh_by (same entry.key key) entry.conn (conn_of_key same key entries) none
 
 append_by : (first one : Bool) (a b : ℕ) (rest : Option ℕ) → (first ≡ true → one ≡ false) → (if first then Some a else (if one then Some b else rest)) ≡ (if one then Some b else (if first then Some a else rest))
@@ -67,7 +67,7 @@ append_by true true a b rest apart = let contradiction : true ≡ false = apart 
 append_by true false a b rest apart = refl
 append_by false one a b rest apart = refl
 
-pub conn_of_key-append : (K : Type 0) (same : K → K → Bool) → TellsApart K same → (entries : List (Entry K)) (one : Entry K) (key : K)
+pub conn_of_key-append : (K : Type 0) (same : K → K → Bool) → TellsApart K same → (entries : List (BookEntry K)) (one : BookEntry K) (key : K)
     → conn_of_key same one.key entries ≡ None → conn_of_key same key (entries ++ one ∷ []) ≡ (if same key one.key then Some one.conn else conn_of_key same key entries)
 conn_of_key-append K same tells [] one key fresh = single_by (same one.key key) (same key one.key) refl refl where
   single_by : (b d : Bool) → same one.key key ≡ b → same key one.key ≡ d → (if b then Some one.conn else None) ≡ (if d then Some one.conn else None)
@@ -81,7 +81,7 @@ conn_of_key-append K same tells (entry ∷ entries) one key fresh =
     (append_by (same entry.key key) (same key one.key) entry.conn one.conn (conn_of_key same key entries)
     (λ is. let equal : entry.key ≡ key = tells.equal entry.key key is in rw equal at parts.0))
 
-pub once-append : (K : Type 0) (same : K → K → Bool) → TellsApart K same → (entries : List (Entry K)) (one : Entry K)
+pub once-append : (K : Type 0) (same : K → K → Bool) → TellsApart K same → (entries : List (BookEntry K)) (one : BookEntry K)
     → conn_of_key same one.key entries ≡ None → HasEachKeyOnce same entries → HasEachKeyOnce same (entries ++ one ∷ [])
 once-append K same tells [] one fresh once = (refl, tt)
 once-append K same tells (entry ∷ entries) one fresh once =
@@ -89,7 +89,7 @@ once-append K same tells (entry ∷ entries) one fresh once =
     (rw (conn_of_key-append K same tells entries one entry.key parts.1, parts.0) once.0, once-append K same tells entries one parts.1 once.1)
 
 -- without the entry of a key
-pub conn_of_key-remove : (K : Type 0) (same : K → K → Bool) → TellsApart K same → (entries : List (Entry K)) (at : ℕ) (d : Entry K) (key other : K)
+pub conn_of_key-remove : (K : Type 0) (same : K → K → Bool) → TellsApart K same → (entries : List (BookEntry K)) (at : ℕ) (d : BookEntry K) (key other : K)
     → HasEachKeyOnce same entries → IsFirst same key entries at d → conn_of_key same other (remove entries at) ≡ (if same other key then None else conn_of_key same other entries)
 conn_of_key-remove K same tells [] at d key other once is = absurd (omega (arith, is.low))
 conn_of_key-remove K same tells (entry ∷ entries) zero d key other once is = here_by (same other key) refl where
@@ -111,7 +111,7 @@ conn_of_key-remove K same tells (entry ∷ entries) (suc at) d key other once is
     later_by true false a rest apart = refl
     later_by false one a rest apart = refl
 
-pub once-remove : (K : Type 0) (same : K → K → Bool) → TellsApart K same → (entries : List (Entry K)) (at : ℕ) (d : Entry K) (key : K)
+pub once-remove : (K : Type 0) (same : K → K → Bool) → TellsApart K same → (entries : List (BookEntry K)) (at : ℕ) (d : BookEntry K) (key : K)
     → HasEachKeyOnce same entries → IsFirst same key entries at d → HasEachKeyOnce same (remove entries at)
 once-remove K same tells [] at d key once is = absurd (omega (arith, is.low))
 once-remove K same tells (entry ∷ entries) zero d key once is = once.1

@@ -1,27 +1,28 @@
 -- The book of the ids of sessions (RFC 7826, 4.3, has the ids; that one is bound to one connection is this project's own).
 use Rattle.std.specs.Prelude.{ℕ, List, Option, Some, None, Result, Ok, Err}
 use Rattle.std.specs.Str.{bytes_eq}
-use Rattle.up_books.specs.declared.entry.Entry.{Entry}
-use Rattle.up_books.specs.declared.session.Taken.{Taken}
+use Rattle.up_books.specs.declared.entry.BookEntry.{BookEntry}
+use Rattle.up_books.specs.declared.session.BoundElsewhere.{BoundElsewhere}
 use Rattle.up_books.specs.Entries.{conn_of_key, HasEachKeyOnce}
 
 -- for how many more sessions there is room, and the connection that each id is bound to
 pub record Ids : Type 0 where
   pub spare : ℕ
-  pub bound : List (Entry (List ℕ))
+  pub bound : List (BookEntry (List ℕ))
 
 -- the connection that an id is bound to
-abbrev pub holder_in : List ℕ → List (Entry (List ℕ)) → Option ℕ
+abbrev pub holder_in : List ℕ → List (BookEntry (List ℕ)) → Option ℕ
 holder_in id bound = conn_of_key bytes_eq id bound
 
+-- whose a session is
 abbrev pub holder_of : Ids → List ℕ → Option ℕ
 holder_of book id = holder_in id book.bound
 
 -- what becomes of an id that is to be bound: it is given back where a connection has it
-abbrev pub binding : List ℕ → Option ℕ → Result Unit Taken
+abbrev pub binding : List ℕ → Option ℕ → Result Unit BoundElsewhere
 binding id None = Ok tt
 binding id (Some owner) = Err (record { id = id; owner = owner })
 
 -- no id is bound twice
-abbrev pub IsIds : List (Entry (List ℕ)) → Type 0
+abbrev pub IsIds : List (BookEntry (List ℕ)) → Type 0
 IsIds bound = HasEachKeyOnce bytes_eq bound

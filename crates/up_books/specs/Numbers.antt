@@ -1,21 +1,22 @@
 -- The book of the numbers of open requests (RFC 7826, 18.20, has the numbers; that they count up by one is this
 -- project's own).
 use Rattle.std.specs.Prelude.{◌≡◌, ℕ, ◌+◌, ◌==◌, ◌<◌, ◌≤◌, List, Option, Some, None, if◌then◌else◌}
-use Rattle.up_books.specs.declared.entry.Entry.{Entry}
+use Rattle.up_books.specs.declared.entry.BookEntry.{BookEntry}
 use Rattle.up_books.specs.declared.cseq.TheConstants.{LAST_NUMBER}
 use Rattle.up_books.specs.Entries.{conn_of_key, HasEachKeyOnce}
 
 -- the last number that was issued, for how many more requests there is room, and who asked each open one
-pub record Numbers : Type 0 where
+pub record IssuedNumbers : Type 0 where
   pub issued : ℕ
   pub spare : ℕ
-  pub loans : List (Entry ℕ)
+  pub loans : List (BookEntry ℕ)
 
 -- the connection that asked the open request with a number
-abbrev pub asker_in : ℕ → List (Entry ℕ) → Option ℕ
+abbrev pub asker_in : ℕ → List (BookEntry ℕ) → Option ℕ
 asker_in number loans = conn_of_key (λ a b. a == b) number loans
 
-abbrev pub asker_of : Numbers → ℕ → Option ℕ
+-- who asked a number
+abbrev pub asker_of : IssuedNumbers → ℕ → Option ℕ
 asker_of book number = asker_in number book.loans
 
 -- the next number, where there is one
@@ -23,7 +24,7 @@ abbrev pub next_number : ℕ → Option ℕ
 next_number issued = if issued == LAST_NUMBER then None else Some (issued + 1)
 
 -- Each open request has a number of its own, which was issued.
-pub record IsNumbers (issued : ℕ) (loans : List (Entry ℕ)) : Type 0 where
+pub record IsNumbers (issued : ℕ) (loans : List (BookEntry ℕ)) : Type 0 where
   pub last : issued ≤ LAST_NUMBER
   pub once : HasEachKeyOnce (λ a b. a == b) loans
   pub given : (number : ℕ) → issued < number → asker_in number loans ≡ None

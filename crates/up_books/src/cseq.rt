@@ -2,7 +2,7 @@
 ghost use Rattle.std.specs.Prelude.{◌≡◌, ◌==◌, ◌+◌, ◌<◌, ◌≤◌, ℕ, None, Some, is_some, OnOk, OnErr, IfOk, if◌then◌else◌};
 ghost use Rattle.up_books.specs.declared.cseq.TheConstants.{LAST_NUMBER};
 
-use crate::entry::Entry;
+use crate::entry::BookEntry;
 use gate_bytes::Memory;
 use rtsp_small::LAST_CSEQ_TWO;
 use std::alloc::Global;
@@ -21,14 +21,14 @@ pub struct Spent;
 pub struct CseqBook {
     issued: u32,
     spare: usize,
-    loans: Vec<Entry<u32>>,
+    loans: Vec<BookEntry<u32>>,
 }
 
 impl Model for CseqBook {
-    ghost use Rattle.up_books.specs.Numbers.{Numbers, IsNumbers};
+    ghost use Rattle.up_books.specs.Numbers.{IssuedNumbers, IsNumbers};
     ghost use Rattle.std.specs.Prelude.{◌+◌, ◌≤◌, vec_len, vec_capacity};
 
-    ghost Value = { Numbers };
+    ghost Value = { IssuedNumbers };
 
     ghost view = { λ book. record { issued = book.issued; spare = book.spare; loans = book.loans.items } };
 
@@ -99,7 +99,7 @@ impl CseqBook {
             return Err(Spent);
         }
         let number = self.issued + 1;
-        self.loans.push_reserved(Entry { key: number, conn });
+        self.loans.push_reserved(BookEntry { key: number, conn });
         self.issued = number;
         self.spare -= 1;
         Ok(number)

@@ -2,7 +2,7 @@
 
 /// What a book keeps of a connection under a key.
 #[derive(Drop)]
-pub(crate) struct Entry<K> {
+pub(crate) struct BookEntry<K> {
     /// The key: a number or a session's id.
     pub key: K,
     /// The connection.

@@ -10,4 +10,4 @@ mod entry;
 mod session;
 
 pub use cseq::{CseqBook, LAST_NUMBER, Spent};
-pub use session::{SessionBook, Taken};
+pub use session::{BoundElsewhere, SessionBook};

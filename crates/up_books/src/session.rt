@@ -2,14 +2,14 @@
 ghost use Rattle.std.specs.Prelude.{◌≡◌, ◌==◌, ◌+◌, ◌<◌, ℕ, List, None, Some, Ok, Err, is_some, position, OnOk, OnErr, if◌then◌else◌};
 ghost use Rattle.std.specs.Str.{bytes_eq};
 
-use crate::entry::Entry;
+use crate::entry::BookEntry;
 use gate_bytes::{Memory, Text};
 use std::alloc::Global;
 use std::marker::Model;
 
 /// An id that can't be bound, since it is another connection's.
 #[derive(Drop)]
-pub struct Taken {
+pub struct BoundElsewhere {
     /// The id, given back.
     pub id: Text,
     /// The connection that it is bound to.
@@ -20,7 +20,7 @@ pub struct Taken {
 #[derive(Drop)]
 pub struct SessionBook {
     spare: usize,
-    bound: Vec<Entry<Text>>,
+    bound: Vec<BookEntry<Text>>,
 }
 
 impl Model for SessionBook {
@@ -61,7 +61,7 @@ impl SessionBook {
 
     /// Binds an id to a connection, where no connection has it. It takes no memory, and uses one
     /// that is spare.
-    pub fn bind(&mut self, id: Text, conn: u32) -> Result<(), Taken>
+    pub fn bind(&mut self, id: Text, conn: u32) -> Result<(), BoundElsewhere>
         requires { 0 < self.old.spare }
         ensures taken { result ≡ binding id (holder_of self.old id) }
         ensures spare { OnOk result (self.new.spare + 1 ≡ self.old.spare) }
@@ -69,9 +69,9 @@ impl SessionBook {
         ensures err { OnErr result (self.new ≡ self.old) }
     {
         if let Some(owner) = self.owner(id.as_bytes()) {
-            return Err(Taken { id, owner });
+            return Err(BoundElsewhere { id, owner });
         }
-        self.bound.push_reserved(Entry { key: id, conn });
+        self.bound.push_reserved(BookEntry { key: id, conn });
         self.spare -= 1;
         Ok(())
     }
@@ -90,7 +90,7 @@ impl SessionBook {
         ensures bound { (other : List ℕ) → holder_of self.new other ≡ (if bytes_eq other id.now then None else holder_of self.old other) }
     {
         if let Some(place) = self.place(id) {
-            let Entry { key: _, conn: _ } = self.bound.remove(place);
+            let BookEntry { key: _, conn: _ } = self.bound.remove(place);
             self.spare += 1;
         }
     }

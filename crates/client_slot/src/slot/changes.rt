@@ -10,7 +10,7 @@ ghost use Rattle.client_slot.specs.Purposes.{settled_as};
 
 use super::Slot;
 use crate::purpose::{Purpose, Settled};
-use crate::waiting::Waiting;
+use crate::waiting_request::Waiting;
 use gate_bytes::Text;
 use rtsp_head::Item;
 use session_one::{Asked, Play, Track};
@@ -19,7 +19,7 @@ use session_two::Names;
 impl Slot {
     ghost use Rattle.client_slot.specs.Changes.{after_waiting, after_next, after_asking, after_queueing, after_release, after_reply, after_note, after_close, after_closing};
     ghost use Rattle.client_slot.specs.Bounds.{is_torn_at, is_left};
-    ghost use Rattle.client_slot.specs.Closing.{closing_text};
+    ghost use Rattle.client_slot.specs.ClosingRequest.{closing_text};
 
     /// A request waits.
     pub fn wait(&mut self, waiting: Waiting)

@@ -2,9 +2,9 @@ use Rattle.std.proofs.Common.{ap, arith}
 use Rattle.std.proofs.Math.Bridge.{le_prop}
 use Rattle.std.proofs.Math.Logic.{∥∥₁_elim, ∥∥₁_map}
 use Rattle.rtsp_head.specs.Shapes.{shapes}
-use Rattle.drill_server.specs.Serving.{IsDrained}
+use Rattle.drill_server.specs.ServerSteps.{IsDrained}
 use Rattle.drill_server.proofs.FewLemmas.{few_waiting}
-use Rattle.drill_server.proofs.MovedLemmas.{moved_fed, drained_fed}
+use Rattle.drill_server.proofs.MoveLemmas.{moved_fed, drained_fed}
 use Rattle.drill_server.proofs.server.feed_requests.Goals as goal
 
 pub take_requests-requires : goal.take_requests-requires

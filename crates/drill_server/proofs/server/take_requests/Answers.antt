@@ -1,6 +1,6 @@
 use Rattle.std.proofs.Common.{length, ap, arith}
 use Rattle.rtsp_head.specs.Shapes.{shape_of, shapes}
-use Rattle.drill_server.proofs.MovedLemmas.{moved_none, moved_on, moved_all}
+use Rattle.drill_server.proofs.MoveLemmas.{moved_none, moved_on, moved_all}
 use Rattle.drill_server.proofs.server.take_requests.Goals as goal
 
 pub loop-item-init : goal.loop-item-init

@@ -1,7 +1,7 @@
 use Rattle.std.proofs.Common.{◌+◌, ◌≤◌, length}
 use Rattle.std.specs.VecDeque.{deque_len, deque_capacity}
 use Rattle.rtsp_head.specs.Shapes.{shapes}
-use Rattle.drill_server.specs.Serving.{Moved}
+use Rattle.drill_server.specs.ServerSteps.{Moved}
 use Rattle.drill_server.proofs.server.take_requests.Given as goal
 
 -- some items were given, and there is room for the others

@@ -1,4 +1,4 @@
-use Rattle.mux_history.specs.Cores.{IsCoreHistory}
+use Rattle.gateway_claim.specs.Cores.{IsCoreHistory}
 use Rattle.gateway_replay.proofs.SoundLemmas.{sound_replay}
 use Rattle.gateway_replay.proofs.laws.a_sound_transcript_is_replayed.Goals as goal
 

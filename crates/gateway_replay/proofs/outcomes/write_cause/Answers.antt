@@ -1,7 +1,7 @@
 use Rattle.std.proofs.Common.{sym, subst}
 use Rattle.gate_outside.specs.Contents.{WritesAll}
-use Rattle.mux_history.specs.declared.event.UpCause.{UpCause}
-use Rattle.gateway_replay.specs.Written.{cause_record}
+use Rattle.gateway_claim.specs.declared.event.UpCause.{UpCause}
+use Rattle.gateway_replay.specs.RecordTexts.{cause_record}
 use Rattle.gateway_replay.proofs.outcomes.write_cause.Goals as goal
 
 pub returns-in-UnknownReply-clause-bytes : goal.returns-in-UnknownReply-clause-bytes

@@ -1,6 +1,6 @@
 use Rattle.std.proofs.Common.{◌≤◌}
-use Rattle.gateway_replay.specs.Living.{how_many_live}
-use Rattle.gateway_replay.specs.Watching.{ClosesSoFar}
+use Rattle.gateway_replay.specs.Alive.{how_many_live}
+use Rattle.gateway_replay.specs.CoreRecords.{ClosesSoFar}
 use Rattle.gateway_replay.proofs.outcomes.write_ends.Given as goal
 
 -- the closes of the first of them were written, and the sink's count of faults has not fallen

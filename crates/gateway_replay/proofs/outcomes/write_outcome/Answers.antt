@@ -1,4 +1,4 @@
-use Rattle.gateway_replay.specs.Written.{piece_record, up_record, closed_records, fault_record}
+use Rattle.gateway_replay.specs.RecordTexts.{piece_record, up_record, closed_records, fault_record}
 use Rattle.gateway_replay.proofs.OutcomeLemmas.{fails_at_first, fails_at_second, fails_at_third, writes_last}
 use Rattle.gateway_replay.proofs.outcomes.write_outcome.Goals as goal
 

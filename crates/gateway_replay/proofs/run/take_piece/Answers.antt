@@ -1,10 +1,10 @@
 use Rattle.std.proofs.Common.{Option, Ok, Err, arith, subst}
 use Rattle.std.proofs.lemmas.Result.{err_from_is_err_and}
 use Rattle.rtsp_head.specs.declared.item.Item.{Item}
-use Rattle.mux_history.specs.Happenings.{Happening}
-use Rattle.mux_history.specs.Cores.{IsCoreHistory}
+use Rattle.gateway_claim.specs.Happenings.{Happening}
+use Rattle.gateway_claim.specs.Cores.{IsCoreHistory}
 use Rattle.gateway_replay.specs.Runs.{TakesEvent, TakesSome}
-use Rattle.gateway_replay.specs.Watching.{Watches}
+use Rattle.gateway_replay.specs.CoreRecords.{Watches}
 use Rattle.gateway_replay.proofs.RunLemmas.{takes_none, gives_next, takes_one_more, takes_to_fault, takes_all, takes_no_piece}
 use Rattle.gateway_replay.proofs.WatchLemmas.{watch_sound}
 use Rattle.gateway_replay.proofs.run.take_piece.Goals as goal

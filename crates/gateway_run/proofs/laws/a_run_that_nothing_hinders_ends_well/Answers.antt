@@ -1,4 +1,4 @@
-use Rattle.gateway_run.proofs.UnhinderedLemmas.{run_unhindered}
+use Rattle.gateway_run.proofs.FaultlessLemmas.{run_unhindered}
 use Rattle.gateway_run.proofs.laws.a_run_that_nothing_hinders_ends_well.Goals as goal
 
 pub returns : goal.returns

@@ -1,6 +1,6 @@
 use Rattle.std.proofs.Common.{◌≡◌, ◌++◌, take}
 use Rattle.std.specs.List.{flat_map}
-use Rattle.rtp_info.specs.Written.{further_text}
+use Rattle.rtp_info.specs.InfoText.{further_text}
 use Rattle.rtp_info.proofs.write.push_further.Given as goal
 
 -- the entries so far

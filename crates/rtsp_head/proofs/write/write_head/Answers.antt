@@ -1,7 +1,7 @@
 use Rattle.std.proofs.Common.{◌≡◌, ◌∙◌, ap, rules}
 use Rattle.rtsp_head.specs.Headers.{header_limit}
 use Rattle.rtsp_head.specs.Heads.{head_of}
-use Rattle.rtsp_head.specs.Written.{head_text}
+use Rattle.rtsp_head.specs.HeadText.{head_text}
 use Rattle.rtsp_head.proofs.WriteLemmas.{head_read}
 use Rattle.rtsp_head.proofs.write.write_head.Goals as goal
 

@@ -1,5 +1,5 @@
 use Rattle.std.proofs.Common.{ap}
-use Rattle.rtsp_range.specs.Written.{range_text}
+use Rattle.rtsp_range.specs.RangeText.{range_text}
 use Rattle.rtsp_range.proofs.MeaningSound.{meaning_sound}
 use Rattle.rtsp_range.proofs.WrittenMeans.{written_alike}
 use Rattle.rtsp_range.proofs.laws.one_form.Goals as goal

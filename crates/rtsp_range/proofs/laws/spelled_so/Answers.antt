@@ -1,4 +1,4 @@
-use Rattle.rtsp_range.proofs.MeaningSpelled.{meaning_spelled}
+use Rattle.rtsp_range.proofs.MeaningSpelling.{meaning_spelled}
 use Rattle.rtsp_range.proofs.MeaningMeans.{spelled_means}
 use Rattle.rtsp_range.proofs.laws.spelled_so.Goals as goal
 

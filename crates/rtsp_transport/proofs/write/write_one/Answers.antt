@@ -1,8 +1,8 @@
 use Rattle.std.proofs.Common.{◌≡◌, ◌<◌, ◌≤◌, ◌∙◌, ap, rules, arith}
 use Rattle.std.specs.Prelude.{IfSome}
 use Rattle.rtsp_transport.specs.Grants.{grant_of}
-use Rattle.rtsp_transport.specs.Written.{grant_text}
-use Rattle.rtsp_transport.proofs.WrittenLemmas.{grant_read}
+use Rattle.rtsp_transport.specs.GrantText.{grant_text}
+use Rattle.rtsp_transport.proofs.GrantTextLemmas.{grant_read}
 use Rattle.rtsp_transport.proofs.write.write_one.Goals as goal
 
 pub returns-clause-read : goal.returns-clause-read

@@ -1,6 +1,6 @@
 use Rattle.std.proofs.Common.{subst}
 use Rattle.rtsp_uri.specs.declared.base.Bases.{Bases}
-use Rattle.mux_history.specs.Follows.{IsHistory}
+use Rattle.gateway_claim.specs.Follows.{IsHistory}
 use Rattle.gateway_replay.specs.Replays.{ReplaySays}
 use Rattle.rtspgate.proofs.plain.replay_between.Goals as goal
 

@@ -1,7 +1,7 @@
 use Rattle.std.proofs.Common.{ℕ, List, Option, sym, ap, subst}
 use Rattle.client_ports.specs.declared.putter.Putter.{Putter}
 use Rattle.client_ports.specs.Ends.{put_of}
-use Rattle.link_reader.specs.Reading.{PutAllSo}
+use Rattle.gateway_links.specs.ReadItems.{PutAllSo}
 use Rattle.server_link.proofs.LinkLemmas.{moved_front}
 use Rattle.server_link.proofs.upstream.hear_link.Goals as goal
 

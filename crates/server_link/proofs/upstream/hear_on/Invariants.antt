@@ -1,5 +1,5 @@
 use Rattle.std.proofs.Common.{◌≤◌, ◌<◌, ℕ, List, Option, length}
-use Rattle.link_reader.specs.Reading.{ReadsItems, ReadsFront}
+use Rattle.gateway_links.specs.ReadItems.{ReadsItems, ReadsFront}
 use Rattle.server_link.proofs.upstream.hear_on.Given as goal
 
 -- what was put is the first of the items that came, and no count fell

@@ -1,5 +1,5 @@
 use Rattle.std.proofs.Common.{◌≡◌, ℕ, List, Option}
-use Rattle.link_reader.specs.Reading.{ReadsItems, ReadsFront}
+use Rattle.gateway_links.specs.ReadItems.{ReadsItems, ReadsFront}
 use Rattle.server_link.proofs.upstream.put_all.Given as goal
 
 -- nothing more was read, and what was put is still the first of the items that came

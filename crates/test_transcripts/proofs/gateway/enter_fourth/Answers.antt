@@ -1,5 +1,5 @@
 use Rattle.std.proofs.Common.{refl, [], ◌∷◌}
-use Rattle.mux_history.specs.Happenings.{entering}
+use Rattle.gateway_claim.specs.Happenings.{entering}
 use Rattle.gateway_mux.proofs.StandLemmas.{never_fresh}
 use Rattle.test_transcripts.proofs.gateway.enter_fourth.Goals as goal
 

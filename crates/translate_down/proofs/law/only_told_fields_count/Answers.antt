@@ -1,4 +1,4 @@
-use Rattle.translate_down.proofs.ToldLemmas.{own_text, untransported_text}
+use Rattle.translate_down.proofs.PlayerLemmas.{own_text, untransported_text}
 use Rattle.translate_down.proofs.law.only_told_fields_count.Goals as goal
 
 pub returns-clause-own : goal.returns-clause-own

@@ -1,6 +1,6 @@
 use Rattle.std.proofs.Common.{◌≡◌, ◌∙◌, IfOk, subst, sym, List, ℕ}
 use Rattle.translate_down.specs.Settings.{setting_of}
-use Rattle.translate_down.proofs.ToldLemmas.{success_text, refusal_text}
+use Rattle.translate_down.proofs.PlayerLemmas.{success_text, refusal_text}
 use Rattle.translate_down.proofs.reply.reply_one.Goals as goal
 
 pub returns-then-is_success : goal.returns-then-is_success

@@ -1,6 +1,6 @@
 use Rattle.std.proofs.Common.{◌≡◌, sym, ◌∙◌, ap}
 use Rattle.std.proofs.lemmas.Result.{IfOk-weaker}
-use Rattle.translate_up.specs.Borrowed.{said_seen}
+use Rattle.translate_up.specs.SeenFields.{said_seen}
 use Rattle.translate_up.specs.Views.{given_of}
 use Rattle.translate_up.specs.Upward.{uri_up}
 use Rattle.translate_up.specs.Rules.{rules_checked}

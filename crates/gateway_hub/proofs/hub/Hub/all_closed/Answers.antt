@@ -1,4 +1,4 @@
-use Rattle.gateway_hub.proofs.ClosingLemmas.{tells_over}
+use Rattle.gateway_hub.proofs.CloseLemmas.{tells_over}
 use Rattle.gateway_hub.proofs.hub.Hub.all_closed.Goals as goal
 
 pub returns : goal.returns

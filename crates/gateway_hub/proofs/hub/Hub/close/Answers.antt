@@ -1,6 +1,6 @@
 use Rattle.std.proofs.Math.Logic.{∥∥₁_map}
-use Rattle.gateway_hub.specs.Kept.{StandsIdle}
-use Rattle.gateway_hub.proofs.ClosingLemmas.{closes_with}
+use Rattle.gateway_hub.specs.Keeps.{StandsIdle}
+use Rattle.gateway_hub.proofs.CloseLemmas.{closes_with}
 use Rattle.gateway_hub.proofs.hub.Hub.close.Goals as goal
 
 pub returns-clause-receipts : goal.returns-clause-receipts

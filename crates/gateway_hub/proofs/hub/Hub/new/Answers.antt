@@ -1,5 +1,5 @@
 use Rattle.std.proofs.Common.{[]}
-use Rattle.gateway_hub.specs.Kept.{StandsIdle}
+use Rattle.gateway_hub.specs.Keeps.{StandsIdle}
 use Rattle.gateway_hub.proofs.EnterLemmas.{fresh_keeps, is_fresh}
 use Rattle.gateway_hub.proofs.hub.Hub.new.Goals as goal
 

@@ -1,6 +1,6 @@
 use Rattle.std.proofs.Common.{refl}
 use Rattle.std.proofs.Math.Logic.{∥∥₁_map}
-use Rattle.gateway_hub.specs.Kept.{StandsIdle}
+use Rattle.gateway_hub.specs.Keeps.{StandsIdle}
 use Rattle.gateway_hub.proofs.RoomLemmas.{looked_keeps}
 use Rattle.gateway_hub.proofs.EndLemmas.{look_ends}
 use Rattle.gateway_hub.proofs.hub.Hub.room.Goals as goal

@@ -1,8 +1,8 @@
 use Rattle.std.proofs.Math.Logic.{∥∥₁_map}
-use Rattle.gateway_hub.specs.Kept.{Keeps, StandsIdle}
-use Rattle.hub_places.specs.Places.{line_at}
+use Rattle.gateway_hub.specs.Keeps.{Keeps, StandsIdle}
+use Rattle.hub_queues.specs.Places.{line_at}
 use Rattle.gateway_hub.proofs.GoLemmas.{shuts_go}
-use Rattle.gateway_hub.proofs.ShownLemmas.{shuts_shown}
+use Rattle.gateway_hub.proofs.ShowLemmas.{shuts_shown}
 use Rattle.gateway_hub.proofs.hub.Hub.shut.Goals as goal
 
 pub invariant_of-self : goal.invariant_of-self

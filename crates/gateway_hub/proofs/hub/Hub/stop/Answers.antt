@@ -1,5 +1,5 @@
 use Rattle.std.proofs.Math.Logic.{∥∥₁_map}
-use Rattle.gateway_hub.specs.Kept.{StandsIdle}
+use Rattle.gateway_hub.specs.Keeps.{StandsIdle}
 use Rattle.gateway_hub.proofs.EndLemmas.{stop_ends}
 use Rattle.gateway_hub.proofs.OweLemmas.{stop_keeps}
 use Rattle.gateway_hub.proofs.hub.Hub.stop.Goals as goal

@@ -1,7 +1,7 @@
 use Rattle.std.proofs.Math.Logic.{∥∥₁_map}
-use Rattle.gateway_hub.specs.Kept.{Keeps, StandsIdle}
+use Rattle.gateway_hub.specs.Keeps.{Keeps, StandsIdle}
 use Rattle.gateway_hub.proofs.GoLemmas.{takes_go}
-use Rattle.gateway_hub.proofs.ShownLemmas.{takes_shown}
+use Rattle.gateway_hub.proofs.ShowLemmas.{takes_shown}
 use Rattle.gateway_hub.proofs.hub.Hub.take.Goals as goal
 
 pub invariant_of-self : goal.invariant_of-self

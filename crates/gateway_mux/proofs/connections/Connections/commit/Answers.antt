@@ -1,13 +1,13 @@
 use Rattle.std.proofs.Common.{◌∙◌, Some, None, ap, subst}
 use Rattle.rtsp_head.specs.Shapes.{shape_of}
-use Rattle.gate_machine.specs.Frames.{behind_channel, frame_text}
-use Rattle.mux_history.specs.Happenings.{happening_of}
+use Rattle.client_machine.specs.Frames.{behind_channel, frame_text}
+use Rattle.gateway_claim.specs.Happenings.{happening_of}
 use Rattle.gateway_mux.specs.declared.act.Act.{Act}
 use Rattle.gateway_mux.specs.Acts.{IsAct}
 use Rattle.gateway_mux.specs.Moves.{answering, risen_by, fallen_by, ended_by}
 use Rattle.gateway_mux.specs.Pictures.{picture}
 use Rattle.gateway_mux.proofs.ActLemmas.{idle_committed, rise_committed, fall_committed, end_committed}
-use Rattle.gateway_mux.proofs.CarryingLemmas.{never_enters, committed_as}
+use Rattle.gateway_mux.proofs.CarryLemmas.{never_enters, committed_as}
 use Rattle.gateway_mux.proofs.connections.Connections.commit.Goals as goal
 
 pub returns-in-Nothing-clause-commits : goal.returns-in-Nothing-clause-commits

@@ -1,7 +1,7 @@
 use Rattle.std.proofs.Common.{◌≡◌, ◌∙◌, ◌+◌, ℕ, true, false, sym, refl, arith}
 use Rattle.gateway_mux.specs.Pictures.{picture}
 use Rattle.gateway_mux.specs.Spare.{left}
-use Rattle.gateway_mux.proofs.KeepingLemmas.{keeps_none}
+use Rattle.gateway_mux.proofs.UpkeepLemmas.{keeps_none}
 use Rattle.gateway_mux.proofs.OverLemmas.{kept_along}
 use Rattle.gateway_mux.proofs.connections.Connections.new.Goals as goal
 

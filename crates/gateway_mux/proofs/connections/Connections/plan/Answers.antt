@@ -1,6 +1,6 @@
 use Rattle.std.proofs.Common.{refl, sym, ap, subst}
-use Rattle.mux_history.specs.Happenings.{Happening, happening_of}
-use Rattle.gate_machine.specs.declared.why.CloseWhy.TheVariants.{Ended, Slow}
+use Rattle.gateway_claim.specs.Happenings.{Happening, happening_of}
+use Rattle.client_machine.specs.declared.why.CloseWhy.TheVariants.{Ended, Slow}
 use Rattle.gateway_mux.specs.Acts.{IsClosing}
 use Rattle.gateway_mux.proofs.connections.Connections.plan.Goals as goal
 

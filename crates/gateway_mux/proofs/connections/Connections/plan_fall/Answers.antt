@@ -1,9 +1,9 @@
 use Rattle.std.proofs.Common.{◌≡◌, ◌∙◌, ◌/◌, ◌%◌, Bool, true, false, not, refl, sym, ap}
 use Rattle.rtsp_head.specs.Shapes.{shape_of}
 use Rattle.channel_map.specs.Pairs.{held_at}
-use Rattle.gate_machine.specs.Frames.{channel_for}
+use Rattle.client_machine.specs.Frames.{channel_for}
 use Rattle.gateway_mux.specs.Pictures.{picture}
-use Rattle.gateway_mux.proofs.SaidLemmas.{idle_fall_dead, idle_fall_none}
+use Rattle.gateway_mux.proofs.FactLemmas.{idle_fall_dead, idle_fall_none}
 use Rattle.gateway_mux.proofs.connections.Connections.plan_fall.Goals as goal
 
 held_granted : (granted : Bool) → not granted ≡ false → granted ≡ true

@@ -3,15 +3,15 @@ use Rattle.std.specs.Option.{option_copied, option_and_then}
 use Rattle.rtsp_transport.specs.declared.grant.Grant.{Grant}
 use Rattle.client_slot.specs.declared.purpose.Purpose.{Purpose}
 use Rattle.client_slot.specs.Purposes.{purpose_seen}
-use Rattle.gate_machine.specs.Plans.{replies}
-use Rattle.mux_history.specs.Happenings.{hears}
+use Rattle.client_machine.specs.Plans.{replies}
+use Rattle.gateway_claim.specs.Happenings.{hears}
 use Rattle.gateway_mux.specs.Spare.{left}
-use Rattle.gateway_mux.specs.declared.said.Said.{Said}
+use Rattle.gateway_mux.specs.declared.turn_facts.TurnFacts.{TurnFacts}
 use Rattle.gateway_mux.specs.Acts.{IsSaid}
-use Rattle.gateway_mux.specs.Granting.{IsLowPurpose}
+use Rattle.gateway_mux.specs.WrongGrants.{IsLowPurpose}
 use Rattle.gateway_mux.specs.Pictures.{picture}
-use Rattle.gateway_mux.proofs.KeepingLemmas.{open_asked, low_open}
-use Rattle.gateway_mux.proofs.SaidLemmas.{no_client, no_pending, right_here, early_settled, late_settled, reply_said}
+use Rattle.gateway_mux.proofs.UpkeepLemmas.{open_asked, low_open}
+use Rattle.gateway_mux.proofs.FactLemmas.{no_client, no_pending, right_here, early_settled, late_settled, reply_said}
 use Rattle.gateway_mux.proofs.connections.Connections.plan_reply.Goals.{then-reply-lt200, else-reply-lt200+in_ok-what_settles}
 use Rattle.gateway_mux.proofs.connections.Connections.plan_reply.Goals as goal
 
@@ -41,8 +41,8 @@ breach-requires-clause-grant c = c.grant_said-grant.ensures
 pub returns-clause-act : goal.returns-clause-act
 returns-clause-act c shape says =
     c.plan_turn.ensures.act (hears shape)
-    (subst (λ (it : Said). IsSaid c.args.self.now.bases (picture c.args.self.now.seats c.args.self.now.upstream) (hears shape) it (replies c.args.reply.now c.source_in-source.result))
-    (ap (λ (alone : Said). record alone { number = c.args.reply.now.cseq; settled = c.if-reply-lt200.settled }) (sym c.alone.ensures))
+    (subst (λ (it : TurnFacts). IsSaid c.args.self.now.bases (picture c.args.self.now.seats c.args.self.now.upstream) (hears shape) it (replies c.args.reply.now c.source_in-source.result))
+    (ap (λ (alone : TurnFacts). record alone { number = c.args.reply.now.cseq; settled = c.if-reply-lt200.settled }) (sym c.alone.ensures))
     (reply_said c.args.self.now.bases (picture c.args.self.now.seats c.args.self.now.upstream) shape c.args.reply.now c.source_in-source.result c.in-Some.conn c.in-Some-seat.seat.slot.now c.if-reply-lt200.settled (c.source_in-source.ensures ∙ ap (option_and_then (λ (grant : Grant). grant.ssrc)) c.grant_said-grant.ensures) says (sym c.in-Some.ensures) c.in-Some-seat.ensures.1
     (right_here (picture c.args.self.now.seats c.args.self.now.upstream) c.in-Some.conn c.in-Some-seat.seat.slot.now (purpose_seen c.in-Some-pending.pending) (option_copied c.session-session.result) c.args.reply.now c.breach.result c.in-Some-pending.ensures c.session-session.ensures.id
     c.breach.ensures c.in_default-breach.is)

@@ -1,11 +1,11 @@
 use Rattle.std.proofs.Common.{◌∙◌, ◌<◌, ◌≤◌, refl, sym, ap, arith}
 use Rattle.rtsp_head.specs.Shapes.{shape_of}
 use Rattle.channel_map.specs.declared.map.TheConstants.{PAIRS}
-use Rattle.gate_machine.specs.Frames.{half_for}
-use Rattle.gate_machine.specs.Halves.{half_of}
+use Rattle.client_machine.specs.Frames.{half_for}
+use Rattle.client_machine.specs.Halves.{half_of}
 use Rattle.gateway_mux.specs.Spare.{left}
 use Rattle.gateway_mux.specs.Pictures.{picture}
-use Rattle.gateway_mux.proofs.KeepingLemmas.{low_half}
+use Rattle.gateway_mux.proofs.UpkeepLemmas.{low_half}
 use Rattle.gateway_mux.proofs.PlanLemmas.{idle_dead, idle_no_half, half_none}
 use Rattle.gateway_mux.proofs.connections.Connections.plan_rise.Goals as goal
 

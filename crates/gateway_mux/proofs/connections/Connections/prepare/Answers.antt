@@ -1,8 +1,8 @@
 use Rattle.std.proofs.Common.{◌≤◌, ℕ, refl, sym, ap, arith}
 use Rattle.up_books.specs.Ids.{holder_in}
 use Rattle.up_books.specs.Numbers.{asker_in}
-use Rattle.gateway_mux.specs.declared.upstream.Upstream.{Upstream}
-use Rattle.gateway_mux.proofs.CarryingLemmas.{requests_grown, sessions_grown}
+use Rattle.gateway_mux.specs.declared.upstream.UpstreamBooks.{UpstreamBooks}
+use Rattle.gateway_mux.proofs.CarryLemmas.{requests_grown, sessions_grown}
 use Rattle.gateway_mux.proofs.ReadyLemmas.{IsKeptReady, room_grown, room_prepared}
 use Rattle.gateway_mux.proofs.connections.Connections.prepare.Goals as goal
 
@@ -11,7 +11,7 @@ same_now n = grind arith
 
 pub invariant_of-self : goal.invariant_of-self
 invariant_of-self c =
-    let old : Upstream = c.args.self.now.upstream in
+    let old : UpstreamBooks = c.args.self.now.upstream in
     let grown = requests_grown c.room.result old.requests c.room.new.self c.room.ensures.ok c.room.ensures.err in
     let keeps : IsKeptReady c.args.self.now.bases c.args.self.now.seats old = record { kept = c.args.self.now.kept; spare = c.args.self.now.spare; spare_session = c.args.self.now.spare_session } in
     let after = room_grown c.args.self.now.bases c.args.self.now.seats c.args.self.now.seats old (record { requests = c.room.new.self; sessions = old.sessions; channels = old.channels }) (sym c.if-is_ready.ensures) refl
@@ -20,7 +20,7 @@ invariant_of-self c =
 
 pub invariant_of-self-in-Break-branch-2 : goal.invariant_of-self-in-Break-branch-2
 invariant_of-self-in-Break-branch-2 c =
-    let old : Upstream = c.args.self.now.upstream in
+    let old : UpstreamBooks = c.args.self.now.upstream in
     let grown = requests_grown c.room.result old.requests c.room.new.self c.room.ensures.ok c.room.ensures.err in
     let more = sessions_grown c.room-2.result old.sessions c.room-2.new.self c.room-2.ensures.ok c.room-2.ensures.err in
     let keeps : IsKeptReady c.args.self.now.bases c.args.self.now.seats old = record { kept = c.args.self.now.kept; spare = c.args.self.now.spare; spare_session = c.args.self.now.spare_session } in
@@ -30,7 +30,7 @@ invariant_of-self-in-Break-branch-2 c =
 
 pub invariant_of-self-2 : goal.invariant_of-self-2
 invariant_of-self-2 c =
-    let old : Upstream = c.args.self.now.upstream in
+    let old : UpstreamBooks = c.args.self.now.upstream in
     let grown = requests_grown c.room.result old.requests c.room.new.self c.room.ensures.ok c.room.ensures.err in
     let more = sessions_grown c.room-2.result old.sessions c.room-2.new.self c.room-2.ensures.ok c.room-2.ensures.err in
     let keeps : IsKeptReady c.args.self.now.bases c.args.self.now.seats old = record { kept = c.args.self.now.kept; spare = c.args.self.now.spare; spare_session = c.args.self.now.spare_session } in

@@ -2,10 +2,10 @@ use Rattle.std.proofs.Common.{Some}
 use Rattle.gateway_mux.specs.Moves.{handed_by}
 use Rattle.gateway_mux.specs.Pictures.{Picture, picture}
 use Rattle.gateway_mux.proofs.ActLemmas.{turn_committed}
-use Rattle.gateway_mux.proofs.CarryingLemmas.{left_for, is_there, turned_result, committed_as}
+use Rattle.gateway_mux.proofs.CarryLemmas.{left_for, is_there, turned_result, committed_as}
 use Rattle.gateway_mux.proofs.ForgetLemmas.{forgotten_ready, forgotten_commits}
 use Rattle.gateway_mux.proofs.ReadyLemmas.{kept_in_all, keeps_ready}
-use Rattle.gateway_mux.proofs.KeepingLemmas.{room_asked, settles_now}
+use Rattle.gateway_mux.proofs.UpkeepLemmas.{room_asked, settles_now}
 use Rattle.gateway_mux.proofs.connections.Connections.turn.Goals as goal
 
 pub commit_turn-requires-clause-settles : goal.commit_turn-requires-clause-settles

@@ -1,6 +1,6 @@
 use Rattle.std.proofs.Common.{◌∙◌, refl, sym}
-use Rattle.mux_history.specs.Happenings.{happening_of}
-use Rattle.mux_history.specs.declared.event.Outcome.{Outcome}
+use Rattle.gateway_claim.specs.Happenings.{happening_of}
+use Rattle.gateway_claim.specs.declared.event.Outcome.{Outcome}
 use Rattle.gateway_mux.specs.declared.mux.Mux.{Mux}
 use Rattle.gateway_mux.proofs.MuxLemmas.{silent_stands, still_open, planned, commit_drops, commit_stands, frame_dropped, other_item, client_handed, message_handed}
 use Rattle.gateway_mux.proofs.mux.Mux.commit.Goals.{else-is_frame-via-then-is_frame+then-is_none+else-is_none-2, else-is_frame-via-then-is_frame+else-is_none, else-is_frame-via-else-is_frame}

@@ -1,6 +1,6 @@
 use Rattle.std.proofs.Common.{List, refl, sym}
 use Rattle.std.proofs.Math.Logic.{∥∥₁_map}
-use Rattle.mux_history.specs.Happenings.{Entry, enters, silent}
+use Rattle.gateway_claim.specs.Happenings.{HistoryEntry, enters, silent}
 use Rattle.gateway_mux.specs.declared.mux.Mux.{Mux}
 use Rattle.gateway_mux.specs.Stands.{Stands}
 use Rattle.gateway_mux.proofs.MuxLemmas.{silent_stands, still_open, entered_stands, new_picture, unchanged_stands, on_err_always}
@@ -13,7 +13,7 @@ pub returns-in_err-prepare-clause-err : goal.returns-in_err-prepare-clause-err
 returns-in_err-prepare-clause-err c =
     let old : Mux = c.args.self.now in
     let new : Mux = record { connections = c.prepare.new.self; ended = old.ended; dropped = old.dropped } in
-    on_err_always c.from_residual.result ((T : List Entry) → Stands old T → Stands new T) (unchanged_stands old new refl refl c.prepare.ensures.bases c.prepare.ensures.same)
+    on_err_always c.from_residual.result ((T : List HistoryEntry) → Stands old T → Stands new T) (unchanged_stands old new refl refl c.prepare.ensures.bases c.prepare.ensures.same)
 
 pub enter-requires-clause-new : goal.enter-requires-clause-new
 enter-requires-clause-new c =

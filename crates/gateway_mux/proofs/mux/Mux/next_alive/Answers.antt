@@ -1,4 +1,4 @@
-use Rattle.mux_history.specs.Happenings.{standing}
+use Rattle.gateway_claim.specs.Happenings.{standing}
 use Rattle.gateway_mux.proofs.mux.Mux.next_alive.Goals as goal
 
 pub returns : goal.returns

@@ -1,5 +1,5 @@
 use Rattle.std.proofs.Common.{◌∙◌}
-use Rattle.mux_history.specs.Happenings.{standing}
+use Rattle.gateway_claim.specs.Happenings.{standing}
 use Rattle.gateway_mux.specs.Stands.{bases_of}
 use Rattle.gateway_mux.proofs.TellLemmas.{waiting_standing}
 use Rattle.gateway_mux.proofs.mux.Mux.waiting.Goals as goal

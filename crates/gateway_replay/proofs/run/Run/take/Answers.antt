@@ -1,10 +1,10 @@
 use Rattle.std.proofs.Common.{ℕ, List, subst}
 use Rattle.std.proofs.lemmas.Result.{err_from_is_err_and}
-use Rattle.mux_history.specs.Cores.{IsCoreHistory}
+use Rattle.gateway_claim.specs.Cores.{IsCoreHistory}
 use Rattle.gate_transcript.specs.Bodies.{end_reason_in}
 use Rattle.gate_transcript.specs.declared.entry.EntryKind.{EntryKind}
 use Rattle.gateway_replay.specs.Runs.{TakesUpEnd}
-use Rattle.gateway_replay.specs.Watching.{Watches, EntersNew}
+use Rattle.gateway_replay.specs.CoreRecords.{Watches, EntersNew}
 use Rattle.gateway_replay.proofs.RunLemmas.{takes_enter, takes_no_enter, takes_client, takes_server, takes_end, takes_slow, takes_up_end}
 use Rattle.gateway_replay.proofs.run.Run.take.Goals as goal
 

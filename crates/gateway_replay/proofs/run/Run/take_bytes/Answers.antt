@@ -1,9 +1,9 @@
 use Rattle.std.proofs.Common.{refl, sym, ap, ◌∙◌}
-use Rattle.mux_history.specs.Cores.{IsCoreHistory}
+use Rattle.gateway_claim.specs.Cores.{IsCoreHistory}
 use Rattle.gateway_replay.specs.declared.streams.Streams.{Streams}
 use Rattle.gateway_replay.specs.Streams.{framer_at}
-use Rattle.gateway_replay.specs.Watching.{Watches}
-use Rattle.gateway_replay.proofs.FedLemmas.{fed_framed}
+use Rattle.gateway_replay.specs.CoreRecords.{Watches}
+use Rattle.gateway_replay.proofs.FeedLemmas.{fed_framed}
 use Rattle.gateway_replay.proofs.RunLemmas.{server_others, takes_bytes}
 use Rattle.gateway_replay.proofs.run.Run.take_bytes.Goals as goal
 

@@ -2,11 +2,11 @@ use Rattle.std.proofs.Common.{rules, ◌≡◌, ◌≢◌, ℕ, Some, None, Ok, 
 use Rattle.std.proofs.lemmas.Result.{err_from_is_err_and}
 use Rattle.std.specs.Prelude.{nat_eq}
 use Rattle.std.specs.HashMap.{get}
-use Rattle.mux_history.specs.Cores.{IsCoreHistory}
+use Rattle.gateway_claim.specs.Cores.{IsCoreHistory}
 use Rattle.gateway_replay.specs.declared.streams.Streams.{Streams}
 use Rattle.gateway_replay.specs.declared.streams.Speaker.TheVariants.{Client}
-use Rattle.gateway_replay.specs.Watching.{Watches}
-use Rattle.gateway_replay.proofs.FedLemmas.{fed_framed, fresh_framed}
+use Rattle.gateway_replay.specs.CoreRecords.{Watches}
+use Rattle.gateway_replay.proofs.FeedLemmas.{fed_framed, fresh_framed}
 use Rattle.gateway_replay.proofs.RunLemmas.{client_others, takes_bytes, takes_in_part, takes_but_memory}
 use Rattle.gateway_replay.proofs.WatchLemmas.{watch_sound}
 use Rattle.gateway_replay.proofs.run.Run.take_client.Goals as goal

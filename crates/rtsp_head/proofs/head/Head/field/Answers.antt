@@ -1,6 +1,6 @@
 use Rattle.std.proofs.Common.{List, ℕ, Option, sym, subst}
 use Rattle.std.specs.Prelude.{IfSome, IsTrue}
-use Rattle.rtsp_head.specs.Written.{is_value}
+use Rattle.rtsp_head.specs.HeadText.{is_value}
 use Rattle.rtsp_head.proofs.SoundLemmas.{field_sound, some_seen}
 use Rattle.rtsp_head.proofs.head.Head.field.Goals as goal
 

@@ -1,8 +1,8 @@
 use Rattle.std.proofs.Common.{◌∙◌, sym, ap}
 use Rattle.std.specs.Prelude.{nat_eq}
 use Rattle.std.specs.HashSet.{contains}
-use Rattle.mux_history.specs.declared.event.Outcome.{Outcome}
-use Rattle.test_transcripts.proofs.RefusingLemmas.{item_fault}
+use Rattle.gateway_claim.specs.declared.event.Outcome.{Outcome}
+use Rattle.test_transcripts.proofs.RefuserLemmas.{item_fault}
 use Rattle.test_transcripts.proofs.refuser.Refuser.give.Goals as goal
 
 pub returns-in-Client-clause-over : goal.returns-in-Client-clause-over

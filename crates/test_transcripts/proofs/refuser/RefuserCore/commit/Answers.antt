@@ -1,10 +1,10 @@
 use Rattle.std.proofs.Common.{◌∷◌, sym, subst}
 use Rattle.std.specs.Prelude.{nat_eq}
 use Rattle.std.specs.HashSet.{contains}
-use Rattle.mux_history.specs.Happenings.{happening_of, entry_of}
+use Rattle.gateway_claim.specs.Happenings.{happening_of, entry_of}
 use Rattle.rtsp_uri.specs.declared.base.Bases.{Bases}
-use Rattle.test_transcripts.specs.Refusing.{StandsRefusing}
-use Rattle.test_transcripts.proofs.RefusingLemmas.{none_over, given_short, given_stands, silent_stands}
+use Rattle.test_transcripts.specs.Refuser.{StandsRefusing}
+use Rattle.test_transcripts.proofs.RefuserLemmas.{none_over, given_short, given_stands, silent_stands}
 use Rattle.test_transcripts.proofs.refuser.RefuserCore.commit.Goals as goal
 
 pub give-requires-clause-standing : goal.give-requires-clause-standing

@@ -1,8 +1,8 @@
 use Rattle.std.proofs.Common.{◌∙◌}
 use Rattle.std.specs.Prelude.{nat_eq}
 use Rattle.std.specs.HashSet.{contains}
-use Rattle.gateway_replay.proofs.LivingLemmas.{with_one}
-use Rattle.test_transcripts.proofs.RefusingLemmas.{none_over, entered_standing, entered_over}
+use Rattle.gateway_replay.proofs.AliveLemmas.{with_one}
+use Rattle.test_transcripts.proofs.RefuserLemmas.{none_over, entered_standing, entered_over}
 use Rattle.test_transcripts.proofs.refuser.RefuserCore.enter.Goals as goal
 
 pub returns-then-is_some-clause-ok : goal.returns-then-is_some-clause-ok

@@ -1,6 +1,6 @@
 use Rattle.std.proofs.Common.{Option, None, IfSome, sym, subst}
 use Rattle.client_slot.specs.Client.{Client}
-use Rattle.gate_machine.specs.Plans.{IsReady}
+use Rattle.client_machine.specs.Plans.{IsReady}
 use Rattle.test_transcripts.proofs.trial.Trial.close_seat.Goals as goal
 
 pub commit-done-requires-clause-ready : goal.commit-done-requires-clause-ready

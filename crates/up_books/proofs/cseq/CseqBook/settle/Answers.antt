@@ -1,8 +1,8 @@
 -- The loan of the number goes, and no other has it.
 use Rattle.std.proofs.Common.{◌≡◌, ◌∙◌, ◌==◌, ℕ, Some, sym, ap, arith}
 use Rattle.std.specs.List.{position}
-use Rattle.up_books.specs.declared.entry.Entry.{Entry}
-use Rattle.up_books.specs.Numbers.{Numbers}
+use Rattle.up_books.specs.declared.entry.BookEntry.{BookEntry}
+use Rattle.up_books.specs.Numbers.{IssuedNumbers}
 use Rattle.up_books.proofs.NumberLemmas.{asker-none, asker-some, asker-settle, numbers-settle, asker-absent}
 use Rattle.up_books.proofs.cseq.CseqBook.settle.Goals as goal
 
@@ -14,18 +14,18 @@ returns-in_err-place-clause-open c n = asker-absent c.args.number n c.args.self.
 
 pub invariant_of-self : goal.invariant_of-self
 invariant_of-self c =
-    let loans : c.self.inside.loans.items ≡ c.args.self.now.loans = ap (λ (book : Numbers). book.loans) c.self.view_is in
-    let found : position (λ (loan : Entry ℕ). loan.key == c.args.number) c.self.inside.loans.items ≡ Some c.in_ok-place.place = rw loans (sym c.in_ok-place.ensures) in
+    let loans : c.self.inside.loans.items ≡ c.args.self.now.loans = ap (λ (book : IssuedNumbers). book.loans) c.self.view_is in
+    let found : position (λ (loan : BookEntry ℕ). loan.key == c.args.number) c.self.inside.loans.items ≡ Some c.in_ok-place.place = rw loans (sym c.in_ok-place.ensures) in
     (rw c.remove-loan.ensures.items (numbers-settle c.args.number c.in_ok-place.place c.self.inside.issued c.self.inside.loans.items c.remove-loan.result c.self.invariant.0 found), omega arith)
 
 pub returns-clause-asker : goal.returns-clause-asker
 returns-clause-asker c =
-    let loans : c.self.inside.loans.items ≡ c.args.self.now.loans = ap (λ (book : Numbers). book.loans) c.self.view_is in
-    let found : position (λ (loan : Entry ℕ). loan.key == c.args.number) c.self.inside.loans.items ≡ Some c.in_ok-place.place = rw loans (sym c.in_ok-place.ensures) in
-    rw (← c.self.view_is) (ap (λ (loan : Entry ℕ). Some loan.conn) c.remove-loan.ensures.value ∙ sym (asker-some c.args.number c.self.inside.loans.items c.in_ok-place.place c.remove-loan.result found))
+    let loans : c.self.inside.loans.items ≡ c.args.self.now.loans = ap (λ (book : IssuedNumbers). book.loans) c.self.view_is in
+    let found : position (λ (loan : BookEntry ℕ). loan.key == c.args.number) c.self.inside.loans.items ≡ Some c.in_ok-place.place = rw loans (sym c.in_ok-place.ensures) in
+    rw (← c.self.view_is) (ap (λ (loan : BookEntry ℕ). Some loan.conn) c.remove-loan.ensures.value ∙ sym (asker-some c.args.number c.self.inside.loans.items c.in_ok-place.place c.remove-loan.result found))
 
 pub returns-clause-open : goal.returns-clause-open
 returns-clause-open c n =
-    let loans : c.self.inside.loans.items ≡ c.args.self.now.loans = ap (λ (book : Numbers). book.loans) c.self.view_is in
-    let found : position (λ (loan : Entry ℕ). loan.key == c.args.number) c.self.inside.loans.items ≡ Some c.in_ok-place.place = rw loans (sym c.in_ok-place.ensures) in
+    let loans : c.self.inside.loans.items ≡ c.args.self.now.loans = ap (λ (book : IssuedNumbers). book.loans) c.self.view_is in
+    let found : position (λ (loan : BookEntry ℕ). loan.key == c.args.number) c.self.inside.loans.items ≡ Some c.in_ok-place.place = rw loans (sym c.in_ok-place.ensures) in
     rw (c.remove-loan.ensures.items, ← c.self.view_is) (asker-settle c.args.number n c.in_ok-place.place c.self.inside.issued c.self.inside.loans.items c.remove-loan.result c.self.invariant.0 found)

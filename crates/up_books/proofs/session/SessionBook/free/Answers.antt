@@ -2,7 +2,7 @@
 use Rattle.std.proofs.Common.{◌≡◌, ℕ, List, Some, sym, ap, refl, arith}
 use Rattle.std.specs.Str.{bytes_eq}
 use Rattle.std.specs.List.{position}
-use Rattle.up_books.specs.declared.entry.Entry.{Entry}
+use Rattle.up_books.specs.declared.entry.BookEntry.{BookEntry}
 use Rattle.up_books.specs.Ids.{Ids}
 use Rattle.up_books.proofs.IdLemmas.{holder-none, holder-some, holder-free, ids-free, holder-absent}
 use Rattle.up_books.proofs.session.SessionBook.free.Goals as goal
@@ -10,7 +10,7 @@ use Rattle.up_books.proofs.session.SessionBook.free.Goals as goal
 pub invariant_of-self : goal.invariant_of-self
 invariant_of-self c =
     let bound : c.self.inside.bound.items ≡ c.args.self.now.bound = ap (λ (book : Ids). book.bound) c.self.view_is in
-    let found : position (λ (entry : Entry (List ℕ)). bytes_eq entry.key c.args.id.now) c.self.inside.bound.items ≡ Some c.in-Some.place = rw bound (sym c.in-Some.ensures) in
+    let found : position (λ (entry : BookEntry (List ℕ)). bytes_eq entry.key c.args.id.now) c.self.inside.bound.items ≡ Some c.in-Some.place = rw bound (sym c.in-Some.ensures) in
     (rw c.remove.ensures.items (ids-free c.args.id.now c.in-Some.place c.self.inside.bound.items c.remove.result c.self.invariant.0 found), omega arith)
 
 pub returns-in-Some-clause-spare : goal.returns-in-Some-clause-spare
@@ -21,7 +21,7 @@ returns-in-Some-clause-spare c =
 pub returns-in-Some-clause-bound : goal.returns-in-Some-clause-bound
 returns-in-Some-clause-bound c other =
     let bound : c.self.inside.bound.items ≡ c.args.self.now.bound = ap (λ (book : Ids). book.bound) c.self.view_is in
-    let found : position (λ (entry : Entry (List ℕ)). bytes_eq entry.key c.args.id.now) c.self.inside.bound.items ≡ Some c.in-Some.place = rw bound (sym c.in-Some.ensures) in
+    let found : position (λ (entry : BookEntry (List ℕ)). bytes_eq entry.key c.args.id.now) c.self.inside.bound.items ≡ Some c.in-Some.place = rw bound (sym c.in-Some.ensures) in
     rw (c.remove.ensures.items, ← c.self.view_is) (holder-free c.args.id.now other c.in-Some.place c.self.inside.bound.items c.remove.result c.self.invariant.0 found)
 
 pub returns-in_default-clause-spare : goal.returns-in_default-clause-spare

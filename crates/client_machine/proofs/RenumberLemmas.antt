@@ -1,0 +1,246 @@
+-- A step is the same under every numbering that tells apart what the event names.
+use Rattle.std.proofs.Common.{◌≡◌, ◌∙◌, ℕ, ◌==◌, nat_lt, Bool, true, false, cond, List, [], ◌∷◌, map, Option, Some, None, refl, sym, ap}
+use Rattle.std.specs.Prelude.{is_none}
+use Rattle.std.specs.Option.{option_map, option_or}
+use Rattle.std.specs.List.{find}
+use Rattle.rtsp_head.specs.Items.{Shape}
+use Rattle.rtsp_head.specs.declared.item.ItemKind.{ItemKind}
+use Rattle.rtsp_head.specs.declared.item.ItemKind.TheVariants.{Request, Response, Frame, Bad}
+use Rattle.rtsp_small.specs.declared.notify.NotifyReason.{NotifyReason}
+use Rattle.rtsp_small.specs.declared.notify.NotifyReason.TheVariants.{EndOfStream, MediaProperties, ScaleChange}
+use Rattle.rtsp_transport.specs.declared.channels.Pair.{Pair}
+use Rattle.rtsp_uri.specs.declared.base.Bases.{Bases}
+use Rattle.session_one.specs.declared.parts.Play.{Play}
+use Rattle.session_one.specs.declared.parts.Track.{Track}
+use Rattle.session_two.specs.declared.names.Names.{Names}
+use Rattle.translate_down.specs.Replies.{Told}
+use Rattle.client_slot.specs.declared.purpose.Purpose.{Purpose}
+use Rattle.client_slot.specs.declared.purpose.Purpose.TheVariants as purposes
+use Rattle.client_slot.specs.Client.{Client}
+use Rattle.client_slot.specs.Changes.{due_play, after_reply}
+use Rattle.client_slot.specs.Renumber.{track_under, purpose_under, client_under, names_under, AreToldApart}
+use Rattle.client_slot.proofs.RenumberLemmas.{reply_under, note_under, due_under, release_under, closing_under}
+use Rattle.client_machine.specs.declared.why.CloseWhy.{CloseWhy}
+use Rattle.client_machine.specs.declared.why.CloseWhy.TheVariants as why
+use Rattle.client_machine.specs.Effects.{Outgoing, asks, Effect, stays, sends, hands, then_effect}
+use Rattle.client_machine.specs.Events.{PrivateEvent, arrive, answer, note, media, end, slow, up_end}
+use Rattle.client_machine.specs.Frames.{channel_in, behind_channel, Half, half_on, half_for, player_channel, channel_for}
+use Rattle.client_machine.specs.Treatment.{given, Going, Treated, treated}
+use Rattle.client_machine.specs.Releases as going
+use Rattle.client_machine.specs.ServerItems.{NextPart, rests, releases, goes_on, Hearing, idles, closes, carry, take_item, take, new_id, reply_hand, settled, settle_at, take_answer, take_note, give, take_media, hear}
+use Rattle.client_machine.specs.Renumber.{message_under, effect_under, event_under, AreTracksApart, IsToldApart}
+use Rattle.client_machine.specs.Step.{going_on, heard_step, step}
+use Rattle.client_machine.proofs.BlindLemmas.{treated_under}
+
+-- the same channels go to the stream
+track_same : (pairs : ℕ → ℕ) (uri : List ℕ) (pair : Option ℕ) (channels : Option Pair) → going.track_of uri (option_map pairs pair) channels ≡ option_map (track_under pairs) (going.track_of uri pair channels)
+track_same pairs uri None channels = refl
+track_same pairs uri (Some pair) None = refl
+track_same pairs uri (Some pair) (Some channels) = refl
+
+pair_same : (pairs : ℕ → ℕ) (channels : Option Pair) (pair : Option ℕ) → going.pair_if_wanted channels (option_map pairs pair) ≡ option_map pairs (going.pair_if_wanted channels pair)
+pair_same pairs None pair = refl
+pair_same pairs (Some channels) pair = refl
+
+none_same : (pairs : ℕ → ℕ) (pair : Option ℕ) → is_none (option_map pairs pair) ≡ is_none pair
+none_same pairs None = refl
+none_same pairs (Some pair) = refl
+
+plays_under : (numbers pairs : ℕ → ℕ) (plays : List Play) (client : Client) → going.after_plays plays (client_under numbers pairs client) ≡ client_under numbers pairs (going.after_plays plays client)
+plays_under numbers pairs [] client = refl
+plays_under numbers pairs (play ∷ plays) client = plays_under numbers pairs plays _
+
+goes_at_under : (numbers pairs : ℕ → ℕ) (one : Option Going) (pair : Option ℕ) (hand : List ℕ) (client : Client)
+    → going.goes_at one (option_map pairs pair) hand (client_under numbers pairs client) ≡ effect_under numbers pairs (going.goes_at one pair hand client)
+goes_at_under numbers pairs None pair hand client = refl
+goes_at_under numbers pairs (Some one) pair hand client =
+    ap (λ (track : Option Track). record { client = record (client_under numbers pairs client) { pending = Some (purposes.Client one.asked track) }; hand = hand; message = Some (asks one.request (going.pair_if_wanted one.channels (option_map pairs pair))); close = None })
+    (track_same pairs one.asked.uri pair one.channels)
+    ∙ ap (λ (named : Option ℕ). record { client = record (client_under numbers pairs client) { pending = Some (purposes.Client one.asked (option_map (track_under pairs) (going.track_of one.asked.uri pair one.channels))) }; hand = hand; message = Some (asks one.request named); close = None })
+    (pair_same pairs one.channels pair)
+
+goes_with_under : (numbers pairs : ℕ → ℕ) (all : Treated) (pair : Option ℕ) (client : Client)
+    → going.goes_with all (option_map pairs pair) (client_under numbers pairs client) ≡ effect_under numbers pairs (going.goes_with all pair client)
+goes_with_under numbers pairs all pair client =
+    ap (going.goes_at all.going (option_map pairs pair) all.hand) (plays_under numbers pairs all.plays (record client { waiting = all.left }))
+    ∙ goes_at_under numbers pairs all.going pair all.hand (going.after_plays all.plays (record client { waiting = all.left }))
+
+treat_under : (numbers pairs : ℕ → ℕ) (bases : Bases) (pair : Option ℕ) (client : Client) → going.treat bases (option_map pairs pair) (client_under numbers pairs client) ≡ effect_under numbers pairs (going.treat bases pair client)
+treat_under numbers pairs bases pair client =
+    ap (λ full. going.goes_with (treated client.waiting (given bases full (client_under numbers pairs client))) (option_map pairs pair) (client_under numbers pairs client)) (none_same pairs pair)
+    ∙ ap (λ all. going.goes_with all (option_map pairs pair) (client_under numbers pairs client)) (treated_under pairs client.waiting (given bases (is_none pair) client))
+    ∙ goes_with_under numbers pairs (treated client.waiting (given bases (is_none pair) client)) pair client
+
+release_at_under : (numbers pairs : ℕ → ℕ) (play : Option Play) (client : Client) → going.released_with play (client_under numbers pairs client) ≡ effect_under numbers pairs (going.released_with play client)
+release_at_under numbers pairs None client = refl
+release_at_under numbers pairs (Some play) client = ap (sends _) (sym (release_under numbers pairs client))
+
+due_same : (numbers pairs : ℕ → ℕ) (client : Client) → due_play (client_under numbers pairs client) ≡ due_play client
+due_same numbers pairs client = due_under numbers pairs client.pending client.session.running client.session.queue
+
+release_same : (numbers pairs : ℕ → ℕ) (client : Client) → going.release (client_under numbers pairs client) ≡ effect_under numbers pairs (going.release client)
+release_same numbers pairs client =
+    ap (λ play. going.released_with play (client_under numbers pairs client)) (due_same numbers pairs client) ∙ release_at_under numbers pairs (due_play client) client
+
+leave_at_under : (numbers pairs : ℕ → ℕ) (id : Option (List ℕ)) (client : Client) → going.leave_at id (client_under numbers pairs client) ≡ effect_under numbers pairs (going.leave_at id client)
+leave_at_under numbers pairs None client = refl
+leave_at_under numbers pairs (Some id) client = ap (sends _) (sym (closing_under numbers pairs client))
+
+go_due_under : (numbers pairs : ℕ → ℕ) (bases : Bases) (pair : Option ℕ) (play : Option Play) (client : Client)
+    → going.go_due bases (option_map pairs pair) play (client_under numbers pairs client) ≡ effect_under numbers pairs (going.go_due bases pair play client)
+go_due_under numbers pairs bases pair (Some play) client = release_at_under numbers pairs (Some play) client
+go_due_under numbers pairs bases pair None client = treat_under numbers pairs bases pair client
+
+go_idle_under : (numbers pairs : ℕ → ℕ) (bases : Bases) (pair : Option ℕ) (alive : Bool) (client : Client)
+    → going.go_idle bases (option_map pairs pair) alive (client_under numbers pairs client) ≡ effect_under numbers pairs (going.go_idle bases pair alive client)
+go_idle_under numbers pairs bases pair true client =
+    ap (λ play. going.go_due bases (option_map pairs pair) play (client_under numbers pairs client)) (due_same numbers pairs client)
+    ∙ go_due_under numbers pairs bases pair (due_play client) client
+go_idle_under numbers pairs bases pair false client = leave_at_under numbers pairs client.session.id client
+
+go_at_under : (numbers pairs : ℕ → ℕ) (bases : Bases) (pair : Option ℕ) (pending : Option Purpose) (client : Client)
+    → going.go_at bases (option_map pairs pair) (option_map (purpose_under pairs) pending) (client_under numbers pairs client) ≡ effect_under numbers pairs (going.go_at bases pair pending client)
+go_at_under numbers pairs bases pair None client = go_idle_under numbers pairs bases pair client.alive client
+go_at_under numbers pairs bases pair (Some purpose) client = refl
+
+going_on_under : (numbers pairs : ℕ → ℕ) (bases : Bases) (pair : Option ℕ) (next : NextPart) (client : Client)
+    → going_on bases (option_map pairs pair) next (client_under numbers pairs client) ≡ effect_under numbers pairs (going_on bases pair next client)
+going_on_under numbers pairs bases pair rests client = refl
+going_on_under numbers pairs bases pair releases client = release_same numbers pairs client
+going_on_under numbers pairs bases pair goes_on client = go_at_under numbers pairs bases pair client.pending client
+
+-- what an event does by itself
+abbrev heard_under : (ℕ → ℕ) → (ℕ → ℕ) → Hearing → Hearing
+heard_under numbers pairs heard = record { effect = effect_under numbers pairs heard.effect; next = heard.next }
+
+closes_under : (numbers pairs : ℕ → ℕ) (alive : Bool) (why : CloseWhy) (client : Client) → closes alive why (client_under numbers pairs client) ≡ heard_under numbers pairs (closes alive why client)
+closes_under numbers pairs false why client = refl
+closes_under numbers pairs true why client = refl
+
+abbrev half_under : (ℕ → ℕ) → Half → Half
+half_under pairs half = record { pair = pairs half.pair; half = half.half }
+
+half_here : (pairs : ℕ → ℕ) (pair : ℕ) (half : Option ℕ) (later moved : Option Half) → moved ≡ option_map (half_under pairs) later
+    → option_or (option_map (λ one. record { pair = pairs pair; half = one }) half) moved ≡ option_map (half_under pairs) (option_or (option_map (λ one. record { pair = pair; half = one }) half) later)
+half_here pairs pair None later moved same = same
+half_here pairs pair (Some one) later moved same = refl
+
+half_same : (pairs : ℕ → ℕ) (channel : ℕ) (tracks : List Track) → half_for channel (map (track_under pairs) tracks) ≡ option_map (half_under pairs) (half_for channel tracks)
+half_same pairs channel [] = refl
+half_same pairs channel (track ∷ tracks) = half_here pairs track.pair (half_on channel track) (half_for channel tracks) (half_for channel (map (track_under pairs) tracks)) (half_same pairs channel tracks)
+
+carry_under : (numbers pairs : ℕ → ℕ) (half : Option Half) (rest : List ℕ) (client : Client)
+    → carry (option_map (half_under pairs) half) rest (client_under numbers pairs client) ≡ heard_under numbers pairs (carry half rest client)
+carry_under numbers pairs None rest client = refl
+carry_under numbers pairs (Some half) rest client = refl
+
+item_under : (numbers pairs : ℕ → ℕ) (kind : ItemKind) (shape : Shape) (client : Client) → take_item kind shape (client_under numbers pairs client) ≡ heard_under numbers pairs (take_item kind shape client)
+item_under numbers pairs Request shape client = refl
+item_under numbers pairs Response shape client = refl
+item_under numbers pairs Frame shape client =
+    ap (λ half. carry half (behind_channel shape) (client_under numbers pairs client)) (half_same pairs (channel_in shape) client.session.tracks)
+    ∙ carry_under numbers pairs (half_for (channel_in shape) client.session.tracks) (behind_channel shape) client
+item_under numbers pairs (Bad kind) shape client = refl
+
+take_under : (numbers pairs : ℕ → ℕ) (alive : Bool) (shape : Shape) (client : Client) → take alive shape (client_under numbers pairs client) ≡ heard_under numbers pairs (take alive shape client)
+take_under numbers pairs false shape client = refl
+take_under numbers pairs true shape client = item_under numbers pairs shape.kind shape client
+
+id_same : (pairs : ℕ → ℕ) (purpose : Purpose) (id : Option (List ℕ)) (told : Told) → new_id (purpose_under pairs purpose) id told ≡ new_id purpose id told
+id_same pairs (purposes.Client asked track) id told = refl
+id_same pairs (purposes.Released play) id told = refl
+id_same pairs purposes.Closing id told = refl
+
+client_same : (pairs : ℕ → ℕ) (track : Option Track) → option_map (λ (one : Track). one.client) (option_map (track_under pairs) track) ≡ option_map (λ (one : Track). one.client) track
+client_same pairs None = refl
+client_same pairs (Some track) = refl
+
+text_same : (numbers pairs : ℕ → ℕ) (bases : Bases) (purpose : Purpose) (told : Told) (ssrc : Option ℕ) (client : Client)
+    → reply_hand bases (purpose_under pairs purpose) told ssrc (client_under numbers pairs client) ≡ reply_hand bases purpose told ssrc client
+text_same numbers pairs bases (purposes.Client asked None) told ssrc client = refl
+text_same numbers pairs bases (purposes.Client asked (Some track)) told ssrc client = refl
+text_same numbers pairs bases (purposes.Released play) told ssrc client = refl
+text_same numbers pairs bases purposes.Closing told ssrc client = refl
+
+settled_under : (numbers pairs : ℕ → ℕ) (bases : Bases) (number : ℕ) (purpose : Purpose) (told : Told) (ssrc : Option ℕ) (client : Client)
+    → settled bases (numbers number) (purpose_under pairs purpose) told ssrc (client_under numbers pairs client) ≡ heard_under numbers pairs (settled bases number purpose told ssrc client)
+settled_under numbers pairs bases number purpose told ssrc client =
+    ap (λ (id : Option (List ℕ)). record { effect = hands (reply_hand bases (purpose_under pairs purpose) told ssrc (after_reply (numbers number) told.code id (client_under numbers pairs client))) (after_reply (numbers number) told.code id (client_under numbers pairs client)); next = goes_on })
+    (id_same pairs purpose client.session.id told)
+    ∙ ap (λ (after : Client). record { effect = hands (reply_hand bases (purpose_under pairs purpose) told ssrc after) after; next = goes_on })
+    (sym (reply_under numbers pairs number told.code (new_id purpose client.session.id told) client))
+    ∙ ap (λ (text : List ℕ). record { effect = hands text (client_under numbers pairs (after_reply number told.code (new_id purpose client.session.id told) client)); next = goes_on })
+    (text_same numbers pairs bases purpose told ssrc (after_reply number told.code (new_id purpose client.session.id told) client))
+
+settle_at_under : (numbers pairs : ℕ → ℕ) (bases : Bases) (number : ℕ) (pending : Option Purpose) (told : Told) (ssrc : Option ℕ) (client : Client)
+    → settle_at bases (numbers number) (option_map (purpose_under pairs) pending) told ssrc (client_under numbers pairs client) ≡ heard_under numbers pairs (settle_at bases number pending told ssrc client)
+settle_at_under numbers pairs bases number None told ssrc client = refl
+settle_at_under numbers pairs bases number (Some purpose) told ssrc client = settled_under numbers pairs bases number purpose told ssrc client
+
+answer_by : (numbers pairs : ℕ → ℕ) (early : Bool) (client : Client) (moved heard : Hearing) → moved ≡ heard_under numbers pairs heard
+    → cond early (idles (client_under numbers pairs client)) moved ≡ heard_under numbers pairs (cond early (idles client) heard)
+answer_by numbers pairs true client moved heard same = refl
+answer_by numbers pairs false client moved heard same = same
+
+answer_under : (numbers pairs : ℕ → ℕ) (bases : Bases) (number : ℕ) (told : Told) (ssrc : Option ℕ) (client : Client)
+    → take_answer bases (numbers number) told ssrc (client_under numbers pairs client) ≡ heard_under numbers pairs (take_answer bases number told ssrc client)
+answer_under numbers pairs bases number told ssrc client =
+    answer_by numbers pairs (nat_lt told.code 200) client _ (settle_at bases number client.pending told ssrc client) (settle_at_under numbers pairs bases number client.pending told ssrc client)
+
+take_note_under : (numbers pairs : ℕ → ℕ) (reason : NotifyReason) (names : Names) (client : Client) → AreToldApart numbers client.session.running names
+    → take_note reason (names_under numbers names) (client_under numbers pairs client) ≡ heard_under numbers pairs (take_note reason names client)
+take_note_under numbers pairs EndOfStream names client apart = ap (λ (after : Client). record { effect = stays after; next = releases }) (sym (note_under numbers pairs names client apart))
+take_note_under numbers pairs MediaProperties names client apart = refl
+take_note_under numbers pairs ScaleChange names client apart = refl
+
+found_by : (pairs : ℕ → ℕ) (here : Bool) (half : ℕ) (track : Track) (moved found : Option Track) → option_map (player_channel half) moved ≡ option_map (player_channel half) found
+    → option_map (player_channel half) (cond here (Some (track_under pairs track)) moved) ≡ option_map (player_channel half) (cond here (Some track) found)
+found_by pairs true half track moved found same = refl
+found_by pairs false half track moved found same = same
+
+channel_same : (pairs : ℕ → ℕ) (pair half : ℕ) (tracks : List Track) → AreTracksApart pairs pair tracks → channel_for (pairs pair) half (map (track_under pairs) tracks) ≡ channel_for pair half tracks
+channel_same pairs pair half [] apart = refl
+channel_same pairs pair half (track ∷ tracks) apart =
+    ap (λ here. option_map (player_channel half) (cond here (Some (track_under pairs track)) (find (λ one. one.pair == pairs pair) (map (track_under pairs) tracks)))) apart.0
+    ∙ found_by pairs (track.pair == pair) half track (find (λ one. one.pair == pairs pair) (map (track_under pairs) tracks)) (find (λ one. one.pair == pair) tracks) (channel_same pairs pair half tracks apart.1)
+
+give_under : (numbers pairs : ℕ → ℕ) (channel : Option ℕ) (rest : List ℕ) (client : Client) → give channel rest (client_under numbers pairs client) ≡ heard_under numbers pairs (give channel rest client)
+give_under numbers pairs None rest client = refl
+give_under numbers pairs (Some channel) rest client = refl
+
+media_under : (numbers pairs : ℕ → ℕ) (alive : Bool) (pair half : ℕ) (rest : List ℕ) (client : Client) → AreTracksApart pairs pair client.session.tracks
+    → take_media alive (pairs pair) half rest (client_under numbers pairs client) ≡ heard_under numbers pairs (take_media alive pair half rest client)
+media_under numbers pairs false pair half rest client apart = refl
+media_under numbers pairs true pair half rest client apart =
+    ap (λ channel. give channel rest (client_under numbers pairs client)) (channel_same pairs pair half client.session.tracks apart)
+    ∙ give_under numbers pairs (channel_for pair half client.session.tracks) rest client
+
+hear_under : (numbers pairs : ℕ → ℕ) (bases : Bases) (number : ℕ) (client : Client) (event : PrivateEvent) → IsToldApart numbers pairs client event
+    → hear bases (numbers number) (client_under numbers pairs client) (event_under numbers pairs event) ≡ heard_under numbers pairs (hear bases number client event)
+hear_under numbers pairs bases number client (arrive shape full) apart = take_under numbers pairs client.alive shape client
+hear_under numbers pairs bases number client (answer told ssrc full) apart = answer_under numbers pairs bases number told ssrc client
+hear_under numbers pairs bases number client (note reason names) apart = take_note_under numbers pairs reason names client apart
+hear_under numbers pairs bases number client (media pair half rest) apart = media_under numbers pairs client.alive pair half rest client apart
+hear_under numbers pairs bases number client end apart = closes_under numbers pairs client.alive why.Ended client
+hear_under numbers pairs bases number client slow apart = closes_under numbers pairs client.alive why.Slow client
+hear_under numbers pairs bases number client up_end apart = refl
+
+message_same : (pairs : ℕ → ℕ) (first second : Option Outgoing) → option_or (option_map (message_under pairs) first) (option_map (message_under pairs) second) ≡ option_map (message_under pairs) (option_or first second)
+message_same pairs None second = refl
+message_same pairs (Some message) second = refl
+
+then_under : (numbers pairs : ℕ → ℕ) (first second : Effect) → then_effect (effect_under numbers pairs first) (effect_under numbers pairs second) ≡ effect_under numbers pairs (then_effect first second)
+then_under numbers pairs first second =
+    ap (λ (message : Option Outgoing). record (effect_under numbers pairs (then_effect first second)) { message = message }) (message_same pairs first.message second.message)
+
+heard_step_under : (numbers pairs : ℕ → ℕ) (bases : Bases) (pair : Option ℕ) (heard : Hearing)
+    → heard_step bases (option_map pairs pair) (heard_under numbers pairs heard) ≡ effect_under numbers pairs (heard_step bases pair heard)
+heard_step_under numbers pairs bases pair heard =
+    ap (then_effect (effect_under numbers pairs heard.effect)) (going_on_under numbers pairs bases pair heard.next heard.effect.client)
+    ∙ then_under numbers pairs heard.effect (going_on bases pair heard.next heard.effect.client)
+
+pub step_under : (numbers pairs : ℕ → ℕ) (bases : Bases) (number : ℕ) (pair : Option ℕ) (client : Client) (event : PrivateEvent) → IsToldApart numbers pairs client event
+    → step bases (numbers number) (option_map pairs pair) (client_under numbers pairs client) (event_under numbers pairs event) ≡ effect_under numbers pairs (step bases number pair client event)
+step_under numbers pairs bases number pair client event apart =
+    ap (heard_step bases (option_map pairs pair)) (hear_under numbers pairs bases number client event apart)
+    ∙ heard_step_under numbers pairs bases pair (hear bases number client event)

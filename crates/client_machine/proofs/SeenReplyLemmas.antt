@@ -1,0 +1,135 @@
+-- What a player gets of the server's reply can be read back, and a code that is no success stays none.
+use Rattle.std.proofs.Common.{◌≡◌, ◌∙◌, ◌+◌, ◌<◌, ◌^◌, ◌&&◌, ℕ, Bool, true, false, not, cond, List, [], ◌∷◌, ◌++◌, length, drop, Option, None, Some, IfSome, refl, sym, ap, subst, unwrap_or, option_map, option_and_then, length-append, arith}
+use Rattle.std.specs.Prelude.{codes, ◌≢◌}
+use Rattle.std.specs.List.{list_all}
+use Rattle.std.proofs.lemmas.Bool.{and_parts, le-leb, eq-eqb}
+use Rattle.gate_bytes.specs.Ascii.{semicolon}
+use Rattle.gate_bytes.specs.Places.{parts_at}
+use Rattle.rtsp_head.specs.Headers.{field_of}
+use Rattle.rtsp_head.specs.Messages.{message_headers}
+use Rattle.rtsp_head.specs.HeadText.{head_text, is_header}
+use Rattle.rtsp_small.specs.declared.cseq.TheConstants.{CSEQ_ONE_DIGITS}
+use Rattle.rtsp_small.specs.declared.method.Method.{Method}
+use Rattle.rtsp_small.specs.Sessions.{SessionParts, is_session_id, first_timeout, session_in, session_of}
+use Rattle.rtsp_status.specs.Codes.{CodeRow, code_rows, holds, code_in, code_one}
+use Rattle.rtsp_uri.specs.declared.base.Base.{Base}
+use Rattle.rtsp_uri.specs.declared.base.Bases.{Bases}
+use Rattle.rtsp_uri.specs.BaseTexts.{ends_at, is_base_text}
+use Rattle.rtsp_uri.specs.Uris.{scheme, places_of}
+use Rattle.head_one.specs.declared.reply.Reply1.{Reply1}
+use Rattle.head_one.specs.Replies.{reply_start, reply_text, IsReply}
+use Rattle.session_one.specs.declared.parts.Asked.{Asked}
+use Rattle.session_one.specs.declared.parts.Track.{Track}
+use Rattle.session_one.specs.Table.{is_success}
+use Rattle.translate_up.proofs.StateLemmas.{IsValidId, IsGiven, not_true}
+use Rattle.translate_down.specs.Contents.{asks_body, body_told}
+use Rattle.translate_down.specs.Readable.{CanBeRead}
+use Rattle.translate_down.specs.Replies.{Told, success_of, refusal_of, reply_down}
+use Rattle.translate_down.specs.Settings.{Setting}
+use Rattle.translate_down.proofs.ReadLemmas.{down_reply}
+use Rattle.client_slot.specs.Client.{Client}
+use Rattle.client_machine.specs.ServerItems.{session_told, setting}
+use Rattle.client_machine.proofs.PlayerReplyLemmas.{IsShort, in_short}
+
+-- A code that is no success does not become one.
+told_refuses : (told : Option ℕ) (code : ℕ) → not (is_success (unwrap_or told 502)) ≡ true → is_success code ≡ false → is_success (unwrap_or told code) ≡ false
+told_refuses None code known e = e
+told_refuses (Some one) code known e = not_true (is_success one) known
+
+rows_refuse : (rows : List CodeRow) (code : ℕ) → list_all (λ (row : CodeRow). not (is_success (unwrap_or row.told 502))) rows ≡ true → is_success code ≡ false → is_success (code_in rows code) ≡ false
+rows_refuse [] code known e = refl
+rows_refuse (row ∷ more) code known e =
+    let parts = and_parts (not (is_success (unwrap_or row.told 502))) (list_all (λ (one : CodeRow). not (is_success (unwrap_or one.told 502))) more) known in
+    by (holds row code) (unwrap_or row.told code) (code_in more code) (told_refuses row.told code parts.0 e) (rows_refuse more code parts.1 e)
+  where
+    by : (here : Bool) (one other : ℕ) → is_success one ≡ false → is_success other ≡ false → is_success (cond here one other) ≡ false
+    by true one other a b = a
+    by false one other a b = b
+
+pub code_refuses : (code : ℕ) → is_success code ≡ false → is_success (code_one code) ≡ false
+code_refuses code e = ap (λ b. is_success (cond b 200 (code_in (drop 1 code_rows) code))) e ∙ rows_refuse (drop 1 code_rows) code refl e
+
+-- The front is a base.
+base_known : (base : Base) → is_base_text base.text ≡ true
+base_known base =
+    ap (λ b. b && ends_at (7 + length base.text) (places_of (scheme ++ base.text))) (le-leb _ _ base.whole.short)
+    ∙ ap (λ places. ends_at (7 + length base.text) places) base.whole.places
+    ∙ eq-eqb (7 + length base.text) (7 + length base.text) refl
+
+-- What a reply says of its session is in the grammar.
+id_with : (valid : Bool) (id : List ℕ) (timeout : Option ℕ) → is_session_id id ≡ valid → IfSome (cond valid (Some (record { id = id; timeout = timeout })) None) (λ (session : SessionParts). is_session_id session.id ≡ true)
+id_with true id timeout e = e
+id_with false id timeout e = tt
+
+id_in : (parts : List (List ℕ)) → IfSome (session_in parts) (λ session. is_session_id session.id ≡ true)
+id_in [] = tt
+id_in (id ∷ parameters) = id_with (is_session_id id) id (first_timeout parameters) refl
+
+session_by : (P : SessionParts → Type 0) (value : Option (List ℕ)) → ((text : List ℕ) → IfSome (session_of text) P) → IfSome (option_and_then session_of value) P
+session_by P None all = tt
+session_by P (Some text) all = all text
+
+pub id_told : (told : Told) → IfSome (session_told told) (λ session. is_session_id session.id ≡ true)
+id_told told = session_by (λ session. is_session_id session.id ≡ true) (field_of told.fields (codes "Session")) (λ text. id_in (parts_at semicolon text))
+
+timeout_of : (session : Option SessionParts) → IfSome session (λ one. IsShort one.timeout) → IsShort (option_and_then (λ one. one.timeout) session)
+timeout_of None all = tt
+timeout_of (Some session) all = all
+
+timeout_told : (told : Told) → IsShort (option_and_then (λ session. session.timeout) (session_told told))
+timeout_told told = timeout_of (session_told told) (session_by (λ session. IsShort session.timeout) (field_of told.fields (codes "Session")) (λ text. in_short (parts_at semicolon text)))
+
+-- what a reply is written for
+pair_apart : (track : Option Track) → IfSome track (λ one. IsGiven one.client) → IfSome (option_map (λ one. one.client) track) (λ pair. pair.rtp ≢ pair.rtcp)
+pair_apart None all = tt
+pair_apart (Some track) all = all.0
+
+pair_bytes : (track : Option Track) → IfSome track (λ one. IsGiven one.client) → IfSome (option_map (λ one. one.client) track) (λ pair. (pair.rtp < 256) × (pair.rtcp < 256))
+pair_bytes None all = tt
+pair_bytes (Some track) all = all.1
+
+-- What is known of a reply to a player's request.
+pub record IsTellable (asked : Asked) (track : Option Track) (told : Told) (client : Client) : Type 0 where
+  pub id : IsValidId client.session.id
+  pub channels : IfSome track (λ one. IsGiven one.client)
+  pub short : asked.cseq < 10 ^ CSEQ_ONE_DIGITS
+  pub fields : list_all is_header told.fields ≡ true
+
+can_read : (bases : Bases) (asked : Asked) (track : Option Track) (told : Told) (ssrc : Option ℕ) (client : Client) (body : List ℕ) → IsTellable asked track told client
+    → length (body_told (setting bases track ssrc told client) asked.method told.fields body) < 2 ^ 64 → CanBeRead (setting bases track ssrc told client) asked (record told { body = body })
+can_read bases asked track told ssrc client body can short = record {
+  setting = record { session = can.id; timeout = timeout_told told; client = pair_apart track can.channels };
+  front = base_known bases.front;
+  client = pair_bytes track can.channels;
+  cseq = can.short;
+  fields = can.fields;
+  body = short;
+}
+
+no_body : (place : Setting) (method : Method) (told : Told) → length (body_told place method told.fields []) < 2 ^ 64
+no_body place method told = by (asks_body method) _
+  where
+    by : (asks : Bool) (one : List ℕ) → length (cond (asks && false) one []) < 2 ^ 64
+    by true one = omega arith
+    by false one = omega arith
+
+body_within : (reply : Reply1) → length (reply_text reply) < 2 ^ 64 → length reply.body < 2 ^ 64
+body_within reply short = omega (arith, short, length-append (head_text (reply_start reply) (message_headers reply.cseq reply.headers reply.body)) reply.body)
+
+-- The reply that a player gets, by whether it is a success.
+pub success_readable : (bases : Bases) (asked : Asked) (track : Option Track) (told : Told) (ssrc : Option ℕ) (client : Client) → IsTellable asked track told client → is_success told.code ≡ true
+    → length (reply_text (reply_down (setting bases track ssrc told client) asked told)) < 2 ^ 64 → IsReply (reply_down (setting bases track ssrc told client) asked told)
+success_readable bases asked track told ssrc client can e short =
+    let place : Setting = setting bases track ssrc told client in
+    let is : reply_down place asked told ≡ success_of place asked told = ap (λ b. cond b (success_of place asked told) (refusal_of asked told)) e in
+    down_reply place asked told
+    (can_read bases asked track told ssrc client told.body can (body_within (success_of place asked told) (subst (λ (one : Reply1). length (reply_text one) < 2 ^ 64) is short)))
+
+pub refusal_readable : (bases : Bases) (asked : Asked) (track : Option Track) (told : Told) (ssrc : Option ℕ) (client : Client) → IsTellable asked track told client → is_success told.code ≡ false
+    → IsReply (reply_down (setting bases track ssrc told client) asked told)
+refusal_readable bases asked track told ssrc client can e =
+    let place : Setting = setting bases track ssrc told client in
+    let bare : Told = record told { body = [] } in
+    let is : reply_down place asked told ≡ refusal_of asked told = ap (λ b. cond b (success_of place asked told) (refusal_of asked told)) e in
+    let bare_is : reply_down place asked bare ≡ refusal_of asked told = ap (λ b. cond b (success_of place asked bare) (refusal_of asked bare)) e in
+    subst IsReply (bare_is ∙ sym is) (down_reply place asked bare (can_read bases asked track told ssrc client [] can (no_body place asked.method told)))

@@ -1,0 +1,147 @@
+-- Walks of the table, and how replies in a row are read.
+use Rattle.std.proofs.Common.{◌≡◌, ◌∙◌, ℕ, Bool, true, false, ◌==◌, cond, List, [], ◌∷◌, ◌++◌, map, length, Option, None, Some, refl, sym, ap, subst, unwrap_or, arith}
+use Rattle.std.specs.Prelude.{is_some}
+use Rattle.std.specs.Option.{option_and_then, option_map}
+use Rattle.std.proofs.lemmas.List.{append_assoc, append-nil}
+use Rattle.std.proofs.lemmas.Bool.{eqb-true}
+use Rattle.rtsp_head.specs.Messages.{Message, messages_of}
+use Rattle.rtsp_small.specs.declared.method.Method.{Method}
+use Rattle.rtsp_small.specs.declared.method.Method.TheVariants as methods
+use Rattle.head_one.specs.declared.reply.Reply1.{Reply1}
+use Rattle.head_one.specs.Replies.{reply_text, reply_message, IsReply}
+use Rattle.head_one.proofs.ReadLemmas.{reply_told, replies_read}
+use Rattle.session_one.specs.declared.table.State.{State}
+use Rattle.session_one.specs.declared.table.State.TheVariants.{Init, Ready, Playing}
+use Rattle.session_one.specs.Table.{next_of, is_allowed}
+use Rattle.client_machine.specs.Alone.{piece}
+use Rattle.client_machine.specs.Frames.{frame_text}
+use Rattle.client_machine.specs.SeenRun.{SeenStep, may_become, IsWalk, replies_among, replies_in, and_replies, replies_handed}
+
+-- A session can be in the state that it is in, and what it can be in from there.
+pub may_self : (s : State) → may_become s s ≡ true
+may_self Init = refl
+may_self Ready = refl
+may_self Playing = refl
+
+pub may_more : (a b c : State) → may_become a b ≡ true → may_become b c ≡ true → may_become a c ≡ true
+may_more Init Init c x y = y
+may_more Init Ready c x y = cc
+may_more Init Playing c x y = cc
+may_more Ready Init c x y = cc
+may_more Ready Ready c x y = y
+may_more Ready Playing c x y = cc
+may_more Playing Init c x y = cc
+may_more Playing Ready Init x y = cc
+may_more Playing Ready Ready x y = refl
+may_more Playing Ready Playing x y = cc
+may_more Playing Playing c x y = y
+
+-- the state that a walk leads to
+abbrev pub last_from : State → List SeenStep → State
+last_from state [] = state
+last_from state (step ∷ more) = last_from step.after more
+
+pub walk_more : (state : State) (xs ys : List SeenStep) → IsWalk state xs → IsWalk (last_from state xs) ys → IsWalk state (xs ++ ys)
+walk_more state [] ys first second = second
+walk_more state (x ∷ xs) ys first second = (first.0, first.1, walk_more x.after xs ys first.2 second)
+
+pub last_more : (state : State) (xs ys : List SeenStep) → last_from state (xs ++ ys) ≡ last_from (last_from state xs) ys
+last_more state [] ys = refl
+last_more state (x ∷ xs) ys = last_more x.after xs ys
+
+-- What a success moves: the state of the walk by its row, and that of the session, which may have ended to play since.
+pub record IsMoved (walked state : State) (method : Method) : Type 0 where
+  pub next : State
+  pub row : next_of walked method ≡ Some next
+  pub became : may_become next (unwrap_or (next_of state method) state) ≡ true
+
+moved_same : (state : State) (method : Method) (next : Option State) → next_of state method ≡ next → is_some next ≡ true → IsMoved state state method
+moved_same state method None e allowed = cc
+moved_same state method (Some next) e allowed =
+    record { next = next; row = e; became = subst (λ (o : Option State). may_become next (unwrap_or o state) ≡ true) (sym e) (may_self next) }
+
+moved_ended : (method : Method) → is_allowed Playing method ≡ true → IsMoved Playing Ready method
+moved_ended methods.Options allowed = record { next = Playing; row = refl; became = refl }
+moved_ended methods.Describe allowed = record { next = Playing; row = refl; became = refl }
+moved_ended methods.Setup allowed = cc
+moved_ended methods.Play allowed = record { next = Playing; row = refl; became = refl }
+moved_ended methods.Pause allowed = record { next = Ready; row = refl; became = refl }
+moved_ended methods.Teardown allowed = record { next = Init; row = refl; became = refl }
+moved_ended methods.GetParameter allowed = record { next = Playing; row = refl; became = refl }
+moved_ended methods.SetParameter allowed = record { next = Playing; row = refl; became = refl }
+
+pub moved : (walked state : State) (method : Method) → may_become walked state ≡ true → is_allowed walked method ≡ true → IsMoved walked state method
+moved Init Init method may allowed = moved_same Init method (next_of Init method) refl allowed
+moved Init Ready method may allowed = cc
+moved Init Playing method may allowed = cc
+moved Ready Init method may allowed = cc
+moved Ready Ready method may allowed = moved_same Ready method (next_of Ready method) refl allowed
+moved Ready Playing method may allowed = cc
+moved Playing Init method may allowed = cc
+moved Playing Ready method may allowed = moved_ended method allowed
+moved Playing Playing method may allowed = moved_same Playing method (next_of Playing method) refl allowed
+
+-- the text of the replies of steps, each of which can be read back
+abbrev pub texts : List SeenStep → List ℕ
+texts [] = []
+texts (step ∷ more) = reply_text step.reply ++ texts more
+
+abbrev pub AreReplies : List SeenStep → Type 0
+AreReplies [] = Unit {0}
+AreReplies (step ∷ more) = IsReply step.reply × AreReplies more
+
+pub texts_more : (xs ys : List SeenStep) → texts (xs ++ ys) ≡ texts xs ++ texts ys
+texts_more [] ys = refl
+texts_more (x ∷ xs) ys = ap (λ t. reply_text x.reply ++ t) (texts_more xs ys) ∙ sym (append_assoc (reply_text x.reply) (texts xs) (texts ys))
+
+pub replies_more : (xs ys : List SeenStep) → AreReplies xs → AreReplies ys → AreReplies (xs ++ ys)
+replies_more [] ys first second = second
+replies_more (x ∷ xs) ys first second = (first.0, replies_more xs ys first.1 second)
+
+-- They are read one by one.
+read_messages : (steps : List SeenStep) → AreReplies steps → messages_of (texts steps) ≡ Some (map (λ (step : SeenStep). reply_message step.reply) steps)
+read_messages [] all = refl
+read_messages (step ∷ more) all =
+    replies_read step.reply (texts more) all.0 ∙ ap (λ (o : Option (List Message)). option_map (λ others. reply_message step.reply ∷ others) o) (read_messages more all.1)
+
+read_replies : (steps : List SeenStep) → AreReplies steps → replies_among (map (λ (step : SeenStep). reply_message step.reply) steps) ≡ Some (map (λ (step : SeenStep). step.reply) steps)
+read_replies [] all = refl
+read_replies (step ∷ more) all =
+    ap (λ (o : Option Reply1). option_and_then (λ reply. option_map (λ replies. reply ∷ replies) (replies_among (map (λ (one : SeenStep). reply_message one.reply) more))) o) (reply_told step.reply all.0)
+    ∙ ap (λ (o : Option (List Reply1)). option_map (λ replies. step.reply ∷ replies) o) (read_replies more all.1)
+
+read_texts : (steps : List SeenStep) → AreReplies steps → option_and_then replies_among (messages_of (texts steps)) ≡ Some (map (λ (step : SeenStep). step.reply) steps)
+read_texts steps all = ap (option_and_then replies_among) (read_messages steps all) ∙ read_replies steps all
+
+read_piece : (step : SeenStep) (more : List SeenStep) → AreReplies (step ∷ more) → replies_in (texts (step ∷ more)) ≡ Some (map (λ (one : SeenStep). one.reply) (step ∷ more))
+read_piece step more all = read_texts (step ∷ more) all
+
+-- Bytes are one piece, where there is one.
+abbrev begins : List ℕ → Bool
+begins [] = false
+begins (b ∷ bytes) = true
+
+piece_by : (empty : Bool) (b : ℕ) (bytes : List ℕ) → (length (b ∷ bytes) == 0) ≡ empty → cond empty [] ((b ∷ bytes) ∷ []) ≡ (b ∷ bytes) ∷ []
+piece_by true b bytes e =
+    let none : length (b ∷ bytes) ≡ 0 = eqb-true (length (b ∷ bytes)) 0 e in
+    let bad : ⊥ = omega (arith, none) in
+    absurd bad
+piece_by false b bytes e = refl
+
+one_piece : (bytes : List ℕ) → begins bytes ≡ true → piece bytes ≡ bytes ∷ []
+one_piece [] some = cc
+one_piece (b ∷ bytes) some = piece_by (length (b ∷ bytes) == 0) b bytes refl
+
+-- So are those of a piece after earlier ones, and a frame brings none.
+pub handed_more : (steps : List SeenStep) (pieces : List (List ℕ)) (before : List Reply1) → AreReplies steps → replies_handed pieces ≡ Some before
+    → replies_handed (piece (texts steps) ++ pieces) ≡ Some (before ++ map (λ (step : SeenStep). step.reply) steps)
+handed_more [] pieces before all e = e ∙ ap (λ (l : List Reply1). Some l) (sym (append-nil before))
+handed_more (step ∷ more) pieces before all e =
+    ap (λ (l : List (List ℕ)). replies_handed (l ++ pieces)) (one_piece (texts (step ∷ more)) refl)
+    ∙ ap (λ (o : Option (List Reply1)). and_replies o (replies_in (texts (step ∷ more)))) e ∙ ap (and_replies (Some before)) (read_piece step more all)
+
+pub handed_frame : (channel : ℕ) (rest : List ℕ) (pieces : List (List ℕ)) (before : List Reply1) → replies_handed pieces ≡ Some before
+    → replies_handed (piece (frame_text channel rest) ++ pieces) ≡ Some before
+handed_frame channel rest pieces before e =
+    ap (λ (l : List (List ℕ)). replies_handed (l ++ pieces)) (one_piece (frame_text channel rest) refl)
+    ∙ ap (λ (o : Option (List Reply1)). and_replies o (Some [])) e ∙ ap (λ (l : List Reply1). Some l) (append-nil before)

@@ -1,0 +1,52 @@
+-- One connection under another numbering of its requests and of its pairs of channels: what it sends up, and what happens
+-- to it (this project's own).
+use Rattle.std.specs.Prelude.{◌≡◌, ℕ, ◌==◌, List, [], ◌∷◌}
+use Rattle.std.specs.Option.{option_map}
+use Rattle.session_one.specs.declared.parts.Track.{Track}
+use Rattle.client_slot.specs.Client.{Client}
+use Rattle.client_slot.specs.Renumber.{client_under, names_under, AreToldApart}
+use Rattle.client_machine.specs.Effects.{Outgoing, asks, carries, Effect}
+use Rattle.client_machine.specs.Events.{PrivateEvent, arrive, answer, note, media, end, slow, up_end}
+
+-- what goes up, in another numbering
+abbrev pub message_under : (ℕ → ℕ) → Outgoing → Outgoing
+message_under pairs (asks request pair) = asks request (option_map pairs pair)
+message_under pairs (carries pair half rest) = carries (pairs pair) half rest
+
+-- what an event does, in another numbering
+abbrev pub effect_under : (ℕ → ℕ) → (ℕ → ℕ) → Effect → Effect
+effect_under numbers pairs effect = record {
+  client = client_under numbers pairs effect.client;
+  hand = effect.hand;
+  message = option_map (message_under pairs) effect.message;
+  close = effect.close;
+}
+
+-- an event, in another numbering
+abbrev pub event_under : (ℕ → ℕ) → (ℕ → ℕ) → PrivateEvent → PrivateEvent
+event_under numbers pairs (arrive shape full) = arrive shape full
+event_under numbers pairs (answer told ssrc full) = answer told ssrc full
+event_under numbers pairs (note reason names) = note reason (names_under numbers names)
+event_under numbers pairs (media pair half rest) = media (pairs pair) half rest
+event_under numbers pairs end = end
+event_under numbers pairs slow = slow
+event_under numbers pairs up_end = up_end
+
+-- The numbering tells a pair from that of a stream.
+abbrev pub IsTrackApart : (ℕ → ℕ) → ℕ → Track → Type 0
+IsTrackApart pairs pair track = (pairs track.pair == pairs pair) ≡ (track.pair == pair)
+
+-- no stream's pair gets the number of another
+abbrev pub AreTracksApart : (ℕ → ℕ) → ℕ → List Track → Type 0
+AreTracksApart pairs pair [] = Unit {0}
+AreTracksApart pairs pair (track ∷ tracks) = IsTrackApart pairs pair track × AreTracksApart pairs pair tracks
+
+-- The numbering tells what an event names from what the connection has.
+abbrev pub IsToldApart : (ℕ → ℕ) → (ℕ → ℕ) → Client → PrivateEvent → Type 0
+IsToldApart numbers pairs client (arrive shape full) = Unit {0}
+IsToldApart numbers pairs client (answer told ssrc full) = Unit {0}
+IsToldApart numbers pairs client (note reason names) = AreToldApart numbers client.session.running names
+IsToldApart numbers pairs client (media pair half rest) = AreTracksApart pairs pair client.session.tracks
+IsToldApart numbers pairs client end = Unit {0}
+IsToldApart numbers pairs client slow = Unit {0}
+IsToldApart numbers pairs client up_end = Unit {0}

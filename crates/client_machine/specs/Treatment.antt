@@ -1,0 +1,80 @@
+-- Requests of a player that are treated in order (this project's own).
+use Rattle.std.specs.Prelude.{ℕ, ◌+◌, ◌^◌, nat_lt, Bool, List, [], ◌∷◌, ◌++◌, length, Option, Some, None, if◌then◌else◌}
+use Rattle.rtsp_head.specs.Items.{Shape}
+use Rattle.rtsp_transport.specs.declared.channels.Pair.{Pair}
+use Rattle.rtsp_uri.specs.declared.base.Bases.{Bases}
+use Rattle.head_two.specs.declared.request.Request2.{Request2}
+use Rattle.session_one.specs.declared.parts.Asked.{Asked}
+use Rattle.session_one.specs.declared.parts.Play.{Play}
+use Rattle.translate_up.specs.Views.{Given}
+use Rattle.translate_up.specs.Decisions.{decide}
+use Rattle.translate_up.specs.declared.decision.Decision.{Decision}
+use Rattle.translate_up.specs.declared.decision.Decision.TheVariants.{Answer, Forward, Queue, Setup}
+use Rattle.client_slot.specs.Client.{Client}
+
+-- what a request of a connection is judged by
+abbrev pub given : Bases → Bool → Client → Given
+given bases full client = record {
+  state = client.session.state;
+  session = client.session.id;
+  tracks = client.session.tracks;
+  queued = length client.session.queue;
+  control = client.session.control;
+  full = full;
+  front = bases.front.text;
+  up = bases.up.text;
+}
+
+-- one PLAY more waits
+abbrev pub one_queued : Given → Given
+one_queued given = record given { queued = given.queued + 1 }
+
+-- no item has more bytes than memory has places
+abbrev pub fits_memory : Shape → Bool
+fits_memory shape = nat_lt (length shape.bytes) (2 ^ 64)
+
+-- What becomes of a request. Nothing is said of one that no memory holds, since it never comes.
+abbrev pub decision_on : Given → Shape → Decision
+decision_on given shape = if fits_memory shape then decide given shape else Answer []
+
+-- a request that goes up, what is kept of it until its reply comes, and the player's own channels of a SETUP
+pub record Going : Type 0 where
+  pub request : Request2
+  pub asked : Asked
+  pub channels : Option Pair
+
+-- What becomes of requests in a row: their answers, the PLAYs that wait, the first request that goes up, and those that
+-- come after it.
+pub record Treated : Type 0 where
+  pub hand : List ℕ
+  pub plays : List Play
+  pub going : Option Going
+  pub left : List Shape
+
+-- nothing was treated
+abbrev pub none_treated : Treated
+none_treated = record { hand = []; plays = []; going = None; left = [] }
+
+-- a request goes up, and what is behind it waits
+abbrev pub goes_up : Going → List Shape → Treated
+goes_up going more = record { hand = []; plays = []; going = Some going; left = more }
+
+-- an answer stands before what later requests are told
+abbrev pub with_answer : List ℕ → Treated → Treated
+with_answer text later = record later { hand = text ++ later.hand }
+
+-- a queued PLAY and its answer stand before what later requests are told
+abbrev pub with_play : Play → List ℕ → Treated → Treated
+with_play play text later = record later { hand = text ++ later.hand; plays = play ∷ later.plays }
+
+-- the first request by its decision; the next ones follow unless it goes up
+abbrev pub treated_first : Decision → Given → List Shape → (Given → Treated) → Treated
+treated_first (Answer text) given more again = with_answer text (again given)
+treated_first (Queue play text) given more again = with_play play text (again (one_queued given))
+treated_first (Forward request asked) given more again = goes_up (record { request = request; asked = asked; channels = None }) more
+treated_first (Setup request asked channels) given more again = goes_up (record { request = request; asked = asked; channels = Some channels }) more
+
+-- Requests are treated until one of them goes up. A request sees the PLAYs that wait before it.
+abbrev pub treated : List Shape → Given → Treated
+treated [] given = none_treated
+treated (shape ∷ more) given = treated_first (decision_on given shape) given more (treated more)

@@ -1,0 +1,128 @@
+//! Plans are carried out.
+ghost use Rattle.std.specs.Prelude.{◌≡◌, ◌<◌, ◌^◌, ℕ, Option, is_some, length, IfSome};
+ghost use Rattle.rtsp_uri.specs.declared.base.Bases.{Bases};
+ghost use Rattle.client_slot.specs.Client.{Client};
+ghost use Rattle.client_machine.specs.Releases.{after_plays};
+ghost use Rattle.client_machine.specs.Plans.{Comes, effect_by, changed, shut_by, without, risen, risen_text, is_up, IsReadyChange, ArePlaced, IsReadyUp, IsReady, IsPlan, Does, IsShortUp, IsShortPlan, IsShortDone};
+
+use crate::parts::{Change, Done, Plan, Up};
+use crate::why::CloseWhy;
+use client_slot::Slot;
+use gate_bytes::Text;
+use session_one::Play;
+use std::collections::LinkedList;
+
+impl Plan {
+    /// Whether a request goes up.
+    pub fn asks(&self) -> bool
+        ensures { (bases : Bases) (number next : ℕ) (pair : Option ℕ) (client : Client) (comes : Comes) → IsPlan bases next pair client comes self.now
+            → result ≡ is_some (effect_by bases number pair client comes).message }
+    {
+        self.up.is_up()
+    }
+
+    /// Carries the plan out, by the number of the open request and that of the next one. It takes no
+    /// memory, and can't be refused.
+    pub fn commit(self, slot: &mut Slot, number: u32, next: u32) -> Done
+        requires { IsReady slot.old self }
+        ensures does { (bases : Bases) (pair : Option ℕ) (comes : Comes) → IsPlan bases next pair slot.old comes self
+            → Does next pair slot.new result (effect_by bases number pair slot.old comes) }
+        ensures short { IsShortPlan self → IsShortDone result }
+    {
+        let Plan {
+            change,
+            treated,
+            plays,
+            hand,
+            up,
+        } = self;
+        let close = change.make(slot, number);
+        take_out(slot, treated);
+        queue_all(slot, plays);
+        let request = up.rise(slot, next);
+        Done {
+            hand,
+            request,
+            close,
+        }
+    }
+}
+
+impl Change {
+    /// Changes the connection, whose open request has this number: why it was closed, where it was.
+    fn make(self, slot: &mut Slot, number: u32) -> Option<CloseWhy>
+        requires { IsReadyChange slot.old self }
+        ensures client { slot.new ≡ changed number self slot.old }
+        ensures close { result ≡ shut_by self }
+    {
+        match self {
+            Change::Nothing => None,
+            Change::Waits(waiting) => {
+                slot.wait(waiting);
+                None
+            }
+            Change::Settles(code, id) => {
+                let _ = slot.settle(number, code, id);
+                None
+            }
+            Change::Ends(names) => {
+                let _ = slot.noted(names);
+                None
+            }
+            Change::Closes(why) => {
+                slot.close();
+                Some(why)
+            }
+        }
+    }
+}
+
+impl Up {
+    /// Whether it is a request.
+    fn is_up(&self) -> bool
+        ensures { result ≡ is_up self.now }
+    {
+        !matches!(self, Up::Nothing)
+    }
+
+    /// It goes up, with the next number: its text.
+    fn rise(self, slot: &mut Slot, next: u32) -> Option<Text>
+        requires { IsReadyUp slot.old self }
+        ensures client { slot.new ≡ risen self slot.old }
+        ensures text { result ≡ risen_text next self slot.old }
+        ensures short { IsShortUp self → IfSome result (λ text. length text < 2 ^ 31) }
+    {
+        match self {
+            Up::Nothing => None,
+            Up::Due(text) => {
+                slot.release();
+                Some(text)
+            }
+            Up::Leave => slot.closing(next),
+            Up::Ask(text, asked, track) => {
+                slot.asked(asked, track);
+                Some(text)
+            }
+        }
+    }
+}
+
+/// The oldest requests that wait are taken out.
+fn take_out(slot: &mut Slot, count: usize)
+    ensures { slot.new ≡ without count slot.old }
+{
+    for _at in 0..count {
+        let _ = slot.next_waiting();
+    }
+}
+
+/// PLAYs wait, in their order.
+fn queue_all(slot: &mut Slot, plays: LinkedList<Play>)
+    requires { ArePlaced (length slot.old.session.queue) plays }
+    ensures { slot.new ≡ after_plays plays slot.old }
+{
+    let mut left = plays;
+    while let Some(play) = left.pop_front() {
+        slot.queue(play);
+    }
+}

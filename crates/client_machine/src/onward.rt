@@ -1,0 +1,224 @@
+//! What goes up for a connection with no open request.
+ghost use Rattle.std.specs.Prelude.{◌≡◌, ◌<◌, [], Some, None, IsSome, IfOk, IfSome, if◌then◌else◌};
+ghost use Rattle.std.specs.Option.{option_copied};
+ghost use Rattle.head_two.specs.Requests.{request_text};
+ghost use Rattle.translate_up.specs.QueuedPlay.{play_up};
+ghost use Rattle.client_machine.specs.declared.parts.Change.TheVariants as changes;
+ghost use Rattle.client_machine.specs.declared.parts.Up.TheVariants as ups;
+ghost use Rattle.client_machine.specs.Releases.{track_of};
+ghost use Rattle.client_machine.specs.UpTexts.{text_up};
+ghost use Rattle.client_machine.specs.Sights.{sight_of, given_by};
+ghost use Rattle.client_machine.specs.Progresses.{HasStreamRoom, IsTreated};
+ghost use Rattle.session_one.specs.declared.parts.TheConstants.{MOST_TRACKS};
+ghost use Rattle.client_machine.specs.Onward.{leave_up, up_for, IsPlacedUp, IsFinished, GoesOnward};
+
+use crate::parts::{Change, Plan, Up};
+use crate::sight::{Showing, streams};
+use crate::treat::{Progress, Upward, treat_waiting};
+use client_slot::{LONGEST_URI, Slot};
+use gate_bytes::{Memory, Text};
+use head_two::{Request2, write_request};
+use rtsp_transport::Pair;
+use rtsp_uri::Bases;
+use session_one::{Play, Track};
+use std::alloc::Global;
+use std::collections::LinkedList;
+use translate_up::{play_up, with_transport};
+
+/// The text of a PLAY that is due, with the next number.
+pub(crate) fn due_text(
+    alloc: Global,
+    session: Option<&[u8]>,
+    play: &Play,
+    next: u32,
+) -> Result<Text, Memory>
+    ensures { IfOk result (λ text. text ≡ request_text next (play_up (option_copied session.entry) play.now)) }
+{
+    let request = play_up(alloc, session, play)?;
+    write_request(alloc, &request, next)
+}
+
+/// The stream that a SETUP sets up.
+fn stream(
+    alloc: Global,
+    uri: &[u8],
+    pair: Option<u8>,
+    channels: Option<Pair>,
+) -> Result<Option<Track>, Memory>
+    ensures { IfOk result (λ track. track ≡ track_of uri.now pair channels) }
+{
+    match (pair, channels) {
+        (Some(pair), Some(client)) => Ok(Some(Track {
+            uri: Text::copy(alloc, uri)?,
+            client,
+            pair,
+        })),
+        _ => Ok(None),
+    }
+}
+
+/// The text of a request with the next number, and of a SETUP with the pair that is free.
+fn going_text(
+    alloc: Global,
+    request: Request2,
+    next: u32,
+    pair: Option<u8>,
+    sets_up: bool,
+) -> Result<Text, Memory>
+    requires { IfSome pair (λ one. one < 128) }
+    ensures { IfOk result (λ text. text ≡ text_up next pair (if sets_up then pair else None) request) }
+{
+    match pair {
+        Some(pair) if sets_up => {
+            let channels = Pair {
+                rtp: 2 * pair,
+                rtcp: 2 * pair + 1,
+            };
+            let request = with_transport(alloc, request, &channels)?;
+            write_request(alloc, &request, next)
+        }
+        _ => write_request(alloc, &request, next),
+    }
+}
+
+/// A request goes up beside so many streams. A URI over the longest is as if there were no memory
+/// for it.
+fn ask(
+    alloc: Global,
+    next: u32,
+    pair: Option<u8>,
+    streams: usize,
+    going: Upward,
+) -> Result<Up, Memory>
+    requires pair { IfSome pair (λ one. one < 128) }
+    requires room { IsSome going.channels → streams < MOST_TRACKS }
+    ensures up { IfOk result (λ up. up ≡ up_for next pair (Some going)) }
+    ensures placed { IfOk result (IsPlacedUp streams) }
+{
+    let Upward {
+        request,
+        asked,
+        channels,
+    } = going;
+    let track = stream(alloc, asked.uri.as_bytes(), pair, channels)?;
+    if asked.uri.len() > LONGEST_URI {
+        return Err(Memory);
+    }
+    let text = going_text(alloc, request, next, pair, channels.is_some())?;
+    Ok(Up::Ask(text, asked, track))
+}
+
+/// The plan for what became of requests, after this change.
+pub(crate) fn finished(
+    alloc: Global,
+    next: u32,
+    pair: Option<u8>,
+    streams: usize,
+    change: Change,
+    progress: Progress,
+) -> Result<Plan, Memory>
+    requires pair { IfSome pair (λ one. one < 128) }
+    requires room { HasStreamRoom streams progress.going }
+    ensures { IfOk result (IsFinished next pair streams change progress) }
+{
+    let Progress {
+        hand,
+        plays,
+        treated,
+        going,
+        ..
+    } = progress;
+    let up = match going {
+        Some(going) => ask(alloc, next, pair, streams, going)?,
+        None => Up::Nothing,
+    };
+    Ok(Plan {
+        change,
+        treated,
+        plays,
+        hand,
+        up,
+    })
+}
+
+/// The plan by which nothing goes up but this, and no request that waits is treated.
+pub(crate) fn still(alloc: Global, change: Change, hand: Text, up: Up) -> Plan
+    ensures { result ≡ record { change = change; treated = 0; plays = []; hand = hand; up = up } }
+{
+    Plan {
+        change,
+        treated: 0,
+        plays: LinkedList::new(alloc),
+        hand,
+        up,
+    }
+}
+
+/// The plan by which nothing is done.
+pub(crate) fn idle(alloc: Global) -> Plan
+    ensures { result ≡ record { change = changes.Nothing; treated = 0; plays = []; hand = []; up = ups.Nothing } }
+{
+    still(alloc, Change::Nothing, Text::new(alloc), Up::Nothing)
+}
+
+/// What becomes of the requests that wait, which are judged by the session that is seen.
+fn treat_after(
+    alloc: Global,
+    bases: &Bases,
+    slot: &Slot,
+    full: bool,
+    seen: &Showing<'_>,
+    hand: Text,
+) -> Result<Progress, Memory>
+    ensures { IfOk result (IsTreated (given_by bases.now full (sight_of seen.now)) slot.now.waiting hand) }
+{
+    match seen.added {
+        Some(added) if slot.waiting() > 0 => {
+            let all = streams(alloc, seen.tracks, added)?;
+            let view = seen.view(bases, &all, full);
+            treat_waiting(alloc, &view, slot, hand)
+        }
+        Some(_) => Ok(Progress::begun(alloc, hand, seen.queued)),
+        None => {
+            let view = seen.view(bases, seen.tracks, full);
+            treat_waiting(alloc, &view, slot, hand)
+        }
+    }
+}
+
+/// The plan for a connection that this change leaves with no open request and with the session that
+/// is seen, after these bytes for its client.
+pub(crate) fn onward(
+    alloc: Global,
+    bases: &Bases,
+    slot: &Slot,
+    next: u32,
+    pair: Option<u8>,
+    seen: &Showing<'_>,
+    change: Change,
+    hand: Text,
+) -> Result<Plan, Memory>
+    requires { IfSome pair (λ one. one < 128) }
+    ensures { IfOk result (GoesOnward bases.now next pair slot.now (sight_of seen.now) hand change) }
+{
+    if !slot.alive() {
+        return Ok(still(alloc, change, hand, leave(seen)));
+    }
+    if let Some(play) = seen.due() {
+        let text = due_text(alloc, seen.id, play, next)?;
+        return Ok(still(alloc, change, hand, Up::Due(text)));
+    }
+    let progress = treat_after(alloc, bases, slot, pair.is_none(), seen, hand)?;
+    finished(alloc, next, pair, seen.streams(), change, progress)
+}
+
+/// The closing TEARDOWN, where there is a session.
+fn leave(seen: &Showing<'_>) -> Up
+    ensures { result ≡ leave_up (sight_of seen.now).id }
+{
+    if seen.id.is_some() {
+        Up::Leave
+    } else {
+        Up::Nothing
+    }
+}

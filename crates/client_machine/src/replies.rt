@@ -1,0 +1,59 @@
+//! Plans for replies of the server.
+ghost use Rattle.std.specs.Prelude.{◌≡◌, ◌<◌, ◌≤◌, Some, IfOk, IfSome};
+ghost use Rattle.client_slot.specs.Purposes.{purpose_seen};
+ghost use Rattle.client_machine.specs.Plans.{replies, IsPlan};
+
+use crate::after::after_reply;
+use crate::input::ServerReply;
+use crate::onward::{idle, onward};
+use crate::parts::{Change, Plan};
+use crate::player_reply::{new_id, reply_hand, session_told, timeout_told};
+use client_slot::{Pending, Slot};
+use gate_bytes::{Memory, Text};
+use rtsp_uri::Bases;
+use std::alloc::Global;
+
+/// The plan for a reply to the open request of a connection. One that is not final has no effect.
+pub(crate) fn plan_reply(
+    alloc: Global,
+    bases: &Bases,
+    slot: &Slot,
+    next: u32,
+    pair: Option<u8>,
+    answer: ServerReply<'_>,
+) -> Result<Plan, Memory>
+    requires { IfSome pair (λ one. one < 128) }
+    ensures { IfOk result (IsPlan bases.now next pair slot.now (replies answer.entry.reply.now answer.entry.source)) }
+{
+    if answer.reply.code < 200 {
+        return Ok(idle(alloc));
+    }
+    match slot.pending() {
+        Some(pending) => settle(alloc, bases, slot, next, pair, pending, answer),
+        None => Ok(idle(alloc)),
+    }
+}
+
+/// The plan for the final reply to the open request.
+fn settle<'a>(
+    alloc: Global,
+    bases: &'a Bases,
+    slot: &'a Slot,
+    next: u32,
+    pair: Option<u8>,
+    pending: Pending<'a>,
+    answer: ServerReply<'a>,
+) -> Result<Plan, Memory>
+    requires pair { IfSome pair (λ one. one < 128) }
+    requires pending { slot.now.pending ≡ Some (purpose_seen pending) }
+    requires last { 200 ≤ answer.reply.now.code }
+    ensures { IfOk result (IsPlan bases.entry.now next pair slot.entry.now (replies answer.entry.reply.now answer.entry.source)) }
+{
+    let told = session_told(answer.reply);
+    let timeout = timeout_told(told);
+    let id = new_id(slot, pending, told);
+    let seen = after_reply(slot, pending, answer.reply.code, id);
+    let hand = reply_hand(alloc, bases, slot, pending, answer, seen.id, timeout)?;
+    let change = Change::Settles(answer.reply.code, Text::copied(alloc, id)?);
+    onward(alloc, bases, slot, next, pair, &seen, change, hand)
+}

@@ -1,0 +1,101 @@
+//! Plans for requests of a player.
+ghost use Rattle.std.specs.Prelude.{◌≡◌, ◌<◌, [], ◌∷◌, length, true, None, IfOk, IfSome, OnOk};
+ghost use Rattle.rtsp_head.specs.Shapes.{shape_of};
+ghost use Rattle.client_slot.specs.declared.limits.TheConstants.{MOST_WAITING};
+ghost use Rattle.client_slot.specs.Changes.{due_play};
+ghost use Rattle.client_machine.specs.declared.parts.Change.TheVariants as changes;
+ghost use Rattle.client_machine.specs.Plans.{requests, CanCome, IsPlan};
+
+use crate::onward::{due_text, finished, idle, still};
+use crate::parts::{Change, Plan, Up};
+use crate::sight::seen;
+use crate::treat::treat_waiting;
+use client_slot::{MOST_WAITING, Slot, Waiting};
+use gate_bytes::{Memory, Text};
+use rtsp_head::Item;
+use rtsp_uri::Bases;
+use std::alloc::Global;
+
+/// The plan for a request of a connection. It waits where another one is open or goes up before it,
+/// and is treated else.
+pub(crate) fn plan_request(
+    alloc: Global,
+    bases: &Bases,
+    slot: &Slot,
+    next: u32,
+    pair: Option<u8>,
+    item: &Item,
+) -> Result<Plan, Memory>
+    requires sound { CanCome (requests (shape_of item.now)) }
+    requires pair { IfSome pair (λ one. one < 128) }
+    ensures { IfOk result (IsPlan bases.now next pair slot.now (requests (shape_of item.now))) }
+{
+    if !slot.alive() {
+        return Ok(idle(alloc));
+    }
+    if slot.busy() {
+        let change = waits(alloc, slot, item)?;
+        return Ok(still(alloc, change, Text::new(alloc), Up::Nothing));
+    }
+    if let Some(play) = slot.due() {
+        let change = waits(alloc, slot, item)?;
+        let text = due_text(alloc, slot.session(), play, next)?;
+        return Ok(still(alloc, change, Text::new(alloc), Up::Due(text)));
+    }
+    treat_request(alloc, bases, slot, next, pair, item)
+}
+
+/// A copy of a request waits. Never so many wait as may, so that no memory is wanting for that.
+fn waits(alloc: Global, slot: &Slot, item: &Item) -> Result<Change, Memory>
+    ensures waits { IfOk result (λ change. change ≡ changes.Waits (shape_of item.now ∷ [])) }
+    ensures room { OnOk result (length slot.now.waiting < MOST_WAITING) }
+{
+    if slot.waiting() >= MOST_WAITING {
+        return Err(Memory);
+    }
+    match Waiting::new(alloc, copied(alloc, item)?) {
+        Ok(waiting) => Ok(Change::Waits(waiting)),
+        Err(_) => Err(Memory),
+    }
+}
+
+/// A copy of an item.
+fn copied(alloc: Global, item: &Item) -> Result<Item, Memory>
+    ensures { IfOk result (λ copy. shape_of copy ≡ shape_of item.now) }
+{
+    let bytes = Text::copy(alloc, item.bytes.as_bytes())?;
+    Ok(Item {
+        kind: item.kind,
+        bytes,
+        head: item.head,
+    })
+}
+
+/// The plan for a request of a connection that has none open and no PLAY due: those that wait are
+/// treated, and it after them.
+fn treat_request(
+    alloc: Global,
+    bases: &Bases,
+    slot: &Slot,
+    next: u32,
+    pair: Option<u8>,
+    item: &Item,
+) -> Result<Plan, Memory>
+    requires sound { CanCome (requests (shape_of item.now)) }
+    requires pair { IfSome pair (λ one. one < 128) }
+    requires alive { slot.now.alive ≡ true }
+    requires idle { slot.now.pending ≡ None }
+    requires due { due_play slot.now ≡ None }
+    ensures { IfOk result (IsPlan bases.now next pair slot.now (requests (shape_of item.now))) }
+{
+    let seen = seen(slot, slot.state());
+    let view = seen.view(bases, seen.tracks, pair.is_none());
+    let mut progress = treat_waiting(alloc, &view, slot, Text::new(alloc))?;
+    let streams = slot.tracks().len();
+    if progress.going.is_some() {
+        let change = waits(alloc, slot, item)?;
+        return finished(alloc, next, pair, streams, change, progress);
+    }
+    progress.then(alloc, &view, item)?;
+    finished(alloc, next, pair, streams, Change::Nothing, progress)
+}

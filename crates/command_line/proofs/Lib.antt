@@ -1,0 +1,4 @@
+pub mod CountLemmas
+pub mod CheckLemmas
+pub mod ClapLemmas
+pub mod ArgumentLemmas

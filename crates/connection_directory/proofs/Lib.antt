@@ -1,2 +1,0 @@
-pub mod DirectoryLemmas
-pub mod RisingLemmas

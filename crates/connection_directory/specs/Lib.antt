@@ -1,2 +1,0 @@
-pub mod Directories
-pub mod Rising

@@ -1,0 +1,5 @@
+pub mod CarryOut
+pub mod Over
+pub mod Tables
+pub mod Directories
+pub mod RisingNumbers

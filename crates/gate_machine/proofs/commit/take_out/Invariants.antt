@@ -1,6 +1,0 @@
-use Rattle.std.proofs.Common.{◌≡◌}
-use Rattle.gate_machine.specs.Plans.{without}
-use Rattle.gate_machine.proofs.commit.take_out.Given as goal
-
-abbrev pub invariant-loop-at : goal.invariant-loop-at
-invariant-loop-at l = l.slot ≡ without l._at l.initial.slot

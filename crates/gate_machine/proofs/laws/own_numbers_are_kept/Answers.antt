@@ -1,5 +1,0 @@
-use Rattle.gate_machine.proofs.BelowLemmas.{alone_below}
-use Rattle.gate_machine.proofs.laws.own_numbers_are_kept.Goals as goal
-
-pub returns : goal.returns
-returns c bases events = alone_below bases events

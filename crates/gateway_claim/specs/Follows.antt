@@ -1,0 +1,184 @@
+-- When an entry follows a history (this project's own).
+use Rattle.std.specs.Prelude.{◌≡◌, ℕ, ◌+◌, ◌*◌, ◌==◌, ◌&&◌, not, nat_lt, codes, Bool, true, false, is_some, is_none, List, ◌∷◌, Option, Some, None, if◌then◌else◌}
+use Rattle.std.specs.Option.{option_or, option_map}
+use Rattle.std.specs.Result.{result_ok}
+use Rattle.std.specs.Str.{bytes_eq}
+use Rattle.rtsp_head.specs.Headers.{field_of}
+use Rattle.rtsp_uri.specs.declared.base.Bases.{Bases}
+use Rattle.rtsp_small.specs.declared.cseq.TheConstants.{LAST_CSEQ_TWO}
+use Rattle.rtsp_transport.specs.declared.channels.Pair.{Pair}
+use Rattle.rtsp_transport.specs.Grants.{grant_of}
+use Rattle.head_two.specs.declared.reply.Reply2.{Reply2}
+use Rattle.session_one.specs.Table.{is_success}
+use Rattle.client_machine.specs.Frames.{frame_text}
+use Rattle.client_machine.specs.Effects.{Outgoing, asks, carries, Effect, stays}
+use Rattle.client_machine.specs.Events.{PrivateEvent}
+use Rattle.client_machine.specs.UpTexts.{text_up}
+use Rattle.client_machine.specs.Alone.{Private, new_private, effect_alone, private_after, hand, shut_alone}
+use Rattle.gateway_claim.specs.declared.event.ToUp.{ToUp}
+use Rattle.gateway_claim.specs.declared.event.UpMessage.{UpMessage}
+use Rattle.gateway_claim.specs.declared.event.UpMessage.TheVariants.{Request, Frame}
+use Rattle.gateway_claim.specs.declared.event.UpCause.{UpCause}
+use Rattle.gateway_claim.specs.declared.event.UpCause.TheVariants.{Framing, UnknownReply, BadGrant, SessionTaken, CseqSpent}
+use Rattle.gateway_claim.specs.ServerItems.{Heard, replies, requests, frames, faults, heard}
+use Rattle.gateway_claim.specs.Notices.{notice_of, answer_to}
+use Rattle.gateway_claim.specs.Kinds.{RequestKind, sets_up, tears_down, closes, plain}
+use Rattle.gateway_claim.specs.Cores.{IsCoreHistory}
+use Rattle.gateway_claim.specs.Books.{Opened, Books}
+use Rattle.gateway_claim.specs.Settlement.{id_said, free_in}
+use Rattle.gateway_claim.specs.Happenings.{Happening, enters, takes, ends, lags, hears, up_ends, cause_of, HistoryEntry, fault_in, entered, sent, shut, is_all, nothing_up}
+use Rattle.gateway_claim.specs.OwnEvents.{turn, settled_by, books_of, event_of, own}
+
+-- connection i as the private machine has it, where it entered
+abbrev pub private_in : Bases → ℕ → List HistoryEntry → Option Private
+private_in bases i earlier = if entered i earlier then Some (private_after bases (own bases i earlier)) else None
+
+-- what the private machine does at an event of a connection
+abbrev pub effect_at : Bases → Option Private → Option PrivateEvent → Effect
+effect_at bases None event = stays new_private.client
+effect_at bases (Some private) None = stays private.client
+effect_at bases (Some private) (Some event) = effect_alone bases private event
+
+-- what the machine of the connection whose turn it is does
+abbrev pub event_in : Books → ℕ → Option Private → Happening → Option PrivateEvent
+event_in books i None happening = None
+event_in books i (Some private) happening = event_of books i private.client.waiting happening
+
+-- what the machine of the connection whose turn it is does
+abbrev pub effect_of_turn : Bases → List HistoryEntry → Option ℕ → Happening → Effect
+effect_of_turn bases earlier None happening = stays new_private.client
+effect_of_turn bases earlier (Some i) happening = effect_at bases (private_in bases i earlier) (event_in (books_of earlier) i (private_in bases i earlier) happening)
+
+-- what an event does to the connection whose turn it is
+abbrev pub effect : Bases → List HistoryEntry → Happening → Effect
+effect bases earlier happening = effect_of_turn bases earlier (turn (books_of earlier) happening) happening
+
+-- The grant of a reply is that of a pair, and it says a session, which is that of its connection where that has one
+-- (RFC 7826, 13.3).
+abbrev pub grants : ℕ → Option (List ℕ) → Bool
+grants pair None = false
+grants pair (Some value) = grants_pair pair (option_map (λ grant. grant.pair) (result_ok (grant_of value)))
+  where
+    grants_pair : ℕ → Option Pair → Bool
+    grants_pair pair None = false
+    grants_pair pair (Some granted) = granted.rtp == 2 * pair && granted.rtcp == 2 * pair + 1
+
+-- whether a reply's session is the player's, or a first one
+abbrev pub is_session_for : Option (List ℕ) → Option (List ℕ) → Bool
+is_session_for session None = false
+is_session_for None (Some id) = true
+is_session_for (Some session) (Some id) = bytes_eq session id
+
+-- whether a reply to SETUP grants this pair, and names a session that may be
+abbrev pub is_granted : ℕ → Option (List ℕ) → Reply2 → Bool
+is_granted pair session reply = grants pair (field_of reply.head.headers (codes "Transport")) && is_session_for session (id_said reply)
+
+-- The session is another connection's.
+abbrev pub is_others : ℕ → Option ℕ → Bool
+is_others i None = false
+is_others i (Some conn) = not (conn == i)
+
+-- whether a session is another connection's
+abbrev pub is_held_elsewhere : Books → ℕ → Option (List ℕ) → Bool
+is_held_elsewhere books i None = false
+is_held_elsewhere books i (Some id) = is_others i (books.holder id)
+
+-- What is wrong with the success of a SETUP.
+abbrev pub grant_breach : Books → ℕ → ℕ → Option (List ℕ) → Reply2 → Option UpCause
+grant_breach books i pair session reply =
+    if not (is_granted pair session reply) then Some (BadGrant reply.cseq)
+    else (if is_none session && is_held_elsewhere books i (id_said reply) then Some (SessionTaken reply.cseq) else None)
+
+-- what is wrong with a final reply, by what its request was for; only a success of SETUP can be a breach
+abbrev pub kind_breach : Books → RequestKind → ℕ → Option (List ℕ) → Reply2 → Option UpCause
+kind_breach books (sets_up pair) i session reply = if is_success reply.code then grant_breach books i pair session reply else None
+kind_breach books tears_down i session reply = None
+kind_breach books closes i session reply = None
+kind_breach books plain i session reply = None
+
+-- the session of a connection alone
+abbrev pub session_of_private : Option Private → Option (List ℕ)
+session_of_private None = None
+session_of_private (Some private) = private.client.session.id
+
+-- what is wrong with a reply: nobody asked for it, or it grants what it may not
+abbrev pub reply_breach : Bases → List HistoryEntry → Reply2 → Option Opened → Option UpCause
+reply_breach bases earlier reply None = Some (UnknownReply reply.cseq)
+reply_breach bases earlier reply (Some opened) = kind_breach (books_of earlier) opened.kind opened.conn (session_of_private (private_in bases opened.conn earlier)) reply
+
+-- What is wrong with what the server says: an item can't be taken, a reply is nobody's, or a grant is a wrong one.
+abbrev pub heard_breach : Bases → List HistoryEntry → Heard → Option UpCause
+heard_breach bases earlier (replies reply) = reply_breach bases earlier reply ((books_of earlier).opened reply.cseq)
+heard_breach bases earlier (requests request) = None
+heard_breach bases earlier (frames channel rest) = None
+heard_breach bases earlier (faults fault) = Some (Framing fault)
+
+-- why an event ends the connection to the server
+abbrev pub said_breach : Bases → List HistoryEntry → Happening → Option UpCause
+said_breach bases earlier (enters conn) = None
+said_breach bases earlier (takes conn shape) = None
+said_breach bases earlier (ends conn) = None
+said_breach bases earlier (lags conn) = None
+said_breach bases earlier (hears shape) = heard_breach bases earlier (heard shape)
+said_breach bases earlier (up_ends cause) = Some (cause_of cause)
+
+-- a request is due, and all numbers were used
+abbrev pub spent : ℕ → Option Outgoing → Option UpCause
+spent issued None = None
+spent issued (Some (asks request pair)) = if nat_lt issued LAST_CSEQ_TWO then None else Some CseqSpent
+spent issued (Some (carries pair half rest)) = None
+
+-- Why an event ends the connection to the server, by the first thing that is wrong, while it stands.
+abbrev pub breach : Bases → List HistoryEntry → Happening → Option UpCause
+breach bases earlier happening =
+    if is_some (fault_in earlier) then None
+    else option_or (said_breach bases earlier happening) (spent (books_of earlier).issued (effect bases earlier happening).message)
+
+-- the answer that is due to the server
+abbrev pub heard_answer : Books → Heard → Option (List ℕ)
+heard_answer books (replies reply) = None
+heard_answer books (requests request) = Some (answer_to request (notice_of books.holder request))
+heard_answer books (frames channel rest) = None
+heard_answer books (faults fault) = None
+
+-- the answer that the server gets to its own request
+abbrev pub answer_due : Books → Happening → Option (List ℕ)
+answer_due books (enters conn) = None
+answer_due books (takes conn shape) = None
+answer_due books (ends conn) = None
+answer_due books (lags conn) = None
+answer_due books (hears shape) = heard_answer books (heard shape)
+answer_due books (up_ends cause) = None
+
+-- A message of a connection as it goes up: a request with the next number, and a SETUP with the lowest pair that is free;
+-- a frame on the pair that the connection's own pair stands for.
+abbrev pub message_up : Books → Books → ℕ → Outgoing → UpMessage
+message_up books settled i (asks request number) = Request (text_up (books.issued + 1) (free_in settled) number request)
+message_up books settled i (carries number half rest) = Frame (frame_text (2 * books.pair_of i number + half) rest)
+
+-- what goes up for the connection whose turn it is, in the shared numbers
+abbrev pub message_due : Books → Books → Option ℕ → Option Outgoing → Option UpMessage
+message_due books settled None message = None
+message_due books settled (Some i) message = option_map (message_up books settled i) message
+
+-- what the server is handed: the answer to its request, and the message of the connection whose turn it is
+abbrev pub up_due : Bases → List HistoryEntry → Happening → ToUp
+up_due bases earlier happening = record {
+  answer = answer_due (books_of earlier) happening;
+  message = message_due (books_of earlier) (settled_by (books_of earlier) happening) (turn (books_of earlier) happening) (effect bases earlier happening).message;
+}
+
+-- An entry follows a history, for given bases, where every connection has then been handed, in all, exactly what the
+-- private machine hands out on that connection's own events, and is closed exactly as there; where the server is handed
+-- exactly the answer to its request and what the private machine sends up, in the numbers and on the channels of the one
+-- connection; and where that connection ends exactly where it must.
+pub record Follows (bases : Bases) (earlier : List HistoryEntry) (entry : HistoryEntry) : Type 0 where
+  pub sent : (i : ℕ) → sent i (entry ∷ earlier) ≡ hand bases (own bases i (entry ∷ earlier))
+  pub shut : (i : ℕ) → shut i (entry ∷ earlier) ≡ shut_alone bases (own bases i (entry ∷ earlier))
+  pub spelled : entry.outcome.to_up ≡ (if is_some (fault_in (entry ∷ earlier)) then nothing_up else up_due bases earlier entry.happening)
+  pub fault : entry.outcome.fault ≡ breach bases earlier entry.happening
+  pub all : is_all entry.outcome.closed ≡ is_some entry.outcome.fault
+
+-- a history of the gateway: each entry follows those before it
+abbrev pub IsHistory : Bases → List HistoryEntry → Type 0
+IsHistory bases history = IsCoreHistory Follows bases history

@@ -1,9 +1,0 @@
-use Rattle.std.proofs.Common.{ℕ}
-use Rattle.rtsp_uri.specs.declared.base.Bases.{Bases}
-use Rattle.gateway_drill.specs.Plays.{Plays, HasRun}
-use Rattle.gateway_drill.proofs.running.run_turns.Given as goal
-
--- a part of the drill was played
-abbrev pub invariant-loop : goal.invariant-loop
-invariant-loop g l = (players number : ℕ) (between : Bases) → HasRun players number (Plays g.M.Core.stands g.M.Core.bases l.fn.drill.core l.fn.drill.stage between) →
-    HasRun players number (Plays g.M.Core.stands g.M.Core.bases l.drill.core l.drill.stage between)

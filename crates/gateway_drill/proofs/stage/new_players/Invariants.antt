@@ -1,7 +1,0 @@
-use Rattle.std.proofs.Common.{◌≡◌, replicate}
-use Rattle.gateway_drill.specs.Players.{new_player}
-use Rattle.gateway_drill.proofs.stage.new_players.Given as goal
-
--- so many players are there
-abbrev pub invariant-loop : goal.invariant-loop
-invariant-loop l = l.players.items ≡ replicate l.counter new_player

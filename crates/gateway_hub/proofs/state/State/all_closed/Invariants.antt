@@ -1,9 +1,0 @@
--- Whether those from this one on are over tells whether all are.
-use Rattle.std.proofs.Common.{◌≡◌, List, drop}
-use Rattle.std.specs.List.{list_all}
-use Rattle.mux_history.specs.Happenings.{Entry}
-use Rattle.gateway_hub.specs.Closing.{is_place_over}
-use Rattle.gateway_hub.proofs.state.State.all_closed.Given as goal
-
-abbrev pub invariant-loop-place : goal.invariant-loop-place
-invariant-loop-place g l = (T : List Entry) → g.M.Core.stands l.self.core T → list_all (is_place_over T) l.self.desk.places.items ≡ list_all (is_place_over T) (drop l.place-index l.place-items)

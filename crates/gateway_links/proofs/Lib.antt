@@ -1,0 +1,5 @@
+pub mod GaveLemmas
+pub mod Puts
+pub mod Begins
+pub mod MoveLemmas
+pub mod TurnLemmas

@@ -1,0 +1,121 @@
+-- What the turn of a connection changes, by the message that goes up.
+use Rattle.std.proofs.Common.{◌≡◌, ◌∙◌, ℕ, ◌+◌, ◌==◌, nat_lt, Bool, true, false, cond, List, Option, Some, None, refl, sym, ap, subst}
+use Rattle.std.specs.Prelude.{is_some}
+use Rattle.std.specs.Option.{option_map, option_or}
+use Rattle.std.proofs.lemmas.Bool.{eqb-true}
+use Rattle.rtsp_uri.specs.declared.base.Bases.{Bases}
+use Rattle.rtsp_head.specs.Items.{Shape}
+use Rattle.rtsp_head.specs.declared.item.ItemKind.TheVariants.{Request as request_kind}
+use Rattle.rtsp_head.specs.declared.item.ItemKind.{ItemKind}
+use Rattle.head_two.specs.declared.request.Request2.{Request2}
+use Rattle.rtsp_small.specs.declared.method.Method.TheVariants as methods
+use Rattle.session_one.specs.Table.{same_method}
+use Rattle.channel_map.specs.declared.map.Held.{Held}
+use Rattle.translate_down.specs.Replies.{told_by}
+use Rattle.client_slot.specs.declared.purpose.Purpose.{Purpose}
+use Rattle.client_slot.specs.declared.purpose.Purpose.TheVariants as purposes
+use Rattle.client_slot.specs.Client.{Client}
+use Rattle.client_machine.specs.OpenRequests.{IsAsked, IsOpenAs, IsFreeFor, AsksBy}
+use Rattle.client_machine.specs.Effects.{Outgoing, asks, carries}
+use Rattle.client_machine.specs.ServerItems.{take_item, take, settle_at}
+use Rattle.client_machine.specs.Plans.{Comes, requests, replies, notes, shuts, CanCome, heard_by, effect_by}
+use Rattle.client_machine.specs.Step.{going_on}
+use Rattle.client_machine.proofs.AskLemmas.{going_asks}
+use Rattle.gateway_claim.specs.Kinds.{tears_down, plain}
+use Rattle.gateway_claim.specs.Books.{Opened, Books, pair_asked, is_pair}
+use Rattle.gateway_claim.specs.OwnEvents.{lends_where}
+use Rattle.gateway_claim.specs.SharedEvents.{kind_pending, kind_gone}
+use Rattle.gateway_claim.proofs.TurnNextLemmas.{closes_none, answer_none, settle_none, note_none}
+use Rattle.gateway_mux.specs.Turn.{asker_lent, issued_then}
+use Rattle.gateway_mux.specs.Upstream.{taken_by, reserved_by, held_lent}
+use Rattle.gateway_mux.proofs.SettlementLemmas.{turned_round}
+
+-- What comes sends nothing up by itself.
+item_mute : (kind : ItemKind) (shape : Shape) (client : Client) → kind ≡ request_kind → (take_item kind shape client).effect.message ≡ None
+item_mute kind shape client is = ap (λ one. (take_item one shape client).effect.message) is
+
+take_mute : (alive : Bool) (shape : Shape) (client : Client) → shape.kind ≡ request_kind → (take alive shape client).effect.message ≡ None
+take_mute true shape client is = item_mute shape.kind shape client is
+take_mute false shape client is = refl
+
+pub comes_mute : (bases : Bases) (number : ℕ) (client : Client) (comes : Comes) → CanCome comes → (heard_by bases number client comes).effect.message ≡ None
+comes_mute bases number client (requests shape) sound = take_mute client.alive shape client sound
+comes_mute bases number client (replies reply source) sound =
+    answer_none (nat_lt (told_by reply).code 200) client (settle_at bases number client.pending (told_by reply) source client) (settle_none bases number client.pending (told_by reply) source client)
+comes_mute bases number client (notes reason names) sound = note_none reason names client
+comes_mute bases number client (shuts why) sound = closes_none client.alive why client
+
+-- A request that goes up is open then, and none was before.
+pub effect_asks : (bases : Bases) (number : ℕ) (pair : Option ℕ) (client : Client) (comes : Comes) → CanCome comes
+    → AsksBy pair (heard_by bases number client comes).effect.client.pending (effect_by bases number pair client comes).message (effect_by bases number pair client comes).client.pending
+effect_asks bases number pair client comes sound =
+    subst (λ (first : Option Outgoing). AsksBy pair (heard_by bases number client comes).effect.client.pending (option_or first (going_on bases pair (heard_by bases number client comes).next (heard_by bases number client comes).effect.client).message) (effect_by bases number pair client comes).client.pending)
+    (sym (comes_mute bases number client comes sound))
+    (going_asks bases pair (heard_by bases number client comes).next (heard_by bases number client comes).effect.client)
+
+-- Who asked each open request.
+pub asker_by : (i n : ℕ) (settled : Books) (free : Option ℕ) (old pending : Option Purpose) (message : Option Outgoing) (goes : Bool) (asker : Option ℕ) → goes ≡ is_some message → AsksBy free old message pending
+    → asker ≡ option_map (λ (one : Opened). one.conn) (settled.opened n)
+    → asker_lent goes i (settled.issued + 1) n asker ≡ option_map (λ (one : Opened). one.conn) ((lends_where (Some i) (kind_gone message pending) settled).opened n)
+asker_by i n settled free old pending None goes asker is by_it same = ap (λ t. asker_lent t i (settled.issued + 1) n asker) is ∙ same
+asker_by i n settled free old pending (Some (asks request named)) goes asker is by_it same =
+    ap (λ t. asker_lent t i (settled.issued + 1) n asker) is ∙ ap (λ (a : Option ℕ). cond (n == settled.issued + 1) (Some i) a) same ∙ by (n == settled.issued + 1)
+  where
+    by : (t : Bool) → cond t (Some i) (option_map (λ (one : Opened). one.conn) (settled.opened n))
+        ≡ option_map (λ (one : Opened). one.conn) (cond t (Some (record { conn = i; kind = kind_pending pending })) (settled.opened n))
+    by true = refl
+    by false = refl
+asker_by i n settled free old pending (Some (carries pair half rest)) goes asker is by_it same = absurd by_it
+
+pub issued_by : (i : ℕ) (settled : Books) (free : Option ℕ) (old pending : Option Purpose) (message : Option Outgoing) (goes : Bool) → goes ≡ is_some message → AsksBy free old message pending
+    → issued_then goes settled.issued ≡ (lends_where (Some i) (kind_gone message pending) settled).issued
+issued_by i settled free old pending None goes is by_it = ap (λ t. issued_then t settled.issued) is
+issued_by i settled free old pending (Some (asks request named)) goes is by_it = ap (λ t. issued_then t settled.issued) is
+issued_by i settled free old pending (Some (carries pair half rest)) goes is by_it = absurd by_it
+
+pub holder_by_message : (i : ℕ) (settled : Books) (pending : Option Purpose) (message : Option Outgoing) (id : List ℕ) → settled.holder id ≡ (lends_where (Some i) (kind_gone message pending) settled).holder id
+holder_by_message i settled pending None id = refl
+holder_by_message i settled pending (Some (asks request named)) id = refl
+holder_by_message i settled pending (Some (carries pair half rest)) id = refl
+
+-- A SETUP asks for the pair that is free.
+asked_free : (free named : Option ℕ) (pair : ℕ) → IsFreeFor free named → named ≡ Some pair → free ≡ Some pair
+asked_free free named pair is_free same = subst (λ (one : Option ℕ). IsFreeFor free one) same is_free
+
+none_asked : (free : Option ℕ) (q : ℕ) (t : Bool) → pair_asked (cond t tears_down plain) ≡ Some q → free ≡ Some q
+none_asked free q true asked = cc
+none_asked free q false asked = cc
+
+open_free : (free : Option ℕ) (request : Request2) (named : Option ℕ) (old pending : Option Purpose) (q : ℕ) → IsAsked free request named old pending → pair_asked (kind_pending pending) ≡ Some q → free ≡ Some q
+open_free free request named old pending q is asked = by pending is.after asked
+  where
+    by : (pending : Option Purpose) → IsOpenAs pending request named → pair_asked (kind_pending pending) ≡ Some q → free ≡ Some q
+    by None after asked = absurd after
+    by (Some (purposes.Client one (Some track))) after asked = asked_free free named q is.named (after.0 ∙ asked)
+    by (Some (purposes.Client one None)) after asked = none_asked free q (same_method one.method methods.Teardown) asked
+    by (Some (purposes.Released play)) after asked = cc
+    by (Some purposes.Closing) after asked = cc
+
+-- Who holds each pair of channels.
+taken : (i p q : ℕ) (held : Option Held) → taken_by i (Some q) p held ≡ cond (q == p) (Some (record { conn = i; pair = p; granted = false })) held
+taken i p q held = ap (λ t. cond t (Some (record { conn = i; pair = q; granted = false })) held) (turned_round p q) ∙ by (q == p) refl
+  where
+    by : (t : Bool) → (q == p) ≡ t → cond t (Some (record { conn = i; pair = q; granted = false })) held ≡ cond t (Some (record { conn = i; pair = p; granted = false })) held
+    by true e = ap (λ n. let one : Held = record { conn = i; pair = n; granted = false } in Some one) (eqb-true q p e)
+    by false e = refl
+
+reserved : (i p : ℕ) (free asked : Option ℕ) (held : Option Held) → ((q : ℕ) → asked ≡ Some q → free ≡ Some q)
+    → reserved_by (is_some asked) i free p held ≡ cond (is_pair asked p) (Some (record { conn = i; pair = p; granted = false })) held
+reserved i p free None held is_free = refl
+reserved i p free (Some q) held is_free = ap (λ (lowest : Option ℕ). taken_by i lowest p held) (is_free q refl) ∙ taken i p q held
+
+pub held_by_message : (i p : ℕ) (settled : Books) (free : Option ℕ) (old pending : Option Purpose) (message : Option Outgoing) (goes reserves : Bool) (held : Option Held) → goes ≡ is_some message
+    → reserves ≡ is_some (pair_asked (kind_pending pending)) → AsksBy free old message pending → held ≡ settled.held p
+    → held_lent goes reserves i free p held ≡ (lends_where (Some i) (kind_gone message pending) settled).held p
+held_by_message i p settled free old pending None goes reserves held is takes by_it same = ap (λ t. held_lent t reserves i free p held) is ∙ same
+held_by_message i p settled free old pending (Some (asks request named)) goes reserves held is takes by_it same =
+    ap (λ t. held_lent t reserves i free p held) is
+    ∙ ap (λ t. reserved_by t i free p held) takes
+    ∙ reserved i p free (pair_asked (kind_pending pending)) held (λ q asked. open_free free request named old pending q by_it asked)
+    ∙ ap (λ (one : Option Held). cond (is_pair (pair_asked (kind_pending pending)) p) (Some (record { conn = i; pair = p; granted = false })) one) same
+held_by_message i p settled free old pending (Some (carries pair half rest)) goes reserves held is takes by_it same = absurd by_it

@@ -1,0 +1,173 @@
+//! What events of players do.
+ghost use Rattle.std.specs.Prelude.{◌≡◌, ◌+◌, false, IsOk, IfOk, Some};
+ghost use Rattle.rtsp_head.specs.Shapes.{shape_of};
+ghost use Rattle.rtsp_head.specs.declared.item.ItemKind.TheVariants.{Frame};
+ghost use Rattle.client_slot.specs.Client.{Client};
+ghost use Rattle.client_machine.specs.Plans.{Comes, CanCome, incoming_seen, IsPlan, IsShortPlan};
+ghost use Rattle.gateway_claim.specs.Happenings.{Happening, takes, happening_of, cause_of};
+
+use crate::act::Act;
+use crate::connections::Connections;
+use crate::frames::channel_of;
+use crate::turn::PlannedTurn;
+use crate::turn_facts::TurnFacts;
+use client_machine::{CloseWhy, Incoming, Plan, half_for, plan, plan_close};
+use connection_table::KeyedSlot;
+use gate_bytes::Memory;
+use gateway_claim::{Event, UpCause, UpWhy};
+use rtsp_head::{Item, ItemKind};
+use std::alloc::Global;
+
+impl Connections {
+    ghost use Rattle.gateway_mux.specs.Acts.{IsAct, IsSaid, IsClosing, IsShortAct, IsKeyed};
+    ghost use Rattle.gateway_mux.specs.Free.{is_client_request, needs_memory};
+    ghost use Rattle.gateway_mux.specs.Pictures.{picture};
+    ghost use Rattle.connection_table.specs.Tables.{IsKeyOf, IsSeatAt};
+    ghost use Rattle.gateway_mux.specs.Short.{IsShortAnswer};
+    ghost use Rattle.gateway_mux.specs.Turn.{free_once};
+
+    /// What an event does. Nothing changes, and all memory for it is taken.
+    #[inline(always)]
+    pub fn plan(&self, alloc: Global, event: &Event) -> Result<Act, Memory>
+        ensures act { IfOk result (IsAct self.now.bases (picture self.now.seats self.now.upstream) (happening_of event.now)) }
+        ensures short { IfOk result IsShortAct }
+        ensures key { IfOk result (IsKeyed self.now.seats) }
+        ensures free { needs_memory event.now ≡ false → IsOk result }
+    {
+        match event {
+            Event::Client(conn, item) => self.plan_item(alloc, *conn, item),
+            Event::Up(item) => self.plan_heard(alloc, item),
+            Event::End(conn) => Ok(self.plan_close(alloc, *conn, CloseWhy::Ended)),
+            Event::Slow(conn) => Ok(self.plan_close(alloc, *conn, CloseWhy::Slow)),
+            Event::UpEnd(why) => Ok(Act::Ends(cause_of(*why))),
+        }
+    }
+
+    /// What an item of a player does.
+    #[inline(always)]
+    fn plan_item(&self, alloc: Global, conn: u32, item: &Item) -> Result<Act, Memory>
+        ensures act { IfOk result (IsAct self.now.bases (picture self.now.seats self.now.upstream) (takes conn (shape_of item.now))) }
+        ensures short { IfOk result IsShortAct }
+        ensures key { IfOk result (IsKeyed self.now.seats) }
+        ensures free { is_client_request item.now.kind ≡ false → IsOk result }
+    {
+        match item.kind {
+            ItemKind::Request => {
+                let seat = self.seats.seat(conn);
+                self.plan_turn(
+                    alloc,
+                    seat,
+                    TurnFacts::alone(conn),
+                    &Incoming::Request(item),
+                )
+            }
+            ItemKind::Response => Ok(Act::Nothing),
+            ItemKind::Frame => Ok(self.plan_rise(conn, item)),
+            ItemKind::Bad(_) => Ok(self.plan_close(alloc, conn, CloseWhy::BadItem)),
+        }
+    }
+
+    /// What a frame of a player does.
+    #[inline(always)]
+    fn plan_rise(&self, conn: u32, item: &Item) -> Act
+        requires { item.now.kind ≡ Frame }
+        ensures act { IsAct self.now.bases (picture self.now.seats self.now.upstream) (takes conn (shape_of item.now)) result }
+        ensures short { IsShortAct result }
+        ensures key { IsKeyed self.now.seats result }
+    {
+        let Some(slot) = self.seats.slot(conn) else {
+            return Act::Nothing;
+        };
+        if !slot.alive() {
+            return Act::Nothing;
+        }
+        match half_for(slot, channel_of(item)) {
+            Some(half) => Act::Rises(2 * half.pair + half.half),
+            None => Act::Nothing,
+        }
+    }
+
+    /// What the close of a connection does. It takes no memory.
+    fn plan_close(&self, alloc: Global, conn: u32, why: CloseWhy) -> Act
+        ensures act { (h : Happening) → IsClosing conn why h → IsAct self.now.bases (picture self.now.seats self.now.upstream) h result }
+        ensures short { IsShortAct result }
+        ensures key { IsKeyed self.now.seats result }
+    {
+        match self.seats.seat(conn) {
+            Some(seat) => {
+                let plan = plan_close(alloc, seat.slot, why);
+                self.turned(seat.key, TurnFacts::alone(conn), plan)
+            }
+            None => Act::Nothing,
+        }
+    }
+
+    /// What the turn of a connection does, which is kept at this seat.
+    pub fn plan_turn(
+        &self,
+        alloc: Global,
+        seat: Option<KeyedSlot<'_>>,
+        said: TurnFacts,
+        incoming: &Incoming<'_>,
+    ) -> Result<Act, Memory>
+        requires sound { CanCome (incoming_seen incoming.now) }
+        requires short { IsShortAnswer said.answer }
+        requires seat { IsSeatAt self.now.seats said.conn seat }
+        ensures act { (h : Happening) → IsSaid self.now.bases (picture self.now.seats self.now.upstream) h said (incoming_seen incoming.now) → IfOk result (IsAct self.now.bases (picture self.now.seats self.now.upstream) h) }
+        ensures short { IfOk result IsShortAct }
+        ensures key { IfOk result (IsKeyed self.now.seats) }
+    {
+        let Some(seat) = seat else {
+            return Ok(said.answers());
+        };
+        let next = self.upstream.requests.issued() + 1;
+        let pair = self.upstream.free_once(&said.settled);
+        let plan = plan(alloc, &self.bases, seat.slot, next, pair, incoming)?;
+        Ok(self.turned(seat.key, said, plan))
+    }
+
+    /// What the turn of a connection with this plan does, which is kept under this key. Where a request
+    /// is due and no number is left, the connection to the server ends.
+    #[inline(always)]
+    fn turned(&self, key: usize, said: TurnFacts, plan: Plan) -> Act
+        requires key { IsKeyOf self.now.seats said.conn key }
+        ensures act { (h : Happening) (comes : Comes) (client : Client) → IsSaid self.now.bases (picture self.now.seats self.now.upstream) h said comes → (picture self.now.seats self.now.upstream).clients said.conn ≡ Some client
+            → IsPlan self.now.bases (self.now.upstream.requests.issued + 1) (free_once said.settled (picture self.now.seats self.now.upstream).held) client comes plan
+            → IsAct self.now.bases (picture self.now.seats self.now.upstream) h result }
+        ensures short { IsShortAnswer said.answer → IsShortPlan plan → IsShortAct result }
+        ensures key { IsKeyed self.now.seats result }
+    {
+        let asks = plan.asks();
+        if asks && self.upstream.requests.next().is_none() {
+            return Act::Ends(UpCause::CseqSpent);
+        }
+        let TurnFacts {
+            conn,
+            number,
+            settled,
+            answer,
+        } = said;
+        let turn = PlannedTurn {
+            conn,
+            key,
+            number,
+            next: self.upstream.requests.issued() + 1,
+            settled,
+            plan,
+            asks,
+        };
+        Act::Turns(answer, turn)
+    }
+}
+
+/// The cause of an end that no item of the server caused.
+fn cause_of(why: UpWhy) -> UpCause
+    ensures { result ≡ cause_of why }
+{
+    match why {
+        UpWhy::Ended => UpCause::Ended,
+        UpWhy::ReadFault => UpCause::ReadFault,
+        UpWhy::WriteFault => UpCause::WriteFault,
+        UpWhy::UpFull => UpCause::UpFull,
+    }
+}

@@ -1,4 +1,0 @@
-pub mod CountLemmas
-pub mod CheckLemmas
-pub mod NamedLemmas
-pub mod ArgumentLemmas

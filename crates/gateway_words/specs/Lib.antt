@@ -1,4 +1,0 @@
-pub mod Kinds
-pub mod Words
-pub mod Named
-pub mod Arguments

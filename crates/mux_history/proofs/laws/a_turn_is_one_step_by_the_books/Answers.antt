@@ -1,5 +1,0 @@
-use Rattle.mux_history.proofs.TurnLawLemmas.{stepped}
-use Rattle.mux_history.proofs.laws.a_turn_is_one_step_by_the_books.Goals as goal
-
-pub returns : goal.returns
-returns c = stepped

@@ -1,5 +1,0 @@
-use Rattle.mux_history.proofs.OrderLemmas.{follows_orderly}
-use Rattle.mux_history.proofs.laws.entries_are_orderly.Goals as goal
-
-pub returns : goal.returns
-returns c bases earlier entry = follows_orderly bases earlier entry

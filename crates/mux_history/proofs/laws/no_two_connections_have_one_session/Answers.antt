@@ -1,5 +1,0 @@
-use Rattle.mux_history.proofs.ApartLemmas.{sessions_apart}
-use Rattle.mux_history.proofs.laws.no_two_connections_have_one_session.Goals as goal
-
-pub returns : goal.returns
-returns c bases history i j id is standing has_i has_j = sessions_apart bases history i j id is standing has_i has_j

@@ -1,5 +1,0 @@
-use Rattle.std.proofs.Common.{refl}
-use Rattle.mux_history.proofs.laws.the_last_number_is_the_greatest_read.Goals as goal
-
-pub returns : goal.returns
-returns c = refl

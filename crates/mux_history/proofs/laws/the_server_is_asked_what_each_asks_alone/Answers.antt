@@ -1,5 +1,0 @@
-use Rattle.mux_history.proofs.AskedLemmas.{asked}
-use Rattle.mux_history.proofs.laws.the_server_is_asked_what_each_asks_alone.Goals as goal
-
-pub returns : goal.returns
-returns c bases history i is = asked bases history i is

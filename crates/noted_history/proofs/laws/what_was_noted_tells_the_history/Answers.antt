@@ -1,5 +1,0 @@
-use Rattle.noted_history.proofs.RetoldLemmas.{retold}
-use Rattle.noted_history.proofs.laws.what_was_noted_tells_the_history.Goals as goal
-
-pub returns : goal.returns
-returns c history whole = retold history whole

@@ -1,0 +1,40 @@
+//! PLAYs that waited.
+ghost use Rattle.std.specs.Prelude.{◌≡◌, IfOk};
+ghost use Rattle.std.specs.Option.{option_copied};
+ghost use Rattle.rtsp_head.specs.Optional.{field_headers};
+ghost use Rattle.translate_up.specs.QueuedPlay.{play_fields_up, play_up};
+
+use gate_bytes::{Memory, Text};
+use head_two::Request2;
+use rtsp_head::Headers;
+use rtsp_range::write;
+use rtsp_small::Method;
+use session_one::Play;
+use std::alloc::Global;
+
+/// A PLAY that waited, as it goes up for a session, without its number (RFC 7826, 13.4).
+pub fn play_up(alloc: Global, session: Option<&[u8]>, play: &Play) -> Result<Request2, Memory>
+    ensures { IfOk result (λ up. up ≡ play_up (option_copied session.entry) play.now) }
+{
+    Ok(Request2 {
+        method: Text::copy(alloc, Method::Play.name())?,
+        uri: Text::copy(alloc, play.uri.as_bytes())?,
+        headers: play_headers(alloc, session, play)?,
+        body: Text::new(alloc),
+    })
+}
+
+/// Its headers in their order.
+fn play_headers(alloc: Global, session: Option<&[u8]>, play: &Play) -> Result<Headers, Memory>
+    ensures { IfOk result (λ headers. headers ≡ field_headers (play_fields_up (option_copied session.entry) play.now)) }
+{
+    let scale = match &play.scale {
+        Some(scale) => Some(scale.as_bytes()),
+        None => None,
+    };
+    let mut headers = Headers::new(alloc);
+    headers.push_copy(alloc, b"Session", session)?;
+    headers.push_value(alloc, b"Range", Some(write(alloc, &play.range)?))?;
+    headers.push_copy(alloc, b"Scale", scale)?;
+    Ok(headers)
+}
