@@ -3,6 +3,7 @@
 It prints nothing and has no exit status.
 """
 import asyncio
+import errno
 import random
 import socket
 import struct
@@ -52,12 +53,16 @@ class Player:
         await KINDS[self.kind][1](self)
 
     async def connect(self, receive_room=None):
-        """Connects."""
+        """Connects. From then on the transport owns the socket: it alone closes it, as `close` and `reset` ask it to."""
         one = socket.socket()
-        if receive_room:
-            one.setsockopt(socket.SOL_SOCKET, socket.SO_RCVBUF, receive_room)
-        one.setblocking(False)
-        await asyncio.get_running_loop().sock_connect(one, ("127.0.0.1", self.soak.port))
+        try:
+            if receive_room:
+                one.setsockopt(socket.SOL_SOCKET, socket.SO_RCVBUF, receive_room)
+            one.setblocking(False)
+            await asyncio.get_running_loop().sock_connect(one, ("127.0.0.1", self.soak.port))
+        except BaseException:
+            one.close()
+            raise
         self.reader, self.writer = await asyncio.open_connection(sock=one)
 
     def point(self):
@@ -170,7 +175,7 @@ class Player:
 
     async def leave(self):
         """Ends its side, behind which only the end may come."""
-        self.writer.write_eof()
+        self.end_side()
         try:
             while True:
                 if await self.next_item(END_SECONDS):
@@ -178,10 +183,25 @@ class Player:
         except Over:
             pass
 
+    def end_side(self):
+        """Ends its side; Over where the connection is gone, which its transport may not have noticed."""
+        try:
+            self.writer.write_eof()
+        except OSError as error:
+            if error.errno != errno.ENOTCONN:
+                raise
+            raise Over
+
     def reset(self):
-        """Is gone."""
-        self.writer.get_extra_info("socket").setsockopt(socket.SOL_SOCKET, socket.SO_LINGER, LINGER)
+        """Is gone. Where the other side was gone first, the transport has closed the socket, or is about to."""
+        if not self.writer.transport.is_closing():
+            self.writer.get_extra_info("socket").setsockopt(socket.SOL_SOCKET, socket.SO_LINGER, LINGER)
         self.writer.transport.abort()
+
+    def close(self):
+        """Closes its connection, where it has one that is not closed yet."""
+        if self.writer:
+            self.writer.close()
 
     async def drop_all(self, seconds):
         """Reads until the end."""
@@ -233,7 +253,7 @@ async def vanishing(player):
         data = player.request("OPTIONS")
         await player.send(data[:player.random.randrange(len(data))])
     if how == "ends":
-        player.writer.write_eof()
+        player.end_side()
         await player.drop_all(STATION_SECONDS if player.is_first else END_SECONDS)
         return
     if how == "silent":

@@ -4,6 +4,7 @@ It prints nothing and has no exit status. A stream's path says what is to come, 
 many bytes on each track, each of which carries its stream's name, its track and its number.
 """
 import asyncio
+import errno
 import pathlib
 import re
 import socket
@@ -193,4 +194,8 @@ class Server:
         if at_once and self.writer:
             self.writer.transport.abort()
         elif self.writer and not self.writer.is_closing():
-            self.writer.write_eof()
+            try:
+                self.writer.write_eof()
+            except OSError as error:
+                if error.errno != errno.ENOTCONN:
+                    raise
