@@ -1,7 +1,6 @@
 //! Running a gateway over real links.
 //!
-//! All threads are made before the first player comes: a reader and a writer for each station, the same for the server, and
-//! one that takes what the server said while its reader reads on.
+//! All threads are made before the first player comes: a reader and a writer for each station, and the same for the server.
 //! A reader has its link by value; it hands the outlet and its end of the port to its writer over a desk, and takes both back
 //! the same way. All events are taken under the lock of one hub.
 #![tactic(auto)]

@@ -1,7 +1,7 @@
 //! The server's connection: it is read, and what the server said is taken.
 //!
-//! Its reader puts what came into the port of the hub. Where little came it has that taken, and else a thread beside it does,
-//! at a pace that leaves the players' writers time.
+//! Its reader puts what came into the port of the hub, and takes it from there under the hub's lock, at a pace that leaves the
+//! players' writers time.
 #![tactic(auto)]
 
 mod pace;

@@ -1,6 +1,6 @@
-//! How whoever takes the server's items waits for players that are behind.
+//! How the server's reader waits for players that are behind.
 //!
-//! A port holds far less than a server may send at once. So where a port is nearly full, whoever takes the server's items
+//! A port holds far less than a server may send at once. So where a port is nearly full, the server's reader
 //! waits a little for its writer, before more are taken. Each player may have some pauses; once it had them, nobody waits for
 //! it until all that it was handed has been written. So a player that takes nothing delays the others only once, and is then
 //! found too slow. One that goes on taking has its pauses back: a burst is no reason to close it. Only time counts in which its

@@ -1,7 +1,6 @@
 //! The threads of the server's link.
 ghost use denote.Param.Send.{IsSend, IsSync};
 
-use crate::take::{Taking, take_on};
 use crate::upstream::{UpBack, Upstream, run_upstream};
 use gate_outside::{Inlet, Outlet};
 use gateway_claim::Core;
@@ -25,8 +24,8 @@ pub struct ServerPost<'a, I: Inlet + Drop, P: Outlet + Drop> {
     pub upstream: Upstream<I, P>,
 }
 
-/// Starts the writer of the server's link and the thread that takes what the server said, and serves the server's connection
-/// in this thread until it is over. Where a thread was refused the hub is stopped, and that is told.
+/// Starts the writer of the server's link, and serves the server's connection in this thread until it is over. Where the thread
+/// was refused the hub is stopped, and that is told.
 pub fn work_server<
     I: Inlet + Drop,
     P: Outlet + Drop,
@@ -37,8 +36,6 @@ pub fn work_server<
 where
     M::Plan: Send,
 {
-    let taking = Taking::new(common.alloc);
-    let taking = &taking;
     thread::scope(
         thread::scope_env(),
         common.rt,
@@ -55,17 +52,11 @@ where
             if let Err(refusal) = start(scope, move || write_from(common, desk)) {
                 refused = Some(refusal);
                 desk.close(common.rt);
-            }
-            if let Err(refusal) = start(scope, move || take_on(common, taking)) {
-                refused = Some(refusal);
-            }
-            if refused.is_some() {
                 common.stop(StopWhy::Crew);
             }
             common.signals.meeting.arrive(common.rt);
-            let back = run_upstream(common, desk, taking, upstream, bytes.as_mut_slice());
+            let back = run_upstream(common, desk, upstream, bytes.as_mut_slice());
             desk.close(common.rt);
-            taking.came.ring(common.rt);
             (back, refused)
         },
     )

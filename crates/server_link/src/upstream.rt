@@ -10,25 +10,17 @@ ghost use Rattle.server_link.specs.declared.take.TakingEnd.TheVariants as heard;
 ghost use Rattle.gateway_links.specs.Promise.{BeginsGiven};
 ghost use Rattle.std.specs.Option.{option_map};
 
-use crate::take::{Taking, TakingEnd, take_all, take_few};
+use crate::pace::Pace;
+use crate::take::{ITEMS_A_ROUND, TakingEnd, take_all};
 use client_ports::{Putter, Taker};
 use gate_outside::{Inlet, Outlet};
 use gateway_claim::{Core, UpWhy};
 use gateway_hub::{Recorder, StopWhy};
 use gateway_links::{Put, ReadEnd, Reader, Writer, WriterDesk, collect, put_some, read_reusing};
-use hub_workers::{Common, Life};
+use hub_workers::Common;
 use run_report::UpRun;
 use std::sync::Wait;
-use std::thread;
-use std::time::{Clock, Duration};
-
-/// So many items, or fewer, are few. A read that is full has more frames of 1,400 bytes than this: where fewer came nothing was
-/// left behind, and the thread that read them takes them, since waking another one would take longer.
-const FEW_ITEMS: u32 = 184;
-
-/// How long the reader pauses where the server's port is full, in microseconds: for less than it takes to take what the port
-/// holds.
-const FULL_PAUSE_MICROS: u64 = 50;
+use std::time::Clock;
 
 /// The server's link, and its ends of the hub's ports. It keeps that nothing was put, taken or written.
 #[derive(Drop)]
@@ -66,12 +58,10 @@ pub struct UpBack<I: Inlet, O: Outlet> {
 }
 
 /// Serves the server's connection until an ending is kept: reads what it says and has it taken, while the writer of this desk
-/// writes what it is handed, and a thread beside this one takes where much comes. Nothing was read from the inlet
-/// or written to the outlet before.
+/// writes what it is handed. Nothing was read from the inlet or written to the outlet before.
 pub fn run_upstream<I: Inlet + Drop, O: Outlet + Drop, M: Core, R: Recorder, W: Wait + Clock>(
     common: &Common<'_, M, R, W>,
     desk: &WriterDesk<O>,
-    taking: &Taking,
     upstream: Upstream<I, O>,
     buffer: &mut [u8],
 ) -> UpBack<I, O>
@@ -91,7 +81,7 @@ pub fn run_upstream<I: Inlet + Drop, O: Outlet + Drop, M: Core, R: Recorder, W: 
     } = upstream;
     let mut reader = Reader::new(common.alloc, inlet, inward);
     let writer = Writer::new(common.alloc, None, outlet, outward);
-    let (end, writer) = hear_link(common, desk, taking, &mut reader, writer, buffer);
+    let (end, writer) = hear_link(common, desk, &mut reader, writer, buffer);
     let (inlet, inward) = reader.into_ends();
     let (outlet, outward, failed) = writer.into_ends();
     let run = run_of(end, failed);
@@ -121,7 +111,6 @@ fn run_of(end: ReadEnd, write_failed: bool) -> UpRun
 fn hear_link<I: Inlet + Drop, O: Outlet + Drop, M: Core, R: Recorder, W: Wait + Clock>(
     common: &Common<'_, M, R, W>,
     desk: &WriterDesk<O>,
-    taking: &Taking,
     reader: &mut Reader<I>,
     writer: Writer<O>,
     buffer: &mut [u8],
@@ -137,7 +126,7 @@ fn hear_link<I: Inlet + Drop, O: Outlet + Drop, M: Core, R: Recorder, W: Wait + 
         // Nobody writes.
         Err(writer) => return (ReadEnd::Over, writer),
     }
-    let end = hear_on(common, desk, taking, reader, buffer);
+    let end = hear_on(common, desk, reader, buffer);
     tell_end(common, end);
     (end, collect(common.rt, desk, reader))
 }
@@ -156,7 +145,6 @@ fn tell_end<M: Core, R: Recorder, W: Wait>(common: &Common<'_, M, R, W>, end: Re
 fn hear_on<I: Inlet + Drop, O: Outlet + Drop, M: Core, R: Recorder, W: Wait + Clock>(
     common: &Common<'_, M, R, W>,
     desk: &WriterDesk<O>,
-    taking: &Taking,
     reader: &mut Reader<I>,
     buffer: &mut [u8],
 ) -> ReadEnd
@@ -168,9 +156,9 @@ fn hear_on<I: Inlet + Drop, O: Outlet + Drop, M: Core, R: Recorder, W: Wait + Cl
     ensures all { result ≡ ends.Ended → (first : Option (List ℕ)) → ReadsItems I.rest first reader.old → PutAll I.rest first reader.new }
     ensures failed { result ≡ ends.Failed → Rose (I.faults reader.old.inlet) (I.faults reader.new.inlet) }
 {
-    let mut life = Life::new();
+    let mut pace = Pace::new(common.alloc);
     for _ in common.rt.forever() {
-        match put_all(common, taking, &mut life, reader) {
+        match put_all(common, &mut pace, reader) {
             TakingEnd::Empty => {}
             TakingEnd::Kept => return ReadEnd::Over,
             TakingEnd::Memory => return ReadEnd::Memory,
@@ -183,17 +171,16 @@ fn hear_on<I: Inlet + Drop, O: Outlet + Drop, M: Core, R: Recorder, W: Wait + Cl
             reader,
             buffer,
         ) {
-            return end_after_rest(common, taking, end);
+            return end_after_rest(common, &mut pace, end);
         }
     }
     unreachable!()
 }
 
-/// Puts all that came of the server, and has it taken: here where little came, and else by the thread beside this one.
+/// Puts all that came of the server, and takes it.
 fn put_all<I: Inlet + Drop, M: Core, R: Recorder, W: Wait + Clock>(
     common: &Common<'_, M, R, W>,
-    taking: &Taking,
-    life: &mut Life,
+    pace: &mut Pace,
     reader: &mut Reader<I>,
 ) -> TakingEnd
     ensures inlet { reader.new.inlet ≡ reader.old.inlet }
@@ -201,19 +188,12 @@ fn put_all<I: Inlet + Drop, M: Core, R: Recorder, W: Wait + Clock>(
     ensures front { (first : Option (List ℕ)) → ReadsFront I.rest first reader.old → ReadsFront I.rest first reader.new }
     ensures all { result ≡ heard.Empty → (first : Option (List ℕ)) → ReadsItems I.rest first reader.old → PutAll I.rest first reader.new }
 {
-    if put_some(common.rt, reader, FEW_ITEMS, false) == Put::All {
-        return take_few(common, taking, life);
-    }
     for _ in common.rt.forever() {
-        let put = put_some(common.rt, reader, u32::MAX, false);
-        taking.came.ring(common.rt);
-        if life.is_over(common, None) {
-            return TakingEnd::Kept;
+        let put = put_some(common.rt, reader, ITEMS_A_ROUND, false);
+        let heard = take_all(common, pace);
+        if put == Put::All || !matches!(heard, TakingEnd::Empty) {
+            return heard;
         }
-        if put == Put::All {
-            return TakingEnd::Empty;
-        }
-        thread::sleep(common.rt, Duration::from_micros(FULL_PAUSE_MICROS));
     }
     unreachable!()
 }
@@ -221,14 +201,13 @@ fn put_all<I: Inlet + Drop, M: Core, R: Recorder, W: Wait + Clock>(
 /// Has all taken that was put, before it is told why the link is read no more.
 fn end_after_rest<M: Core, R: Recorder, W: Wait + Clock>(
     common: &Common<'_, M, R, W>,
-    taking: &Taking,
+    pace: &mut Pace,
     end: ReadEnd,
 ) -> ReadEnd
     ensures end { result ≡ ends.Ended → end ≡ ends.Ended }
     ensures failed { result ≡ ends.Failed → end ≡ ends.Failed }
 {
-    let heard = take_all(common, &mut taking.pace.lock(common.rt));
-    match heard {
+    match take_all(common, pace) {
         TakingEnd::Memory => ReadEnd::Memory,
         TakingEnd::Empty | TakingEnd::Kept => end,
     }
