@@ -3,12 +3,12 @@ from xml.sax.saxutils import escape
 
 STYLE = """
 text { font: 13px 'DejaVu Sans', Verdana, sans-serif; fill: #1b1b1b; text-anchor: middle }
-.left { text-anchor: start } .small { font-size: 11px } .title { font-size: 15px; font-weight: bold }
+.left { text-anchor: start } .small { font-size: 11px } .title { font-size: 15px; font-weight: bold } .name { font-weight: bold }
 .note { font-size: 11px; fill: #6b3d00 } .quiet { font-size: 11px; fill: #555 }
 rect { stroke: #33475b; stroke-width: 1.2; fill: #eaf1f8; rx: 5 }
 rect.page { fill: #fff; stroke: none; rx: 0 } rect.kit { fill: #f2f2f2; stroke: #999 }
 rect.ready { fill: #fff7e0; stroke: #b98b1d; stroke-dasharray: 5 3 } rect.top { fill: #d8ead6; stroke: #3a6b35 }
-rect.hold { fill: #fff7e0; stroke: #b98b1d } rect.over { fill: #f2f2f2; stroke: #999 }
+rect.hold { fill: #fff7e0; stroke: #b98b1d } rect.over { fill: #f2f2f2; stroke: #999 } rect.region { fill: #f7fafd; stroke: #999 }
 path, line { fill: none; stroke: #5b6b7b; stroke-width: 1.1 } .faint { stroke: #b6c0ca }
 .life { stroke: #b6c0ca; stroke-dasharray: 4 4 } .later { stroke-dasharray: 5 3 }
 """
@@ -32,6 +32,15 @@ class Picture:
 
     def text(self, x, y, line, kind=""):
         self.parts.append('<text class="%s" x="%d" y="%d">%s</text>' % (kind, x, y + 4, escape(line)))
+
+    def texts(self, x, y, lines, kind="small"):
+        """Small lines of text below each other, the first one here."""
+        for place, line in enumerate(lines):
+            self.text(x, y + 14 * place, line, kind)
+
+    def region(self, x, y, width, height):
+        """What stands behind boxes that are in one."""
+        self.parts.append('<rect class="region" x="%d" y="%d" width="%d" height="%d"/>' % (x, y, width, height))
 
     def path(self, data, kind="", arrow=False):
         self.parts.append('<path class="%s" d="%s"%s/>' % (kind, data, ' marker-end="url(#head)"' if arrow else ""))
