@@ -5,22 +5,16 @@ sensible now is seen in the second reading of docs/FORMATS.md, which takes each 
 """
 from drawing import (BAD_GRANTS, BAD_IDS, BAD_RANGES, BAD_TRANSPORTS, CODES, FRONTS, GRANTS, IDS, INFOS, NOISE_DOWN,
                      NOISE_UP, RANGES, REASONS, SCALES, STATUSES, TIMEOUTS, TRANSPORTS, URIS, Words)
+from recording import LONGEST_BODY, MAGIC, spelled
 from second_bytes import METHODS
 from second_reading import MOST_PAIRS, Gateway
 
-MAGIC = b"RTSPGW1\n"
-LONGEST_BODY = 131_072
 WISHES = {
     "Init": dict(SETUP=8, DESCRIBE=4, OPTIONS=1, GET_PARAMETER=1, SET_PARAMETER=0.5, PLAY=0.2, PAUSE=0.2, TEARDOWN=0.2),
     "Ready": dict(SETUP=2, PLAY=4, TEARDOWN=0.5, GET_PARAMETER=1, SET_PARAMETER=0.5, OPTIONS=1, DESCRIBE=0.5,
                   PAUSE=0.2),
     "Playing": dict(PLAY=6, PAUSE=1.5, TEARDOWN=0.7, GET_PARAMETER=1, SET_PARAMETER=0.5, OPTIONS=1, DESCRIBE=0.3,
                     SETUP=0.3)}
-
-
-def entry(kind, connection, body=b""):
-    """The bytes of an entry."""
-    return kind + connection.to_bytes(4, "big") + len(body).to_bytes(4, "big") + body
 
 
 def filled_in(text, numbers):
@@ -42,7 +36,7 @@ class Conversation(Words):
         """Adds an entry, or some where the bytes are many."""
         while True:
             piece, said = said[:LONGEST_BODY], said[LONGEST_BODY:]
-            self.transcript += entry(kind, connection, piece)
+            self.transcript += spelled(kind, connection, piece)
             self.gateway.take(kind, connection, piece)
             if not said:
                 return
@@ -83,7 +77,7 @@ class Conversation(Words):
                 self.step()
         for kind, connection in list(self.left) if self.seldom(0.7) else []:
             self.say_left(kind, connection)
-        return self.transcript, b"".join(entry(*record) for record in self.gateway.records)
+        return self.transcript, b"".join(spelled(*record) for record in self.gateway.records)
 
     def fill(self):
         """Players set up tracks until almost all shared pairs are held."""

@@ -2,8 +2,7 @@
 
 It prints nothing and has no exit status. What `report` must say of it is reckoned here and not read from the recording.
 """
-from recording import MAGIC
-from replayed import spelled
+from recording import MAGIC, spelled
 
 PAYLOAD = bytes(36)
 FRAME_SIZE = 4 + len(PAYLOAD)

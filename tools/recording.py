@@ -1,7 +1,7 @@
-"""The entries of a recording, read in one pass, and the first thing that is wrong with it.
+"""The format of transcripts and records: entries written and read, and the first thing that is wrong with a recording.
 
-It prints nothing and has no exit status: watch, report and chart of tools/transcript import it. The entries and their
-faults are those of docs/FORMATS.md (Transcript).
+It prints nothing and has no exit status: tools/transcript and whatever makes or reads a transcript import it. The entries and
+their faults are those of docs/FORMATS.md (Transcript, Records).
 """
 from dataclasses import dataclass
 
@@ -19,6 +19,22 @@ WHY = {
     "Kind": "no entry is of this kind",
     "Conn": "this entry can't have this connection here",
     "Length": "an entry of this kind can't have this body"}
+
+
+def spelled(kind, connection, body=b""):
+    """The bytes of an entry or a record."""
+    return kind + connection.to_bytes(4, "big") + len(body).to_bytes(4, "big") + body
+
+
+def pieces(data, at=0):
+    """Kind, connection and body of each whole entry or record from a place on; what is left comes with the kind None."""
+    while at < len(data):
+        end = at + ENTRY_HEAD + int.from_bytes(data[at + 5:at + ENTRY_HEAD], "big")
+        if len(data) < max(end, at + ENTRY_HEAD):
+            yield None, 0, data[at:]
+            return
+        yield data[at:at + 1], int.from_bytes(data[at + 1:at + 5], "big"), data[at + ENTRY_HEAD:end]
+        at = end
 
 
 class Broken(Exception):

@@ -23,7 +23,7 @@ import threading
 from dataclasses import dataclass, field
 
 from items import Items
-from recording import ENTRY_HEAD, LONGEST_BODY, MAGIC, READ_SIZE, Broken, entries_of
+from recording import LONGEST_BODY, MAGIC, READ_SIZE, Broken, entries_of, pieces, spelled
 
 MARKER = 0
 MARK = b"A B RTSP/\n\n"
@@ -46,11 +46,6 @@ class Event:
     item: object = None
     body: bytes = b""
     records: list = field(default_factory=list)
-
-
-def spelled(kind, connection, body=b""):
-    """The bytes of an entry."""
-    return kind + connection.to_bytes(4, "big") + len(body).to_bytes(4, "big") + body
 
 
 class Streams:
@@ -117,8 +112,8 @@ class Sender(threading.Thread):
         if event.item:
             body = event.item.raw
             body = body[:2] + b"\0\0" if event.item.kind == "frame" else body
-        pieces = [body[at:at + LONGEST_BODY] for at in range(0, len(body), LONGEST_BODY)] or [b""]
-        return b"".join(spelled(event.kind, number, piece) for piece in pieces) + spelled(b"A", MARKER, MARK)
+        bodies = [body[at:at + LONGEST_BODY] for at in range(0, len(body), LONGEST_BODY)] or [b""]
+        return b"".join(spelled(event.kind, number, one) for one in bodies) + spelled(b"A", MARKER, MARK)
 
 
 class Replay:
@@ -168,16 +163,14 @@ class Replay:
 
     def records(self):
         """Kind, connection and body of each record that the program writes."""
-        data = b""
-        for piece in iter(lambda: self.process.stdout.read1(READ_SIZE), b""):
-            data, at = data + piece, 0
-            while len(data) - at >= ENTRY_HEAD:
-                end = at + ENTRY_HEAD + int.from_bytes(data[at + 5:at + ENTRY_HEAD], "big")
-                if end > len(data):
-                    break
-                yield data[at:at + 1], int.from_bytes(data[at + 1:at + 5], "big"), data[at + ENTRY_HEAD:end]
-                at = end
-            data = data[at:]
+        left = b""
+        for read in iter(lambda: self.process.stdout.read1(READ_SIZE), b""):
+            data, left = left + read, b""
+            for kind, connection, body in pieces(data):
+                if kind is None:
+                    left = body
+                else:
+                    yield kind, connection, body
 
     def end(self):
         """Waits for the program; raises Failed where it ended otherwise than it should."""

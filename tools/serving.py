@@ -2,12 +2,12 @@
 tools/check_stands."""
 import os
 import socket
-import struct
 import subprocess
 import threading
 import time
 
 from interleaved import Frame, Items, written
+from recording import pieces
 
 HOST, STREAM = "127.0.0.1", "/live"
 WAIT_SECONDS = 20
@@ -191,11 +191,8 @@ class Gateway:
         with open(self.recording, "rb") as recording:
             run = subprocess.run([self.program, "replay", *self.bases], stdin=recording, stdout=subprocess.PIPE)
         check("the recording is replayed", run.returncode == 0, run.returncode)
-        players, server, at = {}, b"", 0
-        while at < len(run.stdout):
-            kind, conn, length = struct.unpack_from(">cII", run.stdout, at)
-            body = run.stdout[at + 9:at + 9 + length]
-            at += 9 + length
+        players, server = {}, b""
+        for kind, conn, body in pieces(run.stdout):
             if kind == b"T":
                 players[conn] = players.get(conn, b"") + body
             elif kind == b"Y":

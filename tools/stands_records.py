@@ -4,7 +4,7 @@ import subprocess
 import threading
 import time
 
-from recording import Broken, Entries
+from recording import MAGIC, Broken, Entries
 from serving import HOST, Gateway, Player, Server, check, fault_lines, free_port
 from stands_parts import QuietPlayer, QuietServer, await_true, frames
 
@@ -98,7 +98,7 @@ def kill_of_the_program(program, folder):
     gateway.run.kill()
     gateway.run.communicate()
     data = gateway.recording.read_bytes()
-    check("the recording is there", data[:8] == b"RTSPGW1\n" and len(came) == 3, "%d bytes" % len(data))
+    check("the recording is there", data[:8] == MAGIC and len(came) == 3, "%d bytes" % len(data))
     handed, asked = gateway.records()
     check("it has all that players were handed", player.heard in handed.values(), {conn: len(of) for conn, of in handed.items()})
     check("it has all that the server was asked", asked.startswith(server.heard) and server.heard, len(asked))
