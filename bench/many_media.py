@@ -11,6 +11,7 @@ import sys
 TOP = pathlib.Path(__file__).resolve().parent.parent
 sys.path.insert(0, str(TOP / "tools"))
 from interleaved import Frame, Items, framed, written  # noqa: E402
+from sockets import HOST  # noqa: E402
 
 FRAMES, SIZE = 40, 1_400
 SECONDS_BETWEEN_FRAMES = 0.005
@@ -35,7 +36,7 @@ class Server:
 
     async def start(self):
         """Listens; the port."""
-        self.listener = await asyncio.start_server(self.serve, "127.0.0.1", 0)
+        self.listener = await asyncio.start_server(self.serve, HOST, 0)
         return self.listener.sockets[0].getsockname()[1]
 
     async def serve(self, reader, writer):
@@ -94,7 +95,7 @@ class Player:
 
     async def begin(self):
         """Connects, asks for OPTIONS, sets its stream up, and plays until all frames came."""
-        self.reader, self.writer = await asyncio.open_connection("127.0.0.1", self.port)
+        self.reader, self.writer = await asyncio.open_connection(HOST, self.port)
         await self.ask("OPTIONS")
         reply = await self.ask("SETUP", "/1", [("Transport", "RTP/AVP/TCP;interleaved=%d-%d" % (
             self.channel, self.channel + 1))])

@@ -6,10 +6,10 @@ import asyncio
 import errno
 import random
 import socket
-import struct
 import time
 
 from soak_server import Frame, Items, Wrong, framed, payload, written
+from sockets import HOST, RESETS
 
 FRONT = "rtsp://gate.example"
 # A reply and the next frame come within these seconds; the first reply waits for a station.
@@ -21,7 +21,6 @@ NOTHING_FRAMES, NOTHING_SIZE = 20_000, 1_400
 # What one that reads slowly is sent, which the gateway holds for it.
 SLOW_FRAMES, SLOW_RATE = 1_500, 2_000_000
 MOST_POINTS, PIPELINED = 60, 40
-LINGER = struct.pack("ii", 1, 0)
 BROKEN = (b"\0\1\2 no message\r\n\r\n", b"OPTIONS * RTSP/1.0\r\n\r\n", b"OPTIONS * RTSP/2.0\r\nCSeq: 1\r\n\r\n",
           b"OPTIONS * RTSP/1.0\r\nCSeq: 1\r\nX: " + b"x" * 9_000 + b"\r\n\r\n", b"OPTIONS * RTSP/1.0\r\nCSeq: x\r\n\r\n",
           b"SET_PARAMETER * RTSP/1.0\r\nCSeq: 1\r\nContent-Length: 99999999\r\n\r\n", b"$\0\xff\xff cut",
@@ -59,7 +58,7 @@ class Player:
             if receive_room:
                 one.setsockopt(socket.SOL_SOCKET, socket.SO_RCVBUF, receive_room)
             one.setblocking(False)
-            await asyncio.get_running_loop().sock_connect(one, ("127.0.0.1", self.soak.port))
+            await asyncio.get_running_loop().sock_connect(one, (HOST, self.soak.port))
         except BaseException:
             one.close()
             raise
@@ -195,7 +194,7 @@ class Player:
     def reset(self):
         """Is gone. Where the other side was gone first, the transport has closed the socket, or is about to."""
         if not self.writer.transport.is_closing():
-            self.writer.get_extra_info("socket").setsockopt(socket.SOL_SOCKET, socket.SO_LINGER, LINGER)
+            self.writer.get_extra_info("socket").setsockopt(socket.SOL_SOCKET, socket.SO_LINGER, RESETS)
         self.writer.transport.abort()
 
     def close(self):

@@ -14,6 +14,7 @@ from dataclasses import dataclass, field
 TOP = pathlib.Path(__file__).resolve().parent.parent
 sys.path.insert(0, str(TOP / "tools"))
 from interleaved import Frame, Items, framed, written  # noqa: E402
+from sockets import HOST  # noqa: E402
 
 MOODS = ("quick", "late", "slow", "late and slow")
 LATEST_SECONDS, SLOW_RATE, RECEIVE_ROOM = 0.3, 4_000_000, 131_072
@@ -55,9 +56,9 @@ class Server:
         """Listens; its URL."""
         door = socket.socket()
         door.setsockopt(socket.SOL_SOCKET, socket.SO_RCVBUF, RECEIVE_ROOM)
-        door.bind(("127.0.0.1", 0))
+        door.bind((HOST, 0))
         self.listener = await asyncio.start_server(self.serve, sock=door)
-        return "rtsp://127.0.0.1:%d" % door.getsockname()[1]
+        return "rtsp://%s:%d" % door.getsockname()
 
     async def serve(self, reader, writer):
         """Serves the gateway until its end."""

@@ -1,6 +1,5 @@
 """A server, players and a run of `PROGRAM serve` over real sockets, and how a comparison is told; for tools/check_serve and
 tools/check_stands."""
-import os
 import socket
 import subprocess
 import threading
@@ -8,12 +7,11 @@ import time
 
 from interleaved import Frame, Items, written
 from recording import pieces
+from sockets import HOST, free_port, listener
 
-HOST, STREAM = "127.0.0.1", "/live"
+STREAM = "/live"
 WAIT_SECONDS = 20
 
-# Ports below those that the system picks, so that nobody is given one meanwhile.
-ports = iter(range(10_000 + os.getpid() % 1_000 * 10, 32_768))
 # The names of comparisons that failed, and all runs.
 failed, runs = [], []
 # The name of the scene that a thread plays, where it has one.
@@ -37,41 +35,20 @@ def end_runs():
             run.communicate()
 
 
-def listener(port=0):
-    """A socket that listens at this port, or at one of its own."""
-    one = socket.socket()
-    one.setsockopt(socket.SOL_SOCKET, socket.SO_REUSEADDR, 1)
-    one.bind((HOST, port))
-    one.listen(128)
-    return one
-
-
-def free_port():
-    """A port that nobody listens at, each time another one."""
-    while True:
-        with socket.socket() as one:
-            one.setsockopt(socket.SOL_SOCKET, socket.SO_REUSEADDR, 1)
-            port = next(ports)
-            try:
-                one.bind((HOST, port))
-                return port
-            except OSError:
-                continue
-
-
 class Server:
     """A server that answers each request at once, and grants what is asked for; what it was handed."""
 
     def __init__(self, port=0):
         self.door, self.heard, self.sessions, self.socket = listener(port), b"", 0, None
         self.url = "rtsp://%s:%d" % self.door.getsockname()
-        self.sending = threading.Lock()
+        self.sending, self.thread, self.is_over = threading.Lock(), None, False
 
     def start(self):
         """Waits for the gateway, and answers it from then on."""
         self.door.settimeout(WAIT_SECONDS)
         self.socket, _ = self.door.accept()
-        threading.Thread(target=self.serve, daemon=True).start()
+        self.thread = threading.Thread(target=self.serve, daemon=True)
+        self.thread.start()
 
     def serve(self):
         items = Items()
@@ -81,11 +58,13 @@ class Server:
                 if not isinstance(item, Frame) and item.method:
                     self.send(self.answer(item))
 
-    def receive(self):
+    def receive(self, size=65_536):
+        """What came; nothing at the end, which may be this side's."""
         try:
-            return self.socket.recv(65_536)
+            piece = self.socket.recv(size)
         except OSError:
             return b""
+        return b"" if self.is_over else piece
 
     def send(self, data):
         with self.sending:
@@ -105,9 +84,13 @@ class Server:
         return written("RTSP/2.0 200 OK", headers)
 
     def close(self):
-        """Ends the connection, as a server does that is stopped."""
-        self.socket.shutdown(socket.SHUT_RDWR)
-        self.socket.close()
+        """Ends the connection, as a server does that is stopped. Its thread is done with the socket before that is closed."""
+        self.is_over = True
+        try:
+            self.socket.shutdown(socket.SHUT_RDWR)
+        finally:
+            self.thread.join(WAIT_SECONDS)
+            self.socket.close()
 
 
 class Player:

@@ -1,11 +1,11 @@
 """Scenes of tools/check_stands: accepts that fail, players that say nothing, and a server that can't be reached."""
 import resource
-import socket
 import subprocess
 import threading
 import time
 
-from serving import HOST, WAIT_SECONDS, Gateway, check, fault_lines, free_port
+from serving import WAIT_SECONDS, Gateway, check, fault_lines
+from sockets import HOST, free_port, full_door
 from stands_parts import QuietPlayer, QuietServer, await_true, can_trace, descriptors, traced
 
 SHORT_SECONDS = 2
@@ -112,15 +112,8 @@ def silent_player(program, folder):
 
 def silent_address(program, folder):
     """A server's address from which nothing comes is given up after ten seconds."""
-    with socket.socket() as full:
-        full.bind((HOST, 0))
-        full.listen(0)
-        crowd = [socket.socket() for _ in range(4)]
-        for one in crowd:
-            one.setblocking(False)
-            one.connect_ex(full.getsockname())
-        words = ["serve", "rtsp://gate.example", "rtsp://%s:%d" % full.getsockname(), "%s:%d" % (HOST, free_port()), "2",
-                 str(folder / "record")]
+    with full_door() as address:
+        words = ["serve", "rtsp://gate.example", "rtsp://%s:%d" % address, "%s:%d" % (HOST, free_port()), "2", str(folder / "record")]
         begin = time.monotonic()
         run = subprocess.Popen([program, *words], stdout=subprocess.PIPE, stderr=subprocess.PIPE)
         try:
@@ -133,5 +126,3 @@ def silent_address(program, folder):
             check("it is told", False, "it is waited for")
             run.kill()
             run.communicate()
-        for one in crowd:
-            one.close()

@@ -3,8 +3,9 @@ import random
 import subprocess
 import time
 
-from serving import HOST, STREAM, Gateway, check, fault_lines, free_port
-from stands_parts import QuietPlayer, QuietServer, await_true, can_trace, connected, descriptors, frames, reset, switches, traced
+from serving import STREAM, Gateway, check, fault_lines
+from sockets import HOST, connected, free_port, reset
+from stands_parts import QuietPlayer, QuietServer, await_true, can_trace, descriptors, frames, switches, traced
 
 # Of some 130 threads, that of the server's side, which is the second behind that which writes the recording, and some of the
 # first stations and of the server's link.

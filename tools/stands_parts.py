@@ -11,7 +11,7 @@ import threading
 import time
 
 from interleaved import Frame, Items, framed
-from serving import HOST, WAIT_SECONDS, Player, Server
+from serving import WAIT_SECONDS, Player, Server
 
 FRAME_SIZE = 1_400
 READ_SIZE = 262_144
@@ -69,17 +69,11 @@ class QuietServer(Server):
         self.socket.setsockopt(socket.SOL_SOCKET, socket.SO_SNDTIMEO, struct.pack("ll", WAIT_SECONDS, 0))
 
     def serve(self):
-        for piece in iter(self.receive, b""):
+        for piece in iter(lambda: self.receive(self.read_size), b""):
             for message in self.items.feed(piece):
                 if message.method:
                     self.take(message)
             self.pace.took(len(piece))
-
-    def receive(self):
-        try:
-            return self.socket.recv(self.read_size)
-        except OSError:
-            return b""
 
     def take(self, request):
         """Answers a request, or leaves it open."""
@@ -100,7 +94,7 @@ class QuietServer(Server):
         try:
             super().close()
         except OSError:
-            self.socket.close()
+            pass
 
     def await_open(self, count, seconds=2):
         """Waits until so many requests are open; whether they are."""
@@ -180,24 +174,6 @@ def await_true(is_so, seconds):
             return False
         time.sleep(0.01)
     return True
-
-
-def connected(port, seconds=5):
-    """A connection to a port that may not listen yet."""
-    end = time.monotonic() + seconds
-    while True:
-        try:
-            return socket.create_connection((HOST, port), seconds)
-        except ConnectionRefusedError:
-            if time.monotonic() > end:
-                raise
-            time.sleep(0.005)
-
-
-def reset(connection):
-    """Ends a connection at once, as that of a player does whose host goes away."""
-    connection.setsockopt(socket.SOL_SOCKET, socket.SO_LINGER, struct.pack("ii", 1, 0))
-    connection.close()
 
 
 def can_trace():

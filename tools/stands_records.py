@@ -5,7 +5,8 @@ import threading
 import time
 
 from recording import MAGIC, Broken, Entries
-from serving import HOST, Gateway, Player, Server, check, fault_lines, free_port
+from serving import Gateway, Player, Server, check, fault_lines
+from sockets import HOST, free_port
 from stands_parts import QuietPlayer, QuietServer, await_true, frames
 
 # What the kernel keeps of a pipe, and what a run may hold back beside it.
