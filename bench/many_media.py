@@ -10,7 +10,7 @@ import sys
 
 TOP = pathlib.Path(__file__).resolve().parent.parent
 sys.path.insert(0, str(TOP / "tools"))
-from interleaved import Frame, Items, framed, written  # noqa: E402
+from interleaved import Frame, StrictItems, framed, written  # noqa: E402
 from sockets import HOST  # noqa: E402
 
 FRAMES, SIZE = 40, 1_400
@@ -43,7 +43,7 @@ class Server:
         """Serves one gateway."""
         self.connections += 1
         self.writers.append(writer)
-        items = Items()
+        items = StrictItems()
         try:
             while piece := await reader.read(65_536):
                 for item in items.feed(piece):
@@ -91,7 +91,7 @@ class Player:
     def __init__(self, number, front, port):
         self.name, self.front, self.port = "player%d" % number, front, port
         self.channel, self.cseq, self.frames, self.session = 2 * (number % 100), 1_000 * number, 0, None
-        self.items, self.arrived = Items(), []
+        self.items, self.arrived = StrictItems(), []
 
     async def begin(self):
         """Connects, asks for OPTIONS, sets its stream up, and plays until all frames came."""

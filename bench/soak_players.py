@@ -8,7 +8,7 @@ import random
 import socket
 import time
 
-from soak_server import Frame, Items, Wrong, framed, payload, written
+from soak_server import Frame, StrictItems, Wrong, framed, payload, written
 from sockets import HOST, RESETS
 
 FRONT = "rtsp://gate.example"
@@ -43,7 +43,7 @@ class Player:
         self.random = random.Random("%s %d" % (soak.seed, number))
         self.kind = self.random.choices(list(KINDS), [weight for weight, _ in KINDS.values()])[0]
         self.name, self.cseq, self.session = "p%d" % number, self.random.randrange(900_000), None
-        self.items, self.arrived, self.tracks, self.came = Items(), [], [], []
+        self.items, self.arrived, self.tracks, self.came = StrictItems(), [], [], []
         self.points, self.vanish_at, self.rate, self.is_first, self.writer = 0, None, None, True, None
         self.frames, self.size = self.random.randrange(1, 200), self.random.choice(SIZES)
 

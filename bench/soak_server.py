@@ -13,7 +13,7 @@ from dataclasses import dataclass, field
 
 TOP = pathlib.Path(__file__).resolve().parent.parent
 sys.path.insert(0, str(TOP / "tools"))
-from interleaved import Frame, Items, framed, written  # noqa: E402
+from interleaved import Frame, StrictItems, framed, written  # noqa: E402
 from sockets import HOST  # noqa: E402
 
 MOODS = ("quick", "late", "slow", "late and slow")
@@ -62,7 +62,7 @@ class Server:
 
     async def serve(self, reader, writer):
         """Serves the gateway until its end."""
-        self.writer, items = writer, Items()
+        self.writer, items = writer, StrictItems()
         self.came.set()
         try:
             while piece := await reader.read(65_536):

@@ -1,16 +1,18 @@
-"""What stands on one RTSP connection, messages and frames, read strictly; for tools/media_server and tools/player.
+"""What stands on one RTSP connection, messages and frames, read strictly and written; for players and servers over sockets.
 
-What a careful peer writes is read and nothing else is: a line ends with CR LF, a header is `Name: value` on one line
+What a careful peer writes is taken and nothing else is: a line ends with CR LF, a header is `Name: value` on one line
 and comes once, and Content-Length says how long a body is. The gateway writes no other form, though both versions of
-RTSP know some.
+RTSP know some. tools/items.py reads them; here is looked whether they are so.
 """
 import re
 from dataclasses import dataclass, field
 
-LONGEST_HEAD = 65_536
-TOKEN = re.compile(r"[A-Za-z0-9!#$%&'*+\-.^_`|~]+")
-REQUEST = re.compile(r"(?P<method>%s) (?P<uri>[^ ]+) (?P<version>RTSP/[0-9]\.[0-9])" % TOKEN.pattern)
-STATUS = re.compile(r"(?P<version>RTSP/[0-9]\.[0-9]) (?P<code>[1-9][0-9]{2}) (?P<reason>.*)")
+from items import NAME, Items
+
+FIRST_LINE = re.compile(rb"%s [^ ]+ RTSP/[0-9]\.[0-9]|RTSP/[0-9]\.[0-9] [1-9][0-9]{2} .*" % NAME.pattern)
+# What is wrong with what is no item.
+WRONG = {"Head": "a head without an end", "Control": "a CR or NUL in a head", "Start": "no first line of a message",
+         "Colon": "no header", "Name": "no header", "Length": "a Content-Length that is no number"}
 
 
 class Fault(Exception):
@@ -48,84 +50,46 @@ class Message:
         return self.get(name)
 
 
-def first_line(line):
-    """A message with what its first line says."""
-    found = STATUS.fullmatch(line) if line.startswith("RTSP/") else REQUEST.fullmatch(line)
-    if not found:
-        raise Fault("no first line of a message: %r" % line)
-    parts = found.groupdict()
-    if line.startswith("RTSP/"):
-        return Message(parts["version"], code=int(parts["code"]))
-    return Message(parts["version"], method=parts["method"], uri=parts["uri"])
-
-
-def read_head(raw):
-    """A message with no body yet, from the bytes before its empty line."""
-    try:
-        lines = raw.decode("utf-8").split("\r\n")
-    except UnicodeDecodeError:
-        raise Fault("a head that is not UTF-8: %r" % raw)
-    message = first_line(lines[0])
-    for line in lines[1:]:
-        name, colon, value = line.partition(":")
-        if not colon or not TOKEN.fullmatch(name) or "\n" in line or "\r" in line:
-            raise Fault("no header: %r" % line)
-        if name.lower() in message.headers:
-            raise Fault("the header %s twice" % name)
-        message.headers[name.lower()] = value.strip(" \t")
-    return message
-
-
-def body_length(message):
-    """How long the body of a message is."""
-    text = message.get("Content-Length")
-    if text is not None and not re.fullmatch("[0-9]{1,9}", text):
-        raise Fault("the Content-Length %r" % text)
-    return int(text or 0)
-
-
-class Items:
-    """A stream that comes in pieces, cut into frames and messages."""
+class StrictItems(Items):
+    """A stream that comes in pieces, cut into frames and messages of which each is as a careful peer writes it."""
+    longest_head = 65_536
 
     def __init__(self):
-        self.left = b""
+        super().__init__()
+        self.longest_body = self.most_headers = None
 
     def feed(self, piece):
-        """The items that are whole now. What stands behind a frame is not copied for each of them."""
-        self.left += piece
-        while True:
-            frames, end = self.frames()
-            self.left = self.left[end:]
-            yield from frames
-            message, size = (None, 0) if self.left[:1] in (b"$", b"") else self.first_message()
-            if message is None:
-                return
-            self.left = self.left[size:]
-            yield message
+        """The items that are whole now; raises Fault behind them at what is none."""
+        for item in super().feed(piece):
+            yield item if isinstance(item, Frame) else strict(item)
 
-    def frames(self):
-        """The frames at the front, and where they end."""
-        found, at = [], 0
-        while self.left[at:at + 1] == b"$":
-            end = at + 4 + int.from_bytes(self.left[at + 2:at + 4], "big")
-            if len(self.left) < max(end, at + 4):
-                break
-            found.append(Frame(self.left[at + 1], self.left[at + 4:end]))
-            at = end
-        return found, at
+    def skip(self, data, at):
+        """No line is empty."""
+        return at
 
-    def first_message(self):
-        head, end, _ = self.left.partition(b"\r\n\r\n")
-        if not end:
-            if len(head) > LONGEST_HEAD:
-                raise Fault("a head without an end: %r.." % head[:80])
-            return None, 0
-        message = read_head(head)
-        size = len(head) + 4 + body_length(message)
-        if len(self.left) < size:
-            return None, 0
-        message.body = self.left[len(head) + 4:size]
-        return message, size
+    def frame(self, data, at, end):
+        return Frame(data[at + 1], data[at + 4:end])
+
+
+def strict(item):
+    """An item as a message."""
+    head = item.raw[:item.head]
+    if item.kind == "bad":
+        raise Fault("%s: %r" % (WRONG[item.why], head[:80]))
+    first, *lines = head.split(b"\r\n")[:-2] or [b""]
+    if not FIRST_LINE.fullmatch(first):
+        raise Fault("no first line of a message: %r" % first.decode("utf-8", "replace"))
+    if len(lines) != len(item.headers) or head.count(b"\n") != len(lines) + 2:
+        raise Fault("a line that goes on in the next one, or that ends without CR LF: %r" % head)
+    try:
+        headers = {name.decode().lower(): value.decode() for name, value in item.headers}
+        message = Message(item.version.decode(), item.method.decode() or None, item.uri.decode() or None, item.code or None,
+                          headers, item.raw[item.head:])
+    except UnicodeDecodeError:
+        raise Fault("a head that is not UTF-8: %r" % head)
+    if len(headers) < len(item.headers):
+        raise Fault("a header twice: %r" % head)
+    return message
 
 
 def written(first, headers, body=b""):

@@ -1,13 +1,14 @@
-"""The items of one stream of a recording: requests, replies, frames, and what is none.
+"""The items of one stream: requests, replies, frames, and what is none. It is the reader of RTSP of all tools but one.
 
-It prints nothing and has no exit status: watch, report and chart of tools/transcript import it. How they are read,
-and the limits, stand in docs/FORMATS.md (Items of a stream, Heads); what the gateway hands out is read without limits.
+It prints nothing and has no exit status: watch, report and chart of tools/transcript import it, and tools/interleaved.py, which
+is stricter. How they are read, and the limits, stand in docs/FORMATS.md (Items of a stream, Heads); what the gateway hands out
+is read without limits. tools/second_reading.py with tools/second_bytes.py is the other reader, and shares nothing with this one.
 """
 import re
 from dataclasses import dataclass
 
 LONGEST_HEAD, LONGEST_BODY, MOST_HEADERS = 8192, 65_536, 64
-FRAME_HEAD = 4
+FRAME_HEAD, DOLLAR = 4, ord("$")
 EMPTY_LINES = re.compile(rb"(?:\r?\n)*")
 HEAD_END = re.compile(rb"\n\r?\n")
 NAME = re.compile(rb"[A-Za-z0-9!#$%&'*+\-.^_`|~]+")
@@ -21,9 +22,10 @@ class Fault(Exception):
 
 @dataclass(slots=True)
 class Item:
-    """An item: "request", "reply", "frame" or "bad", its bytes, and the parts that its kind has."""
+    """An item: "request", "reply", "frame" or "bad", its bytes, how many of them are its head, and the parts that its kind has."""
     kind: str
     raw: bytes
+    head: int = 0
     method: bytes = b""
     uri: bytes = b""
     code: int = 0
@@ -48,9 +50,12 @@ class Item:
 
 class Items:
     """Takes the bytes of a stream as they come, and gives the items that are whole."""
+    longest_head, longest_body, most_headers = LONGEST_HEAD, LONGEST_BODY, MOST_HEADERS
 
     def __init__(self, has_limits=True):
-        self.left, self.needed, self.is_over, self.has_limits = bytearray(), 1, False, has_limits
+        self.left, self.needed, self.is_over = bytearray(), 1, False
+        if not has_limits:
+            self.longest_head = self.longest_body = self.most_headers = None
 
     def feed(self, piece):
         """The items that are whole now. Behind a bad one comes none."""
@@ -63,59 +68,73 @@ class Items:
                 return []
             data = bytes(self.left)
         at, items = 0, []
-        while True:
-            at = EMPTY_LINES.match(data, at).end()
-            item = self.first(data, at)
-            if item is None:
+        while not self.is_over:
+            at = self.skip(data, at)
+            found, end = self.frames(data, at) if data[at:at + 1] == b"$" else self.first(data, at)
+            items += found
+            if end == at:
                 break
-            items.append(item)
-            at += len(item.raw)
-            if item.kind == "bad":
-                self.is_over, at = True, len(data)
-                break
+            at = end
         self.needed -= at
         self.left = bytearray(data[at:])
         return items
 
+    def skip(self, data, at):
+        """The place behind empty lines."""
+        return EMPTY_LINES.match(data, at).end()
+
+    def frames(self, data, at):
+        """The frames at a place that are whole, and where they end; `needed` says how far the next one could be."""
+        found, size = [], len(data)
+        while size - at >= FRAME_HEAD and data[at] == DOLLAR:
+            end = at + FRAME_HEAD + (data[at + 2] << 8 | data[at + 3])
+            if end > size:
+                self.needed = end
+                break
+            frame = self.frame(data, at, end)
+            if frame:
+                found.append(frame)
+            at = end
+        else:
+            self.needed = at + FRAME_HEAD
+        return found, at
+
+    def frame(self, data, at, end):
+        """The frame between two places; None where it is left out."""
+        return Item("frame", data[at:end])
+
     def first(self, data, at):
-        """The item that begins at a place, or None where it is not whole; `needed` says how far one could be."""
+        """The message at a place, or what is none, and where it ends; nothing where it is not whole."""
         self.needed = at + 1 if at == len(data) else len(data) + 1
-        if data[at:at + 1] == b"$":
-            size = FRAME_HEAD + int.from_bytes(data[at + 2:at + FRAME_HEAD], "big")
-            self.needed = at + max(size, FRAME_HEAD)
-            return Item("frame", data[at:at + size]) if len(data) >= self.needed else None
-        found = HEAD_END.search(data, at)
-        if self.has_limits and (found is None or found.end() - at > LONGEST_HEAD):
-            return self.bad("Head", data[at:at + LONGEST_HEAD]) if len(data) - at >= LONGEST_HEAD else None
+        found, most = HEAD_END.search(data, at), self.longest_head
+        if most and (found is None or found.end() - at > most):
+            return self.bad("Head", data, at, at + most) if len(data) - at >= most else ([], at)
         if found is None:
-            return None
-        return self.message(data, at, found.end())
-
-    def bad(self, why, raw):
-        """What is no item, and why."""
-        return Item("bad", raw, why=why)
-
-    def message(self, data, at, end):
-        """The message whose head stands between two places, or None where its body is not whole."""
-        head = data[at:end]
+            return [], at
+        end = found.end()
         try:
-            item = read_head(head, self.has_limits)
+            item = read_head(data[at:end], self.most_headers)
         except Fault as fault:
-            return self.bad(str(fault), head)
+            return self.bad(str(fault), data, at, end)
         length = item.field(b"content-length")
         if length is not None and not LENGTH.fullmatch(length):
-            return self.bad("Length", head)
+            return self.bad("Length", data, at, end)
         size = int(length or 0)
-        if self.has_limits and size > LONGEST_BODY:
-            return self.bad("Body", head)
+        if self.longest_body is not None and size > self.longest_body:
+            return self.bad("Body", data, at, end)
         self.needed = end + size
         if len(data) < self.needed:
-            return None
-        item.raw = data[at:end + size]
-        return item
+            return [], at
+        item.raw, item.head = data[at:end + size], end - at
+        return [item], end + size
+
+    def bad(self, why, data, at, end):
+        """What is no item, and why; it ends the stream."""
+        self.is_over = True
+        return [Item("bad", data[at:end], end - at, why=why)], len(data)
 
 
-def read_head(raw, has_limits):
+def read_head(raw, most_headers):
     """An item with all that its head says; raises Fault with the first that is wrong."""
     text = raw.replace(b"\r\n", b"\n")
     has_control = b"\r" in text or b"\0" in text
@@ -134,7 +153,7 @@ def read_head(raw, has_limits):
             raise Fault("Colon")
         elif not NAME.fullmatch(name):
             raise Fault("Name")
-        elif has_limits and len(headers) >= MOST_HEADERS:
+        elif most_headers and len(headers) >= most_headers:
             raise Fault("Many")
         else:
             headers.append((name, value.strip(b" \t")))

@@ -5,7 +5,7 @@ import subprocess
 import threading
 import time
 
-from interleaved import Frame, Items, written
+from interleaved import Frame, StrictItems, written
 from recording import pieces
 from sockets import HOST, free_port, listener
 
@@ -51,7 +51,7 @@ class Server:
         self.thread.start()
 
     def serve(self):
-        items = Items()
+        items = StrictItems()
         for piece in iter(lambda: self.receive(), b""):
             self.heard += piece
             for item in items.feed(piece):
@@ -102,7 +102,7 @@ class Player:
             self.socket.setsockopt(socket.SOL_SOCKET, socket.SO_RCVBUF, receive_room)
         self.socket.settimeout(WAIT_SECONDS)
         self.socket.connect((HOST, port))
-        self.number, self.heard, self.items, self.arrived = 0, b"", Items(), []
+        self.number, self.heard, self.items, self.arrived = 0, b"", StrictItems(), []
 
     def ask(self, method, uri=STREAM, headers=()):
         """Sends a request; its reply, or None where the connection ended."""

@@ -10,7 +10,7 @@ import subprocess
 import threading
 import time
 
-from interleaved import Frame, Items, framed
+from interleaved import Frame, StrictItems, framed
 from serving import WAIT_SECONDS, Player, Server
 
 FRAME_SIZE = 1_400
@@ -20,22 +20,15 @@ CATCH_UP_SECONDS = 0.02
 STRACE = shutil.which("strace")
 
 
-class QuickItems(Items):
+class QuickItems(StrictItems):
     """A stream of which messages are read; frames are counted for each channel, and left out."""
 
     def __init__(self):
         super().__init__()
         self.frame_counts = collections.Counter()
 
-    def frames(self):
-        data, at, size = self.left, 0, len(self.left)
-        while size - at >= 4 and data[at] == 36:
-            end = at + 4 + (data[at + 2] << 8 | data[at + 3])
-            if end > size:
-                break
-            self.frame_counts[data[at + 1]] += 1
-            at = end
-        return (), at
+    def frame(self, data, at, end):
+        self.frame_counts[data[at + 1]] += 1
 
 
 class Pace:
