@@ -65,8 +65,8 @@ gate-cost:
 # opened; looks whether players, errors and recordings hold up or end nothing else (`tools/check_stands --long PROGRAM` has scenes
 # of a minute besides), also where the host fails it: recordings that stall, few descriptors, a server that doesn't answer.
 # tools/check_tools has tools/transcript look into recordings. Before all that it looks whether the pictures of docs/ are as they
-# would be drawn and whether each name stands once, counts the must-fail edits, and compares the numbers of the pages with those
-# of the help.
+# would be drawn, whether each name stands once and each definition has its comment, counts the must-fail edits, and compares
+# the numbers of the pages with those of the help.
 check: $(PROGRAM)
 	tools/pictures --check
 	tools/definitions --check
