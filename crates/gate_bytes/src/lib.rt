@@ -6,12 +6,14 @@
 #![tactic(auto)]
 
 mod decimal;
+mod list;
 mod memory;
 mod place;
 mod text;
 mod token;
 
 pub use decimal::{MOST_DIGITS, push_decimal, read_decimal};
+pub use list::OwnedList;
 pub use memory::Memory;
 pub use place::{after, before, find, holds_either, split_once, up_to};
 pub use text::Text;

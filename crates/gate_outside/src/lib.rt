@@ -7,14 +7,12 @@
 
 mod door;
 mod inlet;
-mod link_list;
 mod links;
 mod mark;
 mod memory;
 mod memory_door;
 mod memory_link;
 mod new_link;
-mod numbers;
 mod outlet;
 mod parts;
 mod script;
@@ -22,14 +20,12 @@ mod streams;
 
 pub use door::{Arrived, Door};
 pub use inlet::MemoryInlet;
-pub use link_list::Links;
 pub use links::{Got, Inlet, Outlet};
 pub use memory::{MemorySink, MemorySource};
 pub use memory_door::MemoryDoor;
 pub use memory_link::MemoryLink;
-pub use new_link::NewLink;
-pub use numbers::Numbers;
+pub use new_link::{Links, NewLink};
 pub use outlet::MemoryOutlet;
 pub use parts::{Part, Parts};
-pub use script::{Calls, Script};
+pub use script::{Calls, Numbers, Script};
 pub use streams::{Failed, Sink, Source, write_all};

@@ -4,7 +4,7 @@ ghost use Rattle.gate_outside.specs.MemoryLinks.{IsUnused, IsSameInlet, bytes_co
 
 use crate::mark::Tie;
 use crate::{MemoryInlet, MemoryLink, MemoryOutlet};
-use gate_bytes::Memory;
+use gate_bytes::{Memory, OwnedList};
 
 /// A link in memory whose halves were not used yet: neither has failed, its inlet has not told its end, and nothing was
 /// written to its outlet.
@@ -14,6 +14,9 @@ pub struct NewLink {
     outlet: MemoryOutlet,
     ghost unused: { IsUnused inlet outlet },
 }
+
+/// An owned list of links that were not used yet.
+pub type Links = OwnedList<NewLink>;
 
 impl NewLink {
     ghost use Rattle.gate_outside.specs.NewLinks.{new_inlet, new_outlet};

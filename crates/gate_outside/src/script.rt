@@ -2,7 +2,11 @@
 ghost use Rattle.std.specs.Prelude.{◌≡◌, ℕ, ◌<◌, ◌≤◌, List, [], Contains, OnOk, IsErr, IsTrue, ◌↔◌, ◌+◌, ◌-◌, ◌^◌, min};
 ghost use Rattle.gate_outside.specs.Causes.{HasCause, counted_on};
 
-use crate::{Failed, Numbers};
+use crate::Failed;
+use gate_bytes::OwnedList;
+
+/// An owned list of numbers.
+pub type Numbers = OwnedList<u64>;
 
 /// How an object in memory behaves: which of its calls fail, at which an inlet has nothing for now, and how many bytes a
 /// call moves, where it moves some.
@@ -52,7 +56,7 @@ impl Calls {
         ensures ok { OnOk result (calls_failed self.new ≡ calls_failed self.old) }
         ensures cause { HasCause (calls_failed self.old) (calls_failed self.new) result }
     {
-        let fails = self.script.fails.contains(self.made);
+        let fails = has(&self.script.fails, self.made);
         self.made = self.made.saturating_add(1);
         if fails {
             self.failed = self.failed.saturating_add(1);
@@ -65,7 +69,7 @@ impl Calls {
     pub fn pauses(&self) -> bool
         ensures { IsTrue result ↔ NamesWait (call_script self.now) (calls_made self.now) }
     {
-        self.script.waits.contains(self.made)
+        has(&self.script.waits, self.made)
             || self.script.idle.is_some_and(|first| first <= self.made)
     }
 
@@ -82,4 +86,11 @@ impl Calls {
     {
         self.script.piece.min(most)
     }
+}
+
+/// Whether a list has a number.
+fn has(numbers: &Numbers, number: u64) -> bool
+    ensures { IsTrue result ↔ Contains numbers.now number }
+{
+    numbers.as_slice().contains(&number)
 }

@@ -2,15 +2,15 @@
 ghost use Rattle.std.specs.Prelude.{◌≡◌, ◌<◌, [], ◌∷◌, ◌++◌, length, slice_get, Some, IfOk, IfErr, OnOk, OnErr};
 
 use crate::InfoEntry;
-use gate_bytes::Memory;
+use gate_bytes::{Memory, OwnedList};
 use std::alloc::Global;
 use std::marker::Model;
 
 /// An owned list of at least one entry. Contracts see it as that list.
 #[derive(Drop)]
 pub struct Info {
-    entries: Vec<InfoEntry>,
-    ghost some: { 0 < length entries.items },
+    entries: OwnedList<InfoEntry>,
+    ghost some: { 0 < length entries },
 }
 
 impl Model for Info {
@@ -19,7 +19,7 @@ impl Model for Info {
 
     ghost Value = { List InfoEntry };
 
-    ghost view = { λ i. i.entries.items };
+    ghost view = { λ i. i.entries };
 }
 
 impl Info {
@@ -28,11 +28,9 @@ impl Info {
         ensures ok { IfOk result (λ info. info ≡ first ∷ []) }
         ensures err { IfErr result (λ refused. refused.0 ≡ first) }
     {
-        let mut entries = Vec::new(alloc);
-        match entries.push(first) {
-            Ok(()) => Ok(Info { entries }),
-            Err(failed) => Err((failed.value, Memory)),
-        }
+        let mut entries = OwnedList::new(alloc);
+        entries.push(first)?;
+        Ok(Info { entries })
     }
 
     /// The number of entries, one at least.
@@ -48,7 +46,7 @@ impl Info {
         requires { place < length self.now }
         ensures { slice_get self.now place ≡ Some result.now }
     {
-        &self.entries[place]
+        self.entries.at(place)
     }
 
     /// Appends an entry. Where memory is wanting the entry comes back.
@@ -57,10 +55,7 @@ impl Info {
         ensures err { IfErr result (λ refused. refused.0 ≡ item) }
         ensures same { OnErr result (self.new ≡ self.old) }
     {
-        match self.entries.push(item) {
-            Ok(()) => Ok(()),
-            Err(failed) => Err((failed.value, Memory)),
-        }
+        self.entries.push(item)
     }
 
     /// The entries, in their order.

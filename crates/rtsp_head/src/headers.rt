@@ -5,7 +5,7 @@ ghost use Rattle.rtsp_head.specs.Headers.{field_of};
 ghost use Rattle.rtsp_head.specs.Optional.{header_with};
 
 use crate::Header;
-use gate_bytes::{Memory, Text, eq_fold};
+use gate_bytes::{Memory, OwnedList, Text, eq_fold};
 use std::alloc::Global;
 use std::marker::Model;
 
@@ -15,7 +15,7 @@ pub const MOST_HEADERS: usize = 64;
 /// An owned list of headers. Contracts see it as that list.
 #[derive(Drop)]
 pub struct Headers {
-    items: Vec<Header>,
+    items: OwnedList<Header>,
 }
 
 impl Model for Headers {
@@ -24,7 +24,7 @@ impl Model for Headers {
 
     ghost Value = { List Header };
 
-    ghost view = { λ h. h.items.items };
+    ghost view = { λ h. h.items };
 }
 
 impl Headers {
@@ -33,7 +33,7 @@ impl Headers {
         ensures { result ≡ [] }
     {
         Headers {
-            items: Vec::new(alloc),
+            items: OwnedList::new(alloc),
         }
     }
 
@@ -56,7 +56,7 @@ impl Headers {
         requires { place < length self.now }
         ensures { slice_get self.now place ≡ Some result.now }
     {
-        &self.items[place]
+        self.items.at(place)
     }
 
     /// Appends a header. Where memory is wanting the header comes back.
@@ -65,10 +65,7 @@ impl Headers {
         ensures err { IfErr result (λ refused. refused.0 ≡ item) }
         ensures same { OnErr result (self.new ≡ self.old) }
     {
-        match self.items.push(item) {
-            Ok(()) => Ok(()),
-            Err(failed) => Err((failed.value, Memory)),
-        }
+        self.items.push(item)
     }
 
     /// Appends a header with this value, where there is one.
@@ -116,7 +113,7 @@ impl Headers {
     pub(crate) fn field(&self, name: &[u8]) -> Option<&[u8]>
         ensures { option_map (λ value. value.now) result ≡ field_of self.now name.now }
     {
-        for header in &self.items {
+        for header in self.as_slice() {
             if eq_fold(header.name.as_bytes(), name) {
                 return Some(header.value.as_bytes());
             }

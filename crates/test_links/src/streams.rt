@@ -103,5 +103,6 @@ fn tell_list(alloc: Global, numbers: &Numbers, answer: &mut CaseAnswer) {
     answer.push(b", ");
     answer.push_number(*numbers.at(2));
     answer.push(b", ");
-    answer.push_debug(alloc, &[numbers.contains(0), numbers.contains(1)]);
+    let numbers = numbers.as_slice();
+    answer.push_debug(alloc, &[numbers.contains(&0), numbers.contains(&1)]);
 }
