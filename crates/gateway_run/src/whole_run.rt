@@ -16,6 +16,7 @@ use gateway_links::Crew;
 use gateway_mux::{Base, Bases, Core, Status};
 use hub_workers::Common;
 use player_stations::{Gate, StationPost};
+use rtsp_uri::DEFAULT_PORT;
 use run_report::{RunEnd, after_flush, after_report, write_report};
 use serve_world::{ThreadRefusal, World};
 use server_link::{ServerPost, UpBack, Upstream};
@@ -25,9 +26,6 @@ use std::thread::Threads;
 use std::time::Clock;
 use text_pool::TextPool;
 use worker_signals::{Signals, rest_for_ever};
-
-/// The port of a server that names none (RFC 7826, 20.2; RFC 2326, 3.2).
-const RTSP_PORT: u16 = 554;
 
 /// Serves players at an address, over one connection to the server, until no player comes any more or the connection to the
 /// server ends, and writes the report. The core stands for the history in which nothing happened,
@@ -58,7 +56,7 @@ where
         return Status::RecordFault;
     };
     let up = &options.bases.up;
-    let Ok((inlet, outlet)) = world.dial(up.host.as_bytes(), up.port.unwrap_or(RTSP_PORT)) else {
+    let Ok((inlet, outlet)) = world.dial(up.host.as_bytes(), up.port.unwrap_or(DEFAULT_PORT)) else {
         world.close_door(door);
         let _ = world.close_recorder(recorder);
         return Status::DialFault;

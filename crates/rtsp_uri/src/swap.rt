@@ -9,7 +9,7 @@ use crate::grammar::{SCHEME, SCHEME_BYTES, cut};
 use gate_bytes::{Memory, Text, after, before, eq_fold};
 use std::alloc::Global;
 
-/// The port of an address that names none (RFC 2326, 3.2).
+/// The port of an address that names none (RFC 2326, 3.2; RFC 7826, 20.2).
 pub const DEFAULT_PORT: u16 = 554;
 
 /// The text with the authority of `to` in the place of that of `from`, where it is a URI that has

@@ -7,16 +7,14 @@ use crate::waiting_links::{Manner, SceneWatch, WaitingInlet, WaitingOutlet, wait
 use gate_bytes::Memory;
 use gate_outside::{Arrived, Door, Failed, MemoryDoor};
 use gate_transcript::{EntryKind, MemoryRecorder, NoteFault, Recorder};
+use rtsp_uri::DEFAULT_PORT;
 use serve_world::{MemoryWorld, ThreadRefusal, World, WorldTally};
 use std::alloc::Global;
 use std::mem;
 use std::sync::Arc;
 
-/// The host of the server.
+/// The host of the server, whose address names no port.
 const SERVER_HOST: &[u8] = b"media.example";
-
-/// Its port, which its address does not name.
-const SERVER_PORT: u16 = 554;
 
 /// The place of the first player among all links.
 const FIRST_PLAYER: usize = 1;
@@ -201,7 +199,7 @@ impl SceneWorld {
         ensures ends { IfOk result (λ link. link.0.ends ≡ 0) }
         ensures refusals { IfOk result (λ link. link.1.faults ≡ 0) }
     {
-        if host != SERVER_HOST || port != SERVER_PORT {
+        if host != SERVER_HOST || port != DEFAULT_PORT {
             return Err(Failed);
         }
         let halves = self.world.dial(host, port)?;
