@@ -53,22 +53,10 @@ fn waits(alloc: Global, slot: &Slot, item: &Item) -> Result<Change, Memory>
     if slot.waiting() >= MOST_WAITING {
         return Err(Memory);
     }
-    match Waiting::new(alloc, copied(alloc, item)?) {
+    match Waiting::new(alloc, item.try_clone(alloc)?) {
         Ok(waiting) => Ok(Change::Waits(waiting)),
         Err(_) => Err(Memory),
     }
-}
-
-/// A copy of an item.
-fn copied(alloc: Global, item: &Item) -> Result<Item, Memory>
-    ensures { IfOk result (λ copy. shape_of copy ≡ shape_of item.now) }
-{
-    let bytes = Text::copy(alloc, item.bytes.as_bytes())?;
-    Ok(Item {
-        kind: item.kind,
-        bytes,
-        head: item.head,
-    })
 }
 
 /// The plan for a request of a connection that has none open and no PLAY due: those that wait are

@@ -7,7 +7,7 @@ ghost use Rattle.translate_up.specs.Views.{given_of};
 ghost use Rattle.client_machine.specs.Sights.{sight, sight_of, with_added, due_in, given_by};
 
 use client_slot::Slot;
-use gate_bytes::{Memory, Text};
+use gate_bytes::Memory;
 use rtsp_uri::Bases;
 use session_one::{Play, State, Track};
 use std::alloc::Global;
@@ -94,19 +94,8 @@ pub(crate) fn streams(alloc: Global, tracks: &[Track], added: &Track) -> Result<
 {
     let mut all = Vec::new(alloc);
     for track in tracks {
-        all.push(copied(alloc, track)?)?;
+        all.push(track.try_clone(alloc)?)?;
     }
-    all.push(copied(alloc, added)?)?;
+    all.push(added.try_clone(alloc)?)?;
     Ok(all)
-}
-
-/// A copy of a stream.
-fn copied(alloc: Global, track: &Track) -> Result<Track, Memory>
-    ensures { IfOk result (λ copy. copy ≡ track.now) }
-{
-    Ok(Track {
-        uri: Text::copy(alloc, track.uri.as_bytes())?,
-        client: track.client,
-        pair: track.pair,
-    })
 }

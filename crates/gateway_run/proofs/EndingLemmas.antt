@@ -6,6 +6,7 @@ use Rattle.std.proofs.Math.Bridge.{le_prop}
 use Rattle.gate_outside.specs.Causes.{Rose}
 use Rattle.gate_outside.specs.Contents.{WritesAll}
 use Rattle.rtsp_uri.specs.declared.base.Bases.{Bases}
+use Rattle.rtsp_uri.specs.Bases.{AreSameAddresses}
 use Rattle.gate_transcript.specs.declared.entry.Entry.{Entry as Noted}
 use Rattle.serve_world.specs.declared.tally.WorldTally.{WorldTally}
 use Rattle.gateway_claim.specs.declared.event.UpCause.{UpCause}
@@ -25,7 +26,7 @@ use Rattle.gateway_hub.specs.Receipts.{ClosesWith}
 use Rattle.run_report.specs.declared.run_end.RunEnd.{RunEnd}
 use Rattle.run_report.specs.Report.{report_text}
 use Rattle.run_report.specs.Endings.{GoesWith, unrecorded, unreported, met_by}
-use Rattle.gateway_run.specs.WholeRun.{EndsHistory, HasShown, HasLeftNone, NoneIsLeft, LinkShows, RanTo, WroteReport, TakesBack, AreSameAddresses}
+use Rattle.gateway_run.specs.WholeRun.{EndsHistory, HasShown, HasLeftNone, NoneIsLeft, LinkShows, RanTo, WroteReport, TakesBack}
 
 -- the history ends as the status says, before what is written last is looked at
 ends_so : (status : Status) (told : RunEnd) (faults : ℕ) (desk : Desk) (history : List HistoryEntry) → GoesWith status told → told.ending ≡ desk.ending

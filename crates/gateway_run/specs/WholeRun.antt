@@ -2,8 +2,8 @@
 use Rattle.std.specs.Prelude.{◌≡◌, ℕ, ◌<◌, ◌≤◌, ◌⊎◌, ◌&&◌, Bool, true, false, List, length, Option, Some, None}
 use Rattle.gate_outside.specs.Causes.{Rose, counted_on}
 use Rattle.gate_outside.specs.Contents.{Grows, GrowsByFront}
-use Rattle.rtsp_uri.specs.declared.base.Base.{Base}
 use Rattle.rtsp_uri.specs.declared.base.Bases.{Bases}
+use Rattle.rtsp_uri.specs.Bases.{AreSameAddresses}
 use Rattle.gate_transcript.specs.declared.entry.Entry.{Entry as Noted}
 use Rattle.serve_world.specs.declared.tally.WorldTally.{WorldTally}
 use Rattle.serve_world.specs.Tallies.{after_refusal}
@@ -67,17 +67,6 @@ EndsHistory other desk history = Unit {0}
 -- The text was written, or the sink failed and a front of it was.
 abbrev pub WroteReport : Option (List ℕ) → Option (List ℕ) → ℕ → ℕ → List ℕ → Type 0
 WroteReport before now a b text = Grows before now text ⊎ (Rose a b × GrowsByFront before now text)
-
--- The addresses are the same: their texts, hosts and ports.
-pub record IsSameAddress (one other : Base) : Type 0 where
-  pub text : one.text ≡ other.text
-  pub host : one.host ≡ other.host
-  pub port : one.port ≡ other.port
-
--- both addresses are the same
-pub record AreSameAddresses (one other : Bases) : Type 0 where
-  pub front : IsSameAddress one.front other.front
-  pub up : IsSameAddress one.up other.up
 
 -- There is a history of the core between these addresses, which is that of the recorder's entries where these are told. It
 -- ends as the answer says, and the report has a line for each connection that entered in it, which tells what is so.

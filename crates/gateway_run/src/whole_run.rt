@@ -4,7 +4,8 @@ ghost use Rattle.std.specs.Option.{ForSome, option_map};
 ghost use Rattle.gateway_hub.specs.Close.{TellsOver};
 ghost use Rattle.gateway_hub.specs.Keeps.{Keeps, StandsIdle};
 ghost use Rattle.gateway_claim.specs.Happenings.{HistoryEntry};
-ghost use Rattle.gateway_run.specs.WholeRun.{HasShown, HasLeftNone, RanTo, SaysRan, OpensNothing, TakesBack, OpensOnce, ServeSays, AreSameAddresses, IsSameAddress, counted_refusal};
+ghost use Rattle.rtsp_uri.specs.Bases.{AreSameAddresses, IsSameAddress};
+ghost use Rattle.gateway_run.specs.WholeRun.{HasShown, HasLeftNone, RanTo, SaysRan, OpensNothing, TakesBack, OpensOnce, ServeSays, counted_refusal};
 ghost use Rattle.gate_outside.specs.Causes.{Rose};
 
 use crate::crew::work;

@@ -1,8 +1,9 @@
 //! Items: what stands on a stream, one after another.
-ghost use Rattle.std.specs.Prelude.{◌≡◌, length, take, drop, Some};
+ghost use Rattle.std.specs.Prelude.{◌≡◌, length, take, drop, Some, IfOk};
 ghost use Rattle.rtsp_head.specs.Items.{first_extent, is_bad};
 
-use gate_bytes::{Text, after, before};
+use gate_bytes::{Memory, Text, after, before};
+use std::alloc::Global;
 
 /// The bytes of the longest head that is read, its empty line among them (this project's own).
 pub const MOST_HEAD: usize = 8_192;
@@ -88,6 +89,20 @@ pub struct Item {
 }
 
 impl Item {
+    ghost use Rattle.rtsp_head.specs.Shapes.{shape_of};
+
+    /// Another item of the same bytes.
+    pub fn try_clone(&self, alloc: Global) -> Result<Item, Memory>
+        ensures { IfOk result (λ copy. shape_of copy ≡ shape_of self.now) }
+    {
+        let bytes = Text::copy(alloc, self.bytes.as_bytes())?;
+        Ok(Item {
+            kind: self.kind,
+            bytes,
+            head: self.head,
+        })
+    }
+
     /// The bytes of its head.
     pub fn head_bytes(&self) -> &[u8]
         ensures { result.now ≡ take self.now.head self.now.bytes }

@@ -3,15 +3,15 @@ ghost use Rattle.std.specs.Prelude.{◌≡◌, ◌≤◌, true, [], IfOk, map, s
 ghost use Rattle.gateway_mux.specs.declared.status.Status.TheVariants as ends;
 ghost use Rattle.gateway_mux.specs.Stands.{Stands, bases_of};
 ghost use Rattle.command_line.specs.Words.{asks_to_serve, word_fault};
-ghost use Rattle.gateway_run.specs.WholeRun.{AreSameAddresses, IsSameAddress};
+ghost use Rattle.rtsp_uri.specs.Bases.{AreSameAddresses};
 ghost use Rattle.rtspgate.specs.Usage.{TellsUsage};
 ghost use Rattle.rtspgate.specs.ServeAnswers.{ServesWords, SaysServed};
 
 use crate::plain::refusal;
 use command_line::{Command, ServeOptions, read_words};
-use gate_bytes::{Memory, Text};
+use gate_bytes::Memory;
 use gate_outside::Sink;
-use gateway_mux::{Base, Bases, Mux, Status};
+use gateway_mux::{Bases, Mux, Status};
 use gateway_run::serve;
 use serve_world::World;
 use std::alloc::Global;
@@ -62,20 +62,5 @@ fn core_between(alloc: Global, bases: &Bases) -> Result<Mux, Memory>
     ensures stands { IfOk result (λ mux. Stands mux []) }
     ensures bases { IfOk result (λ mux. AreSameAddresses (bases_of mux) bases.now) }
 {
-    let bases = Bases {
-        front: copy_base(alloc, &bases.front)?,
-        up: copy_base(alloc, &bases.up)?,
-    };
-    Mux::new(alloc, bases)
-}
-
-/// A base with the same address.
-fn copy_base(alloc: Global, base: &Base) -> Result<Base, Memory>
-    ensures { IfOk result (λ copy. IsSameAddress copy base.now) }
-{
-    Ok(Base {
-        text: Text::copy(alloc, base.text.as_bytes())?,
-        host: Text::copy(alloc, base.host.as_bytes())?,
-        port: base.port,
-    })
+    Mux::new(alloc, bases.try_clone(alloc)?)
 }

@@ -1,9 +1,11 @@
 //! Streams that are set up, PLAYs that wait, and requests whose reply is awaited.
+ghost use Rattle.std.specs.Prelude.{◌≡◌, IfOk};
 
-use gate_bytes::Text;
+use gate_bytes::{Memory, Text};
 use rtsp_range::Range;
 use rtsp_small::Method;
 use rtsp_transport::Pair;
+use std::alloc::Global;
 
 /// The most streams of a session (this project's own).
 pub const MOST_TRACKS: usize = 8;
@@ -17,6 +19,19 @@ pub struct Track {
     pub client: Pair,
     /// The number of the pair of channels on the server's connection.
     pub pair: u8,
+}
+
+impl Track {
+    /// The same stream once more.
+    pub fn try_clone(&self, alloc: Global) -> Result<Track, Memory>
+        ensures { IfOk result (λ copy. copy ≡ self.now) }
+    {
+        Ok(Track {
+            uri: Text::copy(alloc, self.uri.as_bytes())?,
+            client: self.client,
+            pair: self.pair,
+        })
+    }
 }
 
 /// A PLAY that waits until the PLAY before it has ended (RFC 2326, 10.5).

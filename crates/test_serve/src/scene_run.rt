@@ -2,7 +2,7 @@
 ghost use Rattle.std.specs.Prelude.{◌<◌, ◌≤◌, [], IfOk};
 ghost use Rattle.command_line.specs.declared.options.TheConstants.{MOST_STATIONS};
 ghost use Rattle.gateway_mux.specs.Stands.{Stands, bases_of};
-ghost use Rattle.gateway_run.specs.WholeRun.{AreSameAddresses, IsSameAddress};
+ghost use Rattle.rtsp_uri.specs.Bases.{AreSameAddresses};
 
 use crate::print::{tell_end, tell_name, tell_replay, tell_run};
 use command_line::ServeOptions;
@@ -179,20 +179,5 @@ fn core_between(alloc: Global, bases: &Bases) -> Result<Mux, Memory>
     ensures stands { IfOk result (λ mux. Stands mux []) }
     ensures bases { IfOk result (λ mux. AreSameAddresses (bases_of mux) bases.now) }
 {
-    let bases = Bases {
-        front: copy_base(alloc, &bases.front)?,
-        up: copy_base(alloc, &bases.up)?,
-    };
-    Mux::new(alloc, bases)
-}
-
-/// A base with the same address.
-fn copy_base(alloc: Global, base: &Base) -> Result<Base, Memory>
-    ensures { IfOk result (λ copy. IsSameAddress copy base.now) }
-{
-    Ok(Base {
-        text: Text::copy(alloc, base.text.as_bytes())?,
-        host: Text::copy(alloc, base.host.as_bytes())?,
-        port: base.port,
-    })
+    Mux::new(alloc, bases.try_clone(alloc)?)
 }
