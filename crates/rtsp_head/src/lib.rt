@@ -14,7 +14,6 @@ mod line;
 mod message;
 mod start;
 mod tally;
-mod write;
 
 pub use facts::{Facts, LENGTH_DIGITS, Length, check_head};
 pub use fault::HeadFault;
@@ -24,4 +23,3 @@ pub use headers::{Headers, MOST_HEADERS};
 pub use item::{BadKind, Extent, Item, ItemKind, MOST_BODY, MOST_HEAD, Span};
 pub use message::{push_message, written_messages};
 pub use start::{GREATEST_CODE, LEAST_CODE, Start};
-pub use write::write_head;

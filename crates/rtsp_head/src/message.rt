@@ -7,8 +7,7 @@ ghost use Rattle.rtsp_head.specs.declared.start.Start.{Start};
 ghost use Rattle.rtsp_head.specs.HeadText.{ended, header_text};
 ghost use Rattle.rtsp_head.specs.Messages.{number_headers, length_headers, message_headers, message_text, message, messages_of, IsReadable};
 
-use crate::Headers;
-use crate::write::push_headers;
+use crate::{Header, Headers};
 use gate_bytes::{Memory, Text, push_decimal};
 
 /// Appends what follows a message's first line: its number where it has one, the headers in their
@@ -47,6 +46,30 @@ fn push_parts(
     push_length(text, body)?;
     text.push_slice(b"\r\n")?;
     text.push_slice(body)
+}
+
+/// Appends the headers' lines.
+#[tactic(auto, using(gate_bytes::proofs::FrontLemmas::front_kept))]
+fn push_headers(text: &mut Text, headers: &[Header]) -> Result<(), Memory>
+    ensures ok { OnOk result (text.new ≡ text.old ++ flat_map (λ header. ended (header_text header)) headers.now) }
+    ensures err { OnErr result (take (length text.old) text.new ≡ text.old) }
+{
+    for header in headers {
+        push_header(text, header)?;
+    }
+    Ok(())
+}
+
+/// Appends a header's line.
+#[tactic(auto, using(gate_bytes::proofs::FrontLemmas::front_kept))]
+fn push_header(text: &mut Text, header: &Header) -> Result<(), Memory>
+    ensures ok { OnOk result (text.new ≡ text.old ++ ended (header_text header.now)) }
+    ensures err { OnErr result (take (length text.old) text.new ≡ text.old) }
+{
+    text.push_slice(header.name.as_bytes())?;
+    text.push_slice(b": ")?;
+    text.push_slice(header.value.as_bytes())?;
+    text.push_slice(b"\r\n")
 }
 
 /// Appends the header with a message's number, where it has one (RFC 2326, 12.17; RFC 7826, 18.20).

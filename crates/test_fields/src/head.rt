@@ -1,11 +1,10 @@
 //! Heads.
-ghost use Rattle.rtsp_head.specs.HeadText.{CanBeWritten};
 
-use crate::answer::{keep, push_bytes, push_made, push_named, push_part};
+use crate::answer::{keep, push_bytes, push_named, push_part};
 use crate::content::content_of;
 use crate::words::Words;
 use gate_bytes::Text;
-use rtsp_head::{Facts, Head, Length, Start, check_head, push_message, read_head, write_head};
+use rtsp_head::{Facts, Head, Headers, Length, Start, check_head, push_message, read_head};
 use std::alloc::Global;
 use test_text::CaseAnswer;
 
@@ -44,7 +43,7 @@ fn push_facts(answer: &mut CaseAnswer, facts: Facts) {
     }
 }
 
-/// The first line of a head, how many headers it has, and how it is written again; or its first fault.
+/// The first line of a head, how many headers it has, and how they are written again; or its first fault.
 fn tell_read(alloc: Global, bytes: &[u8], answer: &mut CaseAnswer) {
     match read_head(alloc, bytes) {
         Ok(head) => push_head(alloc, answer, &head),
@@ -52,13 +51,11 @@ fn tell_read(alloc: Global, bytes: &[u8], answer: &mut CaseAnswer) {
     }
 }
 
-/// Tells the first line of a head, how many headers it has, and how it is written again.
-fn push_head(alloc: Global, answer: &mut CaseAnswer, head: &Head)
-    requires { CanBeWritten head.now.start head.now.headers }
-{
+/// Tells the first line of a head, how many headers it has, and how they are written again.
+fn push_head(alloc: Global, answer: &mut CaseAnswer, head: &Head) {
     push_counted(answer, head);
     answer.push(b", written ");
-    push_made(answer, write_head(alloc, &head.start, &head.headers));
+    push_written(alloc, None, &head.headers, b"", answer);
 }
 
 /// Tells the first line of a head, and how many headers it has.
@@ -141,9 +138,20 @@ fn tell_counted(alloc: Global, bytes: &[u8], answer: &mut CaseAnswer) {
 fn tell_message(mut words: Words<'_>, answer: &mut CaseAnswer) {
     let number = words.optional_number();
     let content = content_of(words, answer);
-    let mut written = Text::new(words.alloc);
     let body = content.body.as_bytes();
-    let appended = push_message(&mut written, number, &content.headers, body);
+    push_written(words.alloc, number, &content.headers, body, answer);
+}
+
+/// Tells how what follows a message's first line is written.
+fn push_written(
+    alloc: Global,
+    number: Option<u64>,
+    headers: &Headers,
+    body: &[u8],
+    answer: &mut CaseAnswer,
+) {
+    let mut written = Text::new(alloc);
+    let appended = push_message(&mut written, number, headers, body);
     keep(answer, appended);
     push_bytes(answer, written.as_bytes());
 }

@@ -1,7 +1,7 @@
 use Rattle.std.proofs.Common.{◌≡◌, ◌++◌, take}
 use Rattle.std.specs.List.{flat_map}
 use Rattle.rtsp_head.specs.HeadText.{ended, header_text}
-use Rattle.rtsp_head.proofs.write.push_headers.Given as goal
+use Rattle.rtsp_head.proofs.message.push_headers.Given as goal
 
 -- the lines of the headers so far
 abbrev pub invariant-loop-header : goal.invariant-loop-header
