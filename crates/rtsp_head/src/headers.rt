@@ -2,7 +2,7 @@
 ghost use Rattle.std.specs.Prelude.{◌≡◌, ◌<◌, ◌↔◌, [], ◌∷◌, ◌++◌, length, slice_get, option_map, IsTrue, IfErr, OnOk, OnErr};
 ghost use Rattle.std.specs.Option.{option_copied};
 ghost use Rattle.rtsp_head.specs.Headers.{field_of};
-ghost use Rattle.rtsp_head.specs.Optional.{header_with};
+ghost use Rattle.rtsp_head.specs.Optional.{header_with, said_where};
 
 use crate::Header;
 use gate_bytes::{Memory, OwnedList, Text, eq_fold};
@@ -120,4 +120,11 @@ impl Headers {
         }
         None
     }
+}
+
+/// A value that is said only where a condition holds.
+pub fn said_where(holds: bool, value: Option<&[u8]>) -> Option<&[u8]>
+    ensures { option_copied result ≡ said_where holds (option_copied value.entry) }
+{
+    if holds { value } else { None }
 }

@@ -19,7 +19,7 @@ pub use facts::{Facts, LENGTH_DIGITS, Length, check_head};
 pub use fault::HeadFault;
 pub use head::{Head, read_head};
 pub use header::Header;
-pub use headers::{Headers, MOST_HEADERS};
+pub use headers::{Headers, MOST_HEADERS, said_where};
 pub use item::{BadKind, Extent, Item, ItemKind, MOST_BODY, MOST_HEAD, Span};
 pub use message::{push_message, written_messages};
 pub use start::{GREATEST_CODE, LEAST_CODE, Start};

@@ -6,7 +6,7 @@ ghost use Rattle.translate_down.specs.Contents.{asks_description, asks_body, com
 use crate::Context;
 use gate_bytes::{Memory, Text, eq_fold, trim, up_to};
 use head_two::Reply2;
-use rtsp_head::Head;
+use rtsp_head::{Head, said_where};
 use rtsp_small::Method;
 use rtsp_uri::{rewrite_sdp, swap_authority};
 use std::alloc::Global;
@@ -50,11 +50,9 @@ pub(crate) fn base(
 pub(crate) fn kind(alloc: Global, method: Method, reply: &Reply2) -> Result<Option<Text>, Memory>
     ensures { IfOk result (λ value. value ≡ type_value method reply.now.head.headers reply.now.body) }
 {
-    if comes_with_body(method, &reply.body) {
-        Text::copied(alloc, reply.head.field(b"Content-Type"))
-    } else {
-        Ok(None)
-    }
+    let comes = comes_with_body(method, &reply.body);
+    let value = reply.head.field(b"Content-Type");
+    Text::copied(alloc, said_where(comes, value))
 }
 
 /// The value of Content-Encoding, with a body.
@@ -65,11 +63,9 @@ pub(crate) fn encoding(
 ) -> Result<Option<Text>, Memory>
     ensures { IfOk result (λ value. value ≡ encoding_value method reply.now.head.headers reply.now.body) }
 {
-    if comes_with_body(method, &reply.body) {
-        Text::copied(alloc, reply.head.field(b"Content-Encoding"))
-    } else {
-        Ok(None)
-    }
+    let comes = comes_with_body(method, &reply.body);
+    let value = reply.head.field(b"Content-Encoding");
+    Text::copied(alloc, said_where(comes, value))
 }
 
 /// The body that a player gets: a session description under the player's address, any other as it

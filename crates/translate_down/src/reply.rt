@@ -13,7 +13,7 @@ use crate::session::{session, transport};
 use gate_bytes::{Memory, Text};
 use head_one::{Reply1, write_reply};
 use head_two::Reply2;
-use rtsp_head::Headers;
+use rtsp_head::{Headers, said_where};
 use rtsp_small::{Method, push_methods};
 use rtsp_status::to_one;
 use session_one::{Asked, is_success};
@@ -60,11 +60,8 @@ fn refusal(alloc: Global, asked: &Asked, reply: &Reply2) -> Result<Text, Memory>
 fn unsupported(alloc: Global, reply: &Reply2) -> Result<Option<Text>, Memory>
     ensures { IfOk result (λ value. value ≡ unsupported_value (told_whole reply.now)) }
 {
-    if reply.code == 551 {
-        Text::copied(alloc, reply.head.field(b"Unsupported"))
-    } else {
-        Ok(None)
-    }
+    let is_told = reply.code == 551;
+    Text::copied(alloc, said_where(is_told, reply.head.field(b"Unsupported")))
 }
 
 /// The text of a success.

@@ -3,7 +3,6 @@ ghost use Rattle.std.specs.Prelude.{◌≡◌, IfSome, IfOk, IsTrue};
 ghost use Rattle.std.specs.Option.{option_copied};
 ghost use Rattle.translate_up.specs.SeenFields.{said_seen, HasWritableRange};
 ghost use Rattle.translate_up.specs.Views.{given_of};
-ghost use Rattle.rtsp_head.specs.Optional.{said_where};
 ghost use Rattle.translate_up.specs.Fields.{said_of, is_describe, is_setup, is_play, is_named, id_of, are_same, needs_session, brings_body_up, is_track, scale_of};
 ghost use Rattle.translate_up.specs.Upward.{session_said};
 ghost use Rattle.rtsp_range.specs.Writable.{can_be_written};
@@ -15,6 +14,7 @@ ghost use Rattle.std.specs.Prelude.{option_map, codes};
 use crate::channels::client_pair;
 use crate::view::View;
 use head_one::Request1;
+use rtsp_head::said_where;
 use rtsp_range::{Range, RangeFault, read_one};
 use rtsp_small::{Method, is_scale, read_session};
 use rtsp_transport::Pair;
@@ -125,13 +125,6 @@ pub(crate) fn is_track(tracks: &[Track], uri: &[u8]) -> bool
     ensures { result ≡ is_track tracks.now uri.now }
 {
     tracks.iter().any(|track| track.uri.as_bytes() == uri)
-}
-
-/// A value that is said only where a condition holds.
-pub(crate) fn said_where(holds: bool, value: Option<&[u8]>) -> Option<&[u8]>
-    ensures { option_copied result ≡ said_where holds (option_copied value.entry) }
-{
-    if holds { value } else { None }
 }
 
 /// The scale of a request, where it has one in the grammar (RFC 2326, 12.34).

@@ -8,13 +8,13 @@ ghost use Rattle.translate_up.specs.SeenFields.{said_seen};
 ghost use Rattle.translate_up.specs.Upward.{uri_up, method_up, has_body_up, fields_up, request_up, asked_of};
 
 use crate::field::{
-    SaidFields, brings_body_up, is_describe, is_play, is_setup, said_where, scale_of, session_said,
+    SaidFields, brings_body_up, is_describe, is_play, is_setup, scale_of, session_said,
 };
 use crate::view::View;
 use gate_bytes::{Memory, Text};
 use head_one::Request1;
 use head_two::Request2;
-use rtsp_head::Headers;
+use rtsp_head::{Headers, said_where};
 use rtsp_range::{Range, write};
 use rtsp_small::Method;
 use rtsp_uri::swap_authority;
