@@ -1,18 +1,18 @@
 -- Answers to requests of the server (RFC 7826, 8).
-use Rattle.std.specs.Prelude.{ℕ, ◌==◌, codes, List, [], ◌∷◌, Option, Some, None, unwrap_or, if◌then◌else◌}
+use Rattle.std.specs.Prelude.{ℕ, ◌==◌, codes, List, [], Option, Some, None, unwrap_or, if◌then◌else◌}
 use Rattle.std.specs.Option.{option_and_then, option_map}
 use Rattle.std.specs.Str.{bytes_eq}
 use Rattle.rtsp_head.specs.declared.header.Header.{Header}
 use Rattle.rtsp_head.specs.declared.start.Start.{Start}
 use Rattle.rtsp_head.specs.declared.start.Start.TheVariants.{Request, Status}
 use Rattle.rtsp_head.specs.Messages.{message_text, Message, message, message_of, own_fields}
+use Rattle.rtsp_head.specs.Optional.{header_with}
 use Rattle.rtsp_status.specs.Reasons.{reason_of}
 use Rattle.head_two.specs.Messages.{version_two, server_cseq}
 
 -- the session that an answer names, where there is one (RFC 7826, 18.49)
 abbrev pub answer_session : Option (List ℕ) → List Header
-answer_session None = []
-answer_session (Some id) = record { name = codes "Session"; value = id } ∷ []
+answer_session session = header_with (codes "Session") session
 
 -- A refusal names no session (this project's own).
 abbrev pub answer_headers : ℕ → Option (List ℕ) → List Header

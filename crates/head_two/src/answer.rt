@@ -5,7 +5,7 @@ ghost use Rattle.rtsp_status.specs.Reasons.{has_reason};
 ghost use Rattle.head_two.specs.Answers.{answer_text, answer_headers, answer_session};
 
 use gate_bytes::{Memory, Text, push_decimal};
-use rtsp_head::{Header, Headers, push_message};
+use rtsp_head::{Headers, push_message};
 use rtsp_status::reason;
 use std::alloc::Global;
 
@@ -47,15 +47,6 @@ fn answer_session(alloc: Global, session: Option<&[u8]>) -> Result<Headers, Memo
     ensures { IfOk result (λ headers. headers ≡ answer_session (option_copied session.entry)) }
 {
     let mut headers = Headers::new(alloc);
-    if let Some(id) = session {
-        let header = Header {
-            name: Text::copy(alloc, b"Session")?,
-            value: Text::copy(alloc, id)?,
-        };
-        match headers.push(header) {
-            Ok(()) => {}
-            Err((_, memory)) => return Err(memory),
-        }
-    }
+    headers.push_copy(alloc, b"Session", session)?;
     Ok(headers)
 }
