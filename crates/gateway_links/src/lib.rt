@@ -31,7 +31,7 @@ pub use laws::{
     what_was_put_begins_the_items, what_was_put_begins_the_items_after_want_of_memory,
     what_was_put_begins_the_items_given,
 };
-pub use link_read::{ReadEnd, read_once, read_reusing};
+pub use link_read::{ReadEnd, read_once};
 pub use put::{Put, put_some};
 pub use reader::Reader;
 pub use turn::{MOST_PARCELS, WriterTurn};

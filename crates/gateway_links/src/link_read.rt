@@ -7,9 +7,8 @@ ghost use Rattle.gateway_links.specs.declared.link_read.ReadEnd.TheVariants as e
 use crate::{Read, Reader, WriterDesk};
 use gate_outside::{Inlet, Outlet};
 use std::alloc::Global;
-use std::sync::{Mutex, Wait};
+use std::sync::Wait;
 use std::thread;
-use text_pool::TextPool;
 
 /// Why a link is read no more.
 #[derive(Clone, Copy, PartialEq, Eq)]
@@ -52,27 +51,4 @@ pub fn read_once<I: Inlet + Drop, O: Outlet + Drop, W: Wait>(
             None
         }
     }
-}
-
-/// Reads once more, where nothing that came is left, with texts that are done with to hold what comes. None where the link is
-/// to be read on.
-pub fn read_reusing<I: Inlet + Drop, O: Outlet + Drop, W: Wait>(
-    rt: &W,
-    alloc: Global,
-    spent: &Mutex<TextPool>,
-    desk: &WriterDesk<O>,
-    reader: &mut Reader<I>,
-    buffer: &mut [u8],
-) -> Option<ReadEnd>
-    requires { 0 < length buffer.old }
-    ensures faults { I.faults reader.old.inlet ≤ I.faults reader.new.inlet }
-    ensures ends { I.ends reader.old.inlet ≤ I.ends reader.new.inlet }
-    ensures front { (first : Option (List ℕ)) → ReadsFront I.rest first reader.old → ReadsFront I.rest first reader.new }
-    ensures on { result ≡ None → (first : Option (List ℕ)) → ReadsItems I.rest first reader.old → ReadsItems I.rest first reader.new }
-    ensures end { result ≡ Some ends.Ended → Rose (I.ends reader.old.inlet) (I.ends reader.new.inlet) }
-    ensures all { result ≡ Some ends.Ended → (first : Option (List ℕ)) → PutAll I.rest first reader.old → PutAll I.rest first reader.new }
-    ensures failed { result ≡ Some ends.Failed → Rose (I.faults reader.old.inlet) (I.faults reader.new.inlet) }
-{
-    reader.refill(&mut spent.lock(rt));
-    read_once(rt, alloc, desk, reader, buffer)
 }

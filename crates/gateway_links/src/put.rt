@@ -49,20 +49,9 @@ fn put_one<I: Inlet + Drop, W: Wait>(
     ensures front { (first : Option (List ℕ)) → ReadsFront I.rest first reader.old → ReadsFront I.rest first reader.new }
     ensures all { result ≡ Some puts.All → (first : Option (List ℕ)) → ReadsItems I.rest first reader.old → PutAll I.rest first reader.new }
 {
-    if is_crowded {
-        put_message(rt, reader)
-    } else {
-        put_next(rt, reader)
+    if !is_crowded {
+        return put_next(rt, reader);
     }
-}
-
-/// Puts the next item that came, unless it is a frame.
-fn put_message<I: Inlet + Drop, W: Wait>(rt: &W, reader: &mut Reader<I>) -> Option<Put>
-    ensures inlet { reader.new.inlet ≡ reader.old.inlet }
-    ensures reads { (first : Option (List ℕ)) → ReadsItems I.rest first reader.old → ReadsItems I.rest first reader.new }
-    ensures front { (first : Option (List ℕ)) → ReadsFront I.rest first reader.old → ReadsFront I.rest first reader.new }
-    ensures all { result ≡ Some puts.All → (first : Option (List ℕ)) → ReadsItems I.rest first reader.old → PutAll I.rest first reader.new }
-{
     if reader.next_is_frame() {
         return Some(Put::Held);
     }

@@ -16,7 +16,7 @@ use client_ports::{Putter, Taker};
 use gate_outside::{Inlet, Outlet};
 use gateway_claim::{Core, UpWhy};
 use gateway_hub::{Recorder, StopWhy};
-use gateway_links::{Put, ReadEnd, Reader, Writer, WriterDesk, collect, put_some, read_reusing};
+use gateway_links::{Put, ReadEnd, Reader, Writer, WriterDesk, collect, put_some, read_once};
 use hub_workers::Common;
 use run_report::UpRun;
 use std::sync::Wait;
@@ -141,7 +141,8 @@ fn tell_end<M: Core, R: Recorder, W: Wait>(common: &Common<'_, M, R, W>, end: Re
     }
 }
 
-/// Reads what the server says, and has it taken, until its link ends or an ending is kept.
+/// Reads what the server says, with texts that are done with to hold it, and has it taken, until its link ends or an ending is
+/// kept.
 fn hear_on<I: Inlet + Drop, O: Outlet + Drop, M: Core, R: Recorder, W: Wait + Clock>(
     common: &Common<'_, M, R, W>,
     desk: &WriterDesk<O>,
@@ -163,14 +164,8 @@ fn hear_on<I: Inlet + Drop, O: Outlet + Drop, M: Core, R: Recorder, W: Wait + Cl
             TakingEnd::Kept => return ReadEnd::Over,
             TakingEnd::Memory => return ReadEnd::Memory,
         }
-        if let Some(end) = read_reusing(
-            common.rt,
-            common.alloc,
-            common.spent,
-            desk,
-            reader,
-            buffer,
-        ) {
+        reader.refill(&mut common.spent.lock(common.rt));
+        if let Some(end) = read_once(common.rt, common.alloc, desk, reader, buffer) {
             return end_after_rest(common, &mut pace, end);
         }
     }
