@@ -1,6 +1,7 @@
 //! What goes up for a connection with no open request.
 ghost use Rattle.std.specs.Prelude.{◌≡◌, ◌<◌, [], Some, None, IsSome, IfOk, IfSome, if◌then◌else◌};
 ghost use Rattle.std.specs.Option.{option_copied};
+ghost use Rattle.channel_map.specs.declared.map.TheConstants.{PAIRS};
 ghost use Rattle.head_two.specs.Requests.{request_text};
 ghost use Rattle.translate_up.specs.QueuedPlay.{play_up};
 ghost use Rattle.client_machine.specs.declared.parts.Change.TheVariants as changes;
@@ -65,7 +66,7 @@ fn going_text(
     pair: Option<u8>,
     sets_up: bool,
 ) -> Result<Text, Memory>
-    requires { IfSome pair (λ one. one < 128) }
+    requires { IfSome pair (λ one. one < PAIRS) }
     ensures { IfOk result (λ text. text ≡ text_up next pair (if sets_up then pair else None) request) }
 {
     match pair {
@@ -90,7 +91,7 @@ fn ask(
     streams: usize,
     going: Upward,
 ) -> Result<Up, Memory>
-    requires pair { IfSome pair (λ one. one < 128) }
+    requires pair { IfSome pair (λ one. one < PAIRS) }
     requires room { IsSome going.channels → streams < MOST_TRACKS }
     ensures up { IfOk result (λ up. up ≡ up_for next pair (Some going)) }
     ensures placed { IfOk result (IsPlacedUp streams) }
@@ -117,7 +118,7 @@ pub(crate) fn finished(
     change: Change,
     progress: Progress,
 ) -> Result<Plan, Memory>
-    requires pair { IfSome pair (λ one. one < 128) }
+    requires pair { IfSome pair (λ one. one < PAIRS) }
     requires room { HasStreamRoom streams progress.going }
     ensures { IfOk result (IsFinished next pair streams change progress) }
 {
@@ -198,7 +199,7 @@ pub(crate) fn onward(
     change: Change,
     hand: Text,
 ) -> Result<Plan, Memory>
-    requires { IfSome pair (λ one. one < 128) }
+    requires { IfSome pair (λ one. one < PAIRS) }
     ensures { IfOk result (GoesOnward bases.now next pair slot.now (sight_of seen.now) hand change) }
 {
     if !slot.alive() {

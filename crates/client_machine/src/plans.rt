@@ -1,5 +1,6 @@
 //! Plans are made.
 ghost use Rattle.std.specs.Prelude.{◌<◌, IfOk, IfSome};
+ghost use Rattle.channel_map.specs.declared.map.TheConstants.{PAIRS};
 ghost use Rattle.client_machine.specs.Plans.{incoming_seen, CanCome, IsPlan, IsShortUp, IsShortPlan};
 
 use crate::ends::plan_notice;
@@ -37,7 +38,7 @@ pub fn plan(
     incoming: &Incoming<'_>,
 ) -> Result<Plan, Memory>
     requires sound { CanCome (incoming_seen incoming.now) }
-    requires pair { IfSome pair (λ one. one < 128) }
+    requires pair { IfSome pair (λ one. one < PAIRS) }
     ensures plan { IfOk result (IsPlan bases.now next pair slot.now (incoming_seen incoming.now)) }
     ensures short { IfOk result IsShortPlan }
 {
@@ -59,7 +60,7 @@ fn plan_any(
     incoming: &Incoming<'_>,
 ) -> Result<Plan, Memory>
     requires sound { CanCome (incoming_seen incoming.now) }
-    requires pair { IfSome pair (λ one. one < 128) }
+    requires pair { IfSome pair (λ one. one < PAIRS) }
     ensures { IfOk result (IsPlan bases.now next pair slot.now (incoming_seen incoming.now)) }
 {
     match *incoming {

@@ -1,5 +1,6 @@
 //! Plans for replies of the server.
 ghost use Rattle.std.specs.Prelude.{◌≡◌, ◌<◌, ◌≤◌, Some, IfOk, IfSome};
+ghost use Rattle.channel_map.specs.declared.map.TheConstants.{PAIRS};
 ghost use Rattle.client_slot.specs.Purposes.{purpose_seen};
 ghost use Rattle.client_machine.specs.Plans.{replies, IsPlan};
 
@@ -22,7 +23,7 @@ pub(crate) fn plan_reply(
     pair: Option<u8>,
     answer: ServerReply<'_>,
 ) -> Result<Plan, Memory>
-    requires { IfSome pair (λ one. one < 128) }
+    requires { IfSome pair (λ one. one < PAIRS) }
     ensures { IfOk result (IsPlan bases.now next pair slot.now (replies answer.entry.reply.now answer.entry.source)) }
 {
     if answer.reply.code < 200 {
@@ -44,7 +45,7 @@ fn settle<'a>(
     pending: Pending<'a>,
     answer: ServerReply<'a>,
 ) -> Result<Plan, Memory>
-    requires pair { IfSome pair (λ one. one < 128) }
+    requires pair { IfSome pair (λ one. one < PAIRS) }
     requires pending { slot.now.pending ≡ Some (purpose_seen pending) }
     requires last { 200 ≤ answer.reply.now.code }
     ensures { IfOk result (IsPlan bases.entry.now next pair slot.entry.now (replies answer.entry.reply.now answer.entry.source)) }

@@ -1,5 +1,6 @@
 //! Plans for requests of a player.
 ghost use Rattle.std.specs.Prelude.{◌≡◌, ◌<◌, [], ◌∷◌, length, true, None, IfOk, IfSome, OnOk};
+ghost use Rattle.channel_map.specs.declared.map.TheConstants.{PAIRS};
 ghost use Rattle.rtsp_head.specs.Shapes.{shape_of};
 ghost use Rattle.client_slot.specs.declared.limits.TheConstants.{MOST_WAITING};
 ghost use Rattle.client_slot.specs.Changes.{due_play};
@@ -27,7 +28,7 @@ pub(crate) fn plan_request(
     item: &Item,
 ) -> Result<Plan, Memory>
     requires sound { CanCome (requests (shape_of item.now)) }
-    requires pair { IfSome pair (λ one. one < 128) }
+    requires pair { IfSome pair (λ one. one < PAIRS) }
     ensures { IfOk result (IsPlan bases.now next pair slot.now (requests (shape_of item.now))) }
 {
     if !slot.alive() {
@@ -70,7 +71,7 @@ fn treat_request(
     item: &Item,
 ) -> Result<Plan, Memory>
     requires sound { CanCome (requests (shape_of item.now)) }
-    requires pair { IfSome pair (λ one. one < 128) }
+    requires pair { IfSome pair (λ one. one < PAIRS) }
     requires alive { slot.now.alive ≡ true }
     requires idle { slot.now.pending ≡ None }
     requires due { due_play slot.now ≡ None }

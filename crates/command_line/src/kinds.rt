@@ -29,11 +29,11 @@ pub const LONGEST_NAME: usize = 255;
 pub enum Kind {
     /// The address of one side, as [`rtsp_uri::read_base`] reads it.
     Base,
-    /// How many players a drill has: one or two digits, 1 to 64.
+    /// How many players a drill has: one or two digits, 1 to [`MOST_CLIENTS`].
     Clients,
-    /// The number that fixes a drill: 1 to 19 digits.
+    /// The number that fixes a drill: 1 to [`NUMBER_DIGITS`] digits.
     Number,
-    /// An address or a file: 1 to 255 bytes, of which the first is no `-`.
+    /// An address or a file: 1 to [`LONGEST_NAME`] bytes, of which the first is no `-`.
     Name,
     /// How many stations serve players: one or two digits, 1 to [`MOST_STATIONS`].
     Stations,

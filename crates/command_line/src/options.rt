@@ -13,11 +13,11 @@ pub const MOST_STATIONS: u8 = 64;
 pub struct ServeOptions {
     /// The bases that it stands between.
     pub bases: Bases,
-    /// The address at which players are awaited, of 1 to 255 bytes.
+    /// The address at which players are awaited, of 1 to [`LONGEST_NAME`](crate::LONGEST_NAME) bytes.
     pub listen: Text,
     /// How many stations serve them, 1 to [`MOST_STATIONS`].
     pub stations: u8,
-    /// The name of the recording, of 1 to 255 bytes.
+    /// The name of the recording, of 1 to [`LONGEST_NAME`](crate::LONGEST_NAME) bytes.
     pub recorder: Text,
     pub ghost some: { (0 < stations) × (stations ≤ MOST_STATIONS) },
 }

@@ -41,7 +41,7 @@ pub enum Command {
     /// `replay FRONT UP`: replay a transcript between these bases. Each word is the address of one side, as
     /// [`rtsp_uri::read_base`] reads it.
     Replay(Bases),
-    /// `drill CLIENTS NUMBER`: play a drill with 1 to 64 players from a number.
+    /// `drill CLIENTS NUMBER`: play a drill with 1 to [`MOST_CLIENTS`](crate::MOST_CLIENTS) players from a number.
     Drill(u32, u64),
     /// `serve FRONT UP LISTEN STATIONS RECORD`: serve players between these bases, and record what happens.
     Serve(ServeOptions),

@@ -39,9 +39,9 @@ pub const FULL_REASON: u8 = b'Q';
 pub enum EntryKind {
     /// `O`: a connection enters. It has no body.
     Enter,
-    /// `A`: bytes of a client, 131,072 at most.
+    /// `A`: bytes of a client, [`LONGEST_BODY`](crate::LONGEST_BODY) at most.
     Client,
-    /// `U`: bytes of the server, 131,072 at most. Its connection is written as 0.
+    /// `U`: bytes of the server, as many at most. Its connection is written as 0.
     Upstream,
     /// `E`: a connection ends. It has no body.
     End,

@@ -3,6 +3,7 @@ ghost use Rattle.std.specs.Prelude.{◌≡◌, ◌<◌, ◌≤◌, ◌==◌, tru
 ghost use Rattle.std.specs.Bool.{OnTrue, OnFalse};
 
 use gate_bytes::{Memory, after};
+use rtsp_head::{MOST_BODY, MOST_HEAD};
 use std::alloc::Global;
 use std::marker::Model;
 use std::mem;
@@ -12,7 +13,7 @@ pub const WRITE_SIZE: usize = 65_536;
 
 /// The bytes that a buffer has room for: those that are gathered at once, and a message or a frame behind them (this
 /// project's own).
-pub const BUFFER_SIZE: usize = 139_264;
+pub const BUFFER_SIZE: usize = WRITE_SIZE + MOST_HEAD + MOST_BODY as usize;
 
 /// With so many bytes or more, no more are taken for an outlet that takes nothing for now (this project's own).
 pub const MOST_HELD: usize = 4_194_304;

@@ -1,6 +1,7 @@
 //! What the server grants to a SETUP.
 ghost use Rattle.std.specs.Prelude.{◌≡◌, ◌<◌};
 ghost use Rattle.std.specs.Option.{option_copied, option_and_then};
+ghost use Rattle.channel_map.specs.declared.map.TheConstants.{PAIRS};
 ghost use Rattle.up_books.specs.Ids.{holder_of};
 ghost use Rattle.gateway_claim.specs.Settlement.{id_said};
 ghost use Rattle.client_machine.specs.UpTexts.{grant_said};
@@ -30,7 +31,7 @@ pub(crate) fn source_in(grant: Option<Grant>) -> Option<u32>
 
 /// Whether a grant is of this pair of channels.
 fn grants(pair: u8, grant: Option<Grant>) -> bool
-    requires { pair < 128 }
+    requires { pair < PAIRS }
     ensures { result ≡ grants_that pair grant }
 {
     match grant {
@@ -74,7 +75,7 @@ pub(crate) fn wrong_grant(
     grant: Option<Grant>,
     reply: &Reply2,
 ) -> Option<UpCause>
-    requires low { pair < 128 }
+    requires low { pair < PAIRS }
     requires grant { grant ≡ grant_said reply.now }
     ensures { result ≡ wrong_grant (λ id. holder_of sessions.now id) conn pair (option_copied session.entry) reply.now }
 {

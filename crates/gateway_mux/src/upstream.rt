@@ -1,6 +1,7 @@
 //! The one connection to the server.
 ghost use Rattle.std.specs.Prelude.{◌≡◌, ◌==◌, ◌+◌, ◌<◌, ◌≤◌, ℕ, List, None, Some, is_some, is_none, IsSome, IfSome, if◌then◌else◌};
 ghost use Rattle.std.specs.Option.{option_copied};
+ghost use Rattle.channel_map.specs.declared.map.TheConstants.{PAIRS};
 ghost use Rattle.channel_map.specs.Pairs.{held_at, is_free, lowest_free};
 ghost use Rattle.up_books.specs.Ids.{holder_of};
 ghost use Rattle.up_books.specs.Numbers.{asker_of, next_number};
@@ -80,7 +81,7 @@ impl UpstreamBooks {
     /// The lowest pair of channels that is free once that is settled.
     pub fn free_once(&self, settled: &Option<Settlement>) -> Option<u8>
         ensures free { result ≡ free_once settled.now (λ p. held_at p self.now.channels) }
-        ensures low { IfSome result (λ pair. pair < 128) }
+        ensures low { IfSome result (λ pair. pair < PAIRS) }
     {
         match settled {
             Some(settled) if settled.granted.is_none() => self.channels.free_after(settled.freed),

@@ -11,7 +11,8 @@ mod tables;
 use crate::standard::run_between;
 use crate::tables::end_of_help;
 use command_line::{
-    Argument, Form, command_help, given_for, program_help, program_version, refusal_line, usage_for,
+    Argument, Form, LONGEST_NAME, command_help, given_for, program_help, program_version,
+    refusal_line, usage_for,
 };
 use gateway_mux::Status;
 use serve_world_tcp::TcpWorld;
@@ -22,7 +23,7 @@ use std::process::ExitCode;
 use std::{env, io, str};
 
 /// Where a word that is no UTF-8 is looked for, one of more bytes is told in its place: no word may have as many.
-const WORD_ROOM: usize = 256;
+const WORD_ROOM: usize = LONGEST_NAME + 1;
 
 fn main(rt: HostRuntime) -> ExitCode {
     let words = match words_of(&rt) {

@@ -4,6 +4,7 @@ ghost use Rattle.serve_world_tcp.specs.Backlogs.{count_put};
 ghost use Rattle.serve_world_tcp.specs.declared.backlog.TheConstants.{QUEUE_BYTES};
 
 use gate_bytes::{Memory, before};
+use gate_transcript::LONGEST_BODY;
 use std::alloc::Global;
 use std::{io, mem};
 
@@ -16,9 +17,9 @@ pub const QUEUE_BYTES: usize = 16_777_216;
 /// costs far more than to copy into it.
 const LATE_BYTES: usize = 524_288;
 
-/// How many bytes a buffer has room for at first: those, and the longest entry behind them. One that has grown is made as small
+/// How many bytes a buffer has room for at first: those, and the longest body of an entry behind them. One that has grown is made as small
 /// again.
-const FIRST_ROOM: usize = LATE_BYTES + 131_072;
+const FIRST_ROOM: usize = LATE_BYTES + LONGEST_BODY as usize;
 
 /// How often whoever puts may pause until a late thread has come.
 const MOST_PAUSES: u32 = 100;

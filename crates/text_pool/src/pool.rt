@@ -1,5 +1,6 @@
 //! The pool of texts.
 ghost use Rattle.std.specs.Prelude.{◌≡◌, ◌≤◌, [], ◌++◌, length, zero, suc, IfOk};
+ghost use Rattle.text_pool.specs.declared.pool.TheConstants.{MOST_TEXTS};
 
 use gate_bytes::{Memory, Text};
 use std::alloc::Global;
@@ -25,7 +26,7 @@ fn is_kept(bytes: usize) -> bool {
 #[derive(Drop)]
 pub struct TextPool {
     texts: Vec<Text>,
-    ghost few: { length texts.items ≤ 256 },
+    ghost few: { length texts.items ≤ MOST_TEXTS },
 }
 
 impl Model for TextPool {

@@ -3,9 +3,10 @@
 use std::array;
 use std::sync::atomic::{AtomicU64, Ordering};
 
-/// So many places there are for writers that stand in their sockets: as many as there can be stations. Connections whose
-/// numbers leave the same rest share one; of those that are served at once mostly no two do.
-const PLACES: usize = 64;
+/// How many places there are for what is told of players' connections. Those whose numbers leave the same rest share one; of
+/// as many as there can be stations mostly no two do. It need not follow that number, which is the command line's: where more
+/// share a place, more workers wake in vain, and less is known of how writers get on.
+pub const PLACES: usize = 64;
 
 /// With more parcels than this waiting for the server, no frame of a player is put into its port.
 const MOST_WAITING: u64 = 64;

@@ -1,7 +1,7 @@
 //! What workers tell each other.
 ghost use Rattle.std.specs.Prelude.{◌≡◌, false};
 
-use crate::flow::Flow;
+use crate::flow::{Flow, PLACES};
 use crate::meeting::Meeting;
 use crate::turnstile::Turnstile;
 use client_ports::Bell;
@@ -9,16 +9,12 @@ use std::array;
 use std::sync::Wait;
 use std::sync::atomic::{AtomicU64, Ordering};
 
-/// How many bells the players' connections have: as many as there can be stations. Each is shared by the connections whose numbers
-/// leave the same rest; of those that are served at once mostly no two do.
-const PLAYER_BELLS: usize = 64;
-
 /// What workers of a run tell each other: the bells, how writers get on, who has begun, and whose turn it is at the door. A
 /// worker waits at the bell of its connection, so that what comes for one player wakes few others.
 #[derive(Drop)]
 pub struct Signals {
-    /// Each rings after a change that a worker of one of its connections may wait for.
-    players: [Bell; PLAYER_BELLS],
+    /// Each rings after a change that a worker of one of the connections at its place may wait for.
+    players: [Bell; PLACES],
     /// Rings after a change that the server's writer may wait for.
     server: Bell,
     /// How often a link may have come to be over. So a writer asks the hub only after that, whose lock the server's reader has
@@ -48,7 +44,7 @@ impl Signals {
     /// The bell of the connection with this number, or of the server's.
     pub fn of(&self, conn: Option<u32>) -> &Bell {
         match conn {
-            Some(conn) => &self.players[conn as usize % PLAYER_BELLS],
+            Some(conn) => &self.players[conn as usize % PLACES],
             None => &self.server,
         }
     }
@@ -58,7 +54,7 @@ impl Signals {
         if due.server {
             self.server.ring(rt);
         }
-        for place in 0..PLAYER_BELLS {
+        for place in 0..PLACES {
             if due.players[place] {
                 self.players[place].ring(rt);
             }
@@ -86,7 +82,7 @@ impl Signals {
 pub struct Due {
     /// Whether that of the server's connection is.
     pub server: bool,
-    players: [bool; PLAYER_BELLS],
+    players: [bool; PLACES],
 }
 
 impl Due {
@@ -96,7 +92,7 @@ impl Due {
     {
         Due {
             server: false,
-            players: [false; PLAYER_BELLS],
+            players: [false; PLACES],
         }
     }
 
@@ -104,6 +100,6 @@ impl Due {
     pub fn add(&mut self, conn: u32)
         ensures { self.new.server ≡ self.old.server }
     {
-        self.players[conn as usize % PLAYER_BELLS] = true;
+        self.players[conn as usize % PLACES] = true;
     }
 }
