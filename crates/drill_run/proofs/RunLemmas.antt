@@ -9,8 +9,8 @@ use Rattle.drill_run.specs.CountSteps.{counts_of}
 use Rattle.drill_run.specs.Stages.{IsStage}
 use Rattle.drill_run.specs.Turns.{entered_below, started, begins, goes_on}
 use Rattle.drill_run.specs.Plays.{Drills, Plays, TurnMade, HasRun, HasPlayedOut}
-use Rattle.gateway_mux.specs.declared.status.Status.{Status}
-use Rattle.gateway_mux.specs.declared.status.Status.TheVariants.{Done, Usage, SourceFault, SinkFault, BadTranscript, TooLong, Memory, Upstream, ListenFault, RecordFault, CrewRefused, AcceptFault, DialFault, NumbersSpent}
+use Rattle.run_status.specs.declared.status.Status.{Status}
+use Rattle.run_status.specs.declared.status.Status.TheVariants.{Done, Usage, SourceFault, SinkFault, BadTranscript, TooLong, Memory, Upstream, ListenFault, RecordFault, CrewRefused, AcceptFault, DialFault, NumbersSpent}
 use Rattle.drill_run.specs.Reports.{drill_lines, TellsDrill, DrillSays}
 
 -- numbers from n on have not entered

@@ -4,8 +4,8 @@ use Rattle.gate_outside.specs.Contents.{Grows, GrowsByFront}
 use Rattle.rtsp_uri.specs.declared.base.Bases.{Bases}
 use Rattle.gateway_claim.specs.Follows.{IsHistory}
 use Rattle.gateway_claim.specs.Happenings.{HistoryEntry}
-use Rattle.gateway_mux.specs.declared.status.Status.{Status}
-use Rattle.gateway_mux.specs.declared.status.Status.TheVariants.{Done, SinkFault, Memory}
+use Rattle.run_status.specs.declared.status.Status.{Status}
+use Rattle.run_status.specs.declared.status.Status.TheVariants.{Done, SinkFault, Memory}
 use Rattle.drill_run.specs.declared.counts.Counts.{Counts}
 use Rattle.drill_run.specs.CountSteps.{counts_of}
 use Rattle.drill_run.specs.Turns.{Drilled, DrillRun, candidates}

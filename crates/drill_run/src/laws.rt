@@ -3,8 +3,8 @@ ghost use Rattle.std.specs.Prelude.{◌≡◌, ℕ, Option, List};
 ghost use Rattle.gate_outside.specs.Causes.{Rose};
 ghost use Rattle.rtsp_uri.specs.declared.base.Bases.{Bases};
 ghost use Rattle.gateway_claim.specs.Cores.{IsCoreHistory};
-ghost use Rattle.gateway_mux.specs.declared.status.Status.{Status};
-ghost use Rattle.gateway_mux.specs.declared.status.Status.TheVariants.{SinkFault};
+ghost use Rattle.run_status.specs.declared.status.Status.{Status};
+ghost use Rattle.run_status.specs.declared.status.Status.TheVariants.{SinkFault};
 ghost use Rattle.drill_run.specs.Reports.{DrillSays, EndsDrill, IsDrilledHistory};
 
 use gateway_claim::Core;

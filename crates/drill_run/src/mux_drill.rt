@@ -2,14 +2,15 @@
 ghost use Rattle.std.specs.Prelude.{◌≡◌, ◌≤◌, [], IfOk};
 ghost use Rattle.gateway_mux.specs.Stands.{Stands, bases_of};
 ghost use Rattle.gate_outside.specs.Causes.{Rose};
-ghost use Rattle.gateway_mux.specs.declared.status.Status.TheVariants.{SinkFault};
+ghost use Rattle.run_status.specs.declared.status.Status.TheVariants.{SinkFault};
 ghost use Rattle.drill_run.specs.Reports.{DrillSays, IsDrilledHistory, drilled_front, drilled_up};
 
 use crate::whole_drill::drill_on;
 use gate_bytes::{Memory, Text};
 use gate_outside::Sink;
-use gateway_mux::{Mux, Status};
+use gateway_mux::Mux;
 use rtsp_uri::{Base, Bases};
+use run_status::Status;
 use std::alloc::Global;
 
 /// What the players call the gateway.

@@ -3,7 +3,7 @@ ghost use Rattle.std.specs.Prelude.{◌≡◌, ℕ, ◌≤◌, ◌<◌, [], IfOk
 ghost use Rattle.gate_outside.specs.Causes.{Rose};
 ghost use Rattle.rtsp_uri.specs.declared.base.Bases.{Bases};
 ghost use Rattle.gateway_claim.specs.Cores.{IsCoreHistory};
-ghost use Rattle.gateway_mux.specs.declared.status.Status.TheVariants.{SinkFault};
+ghost use Rattle.run_status.specs.declared.status.Status.TheVariants.{SinkFault};
 ghost use Rattle.drill_run.specs.Turns.{entered_below};
 ghost use Rattle.drill_run.specs.Plays.{Plays, HasRun, HasPlayedOut};
 ghost use Rattle.drill_run.specs.Reports.{TellsDrill, DrillSays};
@@ -14,7 +14,7 @@ use crate::stage::DrillStage;
 use gate_bytes::{Memory, Text};
 use gate_outside::{Failed, Sink, write_all};
 use gateway_claim::Core;
-use gateway_mux::Status;
+use run_status::Status;
 use std::alloc::Global;
 
 /// The most turns of a drill. A player of this gateway needs 14, its own and the server's, so that 64 of them need 896;

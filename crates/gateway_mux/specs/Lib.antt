@@ -1,7 +1,6 @@
 pub mod Acts
 pub mod CoreLaws
 pub mod Enter
-pub mod ExitCodes
 pub mod Free
 pub mod Departure
 pub mod WrongGrants

@@ -18,16 +18,10 @@ mod player_events;
 mod server;
 mod server_item;
 mod settlement;
-mod status;
 mod tells;
 mod turn;
 mod turn_facts;
 mod upstream;
 
 pub use act::Act;
-pub use gateway_claim::{
-    Base, Bases, CloseWhy, Closed, Core, Event, FramingFault, Outcome, ToClient, ToUp, UpCause,
-    UpMessage, UpWhy,
-};
 pub use mux::Mux;
-pub use status::Status;

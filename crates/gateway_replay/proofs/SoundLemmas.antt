@@ -4,8 +4,8 @@ use Rattle.std.proofs.lemmas.List.{take_all}
 use Rattle.gate_outside.specs.Causes.{Rose}
 use Rattle.rtsp_uri.specs.declared.base.Bases.{Bases}
 use Rattle.gate_transcript.specs.Transcript.{reading}
-use Rattle.gateway_mux.specs.declared.status.Status.{Status}
-use Rattle.gateway_mux.specs.declared.status.Status.TheVariants.{Done, Usage, SourceFault, SinkFault, BadTranscript, TooLong, Memory, Upstream, ListenFault, RecordFault, CrewRefused, AcceptFault, DialFault, NumbersSpent}
+use Rattle.run_status.specs.declared.status.Status.{Status}
+use Rattle.run_status.specs.declared.status.Status.TheVariants.{Done, Usage, SourceFault, SinkFault, BadTranscript, TooLong, Memory, Upstream, ListenFault, RecordFault, CrewRefused, AcceptFault, DialFault, NumbersSpent}
 use Rattle.gateway_replay.specs.Events.{events_of}
 use Rattle.gateway_replay.specs.Replays.{limit, ends_by, ends_as, EndsReplay, IsAtEnd, ReplaySays, FaultRose}
 use Rattle.gateway_replay.specs.Sound.{IsSoundTranscript, IsReplayedWhole, EndsSoundReplay}

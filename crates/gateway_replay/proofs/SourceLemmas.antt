@@ -14,8 +14,8 @@ use Rattle.gate_transcript.specs.declared.fault.BadEntryKind.TheVariants.{Magic,
 use Rattle.gate_transcript.specs.declared.reader.EntryReader.{EntryReader}
 use Rattle.gate_transcript.specs.Transcript.{reading, TranscriptReading}
 use Rattle.gate_transcript.specs.Reads.{ReadsSo, GivenWhole, IsLasting, StopsAt, MayGoOn, IsUnfinished}
-use Rattle.gateway_mux.specs.declared.status.Status.{Status}
-use Rattle.gateway_mux.specs.declared.status.Status.TheVariants.{BadTranscript, TooLong}
+use Rattle.run_status.specs.declared.status.Status.{Status}
+use Rattle.run_status.specs.declared.status.Status.TheVariants.{BadTranscript, TooLong}
 use Rattle.gateway_replay.specs.declared.streams.Streams.{Streams}
 use Rattle.gateway_replay.specs.declared.streams.Speaker.{Speaker}
 use Rattle.gateway_replay.specs.declared.whole_replay.Stop.{Stop}

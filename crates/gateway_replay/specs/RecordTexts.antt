@@ -1,15 +1,10 @@
 -- The records of a history (this project's own).
-use Rattle.std.specs.Prelude.{ℕ, zero, suc, ◌^◌, ◌&&◌, is_none, List, [], ◌∷◌, ◌++◌, Option, Some, None, unwrap_or, codes, decimal, if◌then◌else◌}
-use Rattle.rtsp_head.specs.declared.item.BadKind.{BadKind}
-use Rattle.rtsp_head.specs.declared.item.BadKind.TheVariants as bad
+use Rattle.std.specs.Prelude.{ℕ, zero, suc, ◌^◌, ◌&&◌, is_none, List, [], ◌∷◌, ◌++◌, Option, Some, None, unwrap_or, if◌then◌else◌}
 use Rattle.client_machine.specs.declared.why.CloseWhy.{CloseWhy}
 use Rattle.client_machine.specs.declared.why.CloseWhy.TheVariants.{Upstream}
 use Rattle.gateway_claim.specs.declared.event.Closed.{Closed}
 use Rattle.gateway_claim.specs.declared.event.Closed.TheVariants.{Nobody, One, All}
-use Rattle.gateway_claim.specs.declared.event.FramingFault.{FramingFault}
-use Rattle.gateway_claim.specs.declared.event.FramingFault.TheVariants as framing
 use Rattle.gateway_claim.specs.declared.event.UpCause.{UpCause}
-use Rattle.gateway_claim.specs.declared.event.UpCause.TheVariants as cause
 use Rattle.gateway_claim.specs.declared.event.ToClient.{ToClient}
 use Rattle.gateway_claim.specs.declared.event.ToUp.{ToUp}
 use Rattle.gateway_claim.specs.declared.event.UpMessage.{UpMessage}
@@ -17,6 +12,7 @@ use Rattle.gateway_claim.specs.declared.event.UpMessage.TheVariants.{Request, Fr
 use Rattle.gateway_claim.specs.declared.event.Outcome.{Outcome}
 use Rattle.gateway_claim.specs.Closes.{close_byte}
 use Rattle.gateway_claim.specs.Happenings.{HistoryEntry, is_alive}
+use Rattle.run_status.specs.CauseTexts.{fault_text}
 use Rattle.gateway_replay.specs.declared.records.RecordKind.TheVariants as kind
 use Rattle.gateway_replay.specs.Records.{record_byte, record_text}
 
@@ -66,36 +62,7 @@ closed_records Nobody earlier = []
 closed_records (One conn why) earlier = close_record conn why
 closed_records All earlier = ends earlier
 
--- the text that tells why the connection to the server ended
-abbrev pub bad_name : BadKind → List ℕ
-bad_name bad.Head = codes "Head"
-bad_name bad.Control = codes "Control"
-bad_name bad.Start = codes "Start"
-bad_name bad.Colon = codes "Colon"
-bad_name bad.Name = codes "Name"
-bad_name bad.Many = codes "Many"
-bad_name bad.Length = codes "Length"
-bad_name bad.Body = codes "Body"
-
--- how a fault of a message is named
-abbrev pub framing_name : FramingFault → List ℕ
-framing_name (framing.Bad kind) = bad_name kind
-framing_name framing.Version = codes "Version"
-framing_name framing.Cseq = codes "Cseq"
-
--- how a cause is spelled
-abbrev pub fault_text : UpCause → List ℕ
-fault_text (cause.Framing fault) = codes "Framing " ++ framing_name fault
-fault_text (cause.UnknownReply number) = codes "UnknownReply " ++ decimal number
-fault_text (cause.BadGrant number) = codes "BadGrant " ++ decimal number
-fault_text (cause.SessionTaken number) = codes "SessionTaken " ++ decimal number
-fault_text cause.CseqSpent = codes "CseqSpent"
-fault_text cause.UpFull = codes "UpFull"
-fault_text cause.Ended = codes "Ended"
-fault_text cause.ReadFault = codes "ReadFault"
-fault_text cause.WriteFault = codes "WriteFault"
-
--- the record of a cause
+-- the record of why the connection to the server ended
 abbrev pub cause_record : UpCause → List ℕ
 cause_record cause = record_text (record_byte kind.Fault) 0 (fault_text cause)
 

@@ -12,8 +12,8 @@ use Rattle.gate_transcript.specs.declared.fault.BadEntryKind.TheVariants.{Magic,
 use Rattle.gate_transcript.specs.declared.reader.EntryReader.{EntryReader}
 use Rattle.gate_transcript.specs.Transcript.{reading}
 use Rattle.gate_transcript.specs.Reads.{ReadsSo, GivenWhole, StopsAt, MayGoOn}
-use Rattle.gateway_mux.specs.declared.status.Status.{Status}
-use Rattle.gateway_mux.specs.declared.status.Status.TheVariants.{Done, SourceFault, SinkFault, BadTranscript, TooLong, Memory}
+use Rattle.run_status.specs.declared.status.Status.{Status}
+use Rattle.run_status.specs.declared.status.Status.TheVariants.{Done, SourceFault, SinkFault, BadTranscript, TooLong, Memory}
 use Rattle.gateway_replay.specs.declared.streams.Streams.{Streams}
 use Rattle.gateway_replay.specs.declared.whole_replay.Stop.{Stop}
 use Rattle.gateway_replay.specs.declared.whole_replay.Stop.TheVariants as stop

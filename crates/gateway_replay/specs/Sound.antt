@@ -4,8 +4,8 @@ use Rattle.gate_outside.specs.Contents.{Grows}
 use Rattle.rtsp_uri.specs.declared.base.Bases.{Bases}
 use Rattle.gateway_claim.specs.Happenings.{HistoryEntry, happened}
 use Rattle.gate_transcript.specs.Transcript.{reading}
-use Rattle.gateway_mux.specs.declared.status.Status.{Status}
-use Rattle.gateway_mux.specs.declared.status.Status.TheVariants.{Done, Memory}
+use Rattle.run_status.specs.declared.status.Status.{Status}
+use Rattle.run_status.specs.declared.status.Status.TheVariants.{Done, Memory}
 use Rattle.gateway_replay.specs.Events.{events_of}
 use Rattle.gateway_replay.specs.Replays.{limit, IsAtEnd, EndsWithoutMemory}
 use Rattle.gateway_replay.specs.CoreRecords.{Histories}

@@ -3,8 +3,8 @@ use Rattle.gate_transcript.specs.declared.fault.EntryFault.{EntryFault}
 use Rattle.gate_transcript.specs.declared.fault.EntryFault.TheVariants as entry
 use Rattle.gateway_replay.specs.declared.core_records.ProcessFault.{ProcessFault}
 use Rattle.gateway_replay.specs.declared.core_records.ProcessFault.TheVariants as fault
-use Rattle.gateway_mux.specs.declared.status.Status.{Status}
-use Rattle.gateway_mux.specs.declared.status.Status.TheVariants as status
+use Rattle.run_status.specs.declared.status.Status.{Status}
+use Rattle.run_status.specs.declared.status.Status.TheVariants as status
 use Rattle.gateway_replay.specs.declared.whole_replay.Stop.{Stop}
 use Rattle.gateway_replay.specs.declared.whole_replay.Stop.TheVariants as stop
 

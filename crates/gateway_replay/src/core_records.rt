@@ -10,7 +10,7 @@ use crate::alive::Living;
 use crate::outcomes::write_outcome;
 use gate_bytes::Memory;
 use gate_outside::{Failed, Sink};
-use gateway_mux::{Core, Event};
+use gateway_claim::{Core, Event};
 use std::alloc::Global;
 
 /// Why an event was not processed whole.

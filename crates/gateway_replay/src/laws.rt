@@ -7,13 +7,13 @@ ghost use Rattle.gateway_claim.specs.Happenings.{HistoryEntry, happened};
 ghost use Rattle.gateway_claim.specs.Cores.{IsCoreHistory};
 ghost use Rattle.gateway_claim.specs.Follows.{IsHistory};
 ghost use Rattle.gateway_claim.specs.OnePlayer.{HasAll};
-ghost use Rattle.gateway_mux.specs.declared.status.Status.{Status};
+ghost use Rattle.run_status.specs.declared.status.Status.{Status};
 ghost use Rattle.gateway_replay.specs.Events.{events_of};
 ghost use Rattle.gateway_replay.specs.OneTranscript.{EntersAlone};
 ghost use Rattle.gateway_replay.specs.Replays.{ReplaySays, FaultRose};
 ghost use Rattle.gateway_replay.specs.Sound.{IsSoundTranscript, EndsSoundReplay};
 
-use gateway_mux::Core;
+use gateway_claim::Core;
 
 /// Where a transcript enters one connection, the history of what its entries tell is that
 /// connection's own, end to end. [`crate::replay`] writes the records of that history: so the bytes

@@ -1,7 +1,7 @@
 //! Replaying a transcript: its events are taken by a core, one after another, and what each of them hands out is written
 //! as records.
 //!
-//! Nothing of the core is known here but what the trait [`gateway_mux::Core`] says of every core.
+//! Nothing of the core is known here but what the trait [`gateway_claim::Core`] says of every core.
 #![tactic(auto)]
 
 mod alive;

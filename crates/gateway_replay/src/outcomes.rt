@@ -5,7 +5,7 @@ ghost use Rattle.gate_outside.specs.Contents.{WritesAll};
 ghost use Rattle.gateway_claim.specs.Happenings.{HistoryEntry};
 ghost use Rattle.gateway_claim.specs.Short.{IsShort, piece_length, message_length, up_length};
 ghost use Rattle.gateway_replay.specs.CoreRecords.{AreLiving, StayLiving};
-ghost use Rattle.gateway_replay.specs.RecordTexts.{bad_name, framing_name, piece_record, up_message_text, up_record, close_record, ends, closed_records, cause_record, fault_record, records_of};
+ghost use Rattle.gateway_replay.specs.RecordTexts.{piece_record, up_message_text, up_record, close_record, ends, closed_records, cause_record, fault_record, records_of};
 ghost use Rattle.gateway_replay.specs.declared.records.TheConstants.{FAULT_BYTE};
 ghost use Rattle.gateway_replay.specs.Records.{record_text};
 
@@ -13,9 +13,8 @@ use crate::alive::Living;
 use crate::records::{RecordKind, write_parted_record, write_record};
 use gate_bytes::Text;
 use gate_outside::{Failed, Sink};
-use gateway_claim::close_byte;
-use gateway_mux::{CloseWhy, Closed, FramingFault, Outcome, ToClient, ToUp, UpCause, UpMessage};
-use rtsp_head::BadKind;
+use gateway_claim::{CloseWhy, Closed, Outcome, ToClient, ToUp, UpCause, UpMessage, close_byte};
+use run_status::cause_text;
 
 /// Writes the records of an event's outcome. The connections that were alive before the event become those after it.
 pub fn write_outcome<K: Sink>(
@@ -143,55 +142,21 @@ fn write_cause<K: Sink>(sink: &mut K, cause: UpCause) -> Result<(), Failed>
     ensures bytes { WritesAll (K.written sink.old) (K.written sink.new) (cause_record cause) result }
     ensures cause { HasCause (K.faults sink.old) (K.faults sink.new) result }
 {
-    match cause {
-        UpCause::Framing(fault) => {
-            write_parted_record(sink, RecordKind::Fault, 0, b"Framing ", framing_name(fault))
-        }
-        UpCause::UnknownReply(number) => write_numbered(sink, b"UnknownReply ", number),
-        UpCause::BadGrant(number) => write_numbered(sink, b"BadGrant ", number),
-        UpCause::SessionTaken(number) => write_numbered(sink, b"SessionTaken ", number),
-        UpCause::CseqSpent => write_record(sink, RecordKind::Fault, 0, b"CseqSpent"),
-        UpCause::UpFull => write_record(sink, RecordKind::Fault, 0, b"UpFull"),
-        UpCause::Ended => write_record(sink, RecordKind::Fault, 0, b"Ended"),
-        UpCause::ReadFault => write_record(sink, RecordKind::Fault, 0, b"ReadFault"),
-        UpCause::WriteFault => write_record(sink, RecordKind::Fault, 0, b"WriteFault"),
+    let text = cause_text(cause);
+    let words = text.words.as_bytes();
+    match text.number {
+        Some(number) => write_numbered(sink, words, number),
+        None => write_record(sink, RecordKind::Fault, 0, words),
     }
 }
 
 /// Writes the record of a cause that has a number.
-fn write_numbered<K: Sink>(sink: &mut K, name: &[u8], number: u32) -> Result<(), Failed>
-    requires { length name.now < 2 ^ 31 }
-    ensures bytes { WritesAll (K.written sink.old) (K.written sink.new) (record_text FAULT_BYTE 0 (name.now ++ decimal number)) result }
+fn write_numbered<K: Sink>(sink: &mut K, words: &[u8], number: u32) -> Result<(), Failed>
+    requires { length words.now < 2 ^ 31 }
+    ensures bytes { WritesAll (K.written sink.old) (K.written sink.new) (record_text FAULT_BYTE 0 (words.now ++ decimal number)) result }
     ensures cause { HasCause (K.faults sink.old) (K.faults sink.new) result }
 {
     let mut buffer = itoa::Buffer::new();
     let digits = buffer.format(number).as_bytes();
-    write_parted_record(sink, RecordKind::Fault, 0, name, digits)
-}
-
-/// The name of what is wrong with an item of the server.
-fn framing_name(fault: FramingFault) -> &'static [u8]
-    ensures { result.now ≡ framing_name fault }
-{
-    match fault {
-        FramingFault::Bad(kind) => bad_name(kind),
-        FramingFault::Version => b"Version",
-        FramingFault::Cseq => b"Cseq",
-    }
-}
-
-/// The name of why an item can't be read.
-fn bad_name(kind: BadKind) -> &'static [u8]
-    ensures { result.now ≡ bad_name kind }
-{
-    match kind {
-        BadKind::Head => b"Head",
-        BadKind::Control => b"Control",
-        BadKind::Start => b"Start",
-        BadKind::Colon => b"Colon",
-        BadKind::Name => b"Name",
-        BadKind::Many => b"Many",
-        BadKind::Length => b"Length",
-        BadKind::Body => b"Body",
-    }
+    write_parted_record(sink, RecordKind::Fault, 0, words, digits)
 }

@@ -12,7 +12,7 @@ use crate::streams::{Speaker, Streams};
 use gate_bytes::Text;
 use gate_outside::Sink;
 use gate_transcript::{Entry, EntryKind, UpEndReason, end_reason_in};
-use gateway_mux::{Core, Event, UpWhy};
+use gateway_claim::{Core, Event, UpWhy};
 use rtsp_frame::{Framer, Item};
 use std::alloc::Global;
 

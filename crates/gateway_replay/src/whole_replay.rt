@@ -8,7 +8,7 @@ ghost use Rattle.gateway_claim.specs.Cores.{IsCoreHistory};
 ghost use Rattle.gate_transcript.specs.declared.entry.Entry.{Entry};
 ghost use Rattle.gate_transcript.specs.Transcript.{reading};
 ghost use Rattle.gate_transcript.specs.Reads.{ReadsSo, GivenWhole};
-ghost use Rattle.gateway_mux.specs.declared.status.Status.TheVariants.{BadTranscript};
+ghost use Rattle.run_status.specs.declared.status.Status.TheVariants.{BadTranscript};
 ghost use Rattle.gateway_replay.specs.CoreRecords.{Watches};
 ghost use Rattle.gateway_replay.specs.Replays.{ReplayedSoFar, SomeSoFar, Processed, StopCause, ReplaySays, FaultRose, TakesWithin, TellsMore, ends_by, limit};
 
@@ -17,7 +17,8 @@ use crate::run::Run;
 use gate_bytes::before;
 use gate_outside::{Failed, Sink, Source};
 use gate_transcript::{BadEntry, EntryFault, EntryReader};
-use gateway_mux::{Core, Status};
+use gateway_claim::Core;
+use run_status::Status;
 use std::alloc::{AllocError, Global};
 
 /// The longest transcript that is replayed, in bytes.

@@ -13,8 +13,8 @@ use Rattle.gateway_claim.specs.declared.event.UpCause.{UpCause}
 use Rattle.gateway_claim.specs.declared.event.UpCause.TheVariants as causes
 use Rattle.gateway_claim.specs.Happenings.{HistoryEntry}
 use Rattle.gateway_claim.specs.Cores.{IsCoreHistory}
-use Rattle.gateway_mux.specs.declared.status.Status.{Status}
-use Rattle.gateway_mux.specs.declared.status.Status.TheVariants.{Done, Usage, SourceFault, SinkFault, BadTranscript, Upstream, ListenFault, RecordFault, CrewRefused, Memory, TooLong, AcceptFault, DialFault, NumbersSpent}
+use Rattle.run_status.specs.declared.status.Status.{Status}
+use Rattle.run_status.specs.declared.status.Status.TheVariants.{Done, Usage, SourceFault, SinkFault, BadTranscript, Upstream, ListenFault, RecordFault, CrewRefused, Memory, TooLong, AcceptFault, DialFault, NumbersSpent}
 use Rattle.gateway_hub.specs.declared.desk.Desk.{Desk}
 use Rattle.gateway_hub.specs.declared.receipts.Receipts.{Receipts}
 use Rattle.hub_queues.specs.declared.ending.Ending.{Ending}

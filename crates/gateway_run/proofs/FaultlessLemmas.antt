@@ -10,8 +10,8 @@ use Rattle.serve_world.specs.declared.tally.WorldTally.{WorldTally}
 use Rattle.gateway_claim.specs.declared.event.UpCause.{UpCause}
 use Rattle.gateway_claim.specs.declared.event.UpCause.TheVariants as causes
 use Rattle.gateway_claim.specs.Happenings.{HistoryEntry, fault_in}
-use Rattle.gateway_mux.specs.declared.status.Status.{Status}
-use Rattle.gateway_mux.specs.declared.status.Status.TheVariants.{Done, Usage, SourceFault, SinkFault, BadTranscript, Upstream, ListenFault, RecordFault, CrewRefused, Memory, TooLong, AcceptFault, DialFault, NumbersSpent}
+use Rattle.run_status.specs.declared.status.Status.{Status}
+use Rattle.run_status.specs.declared.status.Status.TheVariants.{Done, Usage, SourceFault, SinkFault, BadTranscript, Upstream, ListenFault, RecordFault, CrewRefused, Memory, TooLong, AcceptFault, DialFault, NumbersSpent}
 use Rattle.hub_queues.specs.declared.limits.TheConstants.{MOST_CONNECTIONS}
 use Rattle.run_report.specs.Report.{report_text}
 use Rattle.gateway_run.specs.WholeRun.{LinkShows, HasShown, WroteReport, RanTo, FailsToOpen, ServeSays}

@@ -8,8 +8,8 @@ use Rattle.serve_world.specs.declared.tally.WorldTally.{WorldTally}
 use Rattle.gateway_claim.specs.declared.event.UpCause.{UpCause}
 use Rattle.gateway_claim.specs.declared.event.UpCause.TheVariants as causes
 use Rattle.gateway_claim.specs.Happenings.{HistoryEntry}
-use Rattle.gateway_mux.specs.declared.status.Status.{Status}
-use Rattle.gateway_mux.specs.declared.status.Status.TheVariants.{Done, Upstream, NumbersSpent, Memory}
+use Rattle.run_status.specs.declared.status.Status.{Status}
+use Rattle.run_status.specs.declared.status.Status.TheVariants.{Done, Upstream, NumbersSpent, Memory}
 use Rattle.run_report.specs.Report.{report_text}
 use Rattle.gateway_run.specs.WholeRun.{RanTo}
 

@@ -11,8 +11,8 @@ use Rattle.gateway_claim.specs.declared.event.UpCause.{UpCause}
 use Rattle.gateway_claim.specs.declared.event.UpCause.TheVariants as causes
 use Rattle.gateway_claim.specs.Happenings.{HistoryEntry, fault_in}
 use Rattle.gateway_claim.specs.Cores.{IsCoreHistory}
-use Rattle.gateway_mux.specs.declared.status.Status.{Status}
-use Rattle.gateway_mux.specs.declared.status.Status.TheVariants.{Done, SinkFault, Upstream, ListenFault, RecordFault, CrewRefused, Memory, AcceptFault, DialFault, NumbersSpent}
+use Rattle.run_status.specs.declared.status.Status.{Status}
+use Rattle.run_status.specs.declared.status.Status.TheVariants.{Done, SinkFault, Upstream, ListenFault, RecordFault, CrewRefused, Memory, AcceptFault, DialFault, NumbersSpent}
 use Rattle.gateway_hub.specs.declared.desk.Desk.{Desk}
 use Rattle.hub_queues.specs.declared.ending.Ending.{Ending}
 use Rattle.hub_queues.specs.declared.ending.Ending.TheVariants as endings

@@ -2,8 +2,8 @@
 ghost use denote.Param.Send.{IsSend, IsSync};
 
 use gate_outside::{Door, Inlet, Outlet};
+use gateway_claim::Core;
 use gateway_hub::{Recorder, StopWhy};
-use gateway_mux::Core;
 use hub_workers::Common;
 use player_stations::{StationPost, work_stations};
 use serve_world::{NotBegun, ThreadRefusal, beside};

@@ -5,14 +5,14 @@ ghost use Rattle.rtsp_uri.specs.declared.base.Bases.{Bases};
 ghost use Rattle.gate_transcript.specs.declared.entry.Entry.{Entry as Noted};
 ghost use Rattle.serve_world.specs.declared.tally.WorldTally.{WorldTally};
 ghost use Rattle.gateway_claim.specs.Happenings.{fault_in};
-ghost use Rattle.gateway_mux.specs.declared.status.Status.{Status};
-ghost use Rattle.gateway_mux.specs.declared.status.Status.TheVariants.{Done, Memory};
+ghost use Rattle.run_status.specs.declared.status.Status.{Status};
+ghost use Rattle.run_status.specs.declared.status.Status.TheVariants.{Done, Memory};
 ghost use Rattle.hub_queues.specs.declared.limits.TheConstants.{MOST_CONNECTIONS};
 ghost use Rattle.run_report.specs.Report.{report_text};
 ghost use Rattle.gateway_run.specs.WholeRun.{ServeSays, HasShown, RanTo};
 ghost use Rattle.gateway_run.specs.FaultlessRun.{NothingFailed, EndsUnhindered};
 
-use gateway_mux::Core;
+use gateway_claim::Core;
 
 /// A run in which nothing outside failed ends with `Done`, all connections being over; with the
 /// server's connection, for a cause that its history has and that is no fault of the link; with all

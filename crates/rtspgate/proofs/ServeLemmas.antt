@@ -2,8 +2,8 @@
 use Rattle.std.proofs.Common.{◌≡◌, ℕ, Bool, true, false, List, Option, None, Some, Result, Ok, Err, inl, inr, refl, sym, subst, ◌∙◌, ap}
 use Rattle.gate_transcript.specs.declared.entry.Entry.{Entry as Noted}
 use Rattle.serve_world.specs.declared.tally.WorldTally.{WorldTally}
-use Rattle.gateway_mux.specs.declared.status.Status.{Status}
-use Rattle.gateway_mux.specs.declared.status.Status.TheVariants.{Done, Usage, SourceFault, SinkFault, BadTranscript, TooLong, Memory, Upstream, ListenFault, RecordFault, CrewRefused, AcceptFault, DialFault, NumbersSpent}
+use Rattle.run_status.specs.declared.status.Status.{Status}
+use Rattle.run_status.specs.declared.status.Status.TheVariants.{Done, Usage, SourceFault, SinkFault, BadTranscript, TooLong, Memory, Upstream, ListenFault, RecordFault, CrewRefused, AcceptFault, DialFault, NumbersSpent}
 use Rattle.command_line.specs.declared.words.Command.{Command}
 use Rattle.command_line.specs.declared.words.Command.TheVariants.{Replay, Drill, Serve}
 use Rattle.command_line.specs.declared.options.ServeOptions.{ServeOptions}

@@ -1,8 +1,8 @@
 -- What the top call says, by the words that it was called with (this project's own).
 use Rattle.std.specs.Prelude.{◌≡◌, ℕ, List, Option, ◌⊎◌}
 use Rattle.gateway_claim.specs.Follows.{IsHistory}
-use Rattle.gateway_mux.specs.declared.status.Status.{Status}
-use Rattle.gateway_mux.specs.declared.status.Status.TheVariants.{Done, Usage, SourceFault, SinkFault, BadTranscript, TooLong, Memory}
+use Rattle.run_status.specs.declared.status.Status.{Status}
+use Rattle.run_status.specs.declared.status.Status.TheVariants.{Done, Usage, SourceFault, SinkFault, BadTranscript, TooLong, Memory}
 use Rattle.gateway_replay.specs.Replays.{ReplaySays}
 use Rattle.drill_run.specs.Reports.{DrillSays, IsDrilledHistory}
 use Rattle.command_line.specs.declared.words.Command.{Command}

@@ -3,8 +3,8 @@ use Rattle.std.specs.Prelude.{◌≡◌, ℕ, List, Option, ◌⊎◌}
 use Rattle.gate_transcript.specs.declared.entry.Entry.{Entry as Noted}
 use Rattle.serve_world.specs.declared.tally.WorldTally.{WorldTally}
 use Rattle.gateway_claim.specs.Follows.{Follows}
-use Rattle.gateway_mux.specs.declared.status.Status.{Status}
-use Rattle.gateway_mux.specs.declared.status.Status.TheVariants.{Usage, Memory}
+use Rattle.run_status.specs.declared.status.Status.{Status}
+use Rattle.run_status.specs.declared.status.Status.TheVariants.{Usage, Memory}
 use Rattle.command_line.specs.declared.options.ServeOptions.{ServeOptions}
 use Rattle.command_line.specs.Words.{NamesServe}
 use Rattle.gateway_run.specs.WholeRun.{ServeSays, HasShown, OpensOnce, HasLeftNone}

@@ -1,8 +1,8 @@
 -- The answer to words that are refused (this project's own).
 use Rattle.command_line.specs.declared.kinds.WordsFault.{WordsFault}
 use Rattle.command_line.specs.declared.kinds.WordsFault.TheVariants as word
-use Rattle.gateway_mux.specs.declared.status.Status.{Status}
-use Rattle.gateway_mux.specs.declared.status.Status.TheVariants as status
+use Rattle.run_status.specs.declared.status.Status.{Status}
+use Rattle.run_status.specs.declared.status.Status.TheVariants as status
 
 -- how a run ends whose words are refused
 abbrev pub status_of_words : WordsFault → Status

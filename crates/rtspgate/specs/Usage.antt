@@ -1,7 +1,7 @@
 -- How a refusal of words is told (this project's own).
 use Rattle.std.specs.Prelude.{◌≡◌, ℕ, Bool, true, false, List, Option, Some, None, ◌⊎◌}
-use Rattle.gateway_mux.specs.declared.status.Status.{Status}
-use Rattle.gateway_mux.specs.declared.status.Status.TheVariants.{Usage, Memory, SinkFault}
+use Rattle.run_status.specs.declared.status.Status.{Status}
+use Rattle.run_status.specs.declared.status.Status.TheVariants.{Usage, Memory, SinkFault}
 use Rattle.command_line.specs.Words.{asks_to_serve, word_fault}
 
 -- the place of a refusal; and the first place where there is none, but players are to be served

@@ -1,9 +1,9 @@
 //! The end of a run whose sink holds records back.
 ghost use Rattle.std.specs.Prelude.{◌≡◌, OnOk, OnErr};
-ghost use Rattle.gateway_mux.specs.declared.status.Status.TheVariants as status;
+ghost use Rattle.run_status.specs.declared.status.Status.TheVariants as status;
 
 use gate_outside::Failed;
-use gateway_mux::Status;
+use run_status::Status;
 
 /// The status of a run whose sink was flushed last. A flush that fails stands before every other answer, since the records
 /// that the other answer speaks of may be missing.

@@ -1,6 +1,6 @@
 //! The top call: all that the program does, over any source, sink and world.
 ghost use Rattle.std.specs.Prelude.{◌≡◌, ◌≤◌, ◌+◌, true, false, Some, map, string_bytes};
-ghost use Rattle.gateway_mux.specs.declared.status.Status.TheVariants as ends;
+ghost use Rattle.run_status.specs.declared.status.Status.TheVariants as ends;
 ghost use Rattle.command_line.specs.Words.{asks_to_serve, word_fault};
 ghost use Rattle.rtspgate.specs.Usage.{TellsUsage};
 ghost use Rattle.rtspgate.specs.Commands.{PlainSays};
@@ -11,7 +11,7 @@ use crate::plain::plain;
 use crate::serve::serve_words;
 use command_line::asks_to_serve;
 use gate_outside::{Sink, Source};
-use gateway_mux::Status;
+use run_status::Status;
 use serve_world::World;
 use std::alloc::Global;
 use std::sync::Wait;

@@ -14,7 +14,7 @@ use command_line::{
     Argument, Form, LONGEST_NAME, command_help, given_for, program_help, program_version,
     refusal_line, usage_for,
 };
-use gateway_mux::Status;
+use run_status::Status;
 use serve_world_tcp::TcpWorld;
 use std::alloc::AllocError;
 use std::env::{Env, FillError};

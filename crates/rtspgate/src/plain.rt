@@ -1,6 +1,6 @@
 //! The top call, over any source and sink: it reads the words of the command line and runs the command that they name.
 ghost use Rattle.std.specs.Prelude.{◌≡◌, ◌≤◌, ◌+◌, Some, map, string_bytes};
-ghost use Rattle.gateway_mux.specs.declared.status.Status.TheVariants as ends;
+ghost use Rattle.run_status.specs.declared.status.Status.TheVariants as ends;
 ghost use Rattle.command_line.specs.Words.{word_fault};
 ghost use Rattle.rtspgate.specs.Usage.{plain_fault, TellsUsage};
 ghost use Rattle.rtspgate.specs.Stops.{status_of_words};
@@ -12,8 +12,10 @@ use command_line::{Command, WordsFault, read_words};
 use drill_run::drill;
 use gate_bytes::Memory;
 use gate_outside::{Sink, Source};
-use gateway_mux::{Bases, Mux, Status};
+use gateway_mux::Mux;
 use gateway_replay::replay;
+use rtsp_uri::Bases;
+use run_status::Status;
 use std::alloc::Global;
 
 /// Runs the command that these words, without the program's name, ask for. It uses no lock, channel or thread, so it refuses

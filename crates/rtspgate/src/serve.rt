@@ -1,6 +1,6 @@
 //! The command that serves players.
 ghost use Rattle.std.specs.Prelude.{◌≡◌, ◌≤◌, true, [], IfOk, map, string_bytes};
-ghost use Rattle.gateway_mux.specs.declared.status.Status.TheVariants as ends;
+ghost use Rattle.run_status.specs.declared.status.Status.TheVariants as ends;
 ghost use Rattle.gateway_mux.specs.Stands.{Stands, bases_of};
 ghost use Rattle.command_line.specs.Words.{asks_to_serve, word_fault};
 ghost use Rattle.rtsp_uri.specs.Bases.{AreSameAddresses};
@@ -11,8 +11,10 @@ use crate::plain::refusal;
 use command_line::{Command, ServeOptions, read_words};
 use gate_bytes::Memory;
 use gate_outside::Sink;
-use gateway_mux::{Bases, Mux, Status};
+use gateway_mux::Mux;
 use gateway_run::serve;
+use rtsp_uri::Bases;
+use run_status::Status;
 use serve_world::World;
 use std::alloc::Global;
 use std::sync::Wait;

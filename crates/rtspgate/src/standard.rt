@@ -7,7 +7,7 @@ ghost use Rattle.rtspgate.specs.Usage.{TellsUsageAfterFlush};
 use crate::flush::after_flush;
 use crate::gateway::gateway;
 use gate_outside::{Failed, Sink, Source};
-use gateway_mux::Status;
+use run_status::Status;
 use serve_world::World;
 use std::alloc::Global;
 use std::io::{BufWriter, Read, Write};

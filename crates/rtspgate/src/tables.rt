@@ -4,8 +4,8 @@
 use channel_map::PAIRS;
 use command_line::{Form, MOST_STATIONS};
 use gate_transcript::BadEntryKind;
+use gateway_claim::UpCause;
 use gateway_links::MOST_HELD;
-use gateway_mux::{Status, UpCause};
 use gateway_replay::LONGEST_TRANSCRIPT;
 use hub_queues::{
     INWARD_CAPACITY, MOST_CONNECTIONS, OUTWARD_CAPACITY, SERVER_CAPACITY, SERVER_INWARD_CAPACITY,
@@ -13,6 +13,7 @@ use hub_queues::{
 use play_queue::MOST_PLAYS;
 use rtsp_head::{MOST_BODY, MOST_HEAD, MOST_HEADERS};
 use rtsp_small::LAST_CSEQ_TWO;
+use run_status::Status;
 use serve_world_tcp::QUEUE_BYTES;
 use session_one::MOST_TRACKS;
 use std::alloc::{AllocError, Global};

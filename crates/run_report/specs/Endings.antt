@@ -2,8 +2,8 @@
 use Rattle.std.specs.Prelude.{◌≡◌, ◌&&◌, Bool, true, false, Option, Some, None}
 use Rattle.gateway_claim.specs.declared.event.UpCause.{UpCause}
 use Rattle.gateway_claim.specs.declared.event.UpCause.TheVariants as causes
-use Rattle.gateway_mux.specs.declared.status.Status.{Status}
-use Rattle.gateway_mux.specs.declared.status.Status.TheVariants.{Done, SinkFault, Upstream, RecordFault, CrewRefused, Memory, AcceptFault, NumbersSpent}
+use Rattle.run_status.specs.declared.status.Status.{Status}
+use Rattle.run_status.specs.declared.status.Status.TheVariants.{Done, SinkFault, Upstream, RecordFault, CrewRefused, Memory, AcceptFault, NumbersSpent}
 use Rattle.hub_queues.specs.declared.ending.Ending.{Ending}
 use Rattle.hub_queues.specs.declared.ending.Ending.TheVariants as endings
 use Rattle.hub_queues.specs.declared.ending.StopWhy.TheVariants as stops

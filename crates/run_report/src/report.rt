@@ -8,9 +8,8 @@ ghost use Rattle.gateway_claim.specs.Closes.{close_byte};
 ghost use Rattle.run_report.specs.Report.{name_and_number, came_text, went_text, receipt_line, receipt_line_in, lines_below, report_text};
 
 use gate_outside::{Failed, Sink, write_all};
-use gateway_claim::close_byte;
+use gateway_claim::{CloseWhy, close_byte};
 use gateway_hub::{Receipt, Receipts};
-use gateway_mux::CloseWhy;
 
 /// Writes the report: a line for each connection that entered, by rising number, and how often the server was dialled. It
 /// takes no memory.

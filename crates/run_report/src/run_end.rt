@@ -1,12 +1,13 @@
 //! How a run ended, by what is left of it.
 ghost use Rattle.std.specs.Prelude.{◌≡◌, true, is_some, IfSome, OnOk, OnErr};
-ghost use Rattle.gateway_mux.specs.declared.status.Status.TheVariants as statuses;
+ghost use Rattle.run_status.specs.declared.status.Status.TheVariants as statuses;
 ghost use Rattle.run_report.specs.Endings.{GoesWith, is_shown, met_by, unrecorded, unreported};
 
 use crate::up_run::UpRun;
 use gate_outside::Failed;
+use gateway_claim::UpCause;
 use gateway_hub::{Ending, StopWhy};
-use gateway_mux::{Status, UpCause};
+use run_status::Status;
 
 /// What is left of a run tells this once all its workers have ended.
 #[derive(Clone, Copy, Debug, PartialEq, Eq)]

@@ -7,8 +7,8 @@ use client_ports::{Putter, Taker};
 use gate_outside::{Numbers, Script};
 use gate_transcript::MemoryRecorder;
 use gateway_hub::{Entered, Hub};
-use gateway_mux::{Base, Bases, Mux};
-use rtsp_uri::read_base;
+use gateway_mux::Mux;
+use rtsp_uri::{Base, Bases, read_base};
 use std::alloc::Global;
 use test_text::CaseFault;
 

@@ -3,8 +3,10 @@
 use crate::gateway::with_two_players;
 use crate::items::item_in;
 use crate::outcomes::tell_outcome;
-use gateway_mux::{Event, Mux, Status, UpCause, UpWhy};
+use gateway_claim::{Event, UpCause, UpWhy};
+use gateway_mux::Mux;
 use rtsp_frame::Framer;
+use run_status::Status;
 use std::alloc::Global;
 use std::str;
 use test_text::{CaseAnswer, CaseFault, first_number, first_word, meant};

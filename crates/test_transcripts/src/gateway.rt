@@ -4,8 +4,8 @@ ghost use Rattle.gateway_claim.specs.Happenings.{entering};
 ghost use Rattle.gateway_mux.specs.Stands.{Stands};
 
 use gate_bytes::Memory;
-use gateway_mux::{Base, Bases, Mux};
-use rtsp_uri::read_base;
+use gateway_mux::Mux;
+use rtsp_uri::{Base, Bases, read_base};
 use std::alloc::Global;
 
 /// The two addresses of all cases.

@@ -1,8 +1,8 @@
 //! What an event hands out.
 
 use gate_bytes::Text;
-use gateway_claim::close_byte;
-use gateway_mux::{Closed, Outcome, Status, ToClient, UpCause, UpMessage};
+use gateway_claim::{Closed, Outcome, ToClient, UpCause, UpMessage, close_byte};
+use run_status::Status;
 use std::alloc::Global;
 use test_text::CaseAnswer;
 

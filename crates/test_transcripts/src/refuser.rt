@@ -7,8 +7,9 @@ ghost use Rattle.gateway_claim.specs.Orderly.{closing_all};
 ghost use Rattle.test_transcripts.specs.Refuser.{refused_text, handing, closed_if, item_refused, refusing, text_for, text_planned, StandsRefusing};
 
 use gate_bytes::{Memory, Text};
-use gateway_mux::{Bases, CloseWhy, Closed, Core, Event, Outcome, ToClient, ToUp, UpCause, UpWhy};
+use gateway_claim::{CloseWhy, Closed, Core, Event, Outcome, ToClient, ToUp, UpCause, UpWhy};
 use rtsp_head::ItemKind;
+use rtsp_uri::Bases;
 use std::alloc::Global;
 use std::collections::HashSet;
 

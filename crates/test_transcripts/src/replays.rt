@@ -6,8 +6,8 @@ use crate::refuser::Refuser;
 use crate::target::number_in;
 use gate_bytes::{Memory, Text};
 use gate_outside::{MemorySink, MemorySource, Numbers, Script};
-use gateway_mux::Status;
 use gateway_replay::replay;
+use run_status::Status;
 use std::alloc::Global;
 use test_text::{CaseAnswer, CaseFault, first_word};
 

@@ -1,8 +1,9 @@
 //! How a run ended, and how that is told.
 
 use gate_transcript::BadEntryKind;
-use gateway_mux::{FramingFault, Status, UpCause};
+use gateway_claim::{FramingFault, UpCause};
 use rtsp_head::BadKind;
+use run_status::Status;
 use std::alloc::Global;
 use test_text::CaseAnswer;
 

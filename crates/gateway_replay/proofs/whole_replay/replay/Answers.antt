@@ -3,7 +3,7 @@ use Rattle.std.proofs.Math.Nat.{le_refl}
 use Rattle.gate_outside.specs.Contents.{ReadsOk}
 use Rattle.gateway_claim.specs.Cores.{IsCoreHistory}
 use Rattle.gate_transcript.specs.Transcript.{reading}
-use Rattle.gateway_mux.specs.declared.status.Status.{Status}
+use Rattle.run_status.specs.declared.status.Status.{Status}
 use Rattle.gateway_replay.specs.CoreRecords.{Watches}
 use Rattle.gateway_replay.proofs.WatchLemmas.{watch_sound}
 use Rattle.gateway_replay.specs.Replays.{Processed, ReplaySays, FaultRose, IsReplaying}

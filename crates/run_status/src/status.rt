@@ -1,7 +1,8 @@
 //! How a run of a gateway ends: the status, its exit status and its fault line.
 
+use crate::cause::cause_text;
 use gate_transcript::BadEntryKind;
-use gateway_claim::{FramingFault, UpCause};
+use gateway_claim::UpCause;
 use std::fmt;
 
 /// How a run ended.
@@ -39,9 +40,9 @@ pub enum Status {
 
 impl Status {
     ghost use Rattle.std.specs.Prelude.{◌≡◌};
-    ghost use Rattle.gateway_mux.specs.ExitCodes.{exit_code};
+    ghost use Rattle.run_status.specs.ExitCodes.{exit_code};
 
-    /// The exit status of the program.
+    /// The exit status of the program (this project's own).
     pub fn exit_code(self) -> u8
         ensures { result ≡ exit_code self }
     {
@@ -76,7 +77,7 @@ impl fmt::Display for Status {
                 f,
                 "bad transcript at {place}: {kind:?}"
             ),
-            Status::Upstream { cause } => write!(f, "upstream: {}", CauseText(*cause)),
+            Status::Upstream { cause } => write!(f, "upstream: {}", cause_text(*cause)),
             Status::ListenFault => write!(f, "listen failed"),
             Status::RecordFault => write!(f, "record failed"),
             Status::CrewRefused => write!(f, "no crew"),
@@ -85,23 +86,6 @@ impl fmt::Display for Status {
             Status::AcceptFault => write!(f, "accept failed"),
             Status::DialFault => write!(f, "dial failed"),
             Status::NumbersSpent => write!(f, "connection numbers spent"),
-        }
-    }
-}
-
-// The text of a cause, as the record of a fault has it.
-#[derive(Clone, Copy)]
-struct CauseText(UpCause);
-
-impl fmt::Display for CauseText {
-    fn fmt<W: fmt::Write>(&self, f: &mut fmt::Formatter<W>) -> fmt::Result {
-        match self.0 {
-            UpCause::Framing(FramingFault::Bad(kind)) => write!(f, "Framing {kind:?}"),
-            UpCause::Framing(fault) => write!(f, "Framing {fault:?}"),
-            UpCause::UnknownReply(number) => write!(f, "UnknownReply {number}"),
-            UpCause::BadGrant(number) => write!(f, "BadGrant {number}"),
-            UpCause::SessionTaken(number) => write!(f, "SessionTaken {number}"),
-            cause => write!(f, "{cause:?}"),
         }
     }
 }
