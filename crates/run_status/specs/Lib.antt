@@ -1,2 +1,3 @@
 pub mod ExitCodes
 pub mod CauseTexts
+pub mod FaultLines

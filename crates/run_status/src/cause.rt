@@ -90,6 +90,8 @@ fn bad_words(kind: BadKind) -> &'static str
 
 // The words, and the number in decimal digits.
 impl fmt::Display for CauseText {
+    ghost output = { λ text. Some (text.words.now ++ number_text text.number) };
+
     fn fmt<W: fmt::Write>(&self, f: &mut fmt::Formatter<W>) -> fmt::Result {
         match self.number {
             Some(number) => write!(f, "{}{number}", self.words),

@@ -1,4 +1,6 @@
 //! How a run of a gateway ends: the status, its exit status and its fault line.
+ghost use Rattle.std.specs.Prelude.{◌≡◌};
+ghost use Rattle.run_status.specs.FaultLines.{entry_fault_name};
 
 use crate::cause::cause_text;
 use gate_transcript::BadEntryKind;
@@ -67,17 +69,25 @@ impl Status {
 
 // The fault line of a run, without the program's name; nothing for Done.
 impl fmt::Display for Status {
+    ghost use Rattle.std.specs.Prelude.{Some};
+    ghost use Rattle.run_status.specs.FaultLines.{fault_line};
+
+    ghost output = { λ status. Some (fault_line status) };
+
     fn fmt<W: fmt::Write>(&self, f: &mut fmt::Formatter<W>) -> fmt::Result {
         match self {
             Status::Done => Ok(()),
             Status::Usage { place } => write!(f, "usage: word {place}"),
             Status::SourceFault => write!(f, "source failed"),
             Status::SinkFault => write!(f, "sink failed"),
-            Status::BadTranscript { place, kind } => write!(
-                f,
-                "bad transcript at {place}: {kind:?}"
-            ),
-            Status::Upstream { cause } => write!(f, "upstream: {}", cause_text(*cause)),
+            Status::BadTranscript { place, kind } => {
+                let fault = entry_fault_name(*kind);
+                write!(f, "bad transcript at {place}: {fault}")
+            }
+            Status::Upstream { cause } => {
+                let text = cause_text(*cause);
+                write!(f, "upstream: {text}")
+            }
             Status::ListenFault => write!(f, "listen failed"),
             Status::RecordFault => write!(f, "record failed"),
             Status::CrewRefused => write!(f, "no crew"),
@@ -87,5 +97,18 @@ impl fmt::Display for Status {
             Status::DialFault => write!(f, "dial failed"),
             Status::NumbersSpent => write!(f, "connection numbers spent"),
         }
+    }
+}
+
+// The name of why bytes are no transcript.
+fn entry_fault_name(kind: BadEntryKind) -> &'static str
+    ensures { result.now ≡ entry_fault_name kind }
+{
+    match kind {
+        BadEntryKind::Magic => "Magic",
+        BadEntryKind::Kind => "Kind",
+        BadEntryKind::Conn => "Conn",
+        BadEntryKind::Length => "Length",
+        BadEntryKind::Cut => "Cut",
     }
 }
