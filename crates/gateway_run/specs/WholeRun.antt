@@ -1,5 +1,5 @@
 -- What is said of a whole run over real links (this project's own).
-use Rattle.std.specs.Prelude.{◌≡◌, ℕ, ◌<◌, ◌≤◌, ◌⊎◌, ◌&&◌, Bool, true, false, List, length, Option, Some, None}
+use Rattle.std.specs.Prelude.{◌≡◌, ℕ, ◌<◌, ◌≤◌, ◌⊎◌, Bool, true, false, List, length, Option, Some, None}
 use Rattle.gate_outside.specs.Causes.{Rose, counted_on}
 use Rattle.gate_outside.specs.Contents.{Grows, GrowsByFront}
 use Rattle.rtsp_uri.specs.declared.base.Bases.{Bases}
@@ -14,9 +14,6 @@ use Rattle.gateway_claim.specs.Cores.{IsCoreHistory}
 use Rattle.run_status.specs.declared.status.Status.{Status}
 use Rattle.run_status.specs.declared.status.Status.TheVariants.{Done, SinkFault, Upstream, ListenFault, RecordFault, CrewRefused, Memory, AcceptFault, DialFault, NumbersSpent}
 use Rattle.gateway_hub.specs.declared.desk.Desk.{Desk}
-use Rattle.hub_queues.specs.declared.ending.Ending.{Ending}
-use Rattle.hub_queues.specs.declared.ending.Ending.TheVariants as endings
-use Rattle.hub_queues.specs.declared.ending.StopWhy.TheVariants as stops
 use Rattle.hub_queues.specs.declared.limits.TheConstants.{MOST_CONNECTIONS}
 use Rattle.gateway_hub.specs.declared.receipts.Receipts.{Receipts}
 use Rattle.gateway_hub.specs.Close.{AreOver}
