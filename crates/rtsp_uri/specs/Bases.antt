@@ -15,6 +15,7 @@ pub record IsSameAddress (one other : Base) : Type 0 where
   pub host : one.host ≡ other.host
   pub port : one.port ≡ other.port
 
+-- both addresses are the same
 pub record AreSameAddresses (one other : Bases) : Type 0 where
   pub front : IsSameAddress one.front other.front
   pub up : IsSameAddress one.up other.up

@@ -7,7 +7,7 @@ use Rattle.gateway_claim.specs.declared.event.FramingFault.TheVariants as framin
 use Rattle.gateway_claim.specs.declared.event.UpCause.{UpCause}
 use Rattle.gateway_claim.specs.declared.event.UpCause.TheVariants as cause
 
--- why an item can't be read
+-- the name of why an item can't be read
 abbrev pub bad_name : BadKind → List ℕ
 bad_name bad.Head = codes "Head"
 bad_name bad.Control = codes "Control"
@@ -18,13 +18,13 @@ bad_name bad.Many = codes "Many"
 bad_name bad.Length = codes "Length"
 bad_name bad.Body = codes "Body"
 
--- why an item of the server can't be taken
+-- the name of why an item of the server can't be taken
 abbrev pub framing_name : FramingFault → List ℕ
 framing_name (framing.Bad kind) = bad_name kind
 framing_name framing.Version = codes "Version"
 framing_name framing.Cseq = codes "Cseq"
 
--- why the connection to the server ended
+-- how a cause is spelled: the body of the record of a fault, and the end of a fault line
 abbrev pub fault_text : UpCause → List ℕ
 fault_text (cause.Framing fault) = codes "Framing " ++ framing_name fault
 fault_text (cause.UnknownReply number) = codes "UnknownReply " ++ decimal number

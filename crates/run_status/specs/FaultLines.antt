@@ -6,7 +6,7 @@ use Rattle.run_status.specs.declared.status.Status.{Status}
 use Rattle.run_status.specs.declared.status.Status.TheVariants.{Done, Usage, SourceFault, SinkFault, BadTranscript, Upstream, ListenFault, RecordFault, CrewRefused, Memory, TooLong, AcceptFault, DialFault, NumbersSpent}
 use Rattle.run_status.specs.CauseTexts.{fault_text}
 
--- why bytes are no transcript
+-- the name of why bytes are no transcript
 abbrev pub entry_fault_name : BadEntryKind → List ℕ
 entry_fault_name entry.Magic = codes "Magic"
 entry_fault_name entry.Kind = codes "Kind"
@@ -14,7 +14,7 @@ entry_fault_name entry.Conn = codes "Conn"
 entry_fault_name entry.Length = codes "Length"
 entry_fault_name entry.Cut = codes "Cut"
 
--- the fault line; Done has none
+-- the fault line of each end; Done has none
 abbrev pub fault_line : Status → List ℕ
 fault_line Done = []
 fault_line (Usage place) = codes "usage: word " ++ decimal place

@@ -100,7 +100,7 @@ impl fmt::Display for Status {
     }
 }
 
-// The name of why bytes are no transcript.
+/// The name of why bytes are no transcript.
 fn entry_fault_name(kind: BadEntryKind) -> &'static str
     ensures { result.now ≡ entry_fault_name kind }
 {
