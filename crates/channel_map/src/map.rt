@@ -94,7 +94,12 @@ impl ChannelMap {
     pub fn reserve(&mut self, conn: u32) -> Option<u8>
         ensures lowest { result ≡ lowest_free (λ p. is_free (held_at p self.old)) }
         ensures full { IsNone result ↔ (held_count self.old ≡ PAIRS) }
-        ensures reserved { IfSome result (λ pair. (p : ℕ) → held_at p self.new ≡ (if p == pair then Some (record { conn = conn; pair = pair; granted = false }) else held_at p self.old)) }
+        ensures reserved { IfSome result (λ pair.
+            (p : ℕ)
+            → held_at p self.new
+            ≡ (if p == pair
+            then Some (record { conn = conn; pair = pair; granted = false })
+            else held_at p self.old)) }
         ensures none { IfNone result (self.new ≡ self.old) }
     {
         let pair = self.free_after(Freed::Nothing)?;
@@ -119,7 +124,9 @@ impl ChannelMap {
     /// The server granted a pair.
     pub fn grant(&mut self, pair: u8)
         requires { IsSome (held_at pair self.old) }
-        ensures { (p : ℕ) → held_at p self.new ≡ (if p == pair then granted_now (held_at p self.old) else held_at p self.old) }
+        ensures { (p : ℕ)
+            → held_at p self.new
+            ≡ (if p == pair then granted_now (held_at p self.old) else held_at p self.old) }
     {
         if let Some(held) = self.table[usize::from(pair)] {
             self.table[usize::from(pair)] = Some(Held {
@@ -164,7 +171,8 @@ impl ChannelMap {
 
 /// The first place of a table that is free once what a reply frees is freed.
 fn first_free(table: &[Option<Held>], freed: Freed) -> Option<usize>
-    ensures first { result ≡ first_free (length table.now) 0 (λ p. is_free (kept freed (held_at p table.now))) }
+    ensures first { result
+        ≡ first_free (length table.now) 0 (λ p. is_free (kept freed (held_at p table.now))) }
     ensures within { IfSome result (λ place. place < length table.now) }
 {
     for (place, held) in table.iter().enumerate() {

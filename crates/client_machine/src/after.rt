@@ -21,7 +21,11 @@ pub(crate) fn after_reply<'a>(
     id: Option<&'a [u8]>,
 ) -> Showing<'a>
     requires { IfSome id (λ one. is_session_id one.now ≡ true) }
-    ensures shows { (number : ℕ) → sight_of result ≡ sight (session_after (Some (purpose_seen pending.entry)) number code (option_copied id.entry) slot.entry.now.session) }
+    ensures shows { (number : ℕ)
+        → sight_of result
+        ≡ sight
+        (session_after (Some (purpose_seen pending.entry)) number code (option_copied id.entry)
+        slot.entry.now.session) }
     ensures valid { IfSome result.id (λ one. is_session_id one.now ≡ true) }
 {
     match pending {
@@ -46,7 +50,11 @@ fn answered<'a>(
     id: Option<&'a [u8]>,
 ) -> Showing<'a>
     requires { IfSome id (λ one. is_session_id one.now ≡ true) }
-    ensures shows { (number : ℕ) → sight_of result ≡ sight (when_answered number code (option_copied id.entry) asked.entry.now (option_copied track.entry) slot.entry.now.session) }
+    ensures shows { (number : ℕ)
+        → sight_of result
+        ≡ sight
+        (when_answered number code (option_copied id.entry) asked.entry.now
+        (option_copied track.entry) slot.entry.now.session) }
     ensures valid { IfSome result.id (λ one. is_session_id one.now ≡ true) }
 {
     if is_success(code) {
@@ -71,7 +79,11 @@ fn granted<'a>(
     id: Option<&'a [u8]>,
 ) -> Showing<'a>
     requires { IfSome id (λ one. is_session_id one.now ≡ true) }
-    ensures shows { (number : ℕ) → sight_of result ≡ sight (when_granted asked.entry.now.method number asked.entry.now.uri (option_copied track.entry) (option_copied id.entry) (record slot.entry.now.session { state = state })) }
+    ensures shows { (number : ℕ)
+        → sight_of result
+        ≡ sight
+        (when_granted asked.entry.now.method number asked.entry.now.uri (option_copied track.entry)
+        (option_copied id.entry) (record slot.entry.now.session { state = state })) }
     ensures valid { IfSome result.id (λ one. is_session_id one.now ≡ true) }
 {
     let now = seen(slot, state);
@@ -106,7 +118,9 @@ fn set_up<'a>(
     track: Option<&'a Track>,
     id: Option<&'a [u8]>,
 ) -> Showing<'a>
-    ensures { result ≡ record now.entry { id = option_or id.entry now.entry.id; control = option_or now.entry.control uri.entry; added = track.entry } }
+    ensures { result
+        ≡ record now.entry
+        { id = option_or id.entry now.entry.id; control = option_or now.entry.control uri.entry; added = track.entry } }
 {
     Showing {
         id: id.or(now.id),
@@ -130,7 +144,8 @@ fn paused(now: Showing<'_>) -> Showing<'_>
 
 /// The session after the reply to a PLAY that waited.
 fn released<'a>(slot: &'a Slot, play: &'a Play, code: u16) -> Showing<'a>
-    ensures shows { (number : ℕ) → sight_of result ≡ sight (when_released number code play.entry.now.uri slot.entry.now.session) }
+    ensures shows { (number : ℕ)
+        → sight_of result ≡ sight (when_released number code play.entry.now.uri slot.entry.now.session) }
     ensures valid { IfSome result.id (λ one. is_session_id one.now ≡ true) }
 {
     if is_success(code) {

@@ -15,7 +15,8 @@ use std::collections::LinkedList;
 impl Plan {
     /// Whether a request goes up.
     pub fn asks(&self) -> bool
-        ensures { (bases : Bases) (number next : ℕ) (pair : Option ℕ) (client : Client) (comes : Comes) → IsPlan bases next pair client comes self.now
+        ensures { (bases : Bases) (number next : ℕ) (pair : Option ℕ) (client : Client) (comes : Comes)
+            → IsPlan bases next pair client comes self.now
             → result ≡ is_some (effect_by bases number pair client comes).message }
     {
         self.up.is_up()
@@ -25,7 +26,8 @@ impl Plan {
     /// memory, and can't be refused.
     pub fn commit(self, slot: &mut Slot, number: u32, next: u32) -> Done
         requires { IsReady slot.old self }
-        ensures does { (bases : Bases) (pair : Option ℕ) (comes : Comes) → IsPlan bases next pair slot.old comes self
+        ensures does { (bases : Bases) (pair : Option ℕ) (comes : Comes)
+            → IsPlan bases next pair slot.old comes self
             → Does next pair slot.new result (effect_by bases number pair slot.old comes) }
         ensures short { IsShortPlan self → IsShortDone result }
     {

@@ -26,7 +26,8 @@ pub(crate) fn plan_notice(
     reason: NotifyReason,
     names: Names,
 ) -> Result<Plan, Memory>
-    ensures { (bases : Bases) (pair : Option ℕ) → IfOk result (IsPlan bases next pair slot.now (notes reason names)) }
+    ensures { (bases : Bases) (pair : Option ℕ)
+        → IfOk result (IsPlan bases next pair slot.now (notes reason names)) }
 {
     match reason {
         NotifyReason::EndOfStream => plan_end(alloc, slot, next, names),
@@ -36,7 +37,8 @@ pub(crate) fn plan_notice(
 
 /// The plan for the end of what plays: the PLAY goes up that is due then.
 fn plan_end(alloc: Global, slot: &Slot, next: u32, names: Names) -> Result<Plan, Memory>
-    ensures { (bases : Bases) (pair : Option ℕ) → IfOk result (IsPlan bases next pair slot.now (notes EndOfStream names)) }
+    ensures { (bases : Bases) (pair : Option ℕ)
+        → IfOk result (IsPlan bases next pair slot.now (notes EndOfStream names)) }
 {
     let change = Change::Ends(names);
     match due_after(slot, names) {
@@ -72,7 +74,8 @@ fn counts(running: Option<u32>, names: Names) -> bool
 
 /// The plan for a connection that closes. It takes no memory.
 pub fn plan_close(alloc: Global, slot: &Slot, why: CloseWhy) -> Plan
-    ensures plan { (bases : Bases) (next : ℕ) (pair : Option ℕ) → IsPlan bases next pair slot.now (shuts why) result }
+    ensures plan { (bases : Bases) (next : ℕ) (pair : Option ℕ)
+        → IsPlan bases next pair slot.now (shuts why) result }
     ensures short { IsShortPlan result }
 {
     if !slot.alive() {

@@ -16,13 +16,18 @@ ghost use Rattle.std.specs.Prelude.{List};
 /// A step is the same under every numbering of requests and of pairs of channels that tells apart
 /// what the event names.
 pub fn a_step_keeps_any_numbering()
-    ensures { (numbers pairs : ℕ → ℕ) (bases : Bases) (number : ℕ) (pair : Option ℕ) (client : Client) (event : PrivateEvent) → IsToldApart numbers pairs client event
-        → step bases (numbers number) (option_map pairs pair) (client_under numbers pairs client) (event_under numbers pairs event) ≡ effect_under numbers pairs (step bases number pair client event) }
+    ensures { (numbers pairs : ℕ → ℕ) (bases : Bases) (number : ℕ) (pair : Option ℕ) (client : Client)
+        (event : PrivateEvent)
+        → IsToldApart numbers pairs client event
+        → step bases (numbers number) (option_map pairs pair) (client_under numbers pairs client)
+        (event_under numbers pairs event)
+        ≡ effect_under numbers pairs (step bases number pair client event) }
 {}
 
 /// Whether a pair of channels is free matters only where a SETUP waits.
 pub fn a_free_pair_matters_to_a_setup_alone()
-    ensures { (bases : Bases) (number pair : ℕ) (client : Client) (event : PrivateEvent) → has_setup (hear bases number client event).effect.client.waiting ≡ false
+    ensures { (bases : Bases) (number pair : ℕ) (client : Client) (event : PrivateEvent)
+        → has_setup (hear bases number client event).effect.client.waiting ≡ false
         → step bases number None client event ≡ step bases number (Some pair) client event }
 {}
 
@@ -30,17 +35,21 @@ pub fn a_free_pair_matters_to_a_setup_alone()
 /// alive until it is closed.
 pub fn what_is_not_closed_is_alive()
     ensures step { (bases : Bases) (number : ℕ) (pair : Option ℕ) (client : Client) (event : PrivateEvent)
-        → (step bases number pair client event).client.alive ≡ (client.alive && is_none (step bases number pair client event).close) }
-    ensures run { (bases : Bases) (events : List PrivateEvent) → is_live (private_after bases events) ≡ is_empty_list (shut_alone bases events) }
+        → (step bases number pair client event).client.alive
+        ≡ (client.alive && is_none (step bases number pair client event).close) }
+    ensures run { (bases : Bases) (events : List PrivateEvent)
+        → is_live (private_after bases events) ≡ is_empty_list (shut_alone bases events) }
 {}
 
 /// The streams of a connection alone have different pairs of channels, and no two of them have a
 /// channel of its player in common. The stream of an open SETUP is one of them.
 pub fn own_streams_are_apart()
-    ensures { (bases : Bases) (events : List PrivateEvent) → AreAllStreamsApart (streams_of (private_after bases events).client) }
+    ensures { (bases : Bases) (events : List PrivateEvent)
+        → AreAllStreamsApart (streams_of (private_after bases events).client) }
 {}
 
 /// The numbers that a connection alone keeps are those of its own requests.
 pub fn own_numbers_are_kept()
-    ensures { (bases : Bases) (events : List PrivateEvent) → IsBelow (private_after bases events).count (private_after bases events).client }
+    ensures { (bases : Bases) (events : List PrivateEvent)
+        → IsBelow (private_after bases events).count (private_after bases events).client }
 {}

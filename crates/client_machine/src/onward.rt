@@ -33,7 +33,8 @@ pub(crate) fn due_text(
     play: &Play,
     next: u32,
 ) -> Result<Text, Memory>
-    ensures { IfOk result (λ text. text ≡ request_text next (play_up (option_copied session.entry) play.now)) }
+    ensures { IfOk result (λ text.
+        text ≡ request_text next (play_up (option_copied session.entry) play.now)) }
 {
     let request = play_up(alloc, session, play)?;
     write_request(alloc, &request, next)
@@ -157,7 +158,8 @@ pub(crate) fn still(alloc: Global, change: Change, hand: Text, up: Up) -> Plan
 
 /// The plan by which nothing is done.
 pub(crate) fn idle(alloc: Global) -> Plan
-    ensures { result ≡ record { change = changes.Nothing; treated = 0; plays = []; hand = []; up = ups.Nothing } }
+    ensures { result
+        ≡ record { change = changes.Nothing; treated = 0; plays = []; hand = []; up = ups.Nothing } }
 {
     still(alloc, Change::Nothing, Text::new(alloc), Up::Nothing)
 }

@@ -37,7 +37,8 @@ pub fn grant_said(reply: &Reply2) -> Option<Grant>
 pub(crate) fn session_told(reply: &Reply2) -> Option<SessionField<'_>>
     ensures said { option_map session_seen result ≡ session_told (told_by reply.now) }
     ensures valid { IfSome result (λ field. is_session_id field.id.now ≡ true) }
-    ensures timeout { IfSome result (λ field. IfSome field.timeout (λ seconds. seconds < 10 ^ TIMEOUT_DIGITS)) }
+    ensures timeout { IfSome result (λ field.
+        IfSome field.timeout (λ seconds. seconds < 10 ^ TIMEOUT_DIGITS)) }
 {
     read_session(reply.head.field(b"Session")?)
 }
@@ -58,7 +59,8 @@ pub(crate) fn new_id<'a>(
     told: Option<SessionField<'a>>,
 ) -> Option<&'a [u8]>
     requires { IfSome told (λ field. is_session_id field.id.now ≡ true) }
-    ensures id { (reply : Reply2) → option_map session_seen told.entry ≡ session_told (told_by reply) → option_copied result ≡ new_id (purpose_seen pending.entry) slot.entry.now.session.id (told_by reply) }
+    ensures id { (reply : Reply2) → option_map session_seen told.entry ≡ session_told (told_by reply)
+        → option_copied result ≡ new_id (purpose_seen pending.entry) slot.entry.now.session.id (told_by reply) }
     ensures valid { IfSome result (λ id. is_session_id id.now ≡ true) }
 {
     match pending {
@@ -82,8 +84,13 @@ pub(crate) fn reply_hand<'a>(
 ) -> Result<Text, Memory>
     requires id { IfSome id (λ one. is_session_id one.now ≡ true) }
     requires timeout { IfSome timeout (λ seconds. seconds < 10 ^ TIMEOUT_DIGITS) }
-    ensures { IfOk result (λ text. (client : Client) → IsHeardAs client slot.entry.now.alive (option_copied id.entry) → option_and_then (λ field. field.timeout) (session_told (told_by answer.entry.reply.now)) ≡ timeout
-        → text ≡ reply_hand bases.entry.now (purpose_seen pending.entry) (told_by answer.entry.reply.now) answer.entry.source client) }
+    ensures { IfOk result (λ text.
+        (client : Client) → IsHeardAs client slot.entry.now.alive (option_copied id.entry)
+        → option_and_then (λ field. field.timeout) (session_told (told_by answer.entry.reply.now))
+        ≡ timeout
+        → text
+        ≡ reply_hand bases.entry.now (purpose_seen pending.entry) (told_by answer.entry.reply.now)
+        answer.entry.source client) }
 {
     match pending {
         Pending::Client(asked, track) if slot.alive() => {
@@ -128,7 +135,8 @@ fn reply_down<'a>(
 /// The channels that a player gets for a stream. They differ, since no others are given; so no memory
 /// is ever wanting here.
 fn player_channels<'a>(track: Option<&'a Track>) -> Result<Option<&'a Pair>, Memory>
-    ensures same { IfOk result (λ pair. option_copied pair ≡ option_map (λ one. one.client) (option_copied track.entry)) }
+    ensures same { IfOk result (λ pair.
+        option_copied pair ≡ option_map (λ one. one.client) (option_copied track.entry)) }
     ensures apart { IfOk result (λ pair. IfSome pair (λ one. one.now.rtp ≢ one.now.rtcp)) }
 {
     let Some(track) = track else {

@@ -24,7 +24,8 @@ pub(crate) fn plan_reply(
     answer: ServerReply<'_>,
 ) -> Result<Plan, Memory>
     requires { IfSome pair (λ one. one < PAIRS) }
-    ensures { IfOk result (IsPlan bases.now next pair slot.now (replies answer.entry.reply.now answer.entry.source)) }
+    ensures { IfOk result
+        (IsPlan bases.now next pair slot.now (replies answer.entry.reply.now answer.entry.source)) }
 {
     if answer.reply.code < 200 {
         return Ok(idle(alloc));
@@ -48,7 +49,8 @@ fn settle<'a>(
     requires pair { IfSome pair (λ one. one < PAIRS) }
     requires pending { slot.now.pending ≡ Some (purpose_seen pending) }
     requires last { 200 ≤ answer.reply.now.code }
-    ensures { IfOk result (IsPlan bases.entry.now next pair slot.entry.now (replies answer.entry.reply.now answer.entry.source)) }
+    ensures { IfOk result
+        (IsPlan bases.entry.now next pair slot.entry.now (replies answer.entry.reply.now answer.entry.source)) }
 {
     let told = session_told(answer.reply);
     let timeout = timeout_told(told);

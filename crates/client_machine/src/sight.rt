@@ -56,7 +56,8 @@ impl<'a> Showing<'a> {
     pub fn view<'b>(&self, bases: &'b Bases, tracks: &'b [Track], full: bool) -> View<'b>
     where
         'a: 'b,
-        ensures { given_of result ≡ given_by bases.entry.now full (record (sight_of self.now) { tracks = tracks.entry.now }) }
+        ensures { given_of result
+            ≡ given_by bases.entry.now full (record (sight_of self.now) { tracks = tracks.entry.now }) }
     {
         View {
             state: self.state,

@@ -58,7 +58,11 @@ impl Progress {
 
     /// One request more is treated.
     pub fn then(&mut self, alloc: Global, view: &View<'_>, item: &Item) -> Result<(), Memory>
-        ensures treated { OnOk result (self.new ≡ progressed (decision_on (with_queued self.old.queued (given_of view.now)) (shape_of item.now)) self.old) }
+        ensures treated { OnOk result
+            (self.new
+            ≡ progressed
+            (decision_on (with_queued self.old.queued (given_of view.now)) (shape_of item.now))
+            self.old) }
         ensures filled { (queue : ℕ) → IsFilled queue self.old → OnOk result (IsFilled queue self.new) }
     {
         let view = View {
@@ -107,7 +111,10 @@ impl Progress {
     /// A PLAY waits, and is answered. A URI over the longest is as if there were no memory for it.
     fn put(&mut self, play: Play, text: Text) -> Result<(), Memory>
         requires { self.old.queued < MOST_PLAYS }
-        ensures treated { OnOk result (self.new ≡ record self.old { hand = self.old.hand ++ text; plays = self.old.plays ++ play ∷ []; queued = self.old.queued + 1 }) }
+        ensures treated { OnOk result
+            (self.new
+            ≡ record self.old
+            { hand = self.old.hand ++ text; plays = self.old.plays ++ play ∷ []; queued = self.old.queued + 1 }) }
         ensures filled { (queue : ℕ) → IsFilled queue self.old → OnOk result (IsFilled queue self.new) }
     {
         if play.uri.len() > LONGEST_URI {
@@ -120,7 +127,9 @@ impl Progress {
 
     /// A request goes up, where it sets up a stream with its player's own channels.
     fn send(&mut self, request: Request2, asked: Asked, channels: Option<Pair>)
-        ensures { self.new ≡ record self.old { going = Some (record { request = request; asked = asked; channels = channels }) } }
+        ensures { self.new
+            ≡ record self.old
+            { going = Some (record { request = request; asked = asked; channels = channels }) } }
     {
         self.going = Some(Upward {
             request,

@@ -121,7 +121,8 @@ impl Session {
 
     /// The text of the TEARDOWN with this number, where it has an id.
     pub fn teardown_text(&self, room: ClosingRoom, number: u32) -> Option<Text>
-        ensures text { result ≡ option_map (λ id. request_text number (closing_request self.now.control id)) self.now.id }
+        ensures text { result
+            ≡ option_map (λ id. request_text number (closing_request self.now.control id)) self.now.id }
         ensures short { IfSome result (λ text. length text ≤ CLOSING_ROOM) }
     {
         let id = self.id()?;

@@ -124,7 +124,8 @@ impl Form {
 
 /// The kinds by which the words behind a command are checked are those of its arguments.
 pub fn words_are_checked_as_arguments()
-    ensures { (form : AnyForm) → option_map (map Some) (kinds_after (form_word form)) ≡ Some (map argument_kind (arguments_of form)) }
+    ensures { (form : AnyForm)
+        → option_map (map Some) (kinds_after (form_word form)) ≡ Some (map argument_kind (arguments_of form)) }
 {}
 
 impl Argument {

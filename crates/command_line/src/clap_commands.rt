@@ -46,7 +46,8 @@ pub struct ServeWords<'a> {
 
 /// A command whose words have these names. Each of them is needed.
 fn command_of<'a>(alloc: Global, name: &'a str, ids: &[&'a str]) -> Result<Command<'a>, AllocError>
-    ensures { IfOk result (λ command. app_of command ≡ with_needed (new_app name.now) (map (λ id. id.now) ids.now)) }
+    ensures { IfOk result (λ command.
+        app_of command ≡ with_needed (new_app name.now) (map (λ id. id.now) ids.now)) }
 {
     let mut command = Command::new(alloc, name);
     let mut ids = ids;
@@ -108,7 +109,8 @@ fn word_by<'a>(matches: &ArgMatches<'a>, id: &str) -> &'a str
 /// The words of a replay, as clap hands them out by name.
 pub fn replay_words<'a>(alloc: Global, line: &'a [&'a str]) -> Result<TwoWords<'a>, Memory>
     requires { IsClapLine replay_word (map (λ word. word.now) line.now) }
-    ensures { IfOk result (λ named. map (λ word. word.now) line.now ≡ clap_line replay_word named.one.now named.other.now) }
+    ensures { IfOk result (λ named.
+        map (λ word. word.now) line.now ≡ clap_line replay_word named.one.now named.other.now) }
 {
     let command = replay_command(alloc)?;
     let matches = matches_in(command, line)?;
@@ -121,7 +123,8 @@ pub fn replay_words<'a>(alloc: Global, line: &'a [&'a str]) -> Result<TwoWords<'
 /// The words of a drill, as clap hands them out by name.
 pub fn drill_words<'a>(alloc: Global, line: &'a [&'a str]) -> Result<TwoWords<'a>, Memory>
     requires { IsClapLine drill_word (map (λ word. word.now) line.now) }
-    ensures { IfOk result (λ named. map (λ word. word.now) line.now ≡ clap_line drill_word named.one.now named.other.now) }
+    ensures { IfOk result (λ named.
+        map (λ word. word.now) line.now ≡ clap_line drill_word named.one.now named.other.now) }
 {
     let command = drill_command(alloc)?;
     let matches = matches_in(command, line)?;
@@ -134,7 +137,9 @@ pub fn drill_words<'a>(alloc: Global, line: &'a [&'a str]) -> Result<TwoWords<'a
 /// The words of `serve`, as clap hands them out by name.
 pub fn serve_words<'a>(alloc: Global, line: &'a [&'a str]) -> Result<ServeWords<'a>, Memory>
     requires { IsServeLine (map (λ word. word.now) line.now) }
-    ensures { IfOk result (λ named. map (λ word. word.now) line.now ≡ serve_line named.front.now named.up.now named.listen.now named.stations.now named.recorder.now) }
+    ensures { IfOk result (λ named.
+        map (λ word. word.now) line.now
+        ≡ serve_line named.front.now named.up.now named.listen.now named.stations.now named.recorder.now) }
 {
     let command = serve_command(alloc)?;
     let matches = matches_in(command, line)?;

@@ -83,7 +83,8 @@ pub fn asks_to_serve(words: &[String]) -> bool
 
 /// The first word, and those after it.
 pub fn first_word(words: &[String]) -> Option<(&str, &[String])>
-    ensures { MatchOption result (words.now ≡ []) (λ parts. map string_bytes words.now ≡ parts.0.now ∷ map string_bytes parts.1.now) }
+    ensures { MatchOption result (words.now ≡ []) (λ parts.
+        map string_bytes words.now ≡ parts.0.now ∷ map string_bytes parts.1.now) }
 {
     let (first, rest) = words.split_first()?;
     Some((first.as_str(), rest))
@@ -217,7 +218,10 @@ fn serve_named(alloc: Global, words: ServeWords<'_>) -> Result<ServeOptions, Mem
     requires front { is_base_word words.front.now ≡ true }
     requires up { is_base_word words.up.now ≡ true }
     requires stations { is_some (stations_in words.stations.now) ≡ true }
-    ensures { IfOk result (λ options. NamesServe options (serve_word ∷ words.entry.front.now ∷ words.entry.up.now ∷ words.entry.listen.now ∷ words.entry.stations.now ∷ words.entry.recorder.now ∷ [])) }
+    ensures { IfOk result (λ options.
+        NamesServe options
+        (serve_word ∷ words.entry.front.now ∷ words.entry.up.now ∷ words.entry.listen.now
+        ∷ words.entry.stations.now ∷ words.entry.recorder.now ∷ [])) }
 {
     let bases = bases_named(alloc, words.front, words.up)?;
     let listen = Text::copy(alloc, words.listen.as_bytes())?;

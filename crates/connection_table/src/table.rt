@@ -111,7 +111,8 @@ impl ConnectionTable {
     pub fn enter(&mut self, conn: u32)
         requires ready { is_ready self.old ≡ true }
         requires new { client_at self.old conn ≡ None }
-        ensures clients { (i : ℕ) → client_at self.new i ≡ (if conn == i then Some new_client else client_at self.old i) }
+        ensures clients { (i : ℕ)
+            → client_at self.new i ≡ (if conn == i then Some new_client else client_at self.old i) }
         ensures ready { is_ready self.new ≡ false }
     {
         let Some(key) = self.spare.take() else {
@@ -152,7 +153,9 @@ impl ConnectionTable {
         ensures others { (i : ℕ) → conn ≢ i → client_at self.new i ≡ client_at self.old i }
         ensures key { IsKeyOf self.new conn key }
         ensures none { client_at self.old conn ≡ None → (result ≡ None) }
-        ensures here { IsSome (client_at self.old conn) → IfSome result (λ done. IsCarriedAt (client_at self.old conn) (client_at self.new conn) plan number next done) }
+        ensures here { IsSome (client_at self.old conn)
+            → IfSome result (λ done.
+            IsCarriedAt (client_at self.old conn) (client_at self.new conn) plan number next done) }
         ensures some { IsSome (client_at self.old conn) → IsSome result }
         ensures short { IsShortPlan plan → IfSome result IsShortDone }
         ensures ready { is_ready self.new ≡ is_ready self.old }
@@ -180,12 +183,15 @@ fn empty_at(slots: &mut Slab<Slot>, key: usize)
 /// Carries out a plan for the connection at a key.
 fn commit_at(slots: &mut Slab<Slot>, key: usize, plan: Plan, number: u32, next: u32) -> Option<Done>
     requires { IfSome (slab_get slots.old key) (λ client. IsReady client plan) }
-    ensures here { IsSome (slab_get slots.old key) → IfSome result (λ done. IsCarriedAt (slab_get slots.old key) (slab_get slots.new key) plan number next done) }
+    ensures here { IsSome (slab_get slots.old key)
+        → IfSome result (λ done.
+        IsCarriedAt (slab_get slots.old key) (slab_get slots.new key) plan number next done) }
     ensures some { IsSome (slab_get slots.old key) → IsSome result }
     ensures none { slab_get slots.old key ≡ None → (result ≡ None) }
     ensures short { IsShortPlan plan → IfSome result IsShortDone }
     ensures others { (other : ℕ) → other ≢ key → slab_get slots.new other ≡ slab_get slots.old other }
-    ensures held { (other : ℕ) → is_some (slab_get slots.old other) ≡ true → is_some (slab_get slots.new other) ≡ true }
+    ensures held { (other : ℕ) → is_some (slab_get slots.old other) ≡ true
+        → is_some (slab_get slots.new other) ≡ true }
 {
     let slot = slots.get_mut(key)?;
     Some(plan.commit(slot, number, next))

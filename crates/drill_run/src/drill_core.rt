@@ -34,7 +34,8 @@ fn event_of(who: Who, item: Item) -> Event
 
 /// The core takes an event.
 fn step<M: Core>(alloc: Global, core: &mut M, event: Event) -> Result<Outcome, Memory>
-    ensures stands { IfOk result (λ outcome. (T : List HistoryEntry) → M.stands core.old T → M.stands core.new (entry_of event outcome ∷ T)) }
+    ensures stands { IfOk result (λ outcome.
+        (T : List HistoryEntry) → M.stands core.old T → M.stands core.new (entry_of event outcome ∷ T)) }
     ensures bases { M.bases core.new ≡ M.bases core.old }
 {
     match core.step(alloc, event) {
@@ -55,7 +56,10 @@ pub struct Drill<M: Core> {
 impl<M: Core> Drill<M> {
     /// The core takes an event, and what it hands out reaches a player and the server.
     fn take(&mut self, alloc: Global, event: Event) -> Result<(), Memory>
-        ensures { OnOk result ((between : Bases) → Drives (Plays M.stands M.bases self.old.core self.old.stage between) (Plays M.stands M.bases self.new.core self.new.stage between) (happening_of event ∷ [])) }
+        ensures { OnOk result
+            ((between : Bases)
+            → Drives (Plays M.stands M.bases self.old.core self.old.stage between)
+            (Plays M.stands M.bases self.new.core self.new.stage between) (happening_of event ∷ [])) }
     {
         let requests = requests(&event);
         let outcome = step(alloc, &mut self.core, event)?;
@@ -67,7 +71,11 @@ impl<M: Core> Drill<M> {
 
     /// Items are taken, one after another.
     fn take_items(&mut self, alloc: Global, who: Who, items: Vec<Item>) -> Result<(), Memory>
-        ensures { OnOk result ((between : Bases) → Drives (Plays M.stands M.bases self.old.core self.old.stage between) (Plays M.stands M.bases self.new.core self.new.stage between) (items_told who (shapes items.items))) }
+        ensures { OnOk result
+            ((between : Bases)
+            → Drives (Plays M.stands M.bases self.old.core self.old.stage between)
+            (Plays M.stands M.bases self.new.core self.new.stage between)
+            (items_told who (shapes items.items))) }
     {
         for item in items {
             self.take(alloc, event_of(who, item))?;
@@ -77,7 +85,10 @@ impl<M: Core> Drill<M> {
 
     /// The end of a player's connection is taken, where it ends.
     fn take_end(&mut self, alloc: Global, conn: u32, last: bool) -> Result<(), Memory>
-        ensures { OnOk result ((between : Bases) → Drives (Plays M.stands M.bases self.old.core self.old.stage between) (Plays M.stands M.bases self.new.core self.new.stage between) (end_told last conn)) }
+        ensures { OnOk result
+            ((between : Bases)
+            → Drives (Plays M.stands M.bases self.old.core self.old.stage between)
+            (Plays M.stands M.bases self.new.core self.new.stage between) (end_told last conn)) }
     {
         if last {
             self.take(alloc, Event::End(conn))
@@ -88,7 +99,10 @@ impl<M: Core> Drill<M> {
 
     /// A player says what it says at its next step.
     fn play(&mut self, alloc: Global, conn: u32) -> Result<(), Memory>
-        ensures { OnOk result ((between : Bases) → TurnTaken (Player conn) (Plays M.stands M.bases self.old.core self.old.stage between) (Plays M.stands M.bases self.new.core self.new.stage between)) }
+        ensures { OnOk result
+            ((between : Bases)
+            → TurnTaken (Player conn) (Plays M.stands M.bases self.old.core self.old.stage between)
+            (Plays M.stands M.bases self.new.core self.new.stage between)) }
     {
         let said = self.stage.say(alloc, conn)?;
         let items = items_in_pieces(alloc, said.text.as_bytes(), PLAYER_SIZE)?;
@@ -99,7 +113,10 @@ impl<M: Core> Drill<M> {
 
     /// The server answers its oldest request.
     fn answer(&mut self, alloc: Global) -> Result<(), Memory>
-        ensures { OnOk result ((between : Bases) → TurnTaken ByServer (Plays M.stands M.bases self.old.core self.old.stage between) (Plays M.stands M.bases self.new.core self.new.stage between)) }
+        ensures { OnOk result
+            ((between : Bases)
+            → TurnTaken ByServer (Plays M.stands M.bases self.old.core self.old.stage between)
+            (Plays M.stands M.bases self.new.core self.new.stage between)) }
     {
         let text = self.stage.answer(alloc)?;
         let items = items_in_pieces(alloc, text.as_bytes(), SERVER_SIZE)?;
@@ -109,7 +126,10 @@ impl<M: Core> Drill<M> {
 
     /// Who has the turn says what it says.
     fn speak(&mut self, alloc: Global, who: Who) -> Result<(), Memory>
-        ensures { OnOk result ((between : Bases) → TurnTaken who (Plays M.stands M.bases self.old.core self.old.stage between) (Plays M.stands M.bases self.new.core self.new.stage between)) }
+        ensures { OnOk result
+            ((between : Bases)
+            → TurnTaken who (Plays M.stands M.bases self.old.core self.old.stage between)
+            (Plays M.stands M.bases self.new.core self.new.stage between)) }
     {
         match who {
             Who::Client(conn) => self.play(alloc, conn),
@@ -119,7 +139,10 @@ impl<M: Core> Drill<M> {
 
     /// One turn. Whether there was one: there is none where nobody can have it, and then nothing changes.
     pub fn turn(&mut self, alloc: Global) -> Result<bool, Memory>
-        ensures { IfOk result (λ made. (between : Bases) → TurnMade made (Plays M.stands M.bases self.old.core self.old.stage between) (Plays M.stands M.bases self.new.core self.new.stage between)) }
+        ensures { IfOk result (λ made.
+            (between : Bases)
+            → TurnMade made (Plays M.stands M.bases self.old.core self.old.stage between)
+            (Plays M.stands M.bases self.new.core self.new.stage between)) }
     {
         match self.stage.pick(alloc)? {
             Some(who) => {

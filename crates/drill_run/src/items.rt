@@ -21,7 +21,9 @@ fn feed_in_pieces(
     size: usize,
 ) -> Result<(), Memory>
     requires { 0 < size }
-    ensures { OnOk result ((stream : List ℕ) (given : List Shape) → Framed framer.old stream given → Framed framer.new (stream ++ text.now) given) }
+    ensures { OnOk result
+        ((stream : List ℕ) (given : List Shape) → Framed framer.old stream given
+        → Framed framer.new (stream ++ text.now) given) }
 {
     let mut rest = text;
     while !rest.is_empty() {
@@ -34,7 +36,8 @@ fn feed_in_pieces(
 
 /// All whole items that a framer has.
 fn whole_items(alloc: Global, framer: &mut Framer) -> Result<Vec<Item>, Memory>
-    ensures { IfOk result (λ items. (stream : List ℕ) → Framed framer.old stream [] → shapes items.items ≡ items_of stream) }
+    ensures { IfOk result (λ items.
+        (stream : List ℕ) → Framed framer.old stream [] → shapes items.items ≡ items_of stream) }
 {
     let mut items = Vec::new(alloc);
     while let Some(item) = framer.next() {

@@ -13,10 +13,16 @@ use gateway_claim::Core;
 /// not rise: the answer is `Done`; or memory was wanting, and nothing was written. The first two
 /// premises are what [`crate::drill`] and [`crate::drill_on`] ensure of their answer.
 pub fn a_drill_is_written<M: Core>()
-    ensures drilled { (players number : ℕ) (status : Status) (before now : Option (List ℕ)) (sink_before sink_now : ℕ)
-        → DrillSays IsDrilledHistory players number status before now → (status ≡ SinkFault → Rose sink_before sink_now)
-        → (Rose sink_before sink_now → ⊥) → EndsDrill IsDrilledHistory players number status before now }
-    ensures on_a_core { (bases : Bases) (players number : ℕ) (status : Status) (before now : Option (List ℕ)) (sink_before sink_now : ℕ)
-        → DrillSays (IsCoreHistory M.follows bases) players number status before now → (status ≡ SinkFault → Rose sink_before sink_now)
-        → (Rose sink_before sink_now → ⊥) → EndsDrill (IsCoreHistory M.follows bases) players number status before now }
+    ensures drilled { (players number : ℕ) (status : Status) (before now : Option (List ℕ))
+        (sink_before sink_now : ℕ)
+        → DrillSays IsDrilledHistory players number status before now
+        → (status ≡ SinkFault → Rose sink_before sink_now)
+        → (Rose sink_before sink_now → ⊥)
+        → EndsDrill IsDrilledHistory players number status before now }
+    ensures on_a_core { (bases : Bases) (players number : ℕ) (status : Status)
+        (before now : Option (List ℕ)) (sink_before sink_now : ℕ)
+        → DrillSays (IsCoreHistory M.follows bases) players number status before now
+        → (status ≡ SinkFault → Rose sink_before sink_now)
+        → (Rose sink_before sink_now → ⊥)
+        → EndsDrill (IsCoreHistory M.follows bases) players number status before now }
 {}

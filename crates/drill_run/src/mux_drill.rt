@@ -57,7 +57,8 @@ fn new_mux(alloc: Global) -> Result<Mux, Memory>
 /// server, of answers to notifies, of requests to the server, of turns, and of all bytes to the server. Where memory runs
 /// out nothing was written.
 pub fn drill<K: Sink>(alloc: Global, clients: u32, number: u64, sink: &mut K) -> Status
-    ensures says { DrillSays IsDrilledHistory clients number result (K.written sink.old) (K.written sink.new) }
+    ensures says { DrillSays IsDrilledHistory clients number result (K.written sink.old)
+        (K.written sink.new) }
     ensures rose { result ≡ SinkFault → Rose (K.faults sink.old) (K.faults sink.new) }
     ensures sink_later { K.faults sink.old ≤ K.faults sink.new }
 {

@@ -68,7 +68,8 @@ impl Player {
 
     /// Takes an item. Only replies matter to it.
     fn take(&mut self, alloc: Global, item: &Item) -> Result<(), Memory>
-        ensures { OnOk result (self.new ≡ heard_kind (is_response_kind item.now.kind) self.old (shape_of item.now)) }
+        ensures { OnOk result
+            (self.new ≡ heard_kind (is_response_kind item.now.kind) self.old (shape_of item.now)) }
     {
         if is_response(item) {
             self.take_reply(alloc, item)

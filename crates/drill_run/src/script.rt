@@ -49,7 +49,8 @@ fn transport(alloc: Global, channels: &[u8]) -> Result<Text, Memory>
 
 /// Appends the field that asks for a pair of channels.
 fn push_transport(alloc: Global, fields: &mut Headers, channels: &[u8]) -> Result<(), Memory>
-    ensures { OnOk result (fields.new ≡ fields.old ++ drilled_field (codes "Transport") (transport_asked channels.now) ∷ []) }
+    ensures { OnOk result
+        (fields.new ≡ fields.old ++ drilled_field (codes "Transport") (transport_asked channels.now) ∷ []) }
 {
     let value = transport(alloc, channels)?;
     fields.push_copy(alloc, b"Transport", Some(value.as_bytes()))?;

@@ -99,7 +99,9 @@ fn hand_down(
     piece: &Option<ToClient>,
     items: &[Item],
 ) -> Result<(), Memory>
-    ensures { OnOk result (shapes items.now ≡ piece_items piece.now → players.new.items ≡ handed_players piece.now players.old.items) }
+    ensures { OnOk result
+        (shapes items.now ≡ piece_items piece.now
+        → players.new.items ≡ handed_players piece.now players.old.items) }
 {
     let Some(piece) = piece else {
         return Ok(());
@@ -112,7 +114,8 @@ fn hand_down(
 
 /// The server takes an answer.
 fn feed_answer(alloc: Global, server: &mut DrillServer, answer: &Option<Text>) -> Result<(), Memory>
-    ensures { OnOk result ((serving : Serving) → Serves server.old serving → Serves server.new (fed_answer answer.now serving)) }
+    ensures { OnOk result
+        ((serving : Serving) → Serves server.old serving → Serves server.new (fed_answer answer.now serving)) }
 {
     match answer {
         Some(text) => server.feed(alloc, text.as_bytes()),
@@ -126,7 +129,9 @@ fn feed_message(
     server: &mut DrillServer,
     message: &Option<UpMessage>,
 ) -> Result<(), Memory>
-    ensures { OnOk result ((serving : Serving) → Serves server.old serving → Serves server.new (fed_message message.now serving)) }
+    ensures { OnOk result
+        ((serving : Serving) → Serves server.old serving
+        → Serves server.new (fed_message message.now serving)) }
 {
     match message {
         Some(UpMessage::Request(text)) => server.feed(alloc, text.as_bytes()),
@@ -137,7 +142,8 @@ fn feed_message(
 
 /// The server takes all that it is handed.
 fn hand_up(alloc: Global, server: &mut DrillServer, up: &ToUp) -> Result<(), Memory>
-    ensures { OnOk result ((serving : Serving) → Serves server.old serving → Serves server.new (fed_up up.now serving)) }
+    ensures { OnOk result
+        ((serving : Serving) → Serves server.old serving → Serves server.new (fed_up up.now serving)) }
 {
     feed_answer(alloc, server, &up.answer)?;
     feed_message(alloc, server, &up.message)?;
@@ -165,7 +171,8 @@ impl DrillStage {
 
     /// Draws who has the next turn; nobody where there is no candidate.
     pub fn pick(&mut self, alloc: Global) -> Result<Option<Who>, Memory>
-        ensures { IfOk result (λ who. (drilled : Drilled) → IsStage self.old drilled → Picks who self.new drilled) }
+        ensures { IfOk result (λ who.
+            (drilled : Drilled) → IsStage self.old drilled → Picks who self.new drilled) }
     {
         let whos = candidates(alloc, self.players.as_slice(), &self.server)?;
         if whos.is_empty() {
@@ -179,16 +186,22 @@ impl DrillStage {
 
     /// A player says what it says at its next step.
     pub fn say(&mut self, alloc: Global, conn: u32) -> Result<PlayerWords, Memory>
-        ensures said { IfOk result (λ said. (drilled : Drilled) → IsStage self.old drilled → said ≡ player_said conn (player_at conn drilled.players)) }
-        ensures after { OnOk result ((drilled : Drilled) → IsStage self.old drilled → IsStage self.new (after_saying (Client conn) drilled)) }
+        ensures said { IfOk result (λ said.
+            (drilled : Drilled) → IsStage self.old drilled
+            → said ≡ player_said conn (player_at conn drilled.players)) }
+        ensures after { OnOk result
+            ((drilled : Drilled) → IsStage self.old drilled
+            → IsStage self.new (after_saying (Client conn) drilled)) }
     {
         say_next(alloc, &mut self.players, conn)
     }
 
     /// The server answers its oldest request.
     pub fn answer(&mut self, alloc: Global) -> Result<Text, Memory>
-        ensures said { IfOk result (λ text. (drilled : Drilled) → IsStage self.old drilled → text ≡ (next_answer drilled.server).text) }
-        ensures after { OnOk result ((drilled : Drilled) → IsStage self.old drilled → IsStage self.new (after_saying Server drilled)) }
+        ensures said { IfOk result (λ text.
+            (drilled : Drilled) → IsStage self.old drilled → text ≡ (next_answer drilled.server).text) }
+        ensures after { OnOk result
+            ((drilled : Drilled) → IsStage self.old drilled → IsStage self.new (after_saying Server drilled)) }
     {
         if self.server.pending() == 0 {
             return Ok(Text::new(alloc));
@@ -205,8 +218,12 @@ impl DrillStage {
         outcome: &Outcome,
         items: &[Item],
     ) -> Result<(), Memory>
-        ensures { OnOk result ((happening : Happening) (drilled : Drilled) → requests ≡ requests_told happening → shapes items.now ≡ piece_items outcome.now.to_client →
-            IsStage self.old drilled → IsStage self.new (after_entry drilled (record { happening = happening; outcome = outcome.now }))) }
+        ensures { OnOk result
+            ((happening : Happening) (drilled : Drilled) → requests ≡ requests_told happening
+            → shapes items.now ≡ piece_items outcome.now.to_client
+            → IsStage self.old drilled
+            → IsStage self.new
+            (after_entry drilled (record { happening = happening; outcome = outcome.now }))) }
     {
         let more = counts_with(requests, items, outcome)?;
         self.counts = add(&self.counts, &more)?;
@@ -219,7 +236,9 @@ impl DrillStage {
 /// A player says what it says at its next step.
 fn say_next(alloc: Global, players: &mut Vec<Player>, conn: u32) -> Result<PlayerWords, Memory>
     ensures said { IfOk result (λ said. said ≡ player_said conn (player_at conn players.old.items)) }
-    ensures after { OnOk result (players.new.items ≡ slice_set players.old.items conn (stepped_player (player_at conn players.old.items))) }
+    ensures after { OnOk result
+        (players.new.items
+        ≡ slice_set players.old.items conn (stepped_player (player_at conn players.old.items))) }
 {
     match players.get_mut(conn as usize) {
         Some(player) => player.say(alloc, conn),

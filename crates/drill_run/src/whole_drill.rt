@@ -35,8 +35,10 @@ fn enter_all<M: Core>(alloc: Global, core: &mut M, count: u32) -> Result<(), Mem
 
 /// Turn after turn, until nobody can have one.
 fn run_turns<M: Core>(alloc: Global, drill: &mut Drill<M>) -> Result<(), Memory>
-    ensures { OnOk result ((players number : ℕ) (between : Bases) → HasRun players number (Plays M.stands M.bases drill.old.core drill.old.stage between) →
-        HasPlayedOut players number (Plays M.stands M.bases drill.new.core drill.new.stage between)) }
+    ensures { OnOk result
+        ((players number : ℕ) (between : Bases)
+        → HasRun players number (Plays M.stands M.bases drill.old.core drill.old.stage between)
+        → HasPlayedOut players number (Plays M.stands M.bases drill.new.core drill.new.stage between)) }
 {
     for _ in 0..MOST_TURNS {
         if !drill.turn(alloc)? {
@@ -69,7 +71,8 @@ pub fn drill_on<M: Core, K: Sink>(
     sink: &mut K,
 ) -> Status
     requires { M.stands core [] }
-    ensures says { DrillSays (IsCoreHistory M.follows (M.bases core)) players number result (K.written sink.old) (K.written sink.new) }
+    ensures says { DrillSays (IsCoreHistory M.follows (M.bases core)) players number result
+        (K.written sink.old) (K.written sink.new) }
     ensures rose { result ≡ SinkFault → Rose (K.faults sink.old) (K.faults sink.new) }
     ensures sink_later { K.faults sink.old ≤ K.faults sink.new }
 {

@@ -101,7 +101,8 @@ fn setup(alloc: Global, ask: &Ask2, id: &[u8], session: bool) -> Result<DrillAns
 
 /// The answer to a SETUP: the session is the one that it names, or else a new one.
 fn setup_in(alloc: Global, sessions: u32, ask: &Ask2) -> Result<DrillAnswer, Memory>
-    ensures { IfOk result (λ answer. answer ≡ setup_in sessions ask.now (field_of ask.now.head.headers (codes "Session"))) }
+    ensures { IfOk result (λ answer.
+        answer ≡ setup_in sessions ask.now (field_of ask.now.head.headers (codes "Session"))) }
 {
     match ask.head.field(b"Session") {
         Some(id) => setup(alloc, ask, id, false),
@@ -145,7 +146,8 @@ fn play(
     notifies: u32,
     ask: &Ask2,
 ) -> Result<DrillAnswer, Memory>
-    ensures { IfOk result (λ answer. answer ≡ play_answer tracks.now notifies ask.now (field_asked ask.now (codes "Session"))) }
+    ensures { IfOk result (λ answer.
+        answer ≡ play_answer tracks.now notifies ask.now (field_asked ask.now (codes "Session"))) }
 {
     let own = next_notify(notifies)?;
     Ok(DrillAnswer {
@@ -180,7 +182,8 @@ fn answer_ask(
     notifies: u32,
     ask: &Ask2,
 ) -> Result<DrillAnswer, Memory>
-    ensures { IfOk result (λ answer. answer ≡ answer_by (method_of ask.now.method) sessions tracks.now notifies ask.now) }
+    ensures { IfOk result (λ answer.
+        answer ≡ answer_by (method_of ask.now.method) sessions tracks.now notifies ask.now) }
 {
     match read_method(ask.method.as_bytes()) {
         Some(Method::Describe) => describe(alloc, ask),
@@ -198,7 +201,8 @@ pub fn answer_item(
     notifies: u32,
     item: &Item,
 ) -> Result<DrillAnswer, Memory>
-    ensures { IfOk result (λ answer. answer ≡ answer_read sessions tracks.now notifies (ask_of_item (shape_of item.now))) }
+    ensures { IfOk result (λ answer.
+        answer ≡ answer_read sessions tracks.now notifies (ask_of_item (shape_of item.now))) }
 {
     match read_ask(alloc, item) {
         Ok(ask) => answer_ask(alloc, sessions, tracks, notifies, &ask),

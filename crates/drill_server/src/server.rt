@@ -57,7 +57,8 @@ impl DrillServer {
     /// Takes the next piece of what the gateway sends: the requests in it wait for an answer, and its other items are
     /// passed over. After `Memory` nothing has changed.
     pub fn feed(&mut self, alloc: Global, piece: &[u8]) -> Result<(), Memory>
-        ensures ok { OnOk result ((serving : Serving) → Serves self.old serving → Serves self.new (serving_fed serving piece.now)) }
+        ensures ok { OnOk result
+            ((serving : Serving) → Serves self.old serving → Serves self.new (serving_fed serving piece.now)) }
         ensures err { OnErr result (self.new ≡ self.old) }
     {
         feed_requests(alloc, &mut self.framer, &mut self.waiting, piece)
@@ -73,8 +74,10 @@ impl DrillServer {
     /// Answers the oldest request. After `Memory` nothing has changed.
     pub fn turn(&mut self, alloc: Global) -> Result<Text, Memory>
         requires { 0 < length self.old.waiting }
-        ensures ok { IfOk result (λ text. (serving : Serving) → Serves self.old serving → text ≡ (next_answer serving).text) }
-        ensures after { OnOk result ((serving : Serving) → Serves self.old serving → Serves self.new (serving_answered serving)) }
+        ensures ok { IfOk result (λ text.
+            (serving : Serving) → Serves self.old serving → text ≡ (next_answer serving).text) }
+        ensures after { OnOk result
+            ((serving : Serving) → Serves self.old serving → Serves self.new (serving_answered serving)) }
         ensures err { OnErr result (self.new ≡ self.old) }
     {
         let Some(item) = self.waiting.front() else {
@@ -130,7 +133,8 @@ fn is_request(item: &Item) -> bool
 /// Moves an item behind those that wait, where it is a request.
 fn take_request(waiting: &mut VecDeque<Item>, item: Item)
     requires { deque_len waiting.old < deque_capacity waiting.old }
-    ensures waits { shapes waiting.new.items ≡ shapes waiting.old.items ++ requests_among (shape_of item ∷ []) }
+    ensures waits { shapes waiting.new.items
+        ≡ shapes waiting.old.items ++ requests_among (shape_of item ∷ []) }
     ensures len { deque_len waiting.new ≤ deque_len waiting.old + 1 }
     ensures capacity { deque_capacity waiting.new ≡ deque_capacity waiting.old }
 {
@@ -142,9 +146,10 @@ fn take_request(waiting: &mut VecDeque<Item>, item: Item)
 /// Moves all requests among the items that the framer can give behind those that wait, which has room for all items.
 fn take_requests(framer: &mut Framer, waiting: &mut VecDeque<Item>)
     requires { deque_len waiting.old + length framer.old.waiting ≤ deque_capacity waiting.old }
-    ensures { (stream : List ℕ) (given : List Shape) → Framed framer.old stream given →
-        Framed framer.new stream (items_of stream)
-        × (shapes waiting.new.items ≡ shapes waiting.old.items ++ requests_among (drop (length given) (items_of stream))) }
+    ensures { (stream : List ℕ) (given : List Shape) → Framed framer.old stream given
+        → Framed framer.new stream (items_of stream)
+        × (shapes waiting.new.items
+        ≡ shapes waiting.old.items ++ requests_among (drop (length given) (items_of stream))) }
 {
     while let Some(item) = framer.next() {
         take_request(waiting, item);
@@ -161,9 +166,12 @@ fn feed_requests(
 ) -> Result<(), Memory>
     requires { ∥ IsDrained framer.old ∥₁ }
     ensures drained { ∥ IsDrained framer.new ∥₁ }
-    ensures ok { OnOk result ((stream : List ℕ) (given : List Shape) → Framed framer.old stream given →
-        Framed framer.new (stream ++ piece.now) (items_of (stream ++ piece.now))
-        × (shapes waiting.new.items ≡ shapes waiting.old.items ++ requests_among (drop (length given) (items_of (stream ++ piece.now))))) }
+    ensures ok { OnOk result
+        ((stream : List ℕ) (given : List Shape) → Framed framer.old stream given
+        → Framed framer.new (stream ++ piece.now) (items_of (stream ++ piece.now))
+        × (shapes waiting.new.items
+        ≡ shapes waiting.old.items
+        ++ requests_among (drop (length given) (items_of (stream ++ piece.now))))) }
     ensures framer { OnErr result (framer.new ≡ framer.old) }
     ensures waiting { OnErr result (waiting.new.items ≡ waiting.old.items) }
 {

@@ -42,7 +42,8 @@ pub trait Door: Send {
         ensures cause { HasCause (faults self.old) (faults self.new) result }
         ensures waits { RisesWith (waits self.old) (waits self.new) (HadNone result) }
         ensures ends { RisesWith (ends self.old) (ends self.new) (HasEnded result) }
-        ensures fresh { GivesNewLink Self.Inward.faults Self.Inward.ends Self.Outward.faults Self.Outward.written result };
+        ensures fresh { GivesNewLink Self.Inward.faults Self.Inward.ends Self.Outward.faults
+            Self.Outward.written result };
 
     /// Takes a link back whose connection is over. No count changes, and the links left stay.
     fn give_back(&mut self, inward: Self::Inward, outward: Self::Outward)

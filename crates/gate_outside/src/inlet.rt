@@ -154,9 +154,12 @@ impl Inlet for MemoryInlet {
         ensures waits { RisesWith (inlet_waits self.old) (inlet_waits self.new) (result ≡ Ok NotYet) }
         ensures ends { RisesWith (inlet_ends self.old) (inlet_ends self.new) (result ≡ Ok End) }
         ensures fails { Contains (inlet_script self.old).fails (inlet_reads self.old) → IsErr result }
-        ensures pauses { NamesWait (inlet_script self.old) (inlet_reads self.old) → IfOk result (λ got. got ≡ NotYet) }
+        ensures pauses { NamesWait (inlet_script self.old) (inlet_reads self.old)
+            → IfOk result (λ got. got ≡ NotYet) }
         ensures given { result ≡ Ok End → bytes_coming self.old ≡ [] }
-        ensures only { OnErr result (Contains (inlet_script self.old).fails (inlet_reads self.old) ⊎ (inlet_turns self.old ≤ turns_held self.old)) }
+        ensures only { OnErr result
+            (Contains (inlet_script self.old).fails (inlet_reads self.old)
+            ⊎ (inlet_turns self.old ≤ turns_held self.old)) }
         ensures made { inlet_reads self.new ≡ counted_on (inlet_reads self.old) }
         ensures same { IsSameInlet self.old self.new }
         ensures tied { outlets_tied self.new ≡ outlets_tied self.old }

@@ -48,7 +48,8 @@ impl Source for MemorySource {
         ensures bytes { Reads (Some (bytes_left self.old)) (Some (bytes_left self.new)) result into.new }
         ensures cause { HasCause (read_faults self.old) (read_faults self.new) result }
         ensures fails { IsErr result ↔ Contains (read_script self.old).fails (reads_made self.old) }
-        ensures piece { IfOk result (λ n. n ≡ min (min (read_script self.old).piece (length into.old)) (length (bytes_left self.old))) }
+        ensures piece { IfOk result (λ n.
+            n ≡ min (min (read_script self.old).piece (length into.old)) (length (bytes_left self.old))) }
         ensures made { reads_made self.new ≡ counted_on (reads_made self.old) }
         ensures script { read_script self.new ≡ read_script self.old }
         ensures whole { OnOk result (read_faults self.new ≡ read_faults self.old) }
@@ -134,7 +135,8 @@ impl Sink for MemorySink {
     fn write(&mut self, piece: &[u8]) -> Result<usize, Failed>
         requires { 0 < length piece.now }
         ensures bound { IfOk result (λ n. (0 < n) × (n ≤ length piece.now)) }
-        ensures bytes { Writes (Some (bytes_written self.old)) (Some (bytes_written self.new)) piece.now result }
+        ensures bytes { Writes (Some (bytes_written self.old)) (Some (bytes_written self.new)) piece.now
+            result }
         ensures cause { HasCause (write_faults self.old) (write_faults self.new) result }
         ensures fails { Contains (write_script self.old).fails (writes_made self.old) → IsErr result }
         ensures only { OnErr result (Contains (write_script self.old).fails (writes_made self.old)

@@ -116,9 +116,11 @@ impl Door for MemoryDoor {
         ensures cause { HasCause (door_faults self.old) (door_faults self.new) result }
         ensures waits { RisesWith (door_waits self.old) (door_waits self.new) (HadNone result) }
         ensures ends { RisesWith (door_ends self.old) (door_ends self.new) (HasEnded result) }
-        ensures fresh { GivesNewLink inlet_faults inlet_ends (λ o. write_faults (outlet_sink o)) (λ o. Some (bytes_sent o)) result }
+        ensures fresh { GivesNewLink inlet_faults inlet_ends (λ o. write_faults (outlet_sink o))
+            (λ o. Some (bytes_sent o)) result }
         ensures fails { IsErr result ↔ Contains (door_script self.old).fails (door_calls self.old) }
-        ensures pauses { NamesWait (door_script self.old) (door_calls self.old) → IfOk result (λ arrived. HadNone (Ok arrived)) }
+        ensures pauses { NamesWait (door_script self.old) (door_calls self.old)
+            → IfOk result (λ arrived. HadNone (Ok arrived)) }
         ensures only { HadNone result → NamesWait (door_script self.old) (door_calls self.old) }
         ensures made { door_calls self.new ≡ counted_on (door_calls self.old) }
         ensures script { door_script self.new ≡ door_script self.old }
@@ -146,8 +148,9 @@ impl Door for MemoryDoor {
         ensures ends { door_ends self.new ≡ door_ends self.old }
         ensures made { door_calls self.new ≡ door_calls self.old }
         ensures script { door_script self.new ≡ door_script self.old }
-        ensures returned { length (links_returned self.old) < room_for_returns self.old →
-            links_returned self.new ≡ links_returned self.old ++ record { inlet = inward; outlet = outward } ∷ [] }
+        ensures returned { length (links_returned self.old) < room_for_returns self.old
+            → links_returned self.new
+            ≡ links_returned self.old ++ record { inlet = inward; outlet = outward } ∷ [] }
         ensures room { room_for_returns self.new ≡ room_for_returns self.old }
     {
         if self.returned.len() < self.returned.capacity() {

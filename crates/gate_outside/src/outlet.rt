@@ -74,11 +74,17 @@ impl Sink for MemoryOutlet {
         requires { 0 < length piece.now }
         ensures bound { IfOk result (λ n. (0 < n) × (n ≤ length piece.now)) }
         ensures bytes { Writes (Some (bytes_sent self.old)) (Some (bytes_sent self.new)) piece.now result }
-        ensures cause { HasCause (write_faults (outlet_sink self.old)) (write_faults (outlet_sink self.new)) result }
-        ensures fails { Contains (write_script (outlet_sink self.old)).fails (writes_made (outlet_sink self.old)) → IsErr result }
-        ensures only { OnErr result (Contains (write_script (outlet_sink self.old)).fails (writes_made (outlet_sink self.old))
-            ⊎ (growths_refused (outlet_sink self.new) ≡ counted_on (growths_refused (outlet_sink self.old)))) }
-        ensures piece { IfOk result (λ n. n ≡ min (write_script (outlet_sink self.old)).piece (length piece.now)) }
+        ensures cause { HasCause (write_faults (outlet_sink self.old)) (write_faults (outlet_sink self.new))
+            result }
+        ensures fails { Contains (write_script (outlet_sink self.old)).fails
+            (writes_made (outlet_sink self.old))
+            → IsErr result }
+        ensures only { OnErr result
+            (Contains (write_script (outlet_sink self.old)).fails (writes_made (outlet_sink self.old))
+            ⊎ (growths_refused (outlet_sink self.new)
+            ≡ counted_on (growths_refused (outlet_sink self.old)))) }
+        ensures piece { IfOk result (λ n.
+            n ≡ min (write_script (outlet_sink self.old)).piece (length piece.now)) }
         ensures made { writes_made (outlet_sink self.new) ≡ counted_on (writes_made (outlet_sink self.old)) }
         ensures script { write_script (outlet_sink self.new) ≡ write_script (outlet_sink self.old) }
     {
@@ -96,9 +102,14 @@ impl Outlet for MemoryOutlet {
     fn offer(&mut self, piece: &[u8]) -> Result<usize, Failed>
         requires { 0 < length piece.now }
         ensures bytes { Offers (Some (bytes_sent self.old)) (Some (bytes_sent self.new)) piece.now result }
-        ensures cause { HasCause (write_faults (outlet_sink self.old)) (write_faults (outlet_sink self.new)) result }
-        ensures fails { Contains (write_script (outlet_sink self.old)).fails (writes_made (outlet_sink self.old)) → IsErr result }
-        ensures pauses { NamesWait (write_script (outlet_sink self.old)) (writes_made (outlet_sink self.old)) → IfOk result (λ n. n ≡ 0) }
+        ensures cause { HasCause (write_faults (outlet_sink self.old)) (write_faults (outlet_sink self.new))
+            result }
+        ensures fails { Contains (write_script (outlet_sink self.old)).fails
+            (writes_made (outlet_sink self.old))
+            → IsErr result }
+        ensures pauses { NamesWait (write_script (outlet_sink self.old))
+            (writes_made (outlet_sink self.old))
+            → IfOk result (λ n. n ≡ 0) }
         ensures made { writes_made (outlet_sink self.new) ≡ counted_on (writes_made (outlet_sink self.old)) }
         ensures script { write_script (outlet_sink self.new) ≡ write_script (outlet_sink self.old) }
     {

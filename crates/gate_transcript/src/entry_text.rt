@@ -42,12 +42,14 @@ pub(crate) fn kind_byte(kind: EntryKind) -> u8
 
 /// Entries that may stand in a row, spelled behind the magic, are read back as those, without a fault.
 pub fn written_entries_are_read()
-    ensures { (entries : List Entry) → AreEntries entries → reading (transcript_text entries) ≡ record { entries = entries; fault = None } }
+    ensures { (entries : List Entry) → AreEntries entries
+        → reading (transcript_text entries) ≡ record { entries = entries; fault = None } }
 {}
 
 /// The grammar of a transcript says how bytes are read, both ways: whatever bytes spell by it is what
 /// is read, and whatever is read is spelled by it.
 pub fn a_transcript_is_read_by_its_grammar()
-    ensures read { (bytes : List ℕ) (read : TranscriptReading) → IsTranscript bytes read → reading bytes ≡ read }
+    ensures read { (bytes : List ℕ) (read : TranscriptReading) → IsTranscript bytes read
+        → reading bytes ≡ read }
     ensures spelled { (bytes : List ℕ) → AreBytes bytes → IsTranscript bytes (reading bytes) }
 {}

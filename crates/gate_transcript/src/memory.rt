@@ -63,7 +63,8 @@ impl Recorder for MemoryRecorder {
 
     fn note(&mut self, kind: EntryKind, conn: u32, body: &[u8]) -> Result<(), NoteFault>
         requires { length body.now ≤ LONGEST_BODY }
-        ensures entries { NotesSo (Some (entries_recorded self.old)) (Some (entries_recorded self.new)) (entry_noted kind conn body.now) result }
+        ensures entries { NotesSo (Some (entries_recorded self.old)) (Some (entries_recorded self.new))
+            (entry_noted kind conn body.now) result }
         ensures cause { HasNoteCause (note_faults self.old) (note_faults self.new) result }
         ensures fails { (result ≡ Err Failed) ↔ Contains (note_script self.old).fails (notes_made self.old) }
         ensures made { notes_made self.new ≡ counted_on (notes_made self.old) }

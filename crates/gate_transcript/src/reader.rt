@@ -57,7 +57,9 @@ impl EntryReader {
 
     /// Takes a piece of the transcript, whole or not at all.
     pub fn feed(&mut self, piece: &[u8]) -> Result<(), Memory>
-        ensures ok { OnOk result ((stream : List ℕ) (given : List Entry) → ReadsSo self.old stream given → ReadsSo self.new (stream ++ piece.now) given) }
+        ensures ok { OnOk result
+            ((stream : List ℕ) (given : List Entry) → ReadsSo self.old stream given
+            → ReadsSo self.new (stream ++ piece.now) given) }
         ensures err { OnErr result (KeepsGiven self.old self.new) }
     {
         match self.stage {
@@ -70,7 +72,8 @@ impl EntryReader {
     /// Appends the piece, and looks at the magic once it is whole.
     fn feed_front(&mut self, piece: &[u8]) -> Result<(), Memory>
         requires { self.old.stage ≡ ReaderStage.Front }
-        ensures ok { OnOk result (PassesMagic (record self.old { left = self.old.left ++ piece.now }) self.new) }
+        ensures ok { OnOk result
+            (PassesMagic (record self.old { left = self.old.left ++ piece.now }) self.new) }
         ensures err { OnErr result (self.new ≡ self.old) }
     {
         self.left.push(piece)?;
@@ -162,7 +165,8 @@ impl EntryReader {
     /// answer is the transcript's first fault, or, while whole entries are still to be given, Cut at the next of them.
     #[tactic(auto, using(crate::proofs::ReaderLemmas::stopped_ends))]
     pub fn finish(&self) -> Result<(), BadEntry>
-        ensures { (stream : List ℕ) (given : List Entry) → ReadsSo self.now stream given → EndsSo stream given result }
+        ensures { (stream : List ℕ) (given : List Entry) → ReadsSo self.now stream given
+            → EndsSo stream given result }
     {
         match self.stage {
             ReaderStage::Front => Err(BadEntry {

@@ -52,6 +52,7 @@ pub trait Recorder: Send {
     /// after a failure they are as before or told no more, and entries that are told no more stay so.
     fn note(&mut self, kind: EntryKind, conn: u32, body: &[u8]) -> Result<(), NoteFault>
         requires { length body.now ≤ LONGEST_BODY }
-        ensures entries { NotesSo (entries self.old) (entries self.new) (entry_noted kind conn body.now) result }
+        ensures entries { NotesSo (entries self.old) (entries self.new) (entry_noted kind conn body.now)
+            result }
         ensures cause { HasNoteCause (faults self.old) (faults self.new) result };
 }

@@ -33,7 +33,8 @@ impl<K: Sink> TranscriptRecorder<K> {
     /// Fails only where the sink's count of faults rose, and hands the sink back then.
     pub fn start(sink: K) -> Result<TranscriptRecorder<K>, (K, Failed)>
         requires { ForSome (K.written sink) (λ bytes. bytes ≡ []) }
-        ensures none { IfOk result (λ recorder. entries_told recorder.whole (K.written recorder.sink) ≡ option_map (λ _. []) (K.written sink)) }
+        ensures none { IfOk result (λ recorder.
+            entries_told recorder.whole (K.written recorder.sink) ≡ option_map (λ _. []) (K.written sink)) }
         ensures later { IfOk result (λ recorder. K.faults sink ≤ K.faults recorder.sink) }
         ensures cause { IfErr result (λ e. Rose (K.faults sink) (K.faults e.0)) }
         ensures front { IfErr result (λ e. GrowsByFront (K.written sink) (K.written e.0) magic) }
@@ -55,7 +56,8 @@ impl<K: Sink> TranscriptRecorder<K> {
     /// The sink, in which the entries that were told stand as a transcript.
     pub fn into_sink(self) -> K
         ensures sink { result ≡ self.sink }
-        ensures text { (entries : List Entry) → entries_told self.whole (K.written self.sink) ≡ Some entries → K.written result ≡ Some (transcript_text entries) }
+        ensures text { (entries : List Entry) → entries_told self.whole (K.written self.sink) ≡ Some entries
+            → K.written result ≡ Some (transcript_text entries) }
     {
         let TranscriptRecorder { sink, whole: _ } = self;
         sink
@@ -72,7 +74,8 @@ impl<K: Sink + Send> Recorder for TranscriptRecorder<K> {
     /// Takes no memory, and so never tells want of it.
     fn note(&mut self, kind: EntryKind, conn: u32, body: &[u8]) -> Result<(), NoteFault>
         requires { length body.now ≤ LONGEST_BODY }
-        ensures entries { NotesSo (entries_told self.old.whole (K.written self.old.sink)) (entries_told self.new.whole (K.written self.new.sink)) (entry_noted kind conn body.now) result }
+        ensures entries { NotesSo (entries_told self.old.whole (K.written self.old.sink))
+            (entries_told self.new.whole (K.written self.new.sink)) (entry_noted kind conn body.now) result }
         ensures cause { HasNoteCause (K.faults self.old.sink) (K.faults self.new.sink) result }
         ensures room { result ≢ Err Memory }
     {
@@ -90,7 +93,8 @@ impl<K: Sink + Send> Recorder for TranscriptRecorder<K> {
 /// was written then.
 fn write_note<K: Sink>(sink: &mut K, kind: EntryKind, conn: u32, body: &[u8]) -> Result<(), Failed>
     requires { length body.now ≤ LONGEST_BODY }
-    ensures bytes { WritesAll (K.written sink.old) (K.written sink.new) (entry_spelled kind conn body.now) result }
+    ensures bytes { WritesAll (K.written sink.old) (K.written sink.new) (entry_spelled kind conn body.now)
+        result }
     ensures cause { HasCause (K.faults sink.old) (K.faults sink.new) result }
 {
     let Ok(()) = write_all(sink, &entry_front(kind, conn, body.len() as u32)) else {

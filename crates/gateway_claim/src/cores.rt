@@ -58,7 +58,10 @@ pub trait Core: Send + Drop {
     /// connection to the server, no memory is taken.
     fn enter(&mut self, alloc: Global, conn: u32) -> Result<(), Memory>
         requires { ∥ IsNewTo (stands self.old) conn ∥₁ }
-        ensures ok { OnOk result ((T : List HistoryEntry) → stands self.old T → ever_entered conn T ≡ false → stands self.new (entering conn ∷ T)) }
+        ensures ok { OnOk result
+            ((T : List HistoryEntry) → stands self.old T
+            → ever_entered conn T ≡ false
+            → stands self.new (entering conn ∷ T)) }
         ensures err { OnErr result ((T : List HistoryEntry) → stands self.old T → stands self.new T) }
         ensures free { (T : List HistoryEntry) → stands self.old T → IsSome (fault_in T) → IsOk result }
         ensures prepared { is_prepared self.old ≡ true → IsOk result }
@@ -74,14 +77,16 @@ pub trait Core: Send + Drop {
     /// can't be refused.
     fn commit(&mut self, event: Event, plan: Self::Plan) -> Outcome
         requires { planned self.old event plan }
-        ensures stands { (T : List HistoryEntry) → stands self.old T → stands self.new (entry_of event result ∷ T) }
+        ensures stands { (T : List HistoryEntry) → stands self.old T
+            → stands self.new (entry_of event result ∷ T) }
         ensures short { IsShort result }
         ensures bases { bases self.new ≡ bases self.old };
 
     /// Takes an event: what it hands out is the next entry of the history. After `Memory` nothing was handed out, and the
     /// event is given back. Only a request of a client or a message of the server may need memory.
     fn step(&mut self, alloc: Global, event: Event) -> Result<Outcome, (Event, Memory)>
-        ensures ok { IfOk result (λ outcome. (T : List HistoryEntry) → stands self.old T → stands self.new (entry_of event outcome ∷ T)) }
+        ensures ok { IfOk result (λ outcome.
+            (T : List HistoryEntry) → stands self.old T → stands self.new (entry_of event outcome ∷ T)) }
         ensures short { IfOk result (λ outcome. IsShort outcome) }
         ensures given_back { IfErr result (λ refused. refused.0 ≡ event) }
         ensures err { OnErr result ((T : List HistoryEntry) → stands self.old T → stands self.new T) }
@@ -114,20 +119,30 @@ pub trait Core: Send + Drop {
         ensures { result.now ≡ bases self.now };
 
     /// What the core stands for is a history of it.
-    ghost history: { (core : Self) (T : List HistoryEntry) → stands core T → IsCoreHistory follows (bases core) T };
+    ghost history: { (core : Self) (T : List HistoryEntry) → stands core T
+        → IsCoreHistory follows (bases core) T };
 
     /// At most one entry with a given happening follows.
-    ghost one_next: { (between : Bases) (T : List HistoryEntry) (one other : HistoryEntry) → follows between T one → follows between T other
-        → one.happening ≡ other.happening → one ≡ other };
+    ghost one_next: { (between : Bases) (T : List HistoryEntry) (one other : HistoryEntry)
+        → follows between T one
+        → follows between T other
+        → one.happening ≡ other.happening
+        → one ≡ other };
 
     /// An entry that follows a history hands out and closes what an entry may.
-    ghost orderly: { (between : Bases) (T : List HistoryEntry) (entry : HistoryEntry) → IsCoreHistory follows between T → follows between T entry
+    ghost orderly: { (between : Bases) (T : List HistoryEntry) (entry : HistoryEntry)
+        → IsCoreHistory follows between T
+        → follows between T entry
         → IsOrderly T entry };
 
     /// None waits before anything happened.
     ghost none_waits: { (between : Bases) → NoneWaits (waits between) [] };
 
     /// Where none waits, an event other than an item of a busy client leaves none waiting.
-    ghost none_waits_next: { (between : Bases) (T : List HistoryEntry) (entry : HistoryEntry) → IsCoreHistory follows between T → follows between T entry
-        → IsTimely (is_busy between) T entry.happening → NoneWaits (waits between) T → NoneWaits (waits between) (entry ∷ T) };
+    ghost none_waits_next: { (between : Bases) (T : List HistoryEntry) (entry : HistoryEntry)
+        → IsCoreHistory follows between T
+        → follows between T entry
+        → IsTimely (is_busy between) T entry.happening
+        → NoneWaits (waits between) T
+        → NoneWaits (waits between) (entry ∷ T) };
 }

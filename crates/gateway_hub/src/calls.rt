@@ -19,13 +19,17 @@ impl<M: Core, R: Recorder> HubState<M, R> {
     /// Takes the first item in line of a connection, as an event.
     pub fn take<W: Wait>(&mut self, alloc: Global, rt: &W, conn: u32) -> Result<Taken, HubFault>
         ensures takes { TakesFirst conn (M.is_busy (M.bases self.old.core) conn) result
-            (Keeps (StandsIdle M.stands M.waits M.bases self.old.core) (R.entries self.old.recorder) (R.faults self.old.recorder) self.old.desk)
-            (Keeps (StandsIdle M.stands M.waits M.bases self.new.core) (R.entries self.new.recorder) (R.faults self.new.recorder) self.new.desk) self.old.desk self.new.desk }
+            (Keeps (StandsIdle M.stands M.waits M.bases self.old.core) (R.entries self.old.recorder)
+            (R.faults self.old.recorder) self.old.desk)
+            (Keeps (StandsIdle M.stands M.waits M.bases self.new.core) (R.entries self.new.recorder)
+            (R.faults self.new.recorder) self.new.desk)
+            self.old.desk self.new.desk }
         ensures ends { KeepsEnds self.old.desk self.new.desk }
         ensures last { self.new.last ≡ self.old.last }
         ensures bases { M.bases self.new.core ≡ M.bases self.old.core }
         ensures later { R.faults self.old.recorder ≤ R.faults self.new.recorder }
-        ensures shown { ShowsFault self.old.desk.ending self.new.desk.ending (R.faults self.old.recorder) (R.faults self.new.recorder) }
+        ensures shown { ShowsFault self.old.desk.ending self.new.desk.ending (R.faults self.old.recorder)
+            (R.faults self.new.recorder) }
     {
         if let Some(ending) = self.desk.ending {
             return Err(HubFault::from(ending));
@@ -52,13 +56,18 @@ impl<M: Core, R: Recorder> HubState<M, R> {
     /// bytes were put then is kept as the last one.
     pub fn take_up<W: Wait>(&mut self, alloc: Global, rt: &W) -> Result<bool, HubFault>
         ensures takes { TakesFirstUp result
-            (Keeps (StandsIdle M.stands M.waits M.bases self.old.core) (R.entries self.old.recorder) (R.faults self.old.recorder) self.old.desk)
-            (Keeps (StandsIdle M.stands M.waits M.bases self.new.core) (R.entries self.new.recorder) (R.faults self.new.recorder) self.new.desk) self.old.desk self.new.desk }
+            (Keeps (StandsIdle M.stands M.waits M.bases self.old.core) (R.entries self.old.recorder)
+            (R.faults self.old.recorder) self.old.desk)
+            (Keeps (StandsIdle M.stands M.waits M.bases self.new.core) (R.entries self.new.recorder)
+            (R.faults self.new.recorder) self.new.desk)
+            self.old.desk self.new.desk }
         ensures ends { KeepsEnds self.old.desk self.new.desk }
-        ensures last { RemembersLast result self.old.last self.new.last self.old.desk.places.items self.new.desk.places.items }
+        ensures last { RemembersLast result self.old.last self.new.last self.old.desk.places.items
+            self.new.desk.places.items }
         ensures bases { M.bases self.new.core ≡ M.bases self.old.core }
         ensures later { R.faults self.old.recorder ≤ R.faults self.new.recorder }
-        ensures shown { ShowsFault self.old.desk.ending self.new.desk.ending (R.faults self.old.recorder) (R.faults self.new.recorder) }
+        ensures shown { ShowsFault self.old.desk.ending self.new.desk.ending (R.faults self.old.recorder)
+            (R.faults self.new.recorder) }
     {
         if let Some(ending) = self.desk.ending {
             return Err(HubFault::from(ending));
@@ -81,13 +90,17 @@ impl<M: Core, R: Recorder> HubState<M, R> {
     /// A connection ended. Where its number was never given, or is retired, nothing happens.
     pub fn shut<W: Wait>(&mut self, alloc: Global, rt: &W, conn: u32) -> Result<(), HubFault>
         ensures shuts { Shuts conn (line_at self.old.desk.places.items conn) result
-            (Keeps (StandsIdle M.stands M.waits M.bases self.old.core) (R.entries self.old.recorder) (R.faults self.old.recorder) self.old.desk)
-            (Keeps (StandsIdle M.stands M.waits M.bases self.new.core) (R.entries self.new.recorder) (R.faults self.new.recorder) self.new.desk) self.old.desk self.new.desk }
+            (Keeps (StandsIdle M.stands M.waits M.bases self.old.core) (R.entries self.old.recorder)
+            (R.faults self.old.recorder) self.old.desk)
+            (Keeps (StandsIdle M.stands M.waits M.bases self.new.core) (R.entries self.new.recorder)
+            (R.faults self.new.recorder) self.new.desk)
+            self.old.desk self.new.desk }
         ensures ends { KeepsEnds self.old.desk self.new.desk }
         ensures last { self.new.last ≡ self.old.last }
         ensures bases { M.bases self.new.core ≡ M.bases self.old.core }
         ensures later { R.faults self.old.recorder ≤ R.faults self.new.recorder }
-        ensures shown { ShowsFault self.old.desk.ending self.new.desk.ending (R.faults self.old.recorder) (R.faults self.new.recorder) }
+        ensures shown { ShowsFault self.old.desk.ending self.new.desk.ending (R.faults self.old.recorder)
+            (R.faults self.new.recorder) }
     {
         if let Some(ending) = self.desk.ending {
             return Err(HubFault::from(ending));
@@ -105,13 +118,17 @@ impl<M: Core, R: Recorder> HubState<M, R> {
     pub fn shut_up<W: Wait>(&mut self, alloc: Global, rt: &W, why: UpWhy) -> Result<(), HubFault>
         requires { is_full_reason why ≡ false }
         ensures shuts { ShutsUp why result
-            (Keeps (StandsIdle M.stands M.waits M.bases self.old.core) (R.entries self.old.recorder) (R.faults self.old.recorder) self.old.desk)
-            (Keeps (StandsIdle M.stands M.waits M.bases self.new.core) (R.entries self.new.recorder) (R.faults self.new.recorder) self.new.desk) self.old.desk self.new.desk }
+            (Keeps (StandsIdle M.stands M.waits M.bases self.old.core) (R.entries self.old.recorder)
+            (R.faults self.old.recorder) self.old.desk)
+            (Keeps (StandsIdle M.stands M.waits M.bases self.new.core) (R.entries self.new.recorder)
+            (R.faults self.new.recorder) self.new.desk)
+            self.old.desk self.new.desk }
         ensures ends { KeepsEnds self.old.desk self.new.desk }
         ensures last { self.new.last ≡ self.old.last }
         ensures bases { M.bases self.new.core ≡ M.bases self.old.core }
         ensures later { R.faults self.old.recorder ≤ R.faults self.new.recorder }
-        ensures shown { ShowsFault self.old.desk.ending self.new.desk.ending (R.faults self.old.recorder) (R.faults self.new.recorder) }
+        ensures shown { ShowsFault self.old.desk.ending self.new.desk.ending (R.faults self.old.recorder)
+            (R.faults self.new.recorder) }
     {
         if let Some(ending) = self.desk.ending {
             return Err(HubFault::from(ending));

@@ -29,7 +29,8 @@ fn is_place_over<M: Core>(core: &M, place: &Place) -> bool
 impl<M: Core, R: Recorder> HubState<M, R> {
     /// Whether all connections that entered are over.
     pub fn all_closed(&self) -> bool
-        ensures { (T : List HistoryEntry) → M.stands self.now.core T → result ≡ list_all (is_place_over T) self.now.desk.places.items }
+        ensures { (T : List HistoryEntry) → M.stands self.now.core T
+            → result ≡ list_all (is_place_over T) self.now.desk.places.items }
     {
         for place in &self.desk.places {
             if !is_place_over(&self.core, place) {

@@ -39,15 +39,20 @@ impl<M: Core, R: Recorder> HubState<M, R> {
     /// A connection enters: its ports are made, the core is prepared, the entering is noted, and then it enters. Its number
     /// is that of the connections before it.
     pub fn enter(&mut self, alloc: Global) -> Result<Entered, HubFault>
-        requires { ∥ KeepsSome (StandsIdle M.stands M.waits M.bases self.old.core) (R.entries self.old.recorder) (R.faults self.old.recorder) self.old.desk ∥₁ }
+        requires { ∥ KeepsSome (StandsIdle M.stands M.waits M.bases self.old.core)
+            (R.entries self.old.recorder) (R.faults self.old.recorder) self.old.desk ∥₁ }
         ensures enters { Enters result
-            (Keeps (StandsIdle M.stands M.waits M.bases self.old.core) (R.entries self.old.recorder) (R.faults self.old.recorder) self.old.desk)
-            (Keeps (StandsIdle M.stands M.waits M.bases self.new.core) (R.entries self.new.recorder) (R.faults self.new.recorder) self.new.desk) self.old.desk self.new.desk }
+            (Keeps (StandsIdle M.stands M.waits M.bases self.old.core) (R.entries self.old.recorder)
+            (R.faults self.old.recorder) self.old.desk)
+            (Keeps (StandsIdle M.stands M.waits M.bases self.new.core) (R.entries self.new.recorder)
+            (R.faults self.new.recorder) self.new.desk)
+            self.old.desk self.new.desk }
         ensures ends { KeepsOtherEnds (length self.old.desk.places.items) self.old.desk self.new.desk }
         ensures last { self.new.last ≡ self.old.last }
         ensures bases { M.bases self.new.core ≡ M.bases self.old.core }
         ensures later { R.faults self.old.recorder ≤ R.faults self.new.recorder }
-        ensures shown { ShowsFault self.old.desk.ending self.new.desk.ending (R.faults self.old.recorder) (R.faults self.new.recorder) }
+        ensures shown { ShowsFault self.old.desk.ending self.new.desk.ending (R.faults self.old.recorder)
+            (R.faults self.new.recorder) }
     {
         if let Some(ending) = self.desk.ending {
             return Err(HubFault::from(ending));

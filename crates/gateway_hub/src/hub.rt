@@ -14,5 +14,6 @@ mod calls;
 #[derive(Drop)]
 pub struct Hub<M: Core, R: Recorder> {
     state: HubState<M, R>,
-    ghost keeps: { ∥ KeepsSome (StandsIdle M.stands M.waits M.bases state.core) (R.entries state.recorder) (R.faults state.recorder) state.desk ∥₁ },
+    ghost keeps: { ∥ KeepsSome (StandsIdle M.stands M.waits M.bases state.core) (R.entries state.recorder)
+        (R.faults state.recorder) state.desk ∥₁ },
 }

@@ -31,7 +31,8 @@ fn note_item<R: Recorder>(
     conn: u32,
     item: &Item,
 ) -> Result<(), NoteFault>
-    ensures entries { NotesSo (R.entries recorder.old) (R.entries recorder.new) (noting kind conn item.now.bytes) result }
+    ensures entries { NotesSo (R.entries recorder.old) (R.entries recorder.new)
+        (noting kind conn item.now.bytes) result }
     ensures cause { HasNoteCause (R.faults recorder.old) (R.faults recorder.new) result }
 {
     let bytes = item.bytes.as_bytes();
@@ -60,7 +61,8 @@ pub fn is_heard(event: &Event) -> bool
 
 /// Notes an event: an item is one entry with its exact bytes.
 pub fn note<R: Recorder>(recorder: &mut R, event: &Event) -> Result<(), NoteFault>
-    ensures entries { NotesSo (R.entries recorder.old) (R.entries recorder.new) (note_of (happening_of event.now)) result }
+    ensures entries { NotesSo (R.entries recorder.old) (R.entries recorder.new)
+        (note_of (happening_of event.now)) result }
     ensures cause { HasNoteCause (R.faults recorder.old) (R.faults recorder.new) result }
 {
     match event {

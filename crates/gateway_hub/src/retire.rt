@@ -102,7 +102,9 @@ fn stranger_receipt(back: Back) -> Receipt
 
 /// The receipt of a connection, by its place.
 fn receipt_in(places: &[Place], back: Back) -> Option<Receipt>
-    ensures { result ≡ option_map (λ line. receipt_for back.conn line back.pushed back.taken back.fall back.ending) (line_at places.now back.conn) }
+    ensures { result
+        ≡ option_map (λ line. receipt_for back.conn line back.pushed back.taken back.fall back.ending)
+        (line_at places.now back.conn) }
 {
     match places.get(back.conn as usize) {
         Some(Place::Seated(line)) => Some(receipt_for(line, back)),
@@ -113,7 +115,8 @@ fn receipt_in(places: &[Place], back: Back) -> Option<Receipt>
 
 /// Drops the line of a connection that has one, and keeps its receipt.
 fn retire_of(places: &mut Vec<Place>, back: Back) -> Receipt
-    ensures { RetiresPlace back.conn back.pushed back.taken back.fall back.ending result places.old.items places.new.items }
+    ensures { RetiresPlace back.conn back.pushed back.taken back.fall back.ending result places.old.items
+        places.new.items }
 {
     let Some(receipt) = receipt_in(places, back) else {
         return stranger_receipt(back);
@@ -131,13 +134,17 @@ impl<M: Core, R: Recorder> HubState<M, R> {
     /// Ends a connection that is alive, unless an ending was kept. Where that can't be noted, the hub is stopped.
     fn end_first<W: Wait>(&mut self, alloc: Global, rt: &W, conn: u32)
         ensures ends { EndsFirst conn
-            (Keeps (StandsIdle M.stands M.waits M.bases self.old.core) (R.entries self.old.recorder) (R.faults self.old.recorder) self.old.desk)
-            (Keeps (StandsIdle M.stands M.waits M.bases self.new.core) (R.entries self.new.recorder) (R.faults self.new.recorder) self.new.desk) self.old.desk self.new.desk }
+            (Keeps (StandsIdle M.stands M.waits M.bases self.old.core) (R.entries self.old.recorder)
+            (R.faults self.old.recorder) self.old.desk)
+            (Keeps (StandsIdle M.stands M.waits M.bases self.new.core) (R.entries self.new.recorder)
+            (R.faults self.new.recorder) self.new.desk)
+            self.old.desk self.new.desk }
         ensures in_place { KeepsEnds self.old.desk self.new.desk }
         ensures last { self.new.last ≡ self.old.last }
         ensures bases { M.bases self.new.core ≡ M.bases self.old.core }
         ensures later { R.faults self.old.recorder ≤ R.faults self.new.recorder }
-        ensures shown { ShowsFault self.old.desk.ending self.new.desk.ending (R.faults self.old.recorder) (R.faults self.new.recorder) }
+        ensures shown { ShowsFault self.old.desk.ending self.new.desk.ending (R.faults self.old.recorder)
+            (R.faults self.new.recorder) }
     {
         if self.desk.ending.is_some() {
             return;
@@ -161,13 +168,17 @@ impl<M: Core, R: Recorder> HubState<M, R> {
         outward: Taker,
     ) -> Receipt
         ensures retires { RetiresSo conn (length (put_of inward)) (length (taken_of outward)) result
-            (Keeps (StandsIdle M.stands M.waits M.bases self.old.core) (R.entries self.old.recorder) (R.faults self.old.recorder) self.old.desk)
-            (Keeps (StandsIdle M.stands M.waits M.bases self.new.core) (R.entries self.new.recorder) (R.faults self.new.recorder) self.new.desk) self.old.desk self.new.desk }
+            (Keeps (StandsIdle M.stands M.waits M.bases self.old.core) (R.entries self.old.recorder)
+            (R.faults self.old.recorder) self.old.desk)
+            (Keeps (StandsIdle M.stands M.waits M.bases self.new.core) (R.entries self.new.recorder)
+            (R.faults self.new.recorder) self.new.desk)
+            self.old.desk self.new.desk }
         ensures ends { KeepsOtherEnds conn self.old.desk self.new.desk }
         ensures last { self.new.last ≡ self.old.last }
         ensures bases { M.bases self.new.core ≡ M.bases self.old.core }
         ensures later { R.faults self.old.recorder ≤ R.faults self.new.recorder }
-        ensures shown { ShowsFault self.old.desk.ending self.new.desk.ending (R.faults self.old.recorder) (R.faults self.new.recorder) }
+        ensures shown { ShowsFault self.old.desk.ending self.new.desk.ending (R.faults self.old.recorder)
+            (R.faults self.new.recorder) }
     {
         self.end_first(alloc, rt, conn);
         let pushed = inward.count();

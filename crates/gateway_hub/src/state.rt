@@ -59,15 +59,26 @@ impl<M: Core, R: Recorder> HubState<M, R> {
         rt: &W,
         event: Event,
     ) -> Result<Delivery, RefusedEvent>
-        requires { (T : List HistoryEntry) → M.stands self.old.core T → IsTimely (M.is_busy (M.bases self.old.core)) T (happening_of event) }
-        ensures ok { IfOk result (λ delivery. TakesOneEvent (happening_of event) delivery (StandsIdle M.stands M.waits M.bases self.old.core) (StandsIdle M.stands M.waits M.bases self.new.core) (R.entries self.old.recorder) (R.entries self.new.recorder) self.old.desk self.new.desk) }
-        ensures err { IfErr result (λ refused. (refused.event ≡ event) × IsUntaken refused.fault (StandsIdle M.stands M.waits M.bases self.old.core) (StandsIdle M.stands M.waits M.bases self.new.core) (R.entries self.old.recorder) (R.entries self.new.recorder) (R.faults self.old.recorder) (R.faults self.new.recorder) self.old.desk self.new.desk) }
+        requires { (T : List HistoryEntry) → M.stands self.old.core T
+            → IsTimely (M.is_busy (M.bases self.old.core)) T (happening_of event) }
+        ensures ok { IfOk result (λ delivery.
+            TakesOneEvent (happening_of event) delivery (StandsIdle M.stands M.waits M.bases self.old.core)
+            (StandsIdle M.stands M.waits M.bases self.new.core) (R.entries self.old.recorder)
+            (R.entries self.new.recorder) self.old.desk self.new.desk) }
+        ensures err { IfErr result (λ refused.
+            (refused.event ≡ event)
+            × IsUntaken refused.fault (StandsIdle M.stands M.waits M.bases self.old.core)
+            (StandsIdle M.stands M.waits M.bases self.new.core) (R.entries self.old.recorder)
+            (R.entries self.new.recorder) (R.faults self.old.recorder) (R.faults self.new.recorder)
+            self.old.desk self.new.desk) }
         ensures ends { KeepsEnds self.old.desk self.new.desk }
-        ensures puts { IfOk result (λ delivery. PutsFor delivery.landed self.old.desk.places.items self.new.desk.places.items) }
+        ensures puts { IfOk result (λ delivery.
+            PutsFor delivery.landed self.old.desk.places.items self.new.desk.places.items) }
         ensures last { self.new.last ≡ self.old.last }
         ensures bases { M.bases self.new.core ≡ M.bases self.old.core }
         ensures later { R.faults self.old.recorder ≤ R.faults self.new.recorder }
-        ensures shown { ShowsFault self.old.desk.ending self.new.desk.ending (R.faults self.old.recorder) (R.faults self.new.recorder) }
+        ensures shown { ShowsFault self.old.desk.ending self.new.desk.ending (R.faults self.old.recorder)
+            (R.faults self.new.recorder) }
     {
         let plan = match self.core.plan(alloc, &event) {
             Ok(plan) => plan,
@@ -89,13 +100,18 @@ impl<M: Core, R: Recorder> HubState<M, R> {
     /// Ends the connection to the server since its port was full, where it was. Where that can't be noted, the hub is
     /// stopped. Tells for whom bytes were put.
     fn end_if_full<W: Wait>(&mut self, alloc: Global, rt: &W, full: bool) -> Option<u32>
-        ensures settles { (client : Option ℕ) → SettlesOwed client full client false (StandsIdle M.stands M.waits M.bases self.old.core) (StandsIdle M.stands M.waits M.bases self.new.core) (R.entries self.old.recorder) (R.entries self.new.recorder) (R.faults self.old.recorder) (R.faults self.new.recorder) self.old.desk self.new.desk }
+        ensures settles { (client : Option ℕ)
+            → SettlesOwed client full client false (StandsIdle M.stands M.waits M.bases self.old.core)
+            (StandsIdle M.stands M.waits M.bases self.new.core) (R.entries self.old.recorder)
+            (R.entries self.new.recorder) (R.faults self.old.recorder) (R.faults self.new.recorder)
+            self.old.desk self.new.desk }
         ensures ends { KeepsEnds self.old.desk self.new.desk }
         ensures puts { PutsFor result self.old.desk.places.items self.new.desk.places.items }
         ensures last { self.new.last ≡ self.old.last }
         ensures bases { M.bases self.new.core ≡ M.bases self.old.core }
         ensures later { R.faults self.old.recorder ≤ R.faults self.new.recorder }
-        ensures shown { ShowsFault self.old.desk.ending self.new.desk.ending (R.faults self.old.recorder) (R.faults self.new.recorder) }
+        ensures shown { ShowsFault self.old.desk.ending self.new.desk.ending (R.faults self.old.recorder)
+            (R.faults self.new.recorder) }
     {
         if !full {
             return None;
@@ -112,13 +128,18 @@ impl<M: Core, R: Recorder> HubState<M, R> {
     /// Finds the client too slow whose port was full, where one was, unless the hub was stopped. Where that can't be noted,
     /// the hub is stopped, or why is kept with the end of the connection to the server. Tells for whom bytes were put.
     fn lag_if_full<W: Wait>(&mut self, alloc: Global, rt: &W, client: Option<u32>) -> Option<u32>
-        ensures settles { SettlesOwed client false None false (StandsIdle M.stands M.waits M.bases self.old.core) (StandsIdle M.stands M.waits M.bases self.new.core) (R.entries self.old.recorder) (R.entries self.new.recorder) (R.faults self.old.recorder) (R.faults self.new.recorder) self.old.desk self.new.desk }
+        ensures settles { SettlesOwed client false None false
+            (StandsIdle M.stands M.waits M.bases self.old.core)
+            (StandsIdle M.stands M.waits M.bases self.new.core) (R.entries self.old.recorder)
+            (R.entries self.new.recorder) (R.faults self.old.recorder) (R.faults self.new.recorder)
+            self.old.desk self.new.desk }
         ensures ends { KeepsEnds self.old.desk self.new.desk }
         ensures puts { PutsFor result self.old.desk.places.items self.new.desk.places.items }
         ensures last { self.new.last ≡ self.old.last }
         ensures bases { M.bases self.new.core ≡ M.bases self.old.core }
         ensures later { R.faults self.old.recorder ≤ R.faults self.new.recorder }
-        ensures shown { ShowsFault self.old.desk.ending self.new.desk.ending (R.faults self.old.recorder) (R.faults self.new.recorder) }
+        ensures shown { ShowsFault self.old.desk.ending self.new.desk.ending (R.faults self.old.recorder)
+            (R.faults self.new.recorder) }
     {
         let Some(conn) = client else { return None };
         if self.desk.is_stopped() {
@@ -147,15 +168,27 @@ impl<M: Core, R: Recorder> HubState<M, R> {
         rt: &W,
         event: Event,
     ) -> Result<Option<u32>, RefusedEvent>
-        requires { (T : List HistoryEntry) → M.stands self.old.core T → IsTimely (M.is_busy (M.bases self.old.core)) T (happening_of event) }
-        ensures ok { OnOk result (TakesHubEvent (happening_of event) (StandsIdle M.stands M.waits M.bases self.old.core) (StandsIdle M.stands M.waits M.bases self.new.core) (R.entries self.old.recorder) (R.entries self.new.recorder) (R.faults self.old.recorder) (R.faults self.new.recorder) self.old.desk self.new.desk) }
-        ensures err { IfErr result (λ refused. (refused.event ≡ event) × IsUntaken refused.fault (StandsIdle M.stands M.waits M.bases self.old.core) (StandsIdle M.stands M.waits M.bases self.new.core) (R.entries self.old.recorder) (R.entries self.new.recorder) (R.faults self.old.recorder) (R.faults self.new.recorder) self.old.desk self.new.desk) }
+        requires { (T : List HistoryEntry) → M.stands self.old.core T
+            → IsTimely (M.is_busy (M.bases self.old.core)) T (happening_of event) }
+        ensures ok { OnOk result
+            (TakesHubEvent (happening_of event) (StandsIdle M.stands M.waits M.bases self.old.core)
+            (StandsIdle M.stands M.waits M.bases self.new.core) (R.entries self.old.recorder)
+            (R.entries self.new.recorder) (R.faults self.old.recorder) (R.faults self.new.recorder)
+            self.old.desk self.new.desk) }
+        ensures err { IfErr result (λ refused.
+            (refused.event ≡ event)
+            × IsUntaken refused.fault (StandsIdle M.stands M.waits M.bases self.old.core)
+            (StandsIdle M.stands M.waits M.bases self.new.core) (R.entries self.old.recorder)
+            (R.entries self.new.recorder) (R.faults self.old.recorder) (R.faults self.new.recorder)
+            self.old.desk self.new.desk) }
         ensures ends { KeepsEnds self.old.desk self.new.desk }
-        ensures puts { IfOk result (λ landed. PutsFor landed self.old.desk.places.items self.new.desk.places.items) }
+        ensures puts { IfOk result (λ landed.
+            PutsFor landed self.old.desk.places.items self.new.desk.places.items) }
         ensures last { self.new.last ≡ self.old.last }
         ensures bases { M.bases self.new.core ≡ M.bases self.old.core }
         ensures later { R.faults self.old.recorder ≤ R.faults self.new.recorder }
-        ensures shown { ShowsFault self.old.desk.ending self.new.desk.ending (R.faults self.old.recorder) (R.faults self.new.recorder) }
+        ensures shown { ShowsFault self.old.desk.ending self.new.desk.ending (R.faults self.old.recorder)
+            (R.faults self.new.recorder) }
     {
         let delivery = self.take_one(alloc, rt, event)?;
         let next = self.end_if_full(alloc, rt, delivery.server);

@@ -79,7 +79,8 @@ fn gather_more<O: Sink, R: Wait>(
 ) -> Result<(), Failed>
     ensures port { takers_port taker.new ≡ takers_port taker.old }
     ensures told { told_of taker.new ≡ told_of taker.old }
-    ensures gathers { Gathers (O.written outlet.old) (O.written outlet.new) (taken_of taker.old) (taken_of taker.new) held.old held.new result }
+    ensures gathers { Gathers (O.written outlet.old) (O.written outlet.new) (taken_of taker.old)
+        (taken_of taker.new) held.old held.new result }
     ensures cause { HasCause (O.faults outlet.old) (O.faults outlet.new) result }
 {
     for _ in 1..MOST_PARCELS {
@@ -97,7 +98,8 @@ fn gather_more<O: Sink, R: Wait>(
 
 /// Offers what is held to the outlet, where it is some. Whether it took any.
 fn offer<O: Outlet>(outlet: &mut O, held: &mut Gather) -> Result<bool, Failed>
-    ensures moves { Moves (O.Sink.written outlet.old) (O.Sink.written outlet.new) held.old held.new [] result }
+    ensures moves { Moves (O.Sink.written outlet.old) (O.Sink.written outlet.new) held.old held.new []
+        result }
     ensures cause { HasCause (O.Sink.faults outlet.old) (O.Sink.faults outlet.new) result }
 {
     if held.is_empty() {
@@ -113,9 +115,12 @@ impl<O: Outlet> LinkEnd<O> {
     pub fn finish(&mut self) -> WriterTurn
         ensures taker { self.new.taker ≡ self.old.taker }
         ensures failed { self.new.failed ≡ is_failure result }
-        ensures did { DoesTurn result (O.written self.old.outlet) (O.written self.new.outlet) (taken_of self.old.taker) (taken_of self.new.taker) self.old.held self.new.held }
+        ensures did { DoesTurn result (O.written self.old.outlet) (O.written self.new.outlet)
+            (taken_of self.old.taker) (taken_of self.new.taker) self.old.held self.new.held }
         ensures later { O.faults self.old.outlet ≤ O.faults self.new.outlet }
-        ensures rose { result ≡ turns.Failed → self.old.failed ≡ false → Rose (O.faults self.old.outlet) (O.faults self.new.outlet) }
+        ensures rose { result ≡ turns.Failed
+            → self.old.failed ≡ false
+            → Rose (O.faults self.old.outlet) (O.faults self.new.outlet) }
         ensures done { self.new.failed ≡ false → self.new.held ≡ [] }
         ensures over { self.old.failed ≡ true → self.new ≡ self.old }
     {
@@ -137,9 +142,12 @@ impl<O: Outlet> LinkEnd<O> {
         ensures port { takers_port self.new.taker ≡ takers_port self.old.taker }
         ensures told { told_of self.new.taker ≡ told_of self.old.taker }
         ensures failed { self.new.failed ≡ is_failure result }
-        ensures did { DoesTurn result (O.written self.old.outlet) (O.written self.new.outlet) (taken_of self.old.taker) (taken_of self.new.taker) self.old.held self.new.held }
+        ensures did { DoesTurn result (O.written self.old.outlet) (O.written self.new.outlet)
+            (taken_of self.old.taker) (taken_of self.new.taker) self.old.held self.new.held }
         ensures later { O.faults self.old.outlet ≤ O.faults self.new.outlet }
-        ensures rose { result ≡ turns.Failed → self.old.failed ≡ false → Rose (O.faults self.old.outlet) (O.faults self.new.outlet) }
+        ensures rose { result ≡ turns.Failed
+            → self.old.failed ≡ false
+            → Rose (O.faults self.old.outlet) (O.faults self.new.outlet) }
         ensures empty { result ≡ turns.Idle → WasEmpty self.new.taker }
         ensures over { self.old.failed ≡ true → self.new ≡ self.old }
     {
@@ -187,7 +195,8 @@ impl<O: Outlet> LinkEnd<O> {
     fn offer_held(&mut self) -> Result<bool, Failed>
         ensures taker { self.new.taker ≡ self.old.taker }
         ensures failed { self.new.failed ≡ self.old.failed }
-        ensures moves { Moves (O.written self.old.outlet) (O.written self.new.outlet) self.old.held self.new.held [] result }
+        ensures moves { Moves (O.written self.old.outlet) (O.written self.new.outlet) self.old.held
+            self.new.held [] result }
         ensures cause { HasCause (O.faults self.old.outlet) (O.faults self.new.outlet) result }
     {
         let wrote = offer(&mut self.outlet, &mut self.held)?;
@@ -208,7 +217,8 @@ impl<O: Outlet> LinkEnd<O> {
         ensures port { takers_port self.new.taker ≡ takers_port self.old.taker }
         ensures told { told_of self.new.taker ≡ told_of self.old.taker }
         ensures failed { self.new.failed ≡ self.old.failed }
-        ensures forwards { GathersFrom first.now (O.written self.old.outlet) (O.written self.new.outlet) (taken_of self.old.taker) (taken_of self.new.taker) self.old.held self.new.held result }
+        ensures forwards { GathersFrom first.now (O.written self.old.outlet) (O.written self.new.outlet)
+            (taken_of self.old.taker) (taken_of self.new.taker) self.old.held self.new.held result }
         ensures cause { HasCause (O.faults self.old.outlet) (O.faults self.new.outlet) result }
     {
         add(&mut self.outlet, &mut self.held, bytes_of(first))?;

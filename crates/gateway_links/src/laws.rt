@@ -14,12 +14,16 @@ pub fn what_was_put_begins_the_items_given()
 
 /// What a reader has put is the first of the items of all that its inlet has to give, where this is told.
 pub fn what_was_put_begins_the_items()
-    ensures { (all : List ℕ) (left : Option (List ℕ)) (held : HeldBytes) (put : List Parcel) (waiting : Option Item) →
-        ReadsItemsSo (Some all) left held put waiting → BeginsItemsOf put all }
+    ensures { (all : List ℕ) (left : Option (List ℕ)) (held : HeldBytes) (put : List Parcel)
+        (waiting : Option Item)
+        → ReadsItemsSo (Some all) left held put waiting
+        → BeginsItemsOf put all }
 {}
 
 /// It is so too where memory was wanting for some of it.
 pub fn what_was_put_begins_the_items_after_want_of_memory()
-    ensures { (all : List ℕ) (left : Option (List ℕ)) (held : HeldBytes) (put : List Parcel) (waiting : Option Item) (over : Bool) →
-        ReadsFrontSo (Some all) left held put waiting over → BeginsItemsOf put all }
+    ensures { (all : List ℕ) (left : Option (List ℕ)) (held : HeldBytes) (put : List Parcel)
+        (waiting : Option Item) (over : Bool)
+        → ReadsFrontSo (Some all) left held put waiting over
+        → BeginsItemsOf put all }
 {}

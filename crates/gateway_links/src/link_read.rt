@@ -34,11 +34,19 @@ pub fn read_once<I: Inlet + Drop, O: Outlet + Drop, W: Wait>(
     requires { 0 < length buffer.old }
     ensures faults { I.faults reader.old.inlet ≤ I.faults reader.new.inlet }
     ensures ends { I.ends reader.old.inlet ≤ I.ends reader.new.inlet }
-    ensures front { (first : Option (List ℕ)) → ReadsFront I.rest first reader.old → ReadsFront I.rest first reader.new }
-    ensures on { result ≡ None → (first : Option (List ℕ)) → ReadsItems I.rest first reader.old → ReadsItems I.rest first reader.new }
+    ensures front { (first : Option (List ℕ)) → ReadsFront I.rest first reader.old
+        → ReadsFront I.rest first reader.new }
+    ensures on { result ≡ None
+        → (first : Option (List ℕ))
+        → ReadsItems I.rest first reader.old
+        → ReadsItems I.rest first reader.new }
     ensures end { result ≡ Some ends.Ended → Rose (I.ends reader.old.inlet) (I.ends reader.new.inlet) }
-    ensures all { result ≡ Some ends.Ended → (first : Option (List ℕ)) → PutAll I.rest first reader.old → PutAll I.rest first reader.new }
-    ensures failed { result ≡ Some ends.Failed → Rose (I.faults reader.old.inlet) (I.faults reader.new.inlet) }
+    ensures all { result ≡ Some ends.Ended
+        → (first : Option (List ℕ))
+        → PutAll I.rest first reader.old
+        → PutAll I.rest first reader.new }
+    ensures failed { result ≡ Some ends.Failed
+        → Rose (I.faults reader.old.inlet) (I.faults reader.new.inlet) }
 {
     match reader.read(alloc, buffer) {
         Read::Came => None,

@@ -11,10 +11,12 @@ use rtsp_head::Item;
 /// The item that waits, or else the next one of the framer.
 pub fn next_item(framer: &mut Framer, waiting: &mut Option<Item>) -> Option<Item>
     ensures waits { waiting.new ≡ None }
-    ensures some { IfSome result (λ item. (stream : List ℕ) (put : List Shape) →
-        Framed framer.old stream (put ++ waiting_shape waiting.old) → Framed framer.new stream (put ++ shape_of item ∷ [])) }
-    ensures none { IfNone result ((stream : List ℕ) (put : List Shape) →
-        Framed framer.old stream (put ++ waiting_shape waiting.old) → Framed framer.new stream put × (put ≡ items_of stream)) }
+    ensures some { IfSome result (λ item.
+        (stream : List ℕ) (put : List Shape) → Framed framer.old stream (put ++ waiting_shape waiting.old)
+        → Framed framer.new stream (put ++ shape_of item ∷ [])) }
+    ensures none { IfNone result
+        ((stream : List ℕ) (put : List Shape) → Framed framer.old stream (put ++ waiting_shape waiting.old)
+        → Framed framer.new stream put × (put ≡ items_of stream)) }
 {
     match waiting.take() {
         Some(item) => Some(item),

@@ -26,9 +26,14 @@ pub fn put_some<I: Inlet + Drop, W: Wait>(
     is_crowded: bool,
 ) -> Put
     ensures inlet { reader.new.inlet ≡ reader.old.inlet }
-    ensures reads { (first : Option (List ℕ)) → ReadsItems I.rest first reader.old → ReadsItems I.rest first reader.new }
-    ensures front { (first : Option (List ℕ)) → ReadsFront I.rest first reader.old → ReadsFront I.rest first reader.new }
-    ensures all { result ≡ puts.All → (first : Option (List ℕ)) → ReadsItems I.rest first reader.old → PutAll I.rest first reader.new }
+    ensures reads { (first : Option (List ℕ)) → ReadsItems I.rest first reader.old
+        → ReadsItems I.rest first reader.new }
+    ensures front { (first : Option (List ℕ)) → ReadsFront I.rest first reader.old
+        → ReadsFront I.rest first reader.new }
+    ensures all { result ≡ puts.All
+        → (first : Option (List ℕ))
+        → ReadsItems I.rest first reader.old
+        → PutAll I.rest first reader.new }
 {
     for _ in 0..most {
         if let Some(put) = put_one(rt, reader, is_crowded) {
@@ -45,9 +50,14 @@ fn put_one<I: Inlet + Drop, W: Wait>(
     is_crowded: bool,
 ) -> Option<Put>
     ensures inlet { reader.new.inlet ≡ reader.old.inlet }
-    ensures reads { (first : Option (List ℕ)) → ReadsItems I.rest first reader.old → ReadsItems I.rest first reader.new }
-    ensures front { (first : Option (List ℕ)) → ReadsFront I.rest first reader.old → ReadsFront I.rest first reader.new }
-    ensures all { result ≡ Some puts.All → (first : Option (List ℕ)) → ReadsItems I.rest first reader.old → PutAll I.rest first reader.new }
+    ensures reads { (first : Option (List ℕ)) → ReadsItems I.rest first reader.old
+        → ReadsItems I.rest first reader.new }
+    ensures front { (first : Option (List ℕ)) → ReadsFront I.rest first reader.old
+        → ReadsFront I.rest first reader.new }
+    ensures all { result ≡ Some puts.All
+        → (first : Option (List ℕ))
+        → ReadsItems I.rest first reader.old
+        → PutAll I.rest first reader.new }
 {
     if !is_crowded {
         return put_next(rt, reader);
@@ -61,9 +71,14 @@ fn put_one<I: Inlet + Drop, W: Wait>(
 /// Puts the next item that came.
 fn put_next<I: Inlet + Drop, W: Wait>(rt: &W, reader: &mut Reader<I>) -> Option<Put>
     ensures inlet { reader.new.inlet ≡ reader.old.inlet }
-    ensures reads { (first : Option (List ℕ)) → ReadsItems I.rest first reader.old → ReadsItems I.rest first reader.new }
-    ensures front { (first : Option (List ℕ)) → ReadsFront I.rest first reader.old → ReadsFront I.rest first reader.new }
-    ensures all { result ≡ Some puts.All → (first : Option (List ℕ)) → ReadsItems I.rest first reader.old → PutAll I.rest first reader.new }
+    ensures reads { (first : Option (List ℕ)) → ReadsItems I.rest first reader.old
+        → ReadsItems I.rest first reader.new }
+    ensures front { (first : Option (List ℕ)) → ReadsFront I.rest first reader.old
+        → ReadsFront I.rest first reader.new }
+    ensures all { result ≡ Some puts.All
+        → (first : Option (List ℕ))
+        → ReadsItems I.rest first reader.old
+        → PutAll I.rest first reader.new }
 {
     match reader.push(rt) {
         Push::Put => None,

@@ -55,8 +55,12 @@ impl<I: Inlet> Reader<I> {
         ensures waiting { self.new.waiting ≡ self.old.waiting }
         ensures over { self.new.over ≡ is_want result }
         ensures stays { self.old.over ≡ true → self.new ≡ self.old }
-        ensures reads { result ≢ reads.Memory → (first : Option (List ℕ)) → ReadsItems I.rest first self.old → ReadsItems I.rest first self.new }
-        ensures front { (first : Option (List ℕ)) → ReadsFront I.rest first self.old → ReadsFront I.rest first self.new }
+        ensures reads { result ≢ reads.Memory
+            → (first : Option (List ℕ))
+            → ReadsItems I.rest first self.old
+            → ReadsItems I.rest first self.new }
+        ensures front { (first : Option (List ℕ)) → ReadsFront I.rest first self.old
+            → ReadsFront I.rest first self.new }
         ensures did { DoesRead I.rest self.old self.new result }
         ensures faults { I.faults self.old.inlet ≤ I.faults self.new.inlet }
         ensures waits { I.waits self.old.inlet ≤ I.waits self.new.inlet }
@@ -99,14 +103,20 @@ impl<I: Inlet> Reader<I> {
         ensures inlet { self.new.inlet ≡ self.old.inlet }
         ensures over { self.new.over ≡ self.old.over }
         ensures port { KeepsPutter self.old.inward self.new.inward }
-        ensures reads { (first : Option (List ℕ)) → ReadsItems I.rest first self.old → ReadsItems I.rest first self.new }
-        ensures front { (first : Option (List ℕ)) → ReadsFront I.rest first self.old → ReadsFront I.rest first self.new }
+        ensures reads { (first : Option (List ℕ)) → ReadsItems I.rest first self.old
+            → ReadsItems I.rest first self.new }
+        ensures front { (first : Option (List ℕ)) → ReadsFront I.rest first self.old
+            → ReadsFront I.rest first self.new }
         ensures put { result ≡ pushes.Put → PutsOne (put_of self.old.inward) (put_of self.new.inward) }
         ensures same { result ≢ pushes.Put → put_of self.new.inward ≡ put_of self.old.inward }
         ensures full { result ≡ pushes.Full → WasFull self.old.inward }
-        ensures rose { result ≡ pushes.Full → fulls_of self.new.inward ≡ counted_on (fulls_of self.old.inward) }
+        ensures rose { result ≡ pushes.Full
+            → fulls_of self.new.inward ≡ counted_on (fulls_of self.old.inward) }
         ensures kept { result ≢ pushes.Full → fulls_of self.new.inward ≡ fulls_of self.old.inward }
-        ensures empty { result ≡ pushes.Empty → (first : Option (List ℕ)) → ReadsItems I.rest first self.old → PutAll I.rest first self.new }
+        ensures empty { result ≡ pushes.Empty
+            → (first : Option (List ℕ))
+            → ReadsItems I.rest first self.old
+            → PutAll I.rest first self.new }
     {
         let Some(item) = next_item(&mut self.framer, &mut self.waiting) else {
             return Push::Empty;
@@ -134,8 +144,10 @@ impl<I: Inlet> Reader<I> {
         ensures inlet { self.new.inlet ≡ self.old.inlet }
         ensures over { self.new.over ≡ self.old.over }
         ensures inward { self.new.inward ≡ self.old.inward }
-        ensures reads { (first : Option (List ℕ)) → ReadsItems I.rest first self.old → ReadsItems I.rest first self.new }
-        ensures front { (first : Option (List ℕ)) → ReadsFront I.rest first self.old → ReadsFront I.rest first self.new }
+        ensures reads { (first : Option (List ℕ)) → ReadsItems I.rest first self.old
+            → ReadsItems I.rest first self.new }
+        ensures front { (first : Option (List ℕ)) → ReadsFront I.rest first self.old
+            → ReadsFront I.rest first self.new }
     {
         self.waiting = next_item(&mut self.framer, &mut self.waiting);
         is_frame(&self.waiting)
@@ -150,8 +162,10 @@ impl<I: Inlet> Reader<I> {
         ensures inward { self.new.inward ≡ self.old.inward }
         ensures waiting { self.new.waiting ≡ self.old.waiting }
         ensures over { self.new.over ≡ self.old.over }
-        ensures reads { (first : Option (List ℕ)) → ReadsItems I.rest first self.old → ReadsItems I.rest first self.new }
-        ensures all { (first : Option (List ℕ)) → PutAll I.rest first self.old → PutAll I.rest first self.new }
+        ensures reads { (first : Option (List ℕ)) → ReadsItems I.rest first self.old
+            → ReadsItems I.rest first self.new }
+        ensures all { (first : Option (List ℕ)) → PutAll I.rest first self.old
+            → PutAll I.rest first self.new }
     {
         self.inlet.shut();
     }

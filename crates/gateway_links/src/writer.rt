@@ -62,9 +62,13 @@ impl<O: Outlet> Writer<O> {
         ensures port { takers_port self.new.ends.taker ≡ takers_port self.old.ends.taker }
         ensures told { told_of self.new.ends.taker ≡ told_of self.old.ends.taker }
         ensures failed { self.new.ends.failed ≡ is_failure result }
-        ensures did { DoesTurn result (O.written self.old.ends.outlet) (O.written self.new.ends.outlet) (taken_of self.old.ends.taker) (taken_of self.new.ends.taker) self.old.ends.held self.new.ends.held }
+        ensures did { DoesTurn result (O.written self.old.ends.outlet) (O.written self.new.ends.outlet)
+            (taken_of self.old.ends.taker) (taken_of self.new.ends.taker) self.old.ends.held
+            self.new.ends.held }
         ensures later { O.faults self.old.ends.outlet ≤ O.faults self.new.ends.outlet }
-        ensures rose { result ≡ turns.Failed → self.old.ends.failed ≡ false → Rose (O.faults self.old.ends.outlet) (O.faults self.new.ends.outlet) }
+        ensures rose { result ≡ turns.Failed
+            → self.old.ends.failed ≡ false
+            → Rose (O.faults self.old.ends.outlet) (O.faults self.new.ends.outlet) }
         ensures empty { result ≡ turns.Idle → WasEmpty self.new.ends.taker }
         ensures over { self.old.ends.failed ≡ true → self.new.ends ≡ self.old.ends }
     {

@@ -21,9 +21,11 @@ impl Connections {
     /// Carries out what an event does. It takes no memory, and can't be refused.
     #[inline(always)]
     pub fn commit(&mut self, event: Event, act: Act) -> Outcome
-        requires act { IsAct self.old.bases (picture self.old.seats self.old.upstream) (happening_of event) act }
+        requires act { IsAct self.old.bases (picture self.old.seats self.old.upstream) (happening_of event)
+            act }
         requires key { IsKeyed self.old.seats act }
-        ensures commits { IsCommitted self.old.bases (picture self.old.seats self.old.upstream) (picture self.new.seats self.new.upstream) (happening_of event) result }
+        ensures commits { IsCommitted self.old.bases (picture self.old.seats self.old.upstream)
+            (picture self.new.seats self.new.upstream) (happening_of event) result }
         ensures short { IsShortAct act → IsShort result }
         ensures bases { self.new.bases ≡ self.old.bases }
     {
@@ -49,8 +51,10 @@ impl Connections {
     fn turn(&mut self, answer: Option<Text>, turn: PlannedTurn) -> Outcome
         requires turn { IsTurnOfSome self.old.bases (picture self.old.seats self.old.upstream) answer turn }
         requires key { IsKeyOf self.old.seats turn.conn turn.key }
-        ensures commits { (h : Happening) → IsPlannedTurn self.old.bases (picture self.old.seats self.old.upstream) h answer turn
-            → IsCommitted self.old.bases (picture self.old.seats self.old.upstream) (picture self.new.seats self.new.upstream) h result }
+        ensures commits { (h : Happening)
+            → IsPlannedTurn self.old.bases (picture self.old.seats self.old.upstream) h answer turn
+            → IsCommitted self.old.bases (picture self.old.seats self.old.upstream)
+            (picture self.new.seats self.new.upstream) h result }
         ensures short { IsShortAnswer answer → IsShortPlan turn.plan → IsShort result }
         ensures bases { self.new.bases ≡ self.old.bases }
     {

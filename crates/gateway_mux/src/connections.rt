@@ -17,7 +17,8 @@ pub(crate) struct Connections {
     pub bases: Bases,
     pub seats: ConnectionTable,
     pub upstream: UpstreamBooks,
-    ghost kept: { ∥ IsKept bases (picture seats upstream) (left upstream.requests.spare seats) (left upstream.sessions.spare seats) ∥₁ },
+    ghost kept: { ∥ IsKept bases (picture seats upstream) (left upstream.requests.spare seats)
+        (left upstream.sessions.spare seats) ∥₁ },
     ghost spare: { is_ready seats ≡ true → 0 < upstream.requests.spare },
     ghost spare_session: { is_ready seats ≡ true → 0 < upstream.sessions.spare },
 }
@@ -41,7 +42,8 @@ impl Connections {
     /// Takes the memory for one connection more, and for all that it can ask for. Where that was taken
     /// already, no memory is.
     pub fn prepare(&mut self, alloc: Global) -> Result<(), Memory>
-        ensures same { IsAsBefore (picture self.old.seats self.old.upstream) (picture self.new.seats self.new.upstream) }
+        ensures same { IsAsBefore (picture self.old.seats self.old.upstream)
+            (picture self.new.seats self.new.upstream) }
         ensures ready { OnOk result (is_ready self.new.seats ≡ true) }
         ensures free { is_ready self.old.seats ≡ true → IsOk result }
         ensures bases { self.new.bases ≡ self.old.bases }
@@ -58,7 +60,8 @@ impl Connections {
     pub fn enter(&mut self, conn: u32)
         requires ready { is_ready self.old.seats ≡ true }
         requires new { ∥ IsNewIn self.old.bases (picture self.old.seats self.old.upstream) conn ∥₁ }
-        ensures entered { IsEntered conn (picture self.old.seats self.old.upstream) (picture self.new.seats self.new.upstream) }
+        ensures entered { IsEntered conn (picture self.old.seats self.old.upstream)
+            (picture self.new.seats self.new.upstream) }
         ensures ready { is_ready self.new.seats ≡ false }
         ensures bases { self.new.bases ≡ self.old.bases }
     {

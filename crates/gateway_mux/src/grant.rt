@@ -77,7 +77,8 @@ pub(crate) fn wrong_grant(
 ) -> Option<UpCause>
     requires low { pair < PAIRS }
     requires grant { grant ≡ grant_said reply.now }
-    ensures { result ≡ wrong_grant (λ id. holder_of sessions.now id) conn pair (option_copied session.entry) reply.now }
+    ensures { result
+        ≡ wrong_grant (λ id. holder_of sessions.now id) conn pair (option_copied session.entry) reply.now }
 {
     let said = id_said(reply);
     if !grants(pair, grant) || !is_session_for(session, said) {

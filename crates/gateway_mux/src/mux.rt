@@ -60,7 +60,10 @@ impl Mux {
     /// taken.
     pub fn enter(&mut self, alloc: Global, conn: u32) -> Result<(), Memory>
         requires { IsFresh self.old conn }
-        ensures ok { OnOk result ((T : List HistoryEntry) → Stands self.old T → ever_entered conn T ≡ false → Stands self.new (entering conn ∷ T)) }
+        ensures ok { OnOk result
+            ((T : List HistoryEntry) → Stands self.old T
+            → ever_entered conn T ≡ false
+            → Stands self.new (entering conn ∷ T)) }
         ensures err { OnErr result ((T : List HistoryEntry) → Stands self.old T → Stands self.new T) }
         ensures free { IsSome (end_of self.old) → IsOk result }
         ensures prepared { is_prepared self.old ≡ true → IsOk result }
@@ -94,7 +97,8 @@ impl Mux {
     #[inline(always)]
     pub fn commit(&mut self, event: Event, plan: Act) -> Outcome
         requires { IsPlanFor self.old event plan }
-        ensures stands { (T : List HistoryEntry) → Stands self.old T → Stands self.new (entry_of event result ∷ T) }
+        ensures stands { (T : List HistoryEntry) → Stands self.old T
+            → Stands self.new (entry_of event result ∷ T) }
         ensures short { IsShort result }
         ensures bases { bases_of self.new ≡ bases_of self.old }
     {
@@ -114,7 +118,8 @@ impl Mux {
     /// handed out, and the event is given back. Only a request of a client or a message of the server
     /// may need memory.
     pub fn step(&mut self, alloc: Global, event: Event) -> Result<Outcome, (Event, Memory)>
-        ensures ok { IfOk result (λ outcome. (T : List HistoryEntry) → Stands self.old T → Stands self.new (entry_of event outcome ∷ T)) }
+        ensures ok { IfOk result (λ outcome.
+            (T : List HistoryEntry) → Stands self.old T → Stands self.new (entry_of event outcome ∷ T)) }
         ensures short { IfOk result (λ outcome. IsShort outcome) }
         ensures given_back { IfErr result (λ refused. refused.0 ≡ event) }
         ensures err { OnErr result ((T : List HistoryEntry) → Stands self.old T → Stands self.new T) }
@@ -144,7 +149,8 @@ impl Mux {
     /// How many requests of a connection wait: those that came while another one was open. Where the
     /// connection to the server has ended, those that waited then.
     pub fn waiting(&self, conn: u32) -> usize
-        ensures { (T : List HistoryEntry) → Stands self.now T → result ≡ requests_waiting (bases_of self.now) conn T }
+        ensures { (T : List HistoryEntry) → Stands self.now T
+            → result ≡ requests_waiting (bases_of self.now) conn T }
     {
         self.connections.waiting(conn)
     }

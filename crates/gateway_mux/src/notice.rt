@@ -84,7 +84,8 @@ fn session(ask: &Ask2) -> Option<&[u8]>
 
 /// What it tells the connection that has the session.
 fn told<'a>(ask: &'a Ask2, id: &'a [u8], conn: u32) -> Result<Notice<'a>, NoticeRefusal>
-    ensures { notice_seen result ≡ said_reason ask.now id.now conn (notice_field ask.now (codes "Notify-Reason")) }
+    ensures { notice_seen result
+        ≡ said_reason ask.now id.now conn (notice_field ask.now (codes "Notify-Reason")) }
 {
     let Some(value) = ask.head.field(b"Notify-Reason") else {
         return Err(NoticeRefusal::NoReason);

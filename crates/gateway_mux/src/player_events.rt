@@ -29,7 +29,8 @@ impl Connections {
     /// What an event does. Nothing changes, and all memory for it is taken.
     #[inline(always)]
     pub fn plan(&self, alloc: Global, event: &Event) -> Result<Act, Memory>
-        ensures act { IfOk result (IsAct self.now.bases (picture self.now.seats self.now.upstream) (happening_of event.now)) }
+        ensures act { IfOk result
+            (IsAct self.now.bases (picture self.now.seats self.now.upstream) (happening_of event.now)) }
         ensures short { IfOk result IsShortAct }
         ensures key { IfOk result (IsKeyed self.now.seats) }
         ensures free { needs_memory event.now ≡ false → IsOk result }
@@ -46,7 +47,8 @@ impl Connections {
     /// What an item of a player does.
     #[inline(always)]
     fn plan_item(&self, alloc: Global, conn: u32, item: &Item) -> Result<Act, Memory>
-        ensures act { IfOk result (IsAct self.now.bases (picture self.now.seats self.now.upstream) (takes conn (shape_of item.now))) }
+        ensures act { IfOk result
+            (IsAct self.now.bases (picture self.now.seats self.now.upstream) (takes conn (shape_of item.now))) }
         ensures short { IfOk result IsShortAct }
         ensures key { IfOk result (IsKeyed self.now.seats) }
         ensures free { is_client_request item.now.kind ≡ false → IsOk result }
@@ -71,7 +73,8 @@ impl Connections {
     #[inline(always)]
     fn plan_rise(&self, conn: u32, item: &Item) -> Act
         requires { item.now.kind ≡ Frame }
-        ensures act { IsAct self.now.bases (picture self.now.seats self.now.upstream) (takes conn (shape_of item.now)) result }
+        ensures act { IsAct self.now.bases (picture self.now.seats self.now.upstream)
+            (takes conn (shape_of item.now)) result }
         ensures short { IsShortAct result }
         ensures key { IsKeyed self.now.seats result }
     {
@@ -89,7 +92,8 @@ impl Connections {
 
     /// What the close of a connection does. It takes no memory.
     fn plan_close(&self, alloc: Global, conn: u32, why: CloseWhy) -> Act
-        ensures act { (h : Happening) → IsClosing conn why h → IsAct self.now.bases (picture self.now.seats self.now.upstream) h result }
+        ensures act { (h : Happening) → IsClosing conn why h
+            → IsAct self.now.bases (picture self.now.seats self.now.upstream) h result }
         ensures short { IsShortAct result }
         ensures key { IsKeyed self.now.seats result }
     {
@@ -113,7 +117,10 @@ impl Connections {
         requires sound { CanCome (incoming_seen incoming.now) }
         requires short { IsShortAnswer said.answer }
         requires seat { IsSeatAt self.now.seats said.conn seat }
-        ensures act { (h : Happening) → IsSaid self.now.bases (picture self.now.seats self.now.upstream) h said (incoming_seen incoming.now) → IfOk result (IsAct self.now.bases (picture self.now.seats self.now.upstream) h) }
+        ensures act { (h : Happening)
+            → IsSaid self.now.bases (picture self.now.seats self.now.upstream) h said
+            (incoming_seen incoming.now)
+            → IfOk result (IsAct self.now.bases (picture self.now.seats self.now.upstream) h) }
         ensures short { IfOk result IsShortAct }
         ensures key { IfOk result (IsKeyed self.now.seats) }
     {
@@ -131,8 +138,11 @@ impl Connections {
     #[inline(always)]
     fn turned(&self, key: usize, said: TurnFacts, plan: Plan) -> Act
         requires key { IsKeyOf self.now.seats said.conn key }
-        ensures act { (h : Happening) (comes : Comes) (client : Client) → IsSaid self.now.bases (picture self.now.seats self.now.upstream) h said comes → (picture self.now.seats self.now.upstream).clients said.conn ≡ Some client
-            → IsPlan self.now.bases (self.now.upstream.requests.issued + 1) (free_once said.settled (picture self.now.seats self.now.upstream).held) client comes plan
+        ensures act { (h : Happening) (comes : Comes) (client : Client)
+            → IsSaid self.now.bases (picture self.now.seats self.now.upstream) h said comes
+            → (picture self.now.seats self.now.upstream).clients said.conn ≡ Some client
+            → IsPlan self.now.bases (self.now.upstream.requests.issued + 1)
+            (free_once said.settled (picture self.now.seats self.now.upstream).held) client comes plan
             → IsAct self.now.bases (picture self.now.seats self.now.upstream) h result }
         ensures short { IsShortAnswer said.answer → IsShortPlan plan → IsShortAct result }
         ensures key { IsKeyed self.now.seats result }

@@ -44,7 +44,8 @@ impl Connections {
     /// What an item of the server does.
     #[inline(always)]
     pub fn plan_heard(&self, alloc: Global, item: &Item) -> Result<Act, Memory>
-        ensures act { IfOk result (IsAct self.now.bases (picture self.now.seats self.now.upstream) (hears (shape_of item.now))) }
+        ensures act { IfOk result
+            (IsAct self.now.bases (picture self.now.seats self.now.upstream) (hears (shape_of item.now))) }
         ensures short { IfOk result IsShortAct }
         ensures key { IfOk result (IsKeyed self.now.seats) }
         ensures free { is_message item.now.kind ≡ false → IsOk result }
@@ -63,7 +64,8 @@ impl Connections {
     #[inline(always)]
     fn plan_fall(&self, item: &Item) -> Act
         requires { item.now.kind ≡ Frame }
-        ensures act { IsAct self.now.bases (picture self.now.seats self.now.upstream) (hears (shape_of item.now)) result }
+        ensures act { IsAct self.now.bases (picture self.now.seats self.now.upstream)
+            (hears (shape_of item.now)) result }
         ensures short { IsShortAct result }
         ensures key { IsKeyed self.now.seats result }
     {
@@ -88,7 +90,8 @@ impl Connections {
 
     /// What a reply of the server does.
     fn plan_reply(&self, alloc: Global, reply: &Reply2) -> Result<Act, Memory>
-        ensures act { (shape : Shape) → heard shape ≡ replies reply.now → IfOk result (IsAct self.now.bases (picture self.now.seats self.now.upstream) (hears shape)) }
+        ensures act { (shape : Shape) → heard shape ≡ replies reply.now
+            → IfOk result (IsAct self.now.bases (picture self.now.seats self.now.upstream) (hears shape)) }
         ensures short { IfOk result IsShortAct }
         ensures key { IfOk result (IsKeyed self.now.seats) }
     {
@@ -137,7 +140,10 @@ impl Connections {
     ) -> Option<UpCause>
         requires low { IsLowPurpose (purpose_seen pending) }
         requires grant { grant ≡ grant_said reply.now }
-        ensures { result ≡ kind_breach (books_in (picture self.now.seats self.now.upstream)) (kind_pending (Some (purpose_seen pending.entry))) conn (option_copied session.entry) reply.now }
+        ensures { result
+            ≡ kind_breach (books_in (picture self.now.seats self.now.upstream))
+            (kind_pending (Some (purpose_seen pending.entry))) conn (option_copied session.entry)
+            reply.now }
     {
         match pending {
             Pending::Client(_, Some(track)) if is_success(reply.code) => {
@@ -156,7 +162,8 @@ impl Connections {
 
     /// What a request of the server does.
     fn plan_ask(&self, alloc: Global, ask: &Ask2) -> Result<Act, Memory>
-        ensures act { (shape : Shape) → heard shape ≡ requests ask.now → IfOk result (IsAct self.now.bases (picture self.now.seats self.now.upstream) (hears shape)) }
+        ensures act { (shape : Shape) → heard shape ≡ requests ask.now
+            → IfOk result (IsAct self.now.bases (picture self.now.seats self.now.upstream) (hears shape)) }
         ensures short { IfOk result IsShortAct }
         ensures key { IfOk result (IsKeyed self.now.seats) }
     {

@@ -38,7 +38,11 @@ pub(crate) fn what_settles<'a>(
     reply: &Reply2,
 ) -> Result<Settlement, Memory>
     requires { 200 ≤ reply.now.code }
-    ensures { IfOk result (λ settled. AreSettled (final_of reply.now (Some (record { conn = conn; kind = kind_pending (Some (purpose_seen pending.entry)) }))) (option_copied session.entry) (Some settled)) }
+    ensures { IfOk result (λ settled.
+        AreSettled
+        (final_of reply.now
+        (Some (record { conn = conn; kind = kind_pending (Some (purpose_seen pending.entry)) })))
+        (option_copied session.entry) (Some settled)) }
 {
     let success = is_success(reply.code);
     let (freed, granted) = match pending {

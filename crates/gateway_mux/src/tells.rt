@@ -10,7 +10,9 @@ impl Connections {
 
     /// Whether a connection entered, and was not closed.
     pub fn alive(&self, conn: u32) -> bool
-        ensures { (T : List HistoryEntry) → IsPictureOf self.now.bases (picture self.now.seats self.now.upstream) T → result ≡ is_alive conn T }
+        ensures { (T : List HistoryEntry)
+            → IsPictureOf self.now.bases (picture self.now.seats self.now.upstream) T
+            → result ≡ is_alive conn T }
     {
         match self.seats.slot(conn) {
             Some(slot) => slot.alive(),
@@ -20,7 +22,9 @@ impl Connections {
 
     /// Whether a connection is alive and has a request open.
     pub fn busy(&self, conn: u32) -> bool
-        ensures { (T : List HistoryEntry) → IsPictureOf self.now.bases (picture self.now.seats self.now.upstream) T → result ≡ is_busy self.now.bases conn T }
+        ensures { (T : List HistoryEntry)
+            → IsPictureOf self.now.bases (picture self.now.seats self.now.upstream) T
+            → result ≡ is_busy self.now.bases conn T }
     {
         match self.seats.slot(conn) {
             Some(slot) => slot.alive() && slot.busy(),
@@ -30,7 +34,9 @@ impl Connections {
 
     /// How many requests of a connection wait.
     pub fn waiting(&self, conn: u32) -> usize
-        ensures { (T : List HistoryEntry) → IsPictureOf self.now.bases (picture self.now.seats self.now.upstream) T → result ≡ requests_waiting self.now.bases conn T }
+        ensures { (T : List HistoryEntry)
+            → IsPictureOf self.now.bases (picture self.now.seats self.now.upstream) T
+            → result ≡ requests_waiting self.now.bases conn T }
     {
         match self.seats.slot(conn) {
             Some(slot) => slot.waiting(),
@@ -40,7 +46,9 @@ impl Connections {
 
     /// The first connection from this number on that is alive.
     pub fn next_alive(&self, from: u32) -> Option<u32>
-        ensures { (T : List HistoryEntry) → IsPictureOf self.now.bases (picture self.now.seats self.now.upstream) T → IsFirstAlive from T result }
+        ensures { (T : List HistoryEntry)
+            → IsPictureOf self.now.bases (picture self.now.seats self.now.upstream) T
+            → IsFirstAlive from T result }
     {
         let mut from = from;
         while let Some(conn) = self.seats.next(from) {

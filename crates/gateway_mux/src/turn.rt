@@ -44,21 +44,45 @@ pub(crate) fn commit_turn(
 ) -> Option<Done>
     requires key { IsKeyOf seats.old turn.conn turn.key }
     requires ready { IfSome (client_at seats.old turn.conn) (λ client. IsReady client turn.plan) }
-    requires settles { IfSome turn.settled (CanSettle (λ n. asker_of upstream.old.requests n) (λ p. held_at p upstream.old.channels) (λ id. holder_of upstream.old.sessions id) upstream.old.sessions.spare turn.conn (session_of_client (client_at seats.old turn.conn))) }
+    requires settles { IfSome turn.settled
+        (CanSettle (λ n. asker_of upstream.old.requests n) (λ p. held_at p upstream.old.channels)
+        (λ id. holder_of upstream.old.sessions id) upstream.old.sessions.spare turn.conn
+        (session_of_client (client_at seats.old turn.conn))) }
     requires room { turn.asks ≡ true → turn.settled ≡ None → 0 < upstream.old.requests.spare }
     requires left { turn.asks ≡ true → IsSome (next_number upstream.old.requests.issued) }
-    ensures done { IsSome (client_at seats.old turn.conn) → IfSome result (λ done. IsCarriedAt (client_at seats.old turn.conn) (client_at seats.new turn.conn) turn.plan turn.number turn.next done) }
+    ensures done { IsSome (client_at seats.old turn.conn)
+        → IfSome result (λ done.
+        IsCarriedAt (client_at seats.old turn.conn) (client_at seats.new turn.conn) turn.plan turn.number
+        turn.next done) }
     ensures some { IsSome (client_at seats.old turn.conn) → IsSome result }
     ensures short { IsShortPlan turn.plan → IfSome result IsShortDone }
     ensures key { IsKeyOf seats.new turn.conn turn.key }
     ensures ready { is_ready seats.new ≡ is_ready seats.old }
     ensures others { (i : ℕ) → turn.conn ≢ i → client_at seats.new i ≡ client_at seats.old i }
-    ensures issued { IsSome result → upstream.new.requests.issued ≡ issued_then turn.asks upstream.old.requests.issued }
-    ensures room { IsSome result → upstream.new.requests.spare + one_if turn.asks ≡ upstream.old.requests.spare + one_if (is_some turn.settled) }
-    ensures spare { IsSome result → upstream.new.sessions.spare + one_if (binds turn.settled) ≡ upstream.old.sessions.spare + one_if (unbinds turn.settled (session_of_client (client_at seats.old turn.conn))) }
-    ensures asked { IsSome result → (n : ℕ) → asker_of upstream.new.requests n ≡ asker_lent turn.asks turn.conn (upstream.old.requests.issued + 1) n (asker_settled turn.settled n (asker_of upstream.old.requests n)) }
-    ensures held { IsSome result → (p : ℕ) → held_at p upstream.new.channels ≡ held_lent turn.asks (asks_pair (client_at seats.new turn.conn)) turn.conn (free_once turn.settled (λ q. held_at q upstream.old.channels)) p (held_settled turn.settled p (held_at p upstream.old.channels)) }
-    ensures holder { IsSome result → (id : List ℕ) → holder_of upstream.new.sessions id ≡ holder_settled turn.settled turn.conn id (holder_of upstream.old.sessions id) }
+    ensures issued { IsSome result
+        → upstream.new.requests.issued ≡ issued_then turn.asks upstream.old.requests.issued }
+    ensures room { IsSome result
+        → upstream.new.requests.spare + one_if turn.asks
+        ≡ upstream.old.requests.spare + one_if (is_some turn.settled) }
+    ensures spare { IsSome result
+        → upstream.new.sessions.spare + one_if (binds turn.settled)
+        ≡ upstream.old.sessions.spare
+        + one_if (unbinds turn.settled (session_of_client (client_at seats.old turn.conn))) }
+    ensures asked { IsSome result
+        → (n : ℕ)
+        → asker_of upstream.new.requests n
+        ≡ asker_lent turn.asks turn.conn (upstream.old.requests.issued + 1) n
+        (asker_settled turn.settled n (asker_of upstream.old.requests n)) }
+    ensures held { IsSome result
+        → (p : ℕ)
+        → held_at p upstream.new.channels
+        ≡ held_lent turn.asks (asks_pair (client_at seats.new turn.conn)) turn.conn
+        (free_once turn.settled (λ q. held_at q upstream.old.channels)) p
+        (held_settled turn.settled p (held_at p upstream.old.channels)) }
+    ensures holder { IsSome result
+        → (id : List ℕ)
+        → holder_of upstream.new.sessions id
+        ≡ holder_settled turn.settled turn.conn id (holder_of upstream.old.sessions id) }
 {
     let PlannedTurn {
         conn,

@@ -44,13 +44,23 @@ impl UpstreamBooks {
 
     /// Settles what the final reply to a request of a connection settles, which had this session.
     pub fn settle(&mut self, conn: u32, session: Option<&[u8]>, settled: Settlement)
-        requires { CanSettle (λ n. asker_of self.old.requests n) (λ p. held_at p self.old.channels) (λ id. holder_of self.old.sessions id) self.old.sessions.spare conn (option_copied session) settled }
+        requires { CanSettle (λ n. asker_of self.old.requests n) (λ p. held_at p self.old.channels)
+            (λ id. holder_of self.old.sessions id) self.old.sessions.spare conn (option_copied session)
+            settled }
         ensures issued { self.new.requests.issued ≡ self.old.requests.issued }
-        ensures open { (n : ℕ) → asker_of self.new.requests n ≡ (if n == settled.number then None else asker_of self.old.requests n) }
+        ensures open { (n : ℕ)
+            → asker_of self.new.requests n
+            ≡ (if n == settled.number then None else asker_of self.old.requests n) }
         ensures room { self.new.requests.spare ≡ self.old.requests.spare + 1 }
-        ensures spare { self.new.sessions.spare + one_if (is_some settled.bound) ≡ self.old.sessions.spare + one_if (is_freed settled.bound settled.freed (option_copied session.entry)) }
-        ensures held { (p : ℕ) → held_at p self.new.channels ≡ held_by settled.granted settled.freed p (held_at p self.old.channels) }
-        ensures holder { (id : List ℕ) → holder_of self.new.sessions id ≡ holder_by settled.bound settled.freed conn id (holder_of self.old.sessions id) }
+        ensures spare { self.new.sessions.spare + one_if (is_some settled.bound)
+            ≡ self.old.sessions.spare
+            + one_if (is_freed settled.bound settled.freed (option_copied session.entry)) }
+        ensures held { (p : ℕ)
+            → held_at p self.new.channels
+            ≡ held_by settled.granted settled.freed p (held_at p self.old.channels) }
+        ensures holder { (id : List ℕ)
+            → holder_of self.new.sessions id
+            ≡ holder_by settled.bound settled.freed conn id (holder_of self.old.sessions id) }
     {
         let _ = self.requests.settle(settled.number);
         settle_channels(&mut self.channels, settled.granted, settled.freed);
@@ -65,13 +75,20 @@ impl UpstreamBooks {
 
     /// Settles what the final reply to a request of a connection settles, where one came.
     pub fn settle_where(&mut self, conn: u32, session: Option<&[u8]>, settled: Option<Settlement>)
-        requires { IfSome settled (CanSettle (λ n. asker_of self.old.requests n) (λ p. held_at p self.old.channels) (λ id. holder_of self.old.sessions id) self.old.sessions.spare conn (option_copied session)) }
+        requires { IfSome settled
+            (CanSettle (λ n. asker_of self.old.requests n) (λ p. held_at p self.old.channels)
+            (λ id. holder_of self.old.sessions id) self.old.sessions.spare conn (option_copied session)) }
         ensures issued { self.new.requests.issued ≡ self.old.requests.issued }
-        ensures open { (n : ℕ) → asker_of self.new.requests n ≡ asker_settled settled n (asker_of self.old.requests n) }
-        ensures room { self.new.requests.spare ≡ (if is_some settled then self.old.requests.spare + 1 else self.old.requests.spare) }
-        ensures spare { self.new.sessions.spare + one_if (binds settled) ≡ self.old.sessions.spare + one_if (unbinds settled (option_copied session.entry)) }
-        ensures held { (p : ℕ) → held_at p self.new.channels ≡ held_settled settled p (held_at p self.old.channels) }
-        ensures holder { (id : List ℕ) → holder_of self.new.sessions id ≡ holder_settled settled conn id (holder_of self.old.sessions id) }
+        ensures open { (n : ℕ)
+            → asker_of self.new.requests n ≡ asker_settled settled n (asker_of self.old.requests n) }
+        ensures room { self.new.requests.spare
+            ≡ (if is_some settled then self.old.requests.spare + 1 else self.old.requests.spare) }
+        ensures spare { self.new.sessions.spare + one_if (binds settled)
+            ≡ self.old.sessions.spare + one_if (unbinds settled (option_copied session.entry)) }
+        ensures held { (p : ℕ)
+            → held_at p self.new.channels ≡ held_settled settled p (held_at p self.old.channels) }
+        ensures holder { (id : List ℕ)
+            → holder_of self.new.sessions id ≡ holder_settled settled conn id (holder_of self.old.sessions id) }
     {
         if let Some(settled) = settled {
             self.settle(conn, session, settled);
@@ -96,9 +113,14 @@ impl UpstreamBooks {
         requires left { IsSome (next_number self.old.requests.issued) }
         ensures sessions { self.new.sessions ≡ self.old.sessions }
         ensures issued { self.new.requests.issued ≡ self.old.requests.issued + 1 }
-        ensures open { (n : ℕ) → asker_of self.new.requests n ≡ (if n == self.old.requests.issued + 1 then Some conn else asker_of self.old.requests n) }
+        ensures open { (n : ℕ)
+            → asker_of self.new.requests n
+            ≡ (if n == self.old.requests.issued + 1 then Some conn else asker_of self.old.requests n) }
         ensures room { self.new.requests.spare + 1 ≡ self.old.requests.spare }
-        ensures held { (p : ℕ) → held_at p self.new.channels ≡ reserved_by reserves conn (lowest_free (λ pair. is_free (held_at pair self.old.channels))) p (held_at p self.old.channels) }
+        ensures held { (p : ℕ)
+            → held_at p self.new.channels
+            ≡ reserved_by reserves conn (lowest_free (λ pair. is_free (held_at pair self.old.channels))) p
+            (held_at p self.old.channels) }
     {
         match self.requests.issue(conn) {
             Ok(_) => {}
@@ -132,8 +154,10 @@ fn settle_sessions(
     requires spare { IsSome bound → 0 < sessions.old.spare }
     requires fresh { IfSome bound (λ id. holder_of sessions.old id ≡ None) }
     requires owned { IsOwnSession (λ id. holder_of sessions.old id) freed conn (option_copied session) }
-    ensures spare { sessions.new.spare + one_if (is_some bound) ≡ sessions.old.spare + one_if (is_freed bound freed (option_copied session.entry)) }
-    ensures holder { (id : List ℕ) → holder_of sessions.new id ≡ holder_by bound freed conn id (holder_of sessions.old id) }
+    ensures spare { sessions.new.spare + one_if (is_some bound)
+        ≡ sessions.old.spare + one_if (is_freed bound freed (option_copied session.entry)) }
+    ensures holder { (id : List ℕ)
+        → holder_of sessions.new id ≡ holder_by bound freed conn id (holder_of sessions.old id) }
 {
     match (bound, freed, session) {
         (Some(id), _, _) => match sessions.bind(id, conn) {

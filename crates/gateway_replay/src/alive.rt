@@ -42,7 +42,8 @@ impl Living {
     /// Takes the one with the lowest number, where any is alive.
     pub fn take_first(&mut self) -> Option<u32>
         ensures first { IfSome result (IsFirstLiving self.old) }
-        ensures taken { IfSome result (λ conn. (i : ℕ) → lives self.new i ≡ (not (conn == i) && lives self.old i)) }
+        ensures taken { IfSome result (λ conn.
+            (i : ℕ) → lives self.new i ≡ (not (conn == i) && lives self.old i)) }
         ensures fewer { IfSome result (λ conn. how_many_live self.new < how_many_live self.old) }
         ensures none { IfNone result ((i : ℕ) → lives self.old i ≡ false) }
         ensures kept { IfNone result ((i : ℕ) → lives self.new i ≡ lives self.old i) }

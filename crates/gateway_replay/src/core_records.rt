@@ -54,8 +54,11 @@ impl<M: Core> Watched<M> {
     /// A connection enters, under a number that never entered.
     pub fn enter(&mut self, alloc: Global, conn: u32) -> Result<(), Memory>
         requires { IsNewTo (M.stands self.old.core) conn }
-        ensures ok { OnOk result (EntersAs (Watches M.stands M.bases self.old.core self.old.living) (Watches M.stands M.bases self.new.core self.new.living) conn) }
-        ensures err { OnErr result (Advances (Watches M.stands M.bases self.old.core self.old.living) (IsCoreHistory M.follows) []) }
+        ensures ok { OnOk result
+            (EntersAs (Watches M.stands M.bases self.old.core self.old.living)
+            (Watches M.stands M.bases self.new.core self.new.living) conn) }
+        ensures err { OnErr result
+            (Advances (Watches M.stands M.bases self.old.core self.old.living) (IsCoreHistory M.follows) []) }
     {
         if self.core.ended().is_some() {
             return self.core.enter(alloc, conn);
@@ -71,8 +74,10 @@ impl<M: Core> Watched<M> {
         sink: &mut K,
         event: Event,
     ) -> Result<(), ProcessFault>
-        ensures takes { TakesEvent (IsCoreHistory M.follows) (Watches M.stands M.bases self.old.core self.old.living) (Watches M.stands M.bases self.new.core self.new.living)
-            (happening_of event) (K.written sink.old) (K.written sink.new) result }
+        ensures takes { TakesEvent (IsCoreHistory M.follows)
+            (Watches M.stands M.bases self.old.core self.old.living)
+            (Watches M.stands M.bases self.new.core self.new.living) (happening_of event) (K.written sink.old)
+            (K.written sink.new) result }
         ensures cause { SinkCause (K.faults sink.old) (K.faults sink.new) result }
     {
         let outcome = match self.core.step(alloc, event) {

@@ -19,7 +19,11 @@ use gateway_claim::Core;
 /// connection's own, end to end. [`crate::replay`] writes the records of that history: so the bytes
 /// that it writes tell what a gateway for this player alone hands out on what the transcript tells.
 pub fn a_transcript_of_one_player_is_its_own()
-    ensures { (bases : Bases) (entries : List Entry) (history : List HistoryEntry) (i : ℕ) → IsHistory bases history → happened history ≡ events_of entries → EntersAlone i entries → HasAll bases i history }
+    ensures { (bases : Bases) (entries : List Entry) (history : List HistoryEntry) (i : ℕ)
+        → IsHistory bases history
+        → happened history ≡ events_of entries
+        → EntersAlone i entries
+        → HasAll bases i history }
 {}
 
 /// A transcript without a fault, and no longer than the limit, is replayed whole, where the counts of
@@ -27,8 +31,12 @@ pub fn a_transcript_of_one_player_is_its_own()
 /// the records of the history of all that its entries tell; or memory was wanting. The first two
 /// premises are what [`crate::replay`] ensures of its answer.
 pub fn a_sound_transcript_is_replayed<M: Core>()
-    ensures { (bases : Bases) (status : Status) (all : List ℕ) (left before now : Option (List ℕ)) (source_before source_now sink_before sink_now : ℕ)
-        → ReplaySays (IsCoreHistory M.follows) bases status (Some all) left before now → FaultRose status source_before source_now sink_before sink_now
-        → IsSoundTranscript all → (Rose source_before source_now → ⊥) → (Rose sink_before sink_now → ⊥)
+    ensures { (bases : Bases) (status : Status) (all : List ℕ) (left before now : Option (List ℕ))
+        (source_before source_now sink_before sink_now : ℕ)
+        → ReplaySays (IsCoreHistory M.follows) bases status (Some all) left before now
+        → FaultRose status source_before source_now sink_before sink_now
+        → IsSoundTranscript all
+        → (Rose source_before source_now → ⊥)
+        → (Rose sink_before sink_now → ⊥)
         → EndsSoundReplay (IsCoreHistory M.follows) bases status all left before now }
 {}

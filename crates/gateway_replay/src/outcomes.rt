@@ -23,7 +23,8 @@ pub fn write_outcome<K: Sink>(
     outcome: &Outcome,
 ) -> Result<(), Failed>
     requires { IsShort outcome.now }
-    ensures bytes { (T : List HistoryEntry) → AreLiving living.old T → WritesAll (K.written sink.old) (K.written sink.new) (records_of outcome.now T) result }
+    ensures bytes { (T : List HistoryEntry) → AreLiving living.old T
+        → WritesAll (K.written sink.old) (K.written sink.new) (records_of outcome.now T) result }
     ensures living { OnOk result (StayLiving outcome.now.closed living.old living.new) }
     ensures cause { HasCause (K.faults sink.old) (K.faults sink.new) result }
 {
@@ -90,7 +91,8 @@ fn message_bytes(message: &Option<UpMessage>) -> &[u8]
 
 /// Writes the records of the connections that were closed, which are alive no longer.
 fn write_closed<K: Sink>(sink: &mut K, living: &mut Living, closed: Closed) -> Result<(), Failed>
-    ensures bytes { (T : List HistoryEntry) → AreLiving living.old T → WritesAll (K.written sink.old) (K.written sink.new) (closed_records closed T) result }
+    ensures bytes { (T : List HistoryEntry) → AreLiving living.old T
+        → WritesAll (K.written sink.old) (K.written sink.new) (closed_records closed T) result }
     ensures living { OnOk result (StayLiving closed living.old living.new) }
     ensures cause { HasCause (K.faults sink.old) (K.faults sink.new) result }
 {
@@ -114,7 +116,8 @@ fn write_close<K: Sink>(sink: &mut K, conn: u32, why: CloseWhy) -> Result<(), Fa
 
 /// Writes the closes of all connections that are alive, by rising number, and none is alive then.
 fn write_ends<K: Sink>(sink: &mut K, living: &mut Living) -> Result<(), Failed>
-    ensures bytes { (T : List HistoryEntry) → AreLiving living.old T → WritesAll (K.written sink.old) (K.written sink.new) (ends T) result }
+    ensures bytes { (T : List HistoryEntry) → AreLiving living.old T
+        → WritesAll (K.written sink.old) (K.written sink.new) (ends T) result }
     ensures living { OnOk result (StayLiving Closed.All living.old living.new) }
     ensures cause { HasCause (K.faults sink.old) (K.faults sink.new) result }
 {
@@ -153,7 +156,8 @@ fn write_cause<K: Sink>(sink: &mut K, cause: UpCause) -> Result<(), Failed>
 /// Writes the record of a cause that has a number.
 fn write_numbered<K: Sink>(sink: &mut K, words: &[u8], number: u32) -> Result<(), Failed>
     requires { length words.now < 2 ^ 31 }
-    ensures bytes { WritesAll (K.written sink.old) (K.written sink.new) (record_text FAULT_BYTE 0 (words.now ++ decimal number)) result }
+    ensures bytes { WritesAll (K.written sink.old) (K.written sink.new)
+        (record_text FAULT_BYTE 0 (words.now ++ decimal number)) result }
     ensures cause { HasCause (K.faults sink.old) (K.faults sink.new) result }
 {
     let mut buffer = itoa::Buffer::new();

@@ -57,7 +57,8 @@ pub fn write_record<K: Sink>(
     body: &[u8],
 ) -> Result<(), Failed>
     requires { length body.now < 2 ^ 32 }
-    ensures bytes { WritesAll (K.written sink.old) (K.written sink.new) (record_text (record_byte kind) conn body.now) result }
+    ensures bytes { WritesAll (K.written sink.old) (K.written sink.new)
+        (record_text (record_byte kind) conn body.now) result }
     ensures cause { HasCause (K.faults sink.old) (K.faults sink.new) result }
 {
     let head = record_head(kind, conn, body.len() as u32);
@@ -76,7 +77,8 @@ pub fn write_parted_record<K: Sink>(
     second: &[u8],
 ) -> Result<(), Failed>
     requires { length first.now + length second.now < 2 ^ 32 }
-    ensures bytes { WritesAll (K.written sink.old) (K.written sink.new) (record_text (record_byte kind) conn (first.now ++ second.now)) result }
+    ensures bytes { WritesAll (K.written sink.old) (K.written sink.new)
+        (record_text (record_byte kind) conn (first.now ++ second.now)) result }
     ensures cause { HasCause (K.faults sink.old) (K.faults sink.new) result }
 {
     let size = first.len() + second.len();

@@ -47,8 +47,10 @@ fn take_piece<M: Core, K: Sink>(
     speaker: Speaker,
     piece: Text,
 ) -> Result<(), ProcessFault>
-    ensures takes { TakesPiece framer.old framer.new (IsCoreHistory M.follows) (Watches M.stands M.bases watched.old.core watched.old.living) (Watches M.stands M.bases watched.new.core watched.new.living)
-        speaker piece (K.written sink.old) (K.written sink.new) result }
+    ensures takes { TakesPiece framer.old framer.new (IsCoreHistory M.follows)
+        (Watches M.stands M.bases watched.old.core watched.old.living)
+        (Watches M.stands M.bases watched.new.core watched.new.living) speaker piece (K.written sink.old)
+        (K.written sink.new) result }
     ensures cause { SinkCause (K.faults sink.old) (K.faults sink.new) result }
 {
     let mut next = framer.take(alloc, piece)?;
@@ -77,7 +79,8 @@ impl<M: Core> Run<M> {
 
     /// The state before the first entry.
     pub fn new(alloc: Global, core: M) -> Run<M>
-        ensures core { M.stands core [] → Watches M.stands M.bases result.watched.core result.watched.living (M.bases core) [] }
+        ensures core { M.stands core []
+            → Watches M.stands M.bases result.watched.core result.watched.living (M.bases core) [] }
         ensures streams { (who : Speaker) → FramerFed (framer_at result.streams who) [] [] }
     {
         Run {
@@ -94,10 +97,14 @@ impl<M: Core> Run<M> {
         sink: &mut K,
         entry: Entry,
     ) -> Result<(), ProcessFault>
-        requires { StandsForSome (with_new entry.kind entry.conn (Watches M.stands M.bases self.old.watched.core self.old.watched.living)) }
+        requires { StandsForSome
+            (with_new entry.kind entry.conn
+            (Watches M.stands M.bases self.old.watched.core self.old.watched.living)) }
         ensures takes { TakesEntry self.old.streams self.new.streams (IsCoreHistory M.follows)
-            (with_new entry.kind entry.conn (Watches M.stands M.bases self.old.watched.core self.old.watched.living))
-            (Watches M.stands M.bases self.new.watched.core self.new.watched.living) entry (K.written sink.old) (K.written sink.new) result }
+            (with_new entry.kind entry.conn
+            (Watches M.stands M.bases self.old.watched.core self.old.watched.living))
+            (Watches M.stands M.bases self.new.watched.core self.new.watched.living) entry
+            (K.written sink.old) (K.written sink.new) result }
         ensures cause { SinkCause (K.faults sink.old) (K.faults sink.new) result }
     {
         let Entry { kind, conn, body } = entry;
@@ -121,8 +128,10 @@ impl<M: Core> Run<M> {
         sink: &mut K,
         bytes: &[u8],
     ) -> Result<(), ProcessFault>
-        ensures takes { TakesUpEnd (IsCoreHistory M.follows) (Watches M.stands M.bases self.old.watched.core self.old.watched.living) (Watches M.stands M.bases self.new.watched.core self.new.watched.living)
-            (end_reason_in bytes.now) (K.written sink.old) (K.written sink.new) result }
+        ensures takes { TakesUpEnd (IsCoreHistory M.follows)
+            (Watches M.stands M.bases self.old.watched.core self.old.watched.living)
+            (Watches M.stands M.bases self.new.watched.core self.new.watched.living) (end_reason_in bytes.now)
+            (K.written sink.old) (K.written sink.new) result }
         ensures streams { self.new.streams ≡ self.old.streams }
         ensures cause { SinkCause (K.faults sink.old) (K.faults sink.new) result }
     {
@@ -140,8 +149,10 @@ impl<M: Core> Run<M> {
         speaker: Speaker,
         bytes: Text,
     ) -> Result<(), ProcessFault>
-        ensures takes { TakesBytes self.old.streams self.new.streams (IsCoreHistory M.follows) (Watches M.stands M.bases self.old.watched.core self.old.watched.living)
-            (Watches M.stands M.bases self.new.watched.core self.new.watched.living) speaker bytes (K.written sink.old) (K.written sink.new) result }
+        ensures takes { TakesBytes self.old.streams self.new.streams (IsCoreHistory M.follows)
+            (Watches M.stands M.bases self.old.watched.core self.old.watched.living)
+            (Watches M.stands M.bases self.new.watched.core self.new.watched.living) speaker bytes
+            (K.written sink.old) (K.written sink.new) result }
         ensures cause { SinkCause (K.faults sink.old) (K.faults sink.new) result }
     {
         match speaker {
@@ -161,8 +172,10 @@ impl<M: Core> Run<M> {
         conn: u32,
         bytes: Text,
     ) -> Result<(), ProcessFault>
-        ensures takes { TakesBytes self.old.streams self.new.streams (IsCoreHistory M.follows) (Watches M.stands M.bases self.old.watched.core self.old.watched.living)
-            (Watches M.stands M.bases self.new.watched.core self.new.watched.living) (Client conn) bytes (K.written sink.old) (K.written sink.new) result }
+        ensures takes { TakesBytes self.old.streams self.new.streams (IsCoreHistory M.follows)
+            (Watches M.stands M.bases self.old.watched.core self.old.watched.living)
+            (Watches M.stands M.bases self.new.watched.core self.new.watched.living) (Client conn) bytes
+            (K.written sink.old) (K.written sink.new) result }
         ensures cause { SinkCause (K.faults sink.old) (K.faults sink.new) result }
     {
         let speaker = Speaker::Client(conn);

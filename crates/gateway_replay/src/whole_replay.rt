@@ -100,9 +100,11 @@ pub fn replay<M: Core, S: Source, K: Sink>(
     sink: &mut K,
 ) -> Status
     requires { M.stands core [] }
-    ensures says { ReplaySays (IsCoreHistory M.follows) (M.bases core) result (S.rest source.old) (S.rest source.new) (K.written sink.old) (K.written sink.new) }
+    ensures says { ReplaySays (IsCoreHistory M.follows) (M.bases core) result (S.rest source.old)
+        (S.rest source.new) (K.written sink.old) (K.written sink.new) }
     ensures taken { TakesWithin (limit + 1) (S.rest source.old) (S.rest source.new) }
-    ensures rose { FaultRose result (S.faults source.old) (S.faults source.new) (K.faults sink.old) (K.faults sink.new) }
+    ensures rose { FaultRose result (S.faults source.old) (S.faults source.new) (K.faults sink.old)
+        (K.faults sink.new) }
     ensures source_later { S.faults source.old ≤ S.faults source.new }
     ensures sink_later { K.faults sink.old ≤ K.faults sink.new }
 {
@@ -159,9 +161,15 @@ fn take_piece<M: Core, K: Sink>(
     sink: &mut K,
     piece: &[u8],
 ) -> Result<(), Stop>
-    requires { SomeSoFar reader.old run.old.streams (Watches M.stands M.bases run.old.watched.core run.old.watched.living) (K.written sink.old) }
-    ensures processed { (bases : Bases) (bytes : List ℕ) (before : Option (List ℕ)) → ReplayedSoFar bases reader.old run.old.streams (Watches M.stands M.bases run.old.watched.core run.old.watched.living) bytes before (K.written sink.old)
-        → Processed (IsCoreHistory M.follows) bases result reader.new run.new.streams (Watches M.stands M.bases run.new.watched.core run.new.watched.living) (bytes ++ piece.now) before (K.written sink.new) }
+    requires { SomeSoFar reader.old run.old.streams
+        (Watches M.stands M.bases run.old.watched.core run.old.watched.living) (K.written sink.old) }
+    ensures processed { (bases : Bases) (bytes : List ℕ) (before : Option (List ℕ))
+        → ReplayedSoFar bases reader.old run.old.streams
+        (Watches M.stands M.bases run.old.watched.core run.old.watched.living) bytes before
+        (K.written sink.old)
+        → Processed (IsCoreHistory M.follows) bases result reader.new run.new.streams
+        (Watches M.stands M.bases run.new.watched.core run.new.watched.living) (bytes ++ piece.now) before
+        (K.written sink.new) }
     ensures cause { StopCause (K.faults sink.old) (K.faults sink.new) result }
 {
     let Ok(()) = reader.feed(piece) else {
@@ -172,7 +180,9 @@ fn take_piece<M: Core, K: Sink>(
 
 /// The answer at the end of the source.
 fn finish(reader: &EntryReader) -> Status
-    ensures { (bytes : List ℕ) (entries : List Entry) → ReadsSo reader.now bytes entries → GivenWhole bytes entries → result ≡ ends_by (reading bytes).fault }
+    ensures { (bytes : List ℕ) (entries : List Entry) → ReadsSo reader.now bytes entries
+        → GivenWhole bytes entries
+        → result ≡ ends_by (reading bytes).fault }
 {
     match reader.finish() {
         Ok(()) => Status::Done,
@@ -197,9 +207,15 @@ fn process_entries<M: Core, K: Sink>(
     run: &mut Run<M>,
     sink: &mut K,
 ) -> Result<(), Stop>
-    requires { SomeSoFar reader.old run.old.streams (Watches M.stands M.bases run.old.watched.core run.old.watched.living) (K.written sink.old) }
-    ensures processed { (bases : Bases) (bytes : List ℕ) (before : Option (List ℕ)) → ReplayedSoFar bases reader.old run.old.streams (Watches M.stands M.bases run.old.watched.core run.old.watched.living) bytes before (K.written sink.old)
-        → Processed (IsCoreHistory M.follows) bases result reader.new run.new.streams (Watches M.stands M.bases run.new.watched.core run.new.watched.living) bytes before (K.written sink.new) }
+    requires { SomeSoFar reader.old run.old.streams
+        (Watches M.stands M.bases run.old.watched.core run.old.watched.living) (K.written sink.old) }
+    ensures processed { (bases : Bases) (bytes : List ℕ) (before : Option (List ℕ))
+        → ReplayedSoFar bases reader.old run.old.streams
+        (Watches M.stands M.bases run.old.watched.core run.old.watched.living) bytes before
+        (K.written sink.old)
+        → Processed (IsCoreHistory M.follows) bases result reader.new run.new.streams
+        (Watches M.stands M.bases run.new.watched.core run.new.watched.living) bytes before
+        (K.written sink.new) }
     ensures cause { StopCause (K.faults sink.old) (K.faults sink.new) result }
 {
     loop {

@@ -30,10 +30,21 @@ where
     M::Plan: Send,
 {
     let there = move || -> (UpBack<I, P>, Option<ThreadRefusal>)
-        requires { IsSync W.row × IsSend I.row × IsSend P.row × IsSend M.row × IsSend M.Plan.row × IsSend R.row }
+        requires { IsSync W.row
+            × IsSend I.row
+            × IsSend P.row
+            × IsSend M.row
+            × IsSend M.Plan.row
+            × IsSend R.row }
     { work_server(common, server) };
     let here = move || -> Option<ThreadRefusal>
-        requires { IsSync W.row × IsSend D.row × IsSend D.Inward.row × IsSend D.Outward.row × IsSend M.row × IsSend M.Plan.row × IsSend R.row }
+        requires { IsSync W.row
+            × IsSend D.row
+            × IsSend D.Inward.row
+            × IsSend D.Outward.row
+            × IsSend M.row
+            × IsSend M.Plan.row
+            × IsSend R.row }
     { work_stations(common, stations) };
     match beside(common.rt, there, here) {
         Ok(((back, refused_there), refused_here)) => (back, refused_there.or(refused_here)),

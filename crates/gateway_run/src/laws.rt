@@ -19,16 +19,23 @@ use gateway_claim::Core;
 /// numbers given; or for want of memory. Its whole report was written, or memory was wanting before
 /// it began. The first two premises are what [`crate::serve`] ensures of its answer.
 pub fn a_run_that_nothing_hinders_ends_well<M: Core>()
-    ensures { (bases : Bases) (status : Status) (recorded : Option (List Noted)) (opened closed : WorldTally) (before now : Option (List ℕ)) (a b : ℕ)
-        → ServeSays M.follows bases status recorded opened closed before now a b → HasShown status opened closed a b → NothingFailed opened closed a b
+    ensures { (bases : Bases) (status : Status) (recorded : Option (List Noted))
+        (opened closed : WorldTally) (before now : Option (List ℕ)) (a b : ℕ)
+        → ServeSays M.follows bases status recorded opened closed before now a b
+        → HasShown status opened closed a b
+        → NothingFailed opened closed a b
         → EndsUnhindered M.follows bases status recorded before now a b }
 {}
 
 /// So where such a run's history has no end of the server's connection, and not all numbers were
 /// given in it, the answer is `Done`, or memory was wanting; and the whole report was written.
 pub fn a_run_without_a_fault_is_done<M: Core>()
-    ensures { (bases : Bases) (status : Status) (recorded : Option (List Noted)) (opened closed : WorldTally) (before now : Option (List ℕ)) (a b : ℕ)
-        → (ran : RanTo M.follows bases status recorded before now a b) → HasShown status opened closed a b → NothingFailed opened closed a b
-        → fault_in ran.history ≡ None → length ran.desk.places.items < MOST_CONNECTIONS
+    ensures { (bases : Bases) (status : Status) (recorded : Option (List Noted))
+        (opened closed : WorldTally) (before now : Option (List ℕ)) (a b : ℕ)
+        → (ran : RanTo M.follows bases status recorded before now a b)
+        → HasShown status opened closed a b
+        → NothingFailed opened closed a b
+        → fault_in ran.history ≡ None
+        → length ran.desk.places.items < MOST_CONNECTIONS
         → ((status ≡ Done) ⊎ (status ≡ Memory)) × Grows before now (report_text ran.receipts) }
 {}

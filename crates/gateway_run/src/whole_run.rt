@@ -44,8 +44,10 @@ where
     M::Plan: Send,
     requires core { M.stands core [] }
     requires bases { AreSameAddresses (M.bases core) options.now.bases }
-    ensures says { ServeSays M.follows options.now.bases result (W.recorded world.new) (W.tally world.old) (W.tally world.new) (K.written sink.old) (K.written sink.new) (K.faults sink.old) (K.faults sink.new) }
-    ensures shown { HasShown result (W.tally world.old) (W.tally world.new) (K.faults sink.old) (K.faults sink.new) }
+    ensures says { ServeSays M.follows options.now.bases result (W.recorded world.new) (W.tally world.old)
+        (W.tally world.new) (K.written sink.old) (K.written sink.new) (K.faults sink.old) (K.faults sink.new) }
+    ensures shown { HasShown result (W.tally world.old) (W.tally world.new) (K.faults sink.old)
+        (K.faults sink.new) }
     ensures once { OpensOnce (W.tally world.old) (W.tally world.new) }
     ensures left { HasLeftNone result (W.links_left world.new) }
     ensures sink_later { K.faults sink.old ≤ K.faults sink.new }
@@ -88,7 +90,9 @@ fn give_back<W: World>(
     opened: OpenedRun<W::Door, W::UpIn, W::UpOut, W::Rec>,
     refused: Option<ThreadRefusal>,
 ) -> Result<(), Failed>
-    ensures counts { TakesBack (is_some refused) (W.Door.faults opened.door) (W.Door.ends opened.door) (W.UpIn.faults opened.inlet) (W.UpOut.faults opened.outlet) (W.UpIn.ends opened.inlet) (W.Rec.faults opened.recorder) (W.tally world.old) (W.tally world.new) }
+    ensures counts { TakesBack (is_some refused) (W.Door.faults opened.door) (W.Door.ends opened.door)
+        (W.UpIn.faults opened.inlet) (W.UpOut.faults opened.outlet) (W.UpIn.ends opened.inlet)
+        (W.Rec.faults opened.recorder) (W.tally world.old) (W.tally world.new) }
     ensures recorded { W.recorded world.new ≡ W.Rec.entries opened.recorder }
     ensures left { W.links_left world.new ≡ option_map length (W.Door.links opened.door) }
     ensures cause { OnErr result (Rose (W.tally world.old).record_faults (W.tally world.new).record_faults) }
@@ -130,8 +134,10 @@ where
     requires bases { AreSameAddresses (M.bases core) options.now.bases }
     requires recorder { ForSome (W.Rec.entries opened.recorder) (λ noted. noted ≡ []) }
     requires outlet { ForSome (W.UpOut.written opened.outlet) (λ written. written ≡ []) }
-    ensures says { SaysRan M.follows options.now.bases result (W.recorded world.new) (K.written sink.old) (K.written sink.new) (K.faults sink.old) (K.faults sink.new) }
-    ensures shown { HasShown result (W.tally world.old) (W.tally world.new) (K.faults sink.old) (K.faults sink.new) }
+    ensures says { SaysRan M.follows options.now.bases result (W.recorded world.new) (K.written sink.old)
+        (K.written sink.new) (K.faults sink.old) (K.faults sink.new) }
+    ensures shown { HasShown result (W.tally world.old) (W.tally world.new) (K.faults sink.old)
+        (K.faults sink.new) }
     ensures left { HasLeftNone result (W.links_left world.new) }
     ensures opens { OpensNothing (W.tally world.old) (W.tally world.new) }
     ensures sink_later { K.faults sink.old ≤ K.faults sink.new }
@@ -186,7 +192,11 @@ impl<D: Door + Drop, I: Inlet, O: Outlet, M: Core, R: Recorder> Ran<D, I, O, M, 
     /// What it tells of how the run ended.
     fn told(&self) -> RunEnd
         ensures ending { result.ending ≡ self.now.hub.state.desk.ending }
-        ensures over { (T : List HistoryEntry) → Keeps (StandsIdle M.stands M.waits M.bases self.now.hub.state.core) (R.entries self.now.hub.state.recorder) (R.faults self.now.hub.state.recorder) self.now.hub.state.desk T → TellsOver result.over self.now.hub.state.desk.places.items T }
+        ensures over { (T : List HistoryEntry)
+            → Keeps (StandsIdle M.stands M.waits M.bases self.now.hub.state.core)
+            (R.entries self.now.hub.state.recorder) (R.faults self.now.hub.state.recorder)
+            self.now.hub.state.desk T
+            → TellsOver result.over self.now.hub.state.desk.places.items T }
         ensures run { result.run ≡ self.now.back.run }
         ensures failed { result.failed ≡ self.now.gate.failed }
         ensures ended { result.ended ≡ self.now.gate.ended }
@@ -265,8 +275,11 @@ fn report<M: Core, W: World, K: Sink>(
     world: &mut W,
     sink: &mut K,
 ) -> Option<Status>
-    ensures says { IfSome result (λ status. ∥ RanTo M.follows bases.now status (W.recorded world.new) (K.written sink.old) (K.written sink.new) (K.faults sink.old) (K.faults sink.new) ∥₁) }
-    ensures shown { IfSome result (λ status. HasShown status (W.tally world.old) (W.tally world.new) (K.faults sink.old) (K.faults sink.new)) }
+    ensures says { IfSome result (λ status.
+        ∥ RanTo M.follows bases.now status (W.recorded world.new) (K.written sink.old) (K.written sink.new)
+        (K.faults sink.old) (K.faults sink.new) ∥₁) }
+    ensures shown { IfSome result (λ status.
+        HasShown status (W.tally world.old) (W.tally world.new) (K.faults sink.old) (K.faults sink.new)) }
     ensures left { IfSome result (λ status. HasLeftNone status (W.links_left world.new)) }
     ensures opens { OpensNothing (W.tally world.old) (W.tally world.new) }
     ensures sink_later { K.faults sink.old ≤ K.faults sink.new }

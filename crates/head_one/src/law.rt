@@ -16,5 +16,6 @@ pub fn written_replies()
 /// and the others are those of the rest.
 pub fn replies_in_a_row()
     ensures { (reply : Reply1) (rest : List ℕ) → IsReply reply
-        → messages_of (reply_text reply ++ rest) ≡ option_map (λ more. reply_message reply ∷ more) (messages_of rest) }
+        → messages_of (reply_text reply ++ rest)
+        ≡ option_map (λ more. reply_message reply ∷ more) (messages_of rest) }
 {}

@@ -73,7 +73,8 @@ fn next_in_port<W: Wait>(rt: &W, inward: &mut Taker) -> Option<Item>
 impl HubConnection {
     /// The line of a connection that enters, with the hub's ends of its two ports.
     pub fn new(inward: Taker, outward: Putter) -> HubConnection
-        ensures { result ≡ record { inward = inward; outward = outward; first = None; arrived = 0; close = None } }
+        ensures { result
+            ≡ record { inward = inward; outward = outward; first = None; arrived = 0; close = None } }
     {
         HubConnection {
             inward,
@@ -195,7 +196,8 @@ impl Place {
 
     /// Puts bytes for the client of a connection that is not retired, and tells whether its port was full.
     pub fn put<W: Wait>(&mut self, rt: &W, bytes: Text) -> bool
-        ensures line { Changes true (PutsBytes bytes result) (line_of (Some self.old)) (line_of (Some self.new)) }
+        ensures line { Changes true (PutsBytes bytes result) (line_of (Some self.old))
+            (line_of (Some self.new)) }
         ensures receipt { receipt_of (Some self.new) ≡ receipt_of (Some self.old) }
     {
         match self {

@@ -75,7 +75,8 @@ pub fn run_client<I: Inlet + Drop, O: Outlet + Drop, M: Core, R: Recorder, W: Wa
     requires room { 0 < length buffer.old }
     ensures told { GoesWithReceipt result.why result.receipt }
     ensures end { result.why ≡ whys.ClientEnd → Rose (I.ends inlet) (I.ends result.inlet) }
-    ensures all { result.why ≡ whys.ClientEnd → CountsAll (I.rest inlet) (I.rest result.inlet) result.receipt.pushed }
+    ensures all { result.why ≡ whys.ClientEnd
+        → CountsAll (I.rest inlet) (I.rest result.inlet) result.receipt.pushed }
     ensures read { result.why ≡ whys.ReadFault → Rose (I.faults inlet) (I.faults result.inlet) }
     ensures write { result.why ≡ whys.WriteFault → 0 < O.faults result.outlet }
     ensures wrote { WroteTaken (O.written result.outlet) (O.faults result.outlet) (taken_in result.taken) }
@@ -114,7 +115,10 @@ fn read_link<I: Inlet + Drop, O: Outlet + Drop, M: Core, R: Recorder, W: Wait + 
 ) -> (ReadEnd, Writer<O>)
     requires { 0 < length buffer.old }
     ensures end { result.0 ≡ ends.Ended → Rose (I.ends reader.old.inlet) (I.ends reader.new.inlet) }
-    ensures all { result.0 ≡ ends.Ended → (first : Option (List ℕ)) → ReadsItems I.rest first reader.old → PutAll I.rest first reader.new }
+    ensures all { result.0 ≡ ends.Ended
+        → (first : Option (List ℕ))
+        → ReadsItems I.rest first reader.old
+        → PutAll I.rest first reader.new }
     ensures failed { result.0 ≡ ends.Failed → Rose (I.faults reader.old.inlet) (I.faults reader.new.inlet) }
 {
     match desk.hand(common.rt, writer) {

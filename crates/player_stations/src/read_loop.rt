@@ -86,7 +86,10 @@ pub fn read_on<I: Inlet + Drop, O: Outlet + Drop, M: Core, R: Recorder, W: Wait 
     ensures faults { I.faults reader.old.inlet ≤ I.faults reader.new.inlet }
     ensures ends { I.ends reader.old.inlet ≤ I.ends reader.new.inlet }
     ensures end { result ≡ ends.Ended → Rose (I.ends reader.old.inlet) (I.ends reader.new.inlet) }
-    ensures all { result ≡ ends.Ended → (first : Option (List ℕ)) → ReadsItems I.rest first reader.old → PutAll I.rest first reader.new }
+    ensures all { result ≡ ends.Ended
+        → (first : Option (List ℕ))
+        → ReadsItems I.rest first reader.old
+        → PutAll I.rest first reader.new }
     ensures failed { result ≡ ends.Failed → Rose (I.faults reader.old.inlet) (I.faults reader.new.inlet) }
 {
     let mut watch = PlayerWatch::new(common.rt);
@@ -111,10 +114,17 @@ fn read_turn<I: Inlet + Drop, O: Outlet + Drop, M: Core, R: Recorder, W: Wait + 
     requires { 0 < length buffer.old }
     ensures faults { I.faults reader.old.inlet ≤ I.faults reader.new.inlet }
     ensures ends { I.ends reader.old.inlet ≤ I.ends reader.new.inlet }
-    ensures on { result ≡ None → (first : Option (List ℕ)) → ReadsItems I.rest first reader.old → ReadsItems I.rest first reader.new }
+    ensures on { result ≡ None
+        → (first : Option (List ℕ))
+        → ReadsItems I.rest first reader.old
+        → ReadsItems I.rest first reader.new }
     ensures end { result ≡ Some ends.Ended → Rose (I.ends reader.old.inlet) (I.ends reader.new.inlet) }
-    ensures all { result ≡ Some ends.Ended → (first : Option (List ℕ)) → ReadsItems I.rest first reader.old → PutAll I.rest first reader.new }
-    ensures failed { result ≡ Some ends.Failed → Rose (I.faults reader.old.inlet) (I.faults reader.new.inlet) }
+    ensures all { result ≡ Some ends.Ended
+        → (first : Option (List ℕ))
+        → ReadsItems I.rest first reader.old
+        → PutAll I.rest first reader.new }
+    ensures failed { result ≡ Some ends.Failed
+        → Rose (I.faults reader.old.inlet) (I.faults reader.new.inlet) }
 {
     let bell = common.signals.of(Some(seat.number()));
     let seen = bell.rings(common.rt);
@@ -277,10 +287,17 @@ fn read_more<I: Inlet + Drop, O: Outlet + Drop, M: Core, R: Recorder, W: Wait + 
     requires { 0 < length buffer.old }
     ensures faults { I.faults reader.old.inlet ≤ I.faults reader.new.inlet }
     ensures ends { I.ends reader.old.inlet ≤ I.ends reader.new.inlet }
-    ensures on { result ≡ None → (first : Option (List ℕ)) → ReadsItems I.rest first reader.old → ReadsItems I.rest first reader.new }
+    ensures on { result ≡ None
+        → (first : Option (List ℕ))
+        → ReadsItems I.rest first reader.old
+        → ReadsItems I.rest first reader.new }
     ensures end { result ≡ Some ends.Ended → Rose (I.ends reader.old.inlet) (I.ends reader.new.inlet) }
-    ensures all { result ≡ Some ends.Ended → (first : Option (List ℕ)) → PutAll I.rest first reader.old → PutAll I.rest first reader.new }
-    ensures failed { result ≡ Some ends.Failed → Rose (I.faults reader.old.inlet) (I.faults reader.new.inlet) }
+    ensures all { result ≡ Some ends.Ended
+        → (first : Option (List ℕ))
+        → PutAll I.rest first reader.old
+        → PutAll I.rest first reader.new }
+    ensures failed { result ≡ Some ends.Failed
+        → Rose (I.faults reader.old.inlet) (I.faults reader.new.inlet) }
 {
     if watch.is_silent_too_long(common.rt) {
         reader.shut();

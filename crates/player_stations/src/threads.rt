@@ -39,7 +39,13 @@ where
         thread::scope_env(),
         common.rt,
         move |scope| -> Option<ThreadRefusal>
-            requires { IsSync W.row × IsSend D.row × IsSend D.Inward.row × IsSend D.Outward.row × IsSend M.row × IsSend M.Plan.row × IsSend R.row }
+            requires { IsSync W.row
+                × IsSend D.row
+                × IsSend D.Inward.row
+                × IsSend D.Outward.row
+                × IsSend M.row
+                × IsSend M.Plan.row
+                × IsSend R.row }
         {
             let StationPost {
                 gate,

@@ -9,5 +9,6 @@ ghost use Rattle.recording_law.specs.RecordedHistory.{AreToldWhole};
 /// item that was noted alone is that item again in its speaker's stream. It asks that each item is
 /// one, and that nothing is said behind an item that can't be read.
 pub fn what_was_noted_tells_the_history()
-    ensures { (history : List HistoryEntry) → AreToldWhole history → events_of (notes history) ≡ happened history }
+    ensures { (history : List HistoryEntry) → AreToldWhole history
+        → events_of (notes history) ≡ happened history }
 {}

@@ -53,7 +53,8 @@ fn read_pieces(text: &[u8]) -> Option<Noted>
 
 /// What was read first.
 fn first_of(first: Option<Noted>, group: Noted) -> Option<Noted>
-    ensures { option_map noted_seen result ≡ option_or (option_map noted_seen first) (Some (noted_seen group)) }
+    ensures { option_map noted_seen result
+        ≡ option_or (option_map noted_seen first) (Some (noted_seen group)) }
 {
     match first {
         Some(first) => Some(first),

@@ -38,7 +38,8 @@ pub fn read_two(alloc: Global, value: &[u8]) -> Result<Info, InfoFault>
 
 /// The list of the one entry that a spec says.
 fn read_first(alloc: Global, spec: &[u8]) -> Result<Info, InfoFault>
-    ensures { UnlessMemory info_refusal result (ok_or (option_map (λ entry. entry ∷ []) (spec_of spec.now)) InfoFault.Grammar) }
+    ensures { UnlessMemory info_refusal result
+        (ok_or (option_map (λ entry. entry ∷ []) (spec_of spec.now)) InfoFault.Grammar) }
 {
     match Info::of(alloc, read_entry(alloc, spec)?) {
         Ok(info) => Ok(info),

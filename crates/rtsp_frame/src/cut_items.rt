@@ -190,7 +190,8 @@ fn cut(alloc: Global, queue: &mut Queue, bytes: &[u8]) -> Result<Option<usize>, 
 /// The same, where items that were cut already may stay when memory is wanting.
 fn cut_on(alloc: Global, queue: &mut Queue, bytes: &[u8]) -> Result<Option<usize>, Memory>
     ensures ok { IfOk result (λ used. Joined queue.old.waiting.items queue.new.waiting.items bytes.now used) }
-    ensures err { OnErr result (take (length queue.old.waiting.items) queue.new.waiting.items ≡ queue.old.waiting.items) }
+    ensures err { OnErr result
+        (take (length queue.old.waiting.items) queue.new.waiting.items ≡ queue.old.waiting.items) }
 {
     let mut used = 0;
     let mut left = bytes;

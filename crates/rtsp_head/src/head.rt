@@ -25,7 +25,8 @@ impl Head {
     /// The value of the first header of a name, without ASCII case (RFC 7826, 5.2).
     pub fn field(&self, name: &[u8]) -> Option<&[u8]>
         ensures value { option_map (λ value. value.now) result ≡ field_of self.now.headers name.now }
-        ensures writable { CanBeWritten self.now.start self.now.headers → IfSome result (λ value. IsTrue (is_value value.now)) }
+        ensures writable { CanBeWritten self.now.start self.now.headers
+            → IfSome result (λ value. IsTrue (is_value value.now)) }
     {
         self.headers.field(name)
     }

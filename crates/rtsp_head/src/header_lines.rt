@@ -32,8 +32,11 @@ impl Reading {
 
     /// Reads one more line. After an error the headers are of no use.
     pub(crate) fn take_line(&mut self, alloc: Global, line: Line<'_>) -> Result<(), HeadFault>
-        ensures ok { OnOk result (with_line header_limit (so_far self.old) line.entry ≡ Ok (so_far self.new)) }
-        ensures err { IfErr result (λ fault. IfSome (head_refusal fault) (λ refused. with_line header_limit (so_far self.old) line.entry ≡ Err refused)) }
+        ensures ok { OnOk result
+            (with_line header_limit (so_far self.old) line.entry ≡ Ok (so_far self.new)) }
+        ensures err { IfErr result (λ fault.
+            IfSome (head_refusal fault) (λ refused.
+            with_line header_limit (so_far self.old) line.entry ≡ Err refused)) }
     {
         match further_line(line)? {
             FurtherLine::More(text) => self.go_on(text),
@@ -44,7 +47,9 @@ impl Reading {
     /// Joins a text to the value of the last header by one space.
     fn go_on(&mut self, text: &[u8]) -> Result<(), HeadFault>
         ensures ok { OnOk result (continued (so_far self.old) text.now self.old.last ≡ Ok (so_far self.new)) }
-        ensures err { IfErr result (λ fault. IfSome (head_refusal fault) (λ refused. continued (so_far self.old) text.now self.old.last ≡ Err refused)) }
+        ensures err { IfErr result (λ fault.
+            IfSome (head_refusal fault) (λ refused.
+            continued (so_far self.old) text.now self.old.last ≡ Err refused)) }
     {
         let Some(mut header) = self.last.take() else {
             return Err(HeadFault::Colon);
@@ -57,8 +62,13 @@ impl Reading {
 
     /// Begins a header.
     fn begin(&mut self, alloc: Global, name: &[u8], value: &[u8]) -> Result<(), HeadFault>
-        ensures ok { OnOk result (with_header header_limit (so_far self.old) (record { name = name.now; value = value.now }) ≡ Ok (so_far self.new)) }
-        ensures err { IfErr result (λ fault. IfSome (head_refusal fault) (λ refused. with_header header_limit (so_far self.old) (record { name = name.now; value = value.now }) ≡ Err refused)) }
+        ensures ok { OnOk result
+            (with_header header_limit (so_far self.old) (record { name = name.now; value = value.now })
+            ≡ Ok (so_far self.new)) }
+        ensures err { IfErr result (λ fault.
+            IfSome (head_refusal fault) (λ refused.
+            with_header header_limit (so_far self.old) (record { name = name.now; value = value.now })
+            ≡ Err refused)) }
     {
         self.close_last(alloc)?;
         if self.above.len() >= MOST_HEADERS {

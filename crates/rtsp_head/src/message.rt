@@ -19,7 +19,12 @@ pub fn push_message(
     headers: &Headers,
     body: &[u8],
 ) -> Result<(), Memory>
-    ensures ok { OnOk result (text.new ≡ text.old ++ flat_map (λ header. ended (header_text header)) (message_headers number headers.now body.now) ++ ended [] ++ body.now) }
+    ensures ok { OnOk result
+        (text.new
+        ≡ text.old
+        ++ flat_map (λ header. ended (header_text header))
+        (message_headers number headers.now body.now)
+        ++ ended [] ++ body.now) }
     ensures err { OnErr result (text.new ≡ text.old) }
 {
     let before = text.len();
@@ -38,7 +43,12 @@ fn push_parts(
     headers: &Headers,
     body: &[u8],
 ) -> Result<(), Memory>
-    ensures ok { OnOk result (text.new ≡ text.old ++ flat_map (λ header. ended (header_text header)) (message_headers number headers.now body.now) ++ ended [] ++ body.now) }
+    ensures ok { OnOk result
+        (text.new
+        ≡ text.old
+        ++ flat_map (λ header. ended (header_text header))
+        (message_headers number headers.now body.now)
+        ++ ended [] ++ body.now) }
     ensures err { OnErr result (take (length text.old) text.new ≡ text.old) }
 {
     push_number(text, number)?;
@@ -51,7 +61,8 @@ fn push_parts(
 /// Appends the headers' lines.
 #[tactic(auto, using(gate_bytes::proofs::FrontLemmas::front_kept))]
 fn push_headers(text: &mut Text, headers: &[Header]) -> Result<(), Memory>
-    ensures ok { OnOk result (text.new ≡ text.old ++ flat_map (λ header. ended (header_text header)) headers.now) }
+    ensures ok { OnOk result
+        (text.new ≡ text.old ++ flat_map (λ header. ended (header_text header)) headers.now) }
     ensures err { OnErr result (take (length text.old) text.new ≡ text.old) }
 {
     for header in headers {
@@ -74,7 +85,8 @@ fn push_header(text: &mut Text, header: &Header) -> Result<(), Memory>
 
 /// Appends the header with a message's number, where it has one (RFC 2326, 12.17; RFC 7826, 18.20).
 fn push_number(text: &mut Text, number: Option<u64>) -> Result<(), Memory>
-    ensures ok { OnOk result (text.new ≡ text.old ++ flat_map (λ header. ended (header_text header)) (number_headers number)) }
+    ensures ok { OnOk result
+        (text.new ≡ text.old ++ flat_map (λ header. ended (header_text header)) (number_headers number)) }
     ensures err { OnErr result (take (length text.old) text.new ≡ text.old) }
 {
     match number {
@@ -86,7 +98,8 @@ fn push_number(text: &mut Text, number: Option<u64>) -> Result<(), Memory>
 /// Appends the header with the length of a body, where that has a byte (RFC 2326, 12.14; RFC 7826,
 /// 18.17).
 fn push_length(text: &mut Text, body: &[u8]) -> Result<(), Memory>
-    ensures ok { OnOk result (text.new ≡ text.old ++ flat_map (λ header. ended (header_text header)) (length_headers body.now)) }
+    ensures ok { OnOk result
+        (text.new ≡ text.old ++ flat_map (λ header. ended (header_text header)) (length_headers body.now)) }
     ensures err { OnErr result (take (length text.old) text.new ≡ text.old) }
 {
     if body.is_empty() {
@@ -98,7 +111,8 @@ fn push_length(text: &mut Text, body: &[u8]) -> Result<(), Memory>
 /// Appends a header whose value is a number.
 #[tactic(auto, using(gate_bytes::proofs::FrontLemmas::front_kept))]
 fn push_numeric(text: &mut Text, name: &[u8], number: u64) -> Result<(), Memory>
-    ensures ok { OnOk result (text.new ≡ text.old ++ ended (header_text (record { name = name.now; value = decimal number }))) }
+    ensures ok { OnOk result
+        (text.new ≡ text.old ++ ended (header_text (record { name = name.now; value = decimal number }))) }
     ensures err { OnErr result (take (length text.old) text.new ≡ text.old) }
 {
     text.push_slice(name)?;
@@ -111,6 +125,8 @@ fn push_numeric(text: &mut Text, name: &[u8], number: u64) -> Result<(), Memory>
 /// messages, its head with all that was written and its body, and the others are those of the rest. So
 /// messages that are written in a row are read one by one.
 pub fn written_messages()
-    ensures { (start : Start) (number : Option ℕ) (headers : List Header) (body rest : List ℕ) → IsReadable start number headers body
-        → messages_of (message_text start number headers body ++ rest) ≡ option_map (λ more. message start number headers body ∷ more) (messages_of rest) }
+    ensures { (start : Start) (number : Option ℕ) (headers : List Header) (body rest : List ℕ)
+        → IsReadable start number headers body
+        → messages_of (message_text start number headers body ++ rest)
+        ≡ option_map (λ more. message start number headers body ∷ more) (messages_of rest) }
 {}

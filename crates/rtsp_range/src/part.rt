@@ -45,7 +45,8 @@ pub(crate) fn short_number(text: &[u8], most: u8) -> Option<u8>
 /// them.
 pub(crate) fn front_number(text: &[u8], width: u32, least: u16, most: u16) -> Option<(u16, &[u8])>
     requires { width ≤ MOST_DIGITS }
-    ensures value { option_map (λ found. (found.0, found.1.now)) result ≡ front_number width least most text.now }
+    ensures value { option_map (λ found. (found.0, found.1.now)) result
+        ≡ front_number width least most text.now }
     ensures bound { IfSome result (λ found. found.0 ≤ most) }
 {
     let len = width as usize;

@@ -27,9 +27,12 @@ impl<'a> Parameters<'a> {
     /// apart from what treats the others.
     #[inline(never)]
     pub(crate) fn read(parameters: Option<&'a [u8]>) -> Parameters<'a>
-        ensures multicast { result.multicast ≡ list_any is_multicast (parameters_left (option_copied parameters.entry)) }
-        ensures mode { option_map option_copied result.mode ≡ value_of (codes "mode") (parameters_left (option_copied parameters.entry)) }
-        ensures interleaved { option_map option_copied result.interleaved ≡ value_of (codes "interleaved") (parameters_left (option_copied parameters.entry)) }
+        ensures multicast { result.multicast
+            ≡ list_any is_multicast (parameters_left (option_copied parameters.entry)) }
+        ensures mode { option_map option_copied result.mode
+            ≡ value_of (codes "mode") (parameters_left (option_copied parameters.entry)) }
+        ensures interleaved { option_map option_copied result.interleaved
+            ≡ value_of (codes "interleaved") (parameters_left (option_copied parameters.entry)) }
         ensures ssrc { result.ssrc ≡ first_source (parameters_left (option_copied parameters.entry)) }
     {
         let mut said = Parameters {
@@ -50,8 +53,11 @@ impl<'a> Parameters<'a> {
     /// The same with one more parameter behind them.
     fn then(self, parameter: &'a [u8]) -> Parameters<'a>
         ensures multicast { result.multicast ≡ (self.entry.multicast || is_multicast parameter.now) }
-        ensures mode { option_map option_copied result.mode ≡ option_or (option_map option_copied self.entry.mode) (value_in (codes "mode") parameter.now) }
-        ensures interleaved { option_map option_copied result.interleaved ≡ option_or (option_map option_copied self.entry.interleaved) (value_in (codes "interleaved") parameter.now) }
+        ensures mode { option_map option_copied result.mode
+            ≡ option_or (option_map option_copied self.entry.mode) (value_in (codes "mode") parameter.now) }
+        ensures interleaved { option_map option_copied result.interleaved
+            ≡ option_or (option_map option_copied self.entry.interleaved)
+            (value_in (codes "interleaved") parameter.now) }
         ensures ssrc { result.ssrc ≡ option_or self.entry.ssrc (source_in parameter.now) }
     {
         let parts = split_once(b'=', parameter);
@@ -75,7 +81,8 @@ fn value_with<'a>(
     parameter: &[u8],
     parts: Option<(&[u8], &'a [u8])>,
 ) -> Option<Option<&'a [u8]>>
-    ensures { option_map option_copied result ≡ value_with name.now parameter.now (option_map (λ parts. (parts.0.now, parts.1.now)) parts.entry) }
+    ensures { option_map option_copied result
+        ≡ value_with name.now parameter.now (option_map (λ parts. (parts.0.now, parts.1.now)) parts.entry) }
 {
     let (own_name, value) = match parts {
         Some((front, value)) => (front, Some(value)),

@@ -22,7 +22,8 @@ fn has_open_quote(value: &[u8]) -> bool
 /// The first part of a text that a byte splits outside double quotes, and what follows that byte;
 /// nothing follows the last part.
 pub(crate) fn first_part(byte: u8, text: &[u8]) -> (&[u8], Option<&[u8]>)
-    ensures parts { unquoted_parts byte text.now ≡ result.0.now ∷ unquoted_left byte (option_copied result.1) }
+    ensures parts { unquoted_parts byte text.now
+        ≡ result.0.now ∷ unquoted_left byte (option_copied result.1) }
     ensures less { IfSome result.1 (λ rest. length rest.now < length text.now) }
 {
     match find_outside(byte, text) {

@@ -38,7 +38,8 @@ fn push_ended(
     line: &[u8],
     text: &mut Text,
 ) -> Result<(), Memory>
-    ensures { OnOk result (text.new ≡ text.old ++ (swapped_ended from.now.text to.now.text line.now ++ (lf ∷ []))) }
+    ensures { OnOk result
+        (text.new ≡ text.old ++ (swapped_ended from.now.text to.now.text line.now ++ (lf ∷ []))) }
 {
     match line {
         [line @ .., b'\r'] => {

@@ -25,12 +25,14 @@ pub fn swapped_uris_come_back()
     ensures goes { (from to : Base) (rest : List ℕ) → is_rest rest ≡ true
         → swapped from.text to.text (scheme ++ (from.text ++ rest)) ≡ scheme ++ (to.text ++ rest) }
     ensures comes { (from to : Base) (rest : List ℕ) → is_rest rest ≡ true
-        → swapped to.text from.text (swapped from.text to.text (scheme ++ (from.text ++ rest))) ≡ scheme ++ (from.text ++ rest) }
+        → swapped to.text from.text (swapped from.text to.text (scheme ++ (from.text ++ rest)))
+        ≡ scheme ++ (from.text ++ rest) }
 {}
 
 /// A URI with the authority of one base, however it is spelled, then has the other's.
 pub fn swapped_uris_have_the_authority()
-    ensures { (from to : Base) (uri : List ℕ) → has_authority from.text uri ≡ true → has_authority to.text (swapped from.text to.text uri) ≡ true }
+    ensures { (from to : Base) (uri : List ℕ) → has_authority from.text uri ≡ true
+        → has_authority to.text (swapped from.text to.text uri) ≡ true }
 {}
 
 /// A text without the authority stays as it is.
@@ -40,13 +42,18 @@ pub fn other_texts_stay()
 
 /// A description in which no line begins with `a=control:` stays as it is, byte by byte.
 pub fn other_descriptions_stay()
-    ensures { (from to body : List ℕ) → list_all (λ line. not (is_control line)) (parts_at lf body) ≡ true → rewritten from to body ≡ body }
+    ensures { (from to body : List ℕ) → list_all (λ line. not (is_control line)) (parts_at lf body) ≡ true
+        → rewritten from to body ≡ body }
 {}
 
 /// A word of `rtsp://`, a name, and a port or none is accepted as it stands, unless it is too
 /// long.
 pub fn plain_words_are_accepted()
-    ensures name { (name : List ℕ) → SomeOf is_name_byte name → length name ≤ LONGEST_BASE_TEXT → base_in (scheme ++ name) ≡ Some name }
-    ensures port { (name : List ℕ) (port : ℕ) → SomeOf is_name_byte name → port ≤ LAST_PORT → length (name ++ port_text (Some port)) ≤ LONGEST_BASE_TEXT
+    ensures name { (name : List ℕ) → SomeOf is_name_byte name
+        → length name ≤ LONGEST_BASE_TEXT
+        → base_in (scheme ++ name) ≡ Some name }
+    ensures port { (name : List ℕ) (port : ℕ) → SomeOf is_name_byte name
+        → port ≤ LAST_PORT
+        → length (name ++ port_text (Some port)) ≤ LONGEST_BASE_TEXT
         → base_in (scheme ++ (name ++ port_text (Some port))) ≡ Some (name ++ port_text (Some port)) }
 {}

@@ -30,12 +30,20 @@ pub fn gateway<S: Source, K: Sink, W: World, R: Threads + Wait + Clock + Sync>(
 ) -> Status
     ensures usage { TellsUsage result (word_fault (map string_bytes words.now)) }
     ensures unknown { word_fault (map string_bytes words.now) ≡ Some 0 → result ≡ ends.Usage 0 }
-    ensures plain { asks_to_serve (map string_bytes words.now) ≡ false → PlainSays (map string_bytes words.now) result (S.rest source.old) (S.rest source.new) (K.written sink.old) (K.written sink.new) }
-    ensures apart { asks_to_serve (map string_bytes words.now) ≡ false → W.tally world.new ≡ W.tally world.old }
-    ensures serves { asks_to_serve (map string_bytes words.now) ≡ true → ServesWords (map string_bytes words.now) result (W.recorded world.new) (W.links_left world.new) (W.tally world.old) (W.tally world.new) (K.written sink.old) (K.written sink.new) (K.faults sink.old) (K.faults sink.new) }
-    ensures unread { asks_to_serve (map string_bytes words.now) ≡ true → S.rest source.new ≡ S.rest source.old }
+    ensures plain { asks_to_serve (map string_bytes words.now) ≡ false
+        → PlainSays (map string_bytes words.now) result (S.rest source.old) (S.rest source.new)
+        (K.written sink.old) (K.written sink.new) }
+    ensures apart { asks_to_serve (map string_bytes words.now) ≡ false
+        → W.tally world.new ≡ W.tally world.old }
+    ensures serves { asks_to_serve (map string_bytes words.now) ≡ true
+        → ServesWords (map string_bytes words.now) result (W.recorded world.new) (W.links_left world.new)
+        (W.tally world.old) (W.tally world.new) (K.written sink.old) (K.written sink.new)
+        (K.faults sink.old) (K.faults sink.new) }
+    ensures unread { asks_to_serve (map string_bytes words.now) ≡ true
+        → S.rest source.new ≡ S.rest source.old }
     ensures taken { TakesWithin (limit + 1) (S.rest source.old) (S.rest source.new) }
-    ensures rose { FaultRose result (S.faults source.old) (S.faults source.new) (K.faults sink.old) (K.faults sink.new) }
+    ensures rose { FaultRose result (S.faults source.old) (S.faults source.new) (K.faults sink.old)
+        (K.faults sink.new) }
     ensures source_later { S.faults source.old ≤ S.faults source.new }
     ensures sink_later { K.faults sink.old ≤ K.faults sink.new }
 {

@@ -28,9 +28,11 @@ pub fn plain<S: Source, K: Sink>(
 ) -> Status
     ensures usage { TellsUsage result (plain_fault (map string_bytes words.now)) }
     ensures unknown { word_fault (map string_bytes words.now) ≡ Some 0 → result ≡ ends.Usage 0 }
-    ensures says { PlainSays (map string_bytes words.now) result (S.rest source.old) (S.rest source.new) (K.written sink.old) (K.written sink.new) }
+    ensures says { PlainSays (map string_bytes words.now) result (S.rest source.old) (S.rest source.new)
+        (K.written sink.old) (K.written sink.new) }
     ensures taken { TakesWithin (limit + 1) (S.rest source.old) (S.rest source.new) }
-    ensures rose { FaultRose result (S.faults source.old) (S.faults source.new) (K.faults sink.old) (K.faults sink.new) }
+    ensures rose { FaultRose result (S.faults source.old) (S.faults source.new) (K.faults sink.old)
+        (K.faults sink.new) }
     ensures source_later { S.faults source.old ≤ S.faults source.new }
     ensures sink_later { K.faults sink.old ≤ K.faults sink.new }
 {
@@ -52,9 +54,11 @@ pub fn refusal(fault: WordsFault) -> Status
 
 /// Runs a command that needs no thread.
 fn obey<S: Source, K: Sink>(alloc: Global, command: Command, source: &mut S, sink: &mut K) -> Status
-    ensures says { CommandSays command result (S.rest source.old) (S.rest source.new) (K.written sink.old) (K.written sink.new) }
+    ensures says { CommandSays command result (S.rest source.old) (S.rest source.new) (K.written sink.old)
+        (K.written sink.new) }
     ensures taken { TakesWithin (limit + 1) (S.rest source.old) (S.rest source.new) }
-    ensures rose { FaultRose result (S.faults source.old) (S.faults source.new) (K.faults sink.old) (K.faults sink.new) }
+    ensures rose { FaultRose result (S.faults source.old) (S.faults source.new) (K.faults sink.old)
+        (K.faults sink.new) }
     ensures source_later { S.faults source.old ≤ S.faults source.new }
     ensures sink_later { K.faults sink.old ≤ K.faults sink.new }
 {
@@ -72,9 +76,11 @@ fn replay_between<S: Source, K: Sink>(
     source: &mut S,
     sink: &mut K,
 ) -> Status
-    ensures says { ReplaySays IsHistory bases result (S.rest source.old) (S.rest source.new) (K.written sink.old) (K.written sink.new) }
+    ensures says { ReplaySays IsHistory bases result (S.rest source.old) (S.rest source.new)
+        (K.written sink.old) (K.written sink.new) }
     ensures taken { TakesWithin (limit + 1) (S.rest source.old) (S.rest source.new) }
-    ensures rose { FaultRose result (S.faults source.old) (S.faults source.new) (K.faults sink.old) (K.faults sink.new) }
+    ensures rose { FaultRose result (S.faults source.old) (S.faults source.new) (K.faults sink.old)
+        (K.faults sink.new) }
     ensures source_later { S.faults source.old ≤ S.faults source.new }
     ensures sink_later { K.faults sink.old ≤ K.faults sink.new }
 {

@@ -27,7 +27,8 @@ pub fn write_report<K: Sink>(sink: &mut K, receipts: &Receipts) -> Result<(), Fa
 /// Writes the lines of all connections.
 fn write_lines<K: Sink>(sink: &mut K, receipts: &Receipts) -> Result<(), Failed>
     requires { receipt_count receipts.now ≤ MOST_CONNECTIONS }
-    ensures bytes { WritesAll (K.written sink.old) (K.written sink.new) (lines_below (receipt_count receipts.now) receipts.now) result }
+    ensures bytes { WritesAll (K.written sink.old) (K.written sink.new)
+        (lines_below (receipt_count receipts.now) receipts.now) result }
     ensures cause { HasCause (K.faults sink.old) (K.faults sink.new) result }
 {
     for conn in 0..receipts.count() as u32 {
@@ -90,7 +91,8 @@ fn write_went<K: Sink>(sink: &mut K, receipt: &Receipt) -> Result<(), Failed>
 
 /// Writes why a connection was closed.
 fn write_cause<K: Sink>(sink: &mut K, why: CloseWhy) -> Result<(), Failed>
-    ensures bytes { WritesAll (K.written sink.old) (K.written sink.new) (codes " cause " ++ (close_byte why ∷ codes "\n")) result }
+    ensures bytes { WritesAll (K.written sink.old) (K.written sink.new)
+        (codes " cause " ++ (close_byte why ∷ codes "\n")) result }
     ensures cause { HasCause (K.faults sink.old) (K.faults sink.new) result }
 {
     let Ok(()) = write_all(sink, b" cause ") else {
@@ -101,7 +103,8 @@ fn write_cause<K: Sink>(sink: &mut K, why: CloseWhy) -> Result<(), Failed>
 
 /// Writes a name and a number.
 fn write_counted<K: Sink>(sink: &mut K, name: &[u8], number: u64) -> Result<(), Failed>
-    ensures bytes { WritesAll (K.written sink.old) (K.written sink.new) (name_and_number name.now number) result }
+    ensures bytes { WritesAll (K.written sink.old) (K.written sink.new) (name_and_number name.now number)
+        result }
     ensures cause { HasCause (K.faults sink.old) (K.faults sink.new) result }
 {
     let Ok(()) = write_all(sink, name) else {

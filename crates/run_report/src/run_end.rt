@@ -46,7 +46,8 @@ impl RunEnd {
 
     /// How a run ended that ended with the server's connection.
     fn upstream_status(self, cause: UpCause) -> Option<Status>
-        ensures goes { IfSome result (λ status. (status ≡ statuses.Upstream cause) × (met_by cause self.run ≡ true)) }
+        ensures goes { IfSome result (λ status.
+            (status ≡ statuses.Upstream cause) × (met_by cause self.run ≡ true)) }
         ensures shown { is_some result ≡ met_by cause self.run }
     {
         let met = match cause {

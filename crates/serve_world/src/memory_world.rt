@@ -198,7 +198,8 @@ impl World for MemoryWorld {
     }
 
     fn close_door(&mut self, door: MemoryDoor)
-        ensures counts { world_tally self.new ≡ after_door (door_faults door) (door_ends door) (world_tally self.old) }
+        ensures counts { world_tally self.new
+            ≡ after_door (door_faults door) (door_ends door) (world_tally self.old) }
         ensures recorded { world_recorded self.new ≡ world_recorded self.old }
         ensures left { world_left self.new ≡ Some (length (links_coming door)) }
         ensures ahead { KeepsAhead self.old self.new }
@@ -211,7 +212,9 @@ impl World for MemoryWorld {
     }
 
     fn close_link(&mut self, inward: MemoryInlet, outward: MemoryOutlet)
-        ensures counts { world_tally self.new ≡ after_link (inlet_faults inward) (write_faults (outlet_sink outward)) (inlet_ends inward) (world_tally self.old) }
+        ensures counts { world_tally self.new
+            ≡ after_link (inlet_faults inward) (write_faults (outlet_sink outward)) (inlet_ends inward)
+            (world_tally self.old) }
         ensures recorded { world_recorded self.new ≡ world_recorded self.old }
         ensures left { world_left self.new ≡ world_left self.old }
         ensures ahead { KeepsAhead self.old self.new }

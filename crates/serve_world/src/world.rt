@@ -48,7 +48,8 @@ pub trait World {
         ensures counts { tally self.new ≡ after_dial (is_ok result) (tally self.old) }
         ensures recorded { recorded self.new ≡ recorded self.old }
         ensures left { links_left self.new ≡ links_left self.old }
-        ensures fresh { IfOk result (λ link. IsNewLink Self.UpIn.faults Self.UpIn.ends Self.UpOut.faults Self.UpOut.written link.0 link.1) };
+        ensures fresh { IfOk result (λ link.
+            IsNewLink Self.UpIn.faults Self.UpIn.ends Self.UpOut.faults Self.UpOut.written link.0 link.1) };
 
     /// Makes the recorder that has this name. It was not used before. A failure is counted.
     fn recorder(&mut self, name: &[u8]) -> Result<Self::Rec, Failed>
@@ -66,13 +67,16 @@ pub trait World {
 
     /// Takes a door back, and counts its faults and its ends. From then on it is told how many links it had still to give.
     fn close_door(&mut self, door: Self::Door)
-        ensures counts { tally self.new ≡ after_door (Self.Door.faults door) (Self.Door.ends door) (tally self.old) }
+        ensures counts { tally self.new
+            ≡ after_door (Self.Door.faults door) (Self.Door.ends door) (tally self.old) }
         ensures recorded { recorded self.new ≡ recorded self.old }
         ensures left { links_left self.new ≡ option_map length (Self.Door.links door) };
 
     /// Takes a link to the server back, and counts the faults of both halves and the ends of what came in.
     fn close_link(&mut self, inward: Self::UpIn, outward: Self::UpOut)
-        ensures counts { tally self.new ≡ after_link (Self.UpIn.faults inward) (Self.UpOut.faults outward) (Self.UpIn.ends inward) (tally self.old) }
+        ensures counts { tally self.new
+            ≡ after_link (Self.UpIn.faults inward) (Self.UpOut.faults outward) (Self.UpIn.ends inward)
+            (tally self.old) }
         ensures recorded { recorded self.new ≡ recorded self.old }
         ensures left { links_left self.new ≡ links_left self.old };
 

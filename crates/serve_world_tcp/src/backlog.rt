@@ -89,8 +89,11 @@ impl Backlog {
     /// Puts the first bytes of a piece behind those that wait, as many as there is room for, and answers how many they are: none
     /// where the thread has ended.
     pub fn put(&mut self, piece: &[u8]) -> Result<usize, Memory>
-        ensures count { IfOk result (λ count. count ≡ count_put self.old.over (length self.old.waiting.items + self.old.taken) (length piece.now)) }
-        ensures bytes { IfOk result (λ count. self.new.waiting.items ≡ self.old.waiting.items ++ take count piece.now) }
+        ensures count { IfOk result (λ count.
+            count
+            ≡ count_put self.old.over (length self.old.waiting.items + self.old.taken) (length piece.now)) }
+        ensures bytes { IfOk result (λ count.
+            self.new.waiting.items ≡ self.old.waiting.items ++ take count piece.now) }
         ensures err { OnErr result (self.new.waiting.items ≡ self.old.waiting.items) }
     {
         if self.over {

@@ -76,8 +76,12 @@ impl TcpDoor {
     /// often in a row, and is over after a pause perhaps.
     fn bears(&mut self, error: &io::Error) -> bool
         ensures not_yet { MeansNotYet (error_kind error.now) → result ≡ true }
-        ensures trouble { (trouble : Trouble) → trouble_meant (raw_os_error error.now) ≡ Some trouble → times_borne self.old.row trouble ≤ MOST_TROUBLE → result ≡ true }
-        ensures fault { (MeansNotYet (error_kind error.now) → ⊥) → trouble_meant (raw_os_error error.now) ≡ None → result ≡ false }
+        ensures trouble { (trouble : Trouble) → trouble_meant (raw_os_error error.now) ≡ Some trouble
+            → times_borne self.old.row trouble ≤ MOST_TROUBLE
+            → result ≡ true }
+        ensures fault { (MeansNotYet (error_kind error.now) → ⊥)
+            → trouble_meant (raw_os_error error.now) ≡ None
+            → result ≡ false }
         ensures faults { self.new.faults ≡ self.old.faults }
         ensures waits { self.new.waits ≡ self.old.waits }
     {

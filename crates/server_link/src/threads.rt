@@ -40,7 +40,12 @@ where
         thread::scope_env(),
         common.rt,
         move |scope| -> (UpBack<I, P>, Option<ThreadRefusal>)
-            requires { IsSync W.row × IsSend I.row × IsSend P.row × IsSend M.row × IsSend M.Plan.row × IsSend R.row }
+            requires { IsSync W.row
+                × IsSend I.row
+                × IsSend P.row
+                × IsSend M.row
+                × IsSend M.Plan.row
+                × IsSend R.row }
         {
             let ServerPost {
                 desk,

@@ -69,7 +69,8 @@ pub fn run_upstream<I: Inlet + Drop, O: Outlet + Drop, M: Core, R: Recorder, W: 
     ensures put { BeginsGiven (I.rest upstream.inlet) (I.rest result.inlet) (put_of result.inward) }
     ensures read { result.run.read_failed ≡ true → Rose (I.faults upstream.inlet) (I.faults result.inlet) }
     ensures end { result.run.ended ≡ true → Rose (I.ends upstream.inlet) (I.ends result.inlet) }
-    ensures all { result.run.ended ≡ true → PutAllSo (I.rest upstream.inlet) (I.rest result.inlet) (put_of result.inward) }
+    ensures all { result.run.ended ≡ true
+        → PutAllSo (I.rest upstream.inlet) (I.rest result.inlet) (put_of result.inward) }
     ensures wrote { HasWritten (O.written result.outlet) (taken_of result.outward) result.run.write_failed }
     ensures write { result.run.write_failed ≡ true → 0 < O.faults result.outlet }
 {
@@ -116,9 +117,13 @@ fn hear_link<I: Inlet + Drop, O: Outlet + Drop, M: Core, R: Recorder, W: Wait + 
     buffer: &mut [u8],
 ) -> (ReadEnd, Writer<O>)
     requires { 0 < length buffer.old }
-    ensures front { (first : Option (List ℕ)) → ReadsFront I.rest first reader.old → ReadsFront I.rest first reader.new }
+    ensures front { (first : Option (List ℕ)) → ReadsFront I.rest first reader.old
+        → ReadsFront I.rest first reader.new }
     ensures end { result.0 ≡ ends.Ended → Rose (I.ends reader.old.inlet) (I.ends reader.new.inlet) }
-    ensures all { result.0 ≡ ends.Ended → (first : Option (List ℕ)) → ReadsItems I.rest first reader.old → PutAll I.rest first reader.new }
+    ensures all { result.0 ≡ ends.Ended
+        → (first : Option (List ℕ))
+        → ReadsItems I.rest first reader.old
+        → PutAll I.rest first reader.new }
     ensures failed { result.0 ≡ ends.Failed → Rose (I.faults reader.old.inlet) (I.faults reader.new.inlet) }
 {
     match desk.hand(common.rt, writer) {
@@ -152,9 +157,13 @@ fn hear_on<I: Inlet + Drop, O: Outlet + Drop, M: Core, R: Recorder, W: Wait + Cl
     requires { 0 < length buffer.old }
     ensures faults { I.faults reader.old.inlet ≤ I.faults reader.new.inlet }
     ensures ends { I.ends reader.old.inlet ≤ I.ends reader.new.inlet }
-    ensures front { (first : Option (List ℕ)) → ReadsFront I.rest first reader.old → ReadsFront I.rest first reader.new }
+    ensures front { (first : Option (List ℕ)) → ReadsFront I.rest first reader.old
+        → ReadsFront I.rest first reader.new }
     ensures end { result ≡ ends.Ended → Rose (I.ends reader.old.inlet) (I.ends reader.new.inlet) }
-    ensures all { result ≡ ends.Ended → (first : Option (List ℕ)) → ReadsItems I.rest first reader.old → PutAll I.rest first reader.new }
+    ensures all { result ≡ ends.Ended
+        → (first : Option (List ℕ))
+        → ReadsItems I.rest first reader.old
+        → PutAll I.rest first reader.new }
     ensures failed { result ≡ ends.Failed → Rose (I.faults reader.old.inlet) (I.faults reader.new.inlet) }
 {
     let mut pace = Pace::new(common.alloc);
@@ -179,9 +188,14 @@ fn put_all<I: Inlet + Drop, M: Core, R: Recorder, W: Wait + Clock>(
     reader: &mut Reader<I>,
 ) -> TakingEnd
     ensures inlet { reader.new.inlet ≡ reader.old.inlet }
-    ensures reads { (first : Option (List ℕ)) → ReadsItems I.rest first reader.old → ReadsItems I.rest first reader.new }
-    ensures front { (first : Option (List ℕ)) → ReadsFront I.rest first reader.old → ReadsFront I.rest first reader.new }
-    ensures all { result ≡ heard.Empty → (first : Option (List ℕ)) → ReadsItems I.rest first reader.old → PutAll I.rest first reader.new }
+    ensures reads { (first : Option (List ℕ)) → ReadsItems I.rest first reader.old
+        → ReadsItems I.rest first reader.new }
+    ensures front { (first : Option (List ℕ)) → ReadsFront I.rest first reader.old
+        → ReadsFront I.rest first reader.new }
+    ensures all { result ≡ heard.Empty
+        → (first : Option (List ℕ))
+        → ReadsItems I.rest first reader.old
+        → PutAll I.rest first reader.new }
 {
     for _ in common.rt.forever() {
         let put = put_some(common.rt, reader, ITEMS_A_ROUND, false);

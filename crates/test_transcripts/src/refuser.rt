@@ -82,7 +82,9 @@ impl Refuser {
     fn take(&mut self, conn: u32, kind: ItemKind, text: Option<Text>) -> Outcome
         requires { text ≡ text_for (contains nat_eq self.old.numbers conn) kind }
         ensures outcome { result ≡ item_refused (contains nat_eq self.old.numbers conn) kind conn }
-        ensures numbers { (i : ℕ) → contains nat_eq self.new.numbers i ≡ stays_alive i result.closed (contains nat_eq self.old.numbers i) }
+        ensures numbers { (i : ℕ)
+            → contains nat_eq self.new.numbers i
+            ≡ stays_alive i result.closed (contains nat_eq self.old.numbers i) }
         ensures over { self.new.over ≡ self.old.over }
         ensures bases { self.new.bases ≡ self.old.bases }
     {
@@ -100,7 +102,9 @@ impl Refuser {
     // A player's connection closes, where it is alive.
     fn close(&mut self, conn: u32, why: CloseWhy) -> Outcome
         ensures outcome { result ≡ closed_if (contains nat_eq self.old.numbers conn) conn why }
-        ensures numbers { (i : ℕ) → contains nat_eq self.new.numbers i ≡ stays_alive i result.closed (contains nat_eq self.old.numbers i) }
+        ensures numbers { (i : ℕ)
+            → contains nat_eq self.new.numbers i
+            ≡ stays_alive i result.closed (contains nat_eq self.old.numbers i) }
         ensures over { self.new.over ≡ self.old.over }
         ensures bases { self.new.bases ≡ self.old.bases }
     {
@@ -128,7 +132,9 @@ impl Refuser {
         requires standing { self.old.over ≡ None }
         requires text { text ≡ text_planned (λ i. contains nat_eq self.old.numbers i) event }
         ensures outcome { result ≡ refusing (λ i. contains nat_eq self.old.numbers i) (happening_of event) }
-        ensures numbers { (i : ℕ) → contains nat_eq self.new.numbers i ≡ stays_alive i result.closed (contains nat_eq self.old.numbers i) }
+        ensures numbers { (i : ℕ)
+            → contains nat_eq self.new.numbers i
+            ≡ stays_alive i result.closed (contains nat_eq self.old.numbers i) }
         ensures over { self.new.over ≡ result.fault }
         ensures bases { self.new.bases ≡ self.old.bases }
     {

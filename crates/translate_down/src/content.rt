@@ -35,7 +35,8 @@ pub(crate) fn base(
     method: Method,
     reply: &Reply2,
 ) -> Result<Option<Text>, Memory>
-    ensures { IfOk result (λ value. value ≡ base_value (setting_of context.now) method reply.now.head.headers reply.now.body) }
+    ensures { IfOk result (λ value.
+        value ≡ base_value (setting_of context.now) method reply.now.head.headers reply.now.body) }
 {
     match reply.head.field(b"Content-Base") {
         Some(value) if comes_with_description(method, &reply.body) => {
@@ -76,7 +77,8 @@ pub(crate) fn body(
     method: Method,
     reply: &Reply2,
 ) -> Result<Text, Memory>
-    ensures { IfOk result (λ body. body ≡ body_told (setting_of context.now) method reply.now.head.headers reply.now.body) }
+    ensures { IfOk result (λ body.
+        body ≡ body_told (setting_of context.now) method reply.now.head.headers reply.now.body) }
 {
     let body = reply.body.as_bytes();
     if !comes_with_body(method, &reply.body) {

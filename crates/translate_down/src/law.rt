@@ -20,31 +20,42 @@ pub fn only_told_fields_count()
     ensures own { (setting : Setting) (asked : Asked) (code : ℕ) (body : List ℕ) (headers : List Header)
         → reply_text_of setting asked (record { code = code; fields = own_fields headers; body = body })
         ≡ reply_text_of setting asked (record { code = code; fields = headers; body = body }) }
-    ensures untransported { (setting : Setting) (asked : Asked) (code : ℕ) (body : List ℕ) (headers : List Header)
-        → reply_text_of setting asked (record { code = code; fields = filter is_no_transport headers; body = body })
+    ensures untransported { (setting : Setting) (asked : Asked) (code : ℕ) (body : List ℕ)
+        (headers : List Header)
+        → reply_text_of setting asked
+        (record { code = code; fields = filter is_no_transport headers; body = body })
         ≡ reply_text_of setting asked (record { code = code; fields = headers; body = body }) }
 {}
 
 /// Each header of a success is told by its value, and is missing where it has none.
 pub fn each_header_is_told()
     ensures session { (setting : Setting) (asked : Asked) (told : Told)
-        → field_of (field_headers (success_fields setting asked told)) (codes "Session") ≡ session_value setting asked }
+        → field_of (field_headers (success_fields setting asked told)) (codes "Session")
+        ≡ session_value setting asked }
     ensures transport { (setting : Setting) (asked : Asked) (told : Told)
-        → field_of (field_headers (success_fields setting asked told)) (codes "Transport") ≡ transport_value setting asked.method }
+        → field_of (field_headers (success_fields setting asked told)) (codes "Transport")
+        ≡ transport_value setting asked.method }
     ensures range { (setting : Setting) (asked : Asked) (told : Told)
-        → field_of (field_headers (success_fields setting asked told)) (codes "Range") ≡ range_value asked.method told.fields }
+        → field_of (field_headers (success_fields setting asked told)) (codes "Range")
+        ≡ range_value asked.method told.fields }
     ensures scale { (setting : Setting) (asked : Asked) (told : Told)
-        → field_of (field_headers (success_fields setting asked told)) (codes "Scale") ≡ scale_value asked.method told.fields }
+        → field_of (field_headers (success_fields setting asked told)) (codes "Scale")
+        ≡ scale_value asked.method told.fields }
     ensures info { (setting : Setting) (asked : Asked) (told : Told)
-        → field_of (field_headers (success_fields setting asked told)) (codes "RTP-Info") ≡ info_value setting asked.method told.fields }
+        → field_of (field_headers (success_fields setting asked told)) (codes "RTP-Info")
+        ≡ info_value setting asked.method told.fields }
     ensures public { (setting : Setting) (asked : Asked) (told : Told)
-        → field_of (field_headers (success_fields setting asked told)) (codes "Public") ≡ public_value asked.method }
+        → field_of (field_headers (success_fields setting asked told)) (codes "Public")
+        ≡ public_value asked.method }
     ensures base { (setting : Setting) (asked : Asked) (told : Told)
-        → field_of (field_headers (success_fields setting asked told)) (codes "Content-Base") ≡ base_value setting asked.method told.fields told.body }
+        → field_of (field_headers (success_fields setting asked told)) (codes "Content-Base")
+        ≡ base_value setting asked.method told.fields told.body }
     ensures kind { (setting : Setting) (asked : Asked) (told : Told)
-        → field_of (field_headers (success_fields setting asked told)) (codes "Content-Type") ≡ type_value asked.method told.fields told.body }
+        → field_of (field_headers (success_fields setting asked told)) (codes "Content-Type")
+        ≡ type_value asked.method told.fields told.body }
     ensures encoding { (setting : Setting) (asked : Asked) (told : Told)
-        → field_of (field_headers (success_fields setting asked told)) (codes "Content-Encoding") ≡ encoding_value asked.method told.fields told.body }
+        → field_of (field_headers (success_fields setting asked told)) (codes "Content-Encoding")
+        ≡ encoding_value asked.method told.fields told.body }
 {}
 
 /// What a player gets is one reply, with the code, the number, the headers and the body that are
@@ -53,6 +64,8 @@ pub fn each_header_is_told()
 pub fn told_replies_are_read()
     ensures one { (setting : Setting) (asked : Asked) (told : Told) → CanBeRead setting asked told
         → client_reply_in (reply_text_of setting asked told) ≡ Some (reply_down setting asked told) }
-    ensures row { (setting : Setting) (asked : Asked) (told : Told) (rest : List ℕ) → CanBeRead setting asked told
-        → messages_of (reply_text_of setting asked told ++ rest) ≡ option_map (λ more. reply_message (reply_down setting asked told) ∷ more) (messages_of rest) }
+    ensures row { (setting : Setting) (asked : Asked) (told : Told) (rest : List ℕ)
+        → CanBeRead setting asked told
+        → messages_of (reply_text_of setting asked told ++ rest)
+        ≡ option_map (λ more. reply_message (reply_down setting asked told) ∷ more) (messages_of rest) }
 {}

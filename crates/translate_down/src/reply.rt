@@ -32,7 +32,8 @@ pub fn reply_one(
     reply: &Reply2,
 ) -> Result<Text, Memory>
     requires { CanBeTold (setting_of context.now) }
-    ensures { IfOk result (λ text. text ≡ reply_text_of (setting_of context.now) asked.now (told_by reply.now)) }
+    ensures { IfOk result (λ text.
+        text ≡ reply_text_of (setting_of context.now) asked.now (told_by reply.now)) }
 {
     if is_success(reply.code) {
         success(alloc, context, asked, reply)
@@ -72,7 +73,8 @@ fn success(
     reply: &Reply2,
 ) -> Result<Text, Memory>
     requires { CanBeTold (setting_of context.now) }
-    ensures { IfOk result (λ text. text ≡ reply_text (success_of (setting_of context.now) asked.now (told_whole reply.now))) }
+    ensures { IfOk result (λ text.
+        text ≡ reply_text (success_of (setting_of context.now) asked.now (told_whole reply.now))) }
 {
     let success = Reply1 {
         code: 200,
@@ -91,7 +93,8 @@ fn success_headers(
     reply: &Reply2,
 ) -> Result<Headers, Memory>
     requires { CanBeTold (setting_of context.now) }
-    ensures { IfOk result (λ headers. headers ≡ field_headers (success_fields (setting_of context.now) asked.now (told_whole reply.now))) }
+    ensures { IfOk result (λ headers.
+        headers ≡ field_headers (success_fields (setting_of context.now) asked.now (told_whole reply.now))) }
 {
     let mut headers = Headers::new(alloc);
     push_session(alloc, &mut headers, context, asked)?;
@@ -109,7 +112,8 @@ fn push_session(
     asked: &Asked,
 ) -> Result<(), Memory>
     requires { CanBeTold (setting_of context.now) }
-    ensures { OnOk result (headers.new ≡ then_headers headers.old (session_fields (setting_of context.now) asked.now)) }
+    ensures { OnOk result
+        (headers.new ≡ then_headers headers.old (session_fields (setting_of context.now) asked.now)) }
 {
     headers.push_value(alloc, b"Session", session(alloc, context, asked)?)?;
     headers.push_value(
@@ -127,7 +131,9 @@ fn push_play(
     method: Method,
     reply: &Reply2,
 ) -> Result<(), Memory>
-    ensures { OnOk result (headers.new ≡ then_headers headers.old (play_fields (setting_of context.now) method reply.now.head.headers)) }
+    ensures { OnOk result
+        (headers.new
+        ≡ then_headers headers.old (play_fields (setting_of context.now) method reply.now.head.headers)) }
 {
     headers.push_value(alloc, b"Range", range(alloc, method, &reply.head)?)?;
     headers.push_value(alloc, b"Scale", scale(alloc, method, &reply.head)?)?;
@@ -159,7 +165,10 @@ fn push_content(
     method: Method,
     reply: &Reply2,
 ) -> Result<(), Memory>
-    ensures { OnOk result (headers.new ≡ then_headers headers.old (content_fields (setting_of context.now) method reply.now.head.headers reply.now.body)) }
+    ensures { OnOk result
+        (headers.new
+        ≡ then_headers headers.old
+        (content_fields (setting_of context.now) method reply.now.head.headers reply.now.body)) }
 {
     headers.push_value(alloc, b"Content-Base", base(alloc, context, method, reply)?)?;
     headers.push_value(alloc, b"Content-Type", kind(alloc, method, reply)?)?;

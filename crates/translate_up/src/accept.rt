@@ -27,7 +27,8 @@ pub(crate) fn serve(
     admission: Admission,
 ) -> Result<Decision, Memory>
     requires { AdmitsWritable admission }
-    ensures { IfOk result (λ decision. decision ≡ serve (given_of view.now) request.now (said_seen said.now) uri admission) }
+    ensures { IfOk result (λ decision.
+        decision ≡ serve (given_of view.now) request.now (said_seen said.now) uri admission) }
 {
     match admission {
         Admission::SetUp(pair) => {
@@ -50,7 +51,9 @@ fn play(
     range: Option<Range>,
 ) -> Result<Decision, Memory>
     requires { IfSome range (λ one. IsTrue (can_be_written one)) }
-    ensures { IfOk result (λ decision. decision ≡ play_in (given_of view.now).state (given_of view.now) request.now (said_seen said.now) uri range) }
+    ensures { IfOk result (λ decision.
+        decision
+        ≡ play_in (given_of view.now).state (given_of view.now) request.now (said_seen said.now) uri range) }
 {
     match view.state {
         State::Playing => play_on(alloc, view, request, said, uri, range),
@@ -68,7 +71,8 @@ fn forward(
     range: Option<Range>,
 ) -> Result<Decision, Memory>
     requires { IfSome range (λ one. IsTrue (can_be_written one)) }
-    ensures { IfOk result (λ decision. decision ≡ forward (given_of view.now) request.now (said_seen said.now) uri range) }
+    ensures { IfOk result (λ decision.
+        decision ≡ forward (given_of view.now) request.now (said_seen said.now) uri range) }
 {
     let asked = asked_of(alloc, request, said, uri.as_bytes())?;
     let up = request_up(alloc, view, request, said, uri, range)?;
@@ -86,7 +90,8 @@ fn play_on(
     range: Option<Range>,
 ) -> Result<Decision, Memory>
     requires { IfSome range (λ one. IsTrue (can_be_written one)) }
-    ensures { IfOk result (λ decision. decision ≡ play_on (given_of view.now) request.now (said_seen said.now) uri range) }
+    ensures { IfOk result (λ decision.
+        decision ≡ play_on (given_of view.now) request.now (said_seen said.now) uri range) }
 {
     let session = session_said(view, said);
     let Some(range) = range else {

@@ -32,15 +32,18 @@ pub fn the_lowest_free_channels_are_given()
 
 /// Without its channels to the server, a SETUP is what was decided.
 pub fn the_channels_are_all_that_is_put_in()
-    ensures { (given : Given) (request : Request1) (said : Said) (uri : List ℕ) (range : Option Range) (pair : Pair)
-        → without_transport (with_transport pair (request_up given request said uri range)).headers ≡ (request_up given request said uri range).headers }
+    ensures { (given : Given) (request : Request1) (said : Said) (uri : List ℕ) (range : Option Range)
+        (pair : Pair)
+        → without_transport (with_transport pair (request_up given request said uri range)).headers
+        ≡ (request_up given request said uri range).headers }
 {}
 
 /// Every refusal of a request that its head does not refuse is by the first rule of the list that
 /// applies: what no rule refuses is let through.
 pub fn every_refusal_is_by_a_rule()
     ensures { (given : Given) (method : Method) (said : Said) (uri : List ℕ) (code : ℕ)
-        → rules_checked given method said uri ≡ Err code → first_code (session_rules given method said uri) ≡ Some code }
+        → rules_checked given method said uri ≡ Err code
+        → first_code (session_rules given method said uri) ≡ Some code }
 {}
 
 /// What the gateway answers by itself, a refusal among it, is one reply, and is read back as that
@@ -52,5 +55,6 @@ pub fn what_is_answered_is_one_reply()
 
 /// The numbers of the pairs of channels to the server make no difference to what becomes of a request.
 pub fn the_numbers_of_pairs_make_no_difference()
-    ensures { (pairs : ℕ → ℕ) (given : Given) (shape : Shape) → decide (with_pairs pairs given) shape ≡ decide given shape }
+    ensures { (pairs : ℕ → ℕ) (given : Given) (shape : Shape)
+        → decide (with_pairs pairs given) shape ≡ decide given shape }
 {}

@@ -26,7 +26,8 @@ pub fn play_up(alloc: Global, session: Option<&[u8]>, play: &Play) -> Result<Req
 
 /// Its headers in their order.
 fn play_headers(alloc: Global, session: Option<&[u8]>, play: &Play) -> Result<Headers, Memory>
-    ensures { IfOk result (λ headers. headers ≡ field_headers (play_fields_up (option_copied session.entry) play.now)) }
+    ensures { IfOk result (λ headers.
+        headers ≡ field_headers (play_fields_up (option_copied session.entry) play.now)) }
 {
     let scale = match &play.scale {
         Some(scale) => Some(scale.as_bytes()),

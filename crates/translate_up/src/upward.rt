@@ -47,7 +47,8 @@ pub(crate) fn request_up(
     range: Option<Range>,
 ) -> Result<Request2, Memory>
     requires { IfSome range (λ one. IsTrue (can_be_written one)) }
-    ensures { IfOk result (λ up. up ≡ request_up (given_of view.now) request.now (said_seen said.now) uri range) }
+    ensures { IfOk result (λ up.
+        up ≡ request_up (given_of view.now) request.now (said_seen said.now) uri range) }
 {
     Ok(Request2 {
         method: Text::copy(alloc, method_up(request.method).name())?,
@@ -112,7 +113,8 @@ fn headers_up(
     range: Option<Range>,
 ) -> Result<Headers, Memory>
     requires { IfSome range (λ one. IsTrue (can_be_written one)) }
-    ensures { IfOk result (λ headers. headers ≡ field_headers (fields_up (given_of view.now) request.now (said_seen said.now) range)) }
+    ensures { IfOk result (λ headers.
+        headers ≡ field_headers (fields_up (given_of view.now) request.now (said_seen said.now) range)) }
 {
     let head = &request.head;
     let method = request.method;

@@ -92,7 +92,8 @@ impl CseqBook {
         ensures number { result_ok result ≡ next_number self.old.issued }
         ensures issued { IfOk result (λ number. self.new.issued ≡ number) }
         ensures spare { OnOk result (self.new.spare + 1 ≡ self.old.spare) }
-        ensures open { IfOk result (λ number. (n : ℕ) → asker_of self.new n ≡ (if n == number then Some conn else asker_of self.old n)) }
+        ensures open { IfOk result (λ number.
+            (n : ℕ) → asker_of self.new n ≡ (if n == number then Some conn else asker_of self.old n)) }
         ensures err { OnErr result (self.new ≡ self.old) }
     {
         if self.issued == LAST_NUMBER {

@@ -65,7 +65,10 @@ impl SessionBook {
         requires { 0 < self.old.spare }
         ensures taken { result ≡ binding id (holder_of self.old id) }
         ensures spare { OnOk result (self.new.spare + 1 ≡ self.old.spare) }
-        ensures bound { OnOk result ((other : List ℕ) → holder_of self.new other ≡ (if bytes_eq other id then Some conn else holder_of self.old other)) }
+        ensures bound { OnOk result
+            ((other : List ℕ)
+            → holder_of self.new other
+            ≡ (if bytes_eq other id then Some conn else holder_of self.old other)) }
         ensures err { OnErr result (self.new ≡ self.old) }
     {
         if let Some(owner) = self.owner(id.as_bytes()) {
@@ -86,8 +89,10 @@ impl SessionBook {
 
     /// An id is bound no longer. Its place is spare again, where it was bound.
     pub fn free(&mut self, id: &[u8])
-        ensures spare { self.new.spare ≡ (if is_some (holder_of self.old id.now) then self.old.spare + 1 else self.old.spare) }
-        ensures bound { (other : List ℕ) → holder_of self.new other ≡ (if bytes_eq other id.now then None else holder_of self.old other) }
+        ensures spare { self.new.spare
+            ≡ (if is_some (holder_of self.old id.now) then self.old.spare + 1 else self.old.spare) }
+        ensures bound { (other : List ℕ)
+            → holder_of self.new other ≡ (if bytes_eq other id.now then None else holder_of self.old other) }
     {
         if let Some(place) = self.place(id) {
             let BookEntry { key: _, conn: _ } = self.bound.remove(place);

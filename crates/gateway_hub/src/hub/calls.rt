@@ -43,7 +43,9 @@ impl<M: Core, R: Recorder> Hub<M, R> {
         requires core { M.stands core [] }
         requires recorder { TellsNotes (R.entries recorder) [] }
         ensures fresh { IfOk result (λ made. IsFreshDesk made.0.state.desk) }
-        ensures keeps { IfOk result (λ made. Keeps (StandsIdle M.stands M.waits M.bases made.0.state.core) (R.entries made.0.state.recorder) (R.faults made.0.state.recorder) made.0.state.desk []) }
+        ensures keeps { IfOk result (λ made.
+            Keeps (StandsIdle M.stands M.waits M.bases made.0.state.core) (R.entries made.0.state.recorder)
+            (R.faults made.0.state.recorder) made.0.state.desk []) }
         ensures bases { IfOk result (λ made. M.bases made.0.state.core ≡ M.bases core) }
         ensures last { IfOk result (λ made. made.0.state.last ≡ None) }
         ensures inward { IfOk result (λ made. OfOnePort made.1 made.0.state.desk.server.inward) }
@@ -51,7 +53,8 @@ impl<M: Core, R: Recorder> Hub<M, R> {
         ensures put { IfOk result (λ made. put_of made.1 ≡ []) }
         ensures taken { IfOk result (λ made. taken_of made.2 ≡ []) }
         ensures inward_capacity { IfOk result (λ made. capacity_of made.1 ≡ SERVER_INWARD_CAPACITY) }
-        ensures outward_capacity { IfOk result (λ made. capacity_of made.0.state.desk.server.outward ≡ SERVER_CAPACITY) }
+        ensures outward_capacity { IfOk result (λ made.
+            capacity_of made.0.state.desk.server.outward ≡ SERVER_CAPACITY) }
         ensures back { IfErr result (λ back. (back.0 ≡ core) × (back.1 ≡ recorder)) }
     {
         let (inward, items) = match port(alloc, SERVER_INWARD_CAPACITY) {
@@ -77,13 +80,19 @@ impl<M: Core, R: Recorder> Hub<M, R> {
     /// After want of memory the core may be prepared, and all else is as before.
     pub fn enter(&mut self, alloc: Global) -> Result<Entered, HubFault>
         ensures enters { Enters result
-            (Keeps (StandsIdle M.stands M.waits M.bases self.old.state.core) (R.entries self.old.state.recorder) (R.faults self.old.state.recorder) self.old.state.desk)
-            (Keeps (StandsIdle M.stands M.waits M.bases self.new.state.core) (R.entries self.new.state.recorder) (R.faults self.new.state.recorder) self.new.state.desk) self.old.state.desk self.new.state.desk }
-        ensures ends { KeepsOtherEnds (length self.old.state.desk.places.items) self.old.state.desk self.new.state.desk }
+            (Keeps (StandsIdle M.stands M.waits M.bases self.old.state.core)
+            (R.entries self.old.state.recorder) (R.faults self.old.state.recorder) self.old.state.desk)
+            (Keeps (StandsIdle M.stands M.waits M.bases self.new.state.core)
+            (R.entries self.new.state.recorder) (R.faults self.new.state.recorder) self.new.state.desk)
+            self.old.state.desk self.new.state.desk }
+        ensures ends { KeepsOtherEnds (length self.old.state.desk.places.items) self.old.state.desk
+            self.new.state.desk }
         ensures last { self.new.state.last ≡ self.old.state.last }
         ensures bases { M.bases self.new.state.core ≡ M.bases self.old.state.core }
-        ensures shown { ShowsFault self.old.state.desk.ending self.new.state.desk.ending (R.faults self.old.state.recorder) (R.faults self.new.state.recorder) }
-        ensures failed { FailsShown result (R.faults self.old.state.recorder) (R.faults self.new.state.recorder) }
+        ensures shown { ShowsFault self.old.state.desk.ending self.new.state.desk.ending
+            (R.faults self.old.state.recorder) (R.faults self.new.state.recorder) }
+        ensures failed { FailsShown result (R.faults self.old.state.recorder)
+            (R.faults self.new.state.recorder) }
     {
         self.state.enter(alloc)
     }
@@ -91,14 +100,20 @@ impl<M: Core, R: Recorder> Hub<M, R> {
     /// Takes the first item in line of a connection, as an event. Where memory was wanting, or the note failed, the item
     /// stays first in line.
     pub fn take<W: Wait>(&mut self, alloc: Global, rt: &W, seat: &Seat) -> Result<Taken, HubFault>
-        ensures takes { TakesFirst seat.now.conn (M.is_busy (M.bases self.old.state.core) seat.now.conn) result
-            (Keeps (StandsIdle M.stands M.waits M.bases self.old.state.core) (R.entries self.old.state.recorder) (R.faults self.old.state.recorder) self.old.state.desk)
-            (Keeps (StandsIdle M.stands M.waits M.bases self.new.state.core) (R.entries self.new.state.recorder) (R.faults self.new.state.recorder) self.new.state.desk) self.old.state.desk self.new.state.desk }
+        ensures takes { TakesFirst seat.now.conn (M.is_busy (M.bases self.old.state.core) seat.now.conn)
+            result
+            (Keeps (StandsIdle M.stands M.waits M.bases self.old.state.core)
+            (R.entries self.old.state.recorder) (R.faults self.old.state.recorder) self.old.state.desk)
+            (Keeps (StandsIdle M.stands M.waits M.bases self.new.state.core)
+            (R.entries self.new.state.recorder) (R.faults self.new.state.recorder) self.new.state.desk)
+            self.old.state.desk self.new.state.desk }
         ensures ends { KeepsEnds self.old.state.desk self.new.state.desk }
         ensures last { self.new.state.last ≡ self.old.state.last }
         ensures bases { M.bases self.new.state.core ≡ M.bases self.old.state.core }
-        ensures shown { ShowsFault self.old.state.desk.ending self.new.state.desk.ending (R.faults self.old.state.recorder) (R.faults self.new.state.recorder) }
-        ensures failed { FailsShown result (R.faults self.old.state.recorder) (R.faults self.new.state.recorder) }
+        ensures shown { ShowsFault self.old.state.desk.ending self.new.state.desk.ending
+            (R.faults self.old.state.recorder) (R.faults self.new.state.recorder) }
+        ensures failed { FailsShown result (R.faults self.old.state.recorder)
+            (R.faults self.new.state.recorder) }
     {
         self.state.take(alloc, rt, seat.conn)
     }
@@ -107,13 +122,19 @@ impl<M: Core, R: Recorder> Hub<M, R> {
     /// connection for which bytes were put then.
     pub fn take_up<W: Wait>(&mut self, alloc: Global, rt: &W) -> Result<bool, HubFault>
         ensures takes { TakesFirstUp result
-            (Keeps (StandsIdle M.stands M.waits M.bases self.old.state.core) (R.entries self.old.state.recorder) (R.faults self.old.state.recorder) self.old.state.desk)
-            (Keeps (StandsIdle M.stands M.waits M.bases self.new.state.core) (R.entries self.new.state.recorder) (R.faults self.new.state.recorder) self.new.state.desk) self.old.state.desk self.new.state.desk }
+            (Keeps (StandsIdle M.stands M.waits M.bases self.old.state.core)
+            (R.entries self.old.state.recorder) (R.faults self.old.state.recorder) self.old.state.desk)
+            (Keeps (StandsIdle M.stands M.waits M.bases self.new.state.core)
+            (R.entries self.new.state.recorder) (R.faults self.new.state.recorder) self.new.state.desk)
+            self.old.state.desk self.new.state.desk }
         ensures ends { KeepsEnds self.old.state.desk self.new.state.desk }
-        ensures last { RemembersLast result self.old.state.last self.new.state.last self.old.state.desk.places.items self.new.state.desk.places.items }
+        ensures last { RemembersLast result self.old.state.last self.new.state.last
+            self.old.state.desk.places.items self.new.state.desk.places.items }
         ensures bases { M.bases self.new.state.core ≡ M.bases self.old.state.core }
-        ensures shown { ShowsFault self.old.state.desk.ending self.new.state.desk.ending (R.faults self.old.state.recorder) (R.faults self.new.state.recorder) }
-        ensures failed { FailsShown result (R.faults self.old.state.recorder) (R.faults self.new.state.recorder) }
+        ensures shown { ShowsFault self.old.state.desk.ending self.new.state.desk.ending
+            (R.faults self.old.state.recorder) (R.faults self.new.state.recorder) }
+        ensures failed { FailsShown result (R.faults self.old.state.recorder)
+            (R.faults self.new.state.recorder) }
     {
         self.state.take_up(alloc, rt)
     }
@@ -124,8 +145,11 @@ impl<M: Core, R: Recorder> Hub<M, R> {
         ensures cleared { self.new.state.last ≡ None }
         ensures same { self.new.state.desk ≡ self.old.state.desk }
         ensures ends { KeepsEnds self.old.state.desk self.new.state.desk }
-        ensures stays { Stays (Keeps (StandsIdle M.stands M.waits M.bases self.old.state.core) (R.entries self.old.state.recorder) (R.faults self.old.state.recorder) self.old.state.desk)
-            (Keeps (StandsIdle M.stands M.waits M.bases self.new.state.core) (R.entries self.new.state.recorder) (R.faults self.new.state.recorder) self.new.state.desk) }
+        ensures stays { Stays
+            (Keeps (StandsIdle M.stands M.waits M.bases self.old.state.core)
+            (R.entries self.old.state.recorder) (R.faults self.old.state.recorder) self.old.state.desk)
+            (Keeps (StandsIdle M.stands M.waits M.bases self.new.state.core)
+            (R.entries self.new.state.recorder) (R.faults self.new.state.recorder) self.new.state.desk) }
         ensures bases { M.bases self.new.state.core ≡ M.bases self.old.state.core }
     {
         self.state.last.take()
@@ -138,8 +162,11 @@ impl<M: Core, R: Recorder> Hub<M, R> {
         ensures same { self.new.state.desk ≡ self.old.state.desk }
         ensures ends { KeepsEnds self.old.state.desk self.new.state.desk }
         ensures last { self.new.state.last ≡ self.old.state.last }
-        ensures stays { Stays (Keeps (StandsIdle M.stands M.waits M.bases self.old.state.core) (R.entries self.old.state.recorder) (R.faults self.old.state.recorder) self.old.state.desk)
-            (Keeps (StandsIdle M.stands M.waits M.bases self.new.state.core) (R.entries self.new.state.recorder) (R.faults self.new.state.recorder) self.new.state.desk) }
+        ensures stays { Stays
+            (Keeps (StandsIdle M.stands M.waits M.bases self.old.state.core)
+            (R.entries self.old.state.recorder) (R.faults self.old.state.recorder) self.old.state.desk)
+            (Keeps (StandsIdle M.stands M.waits M.bases self.new.state.core)
+            (R.entries self.new.state.recorder) (R.faults self.new.state.recorder) self.new.state.desk) }
         ensures bases { M.bases self.new.state.core ≡ M.bases self.old.state.core }
     {
         let closed = self.state.closed;
@@ -159,8 +186,11 @@ impl<M: Core, R: Recorder> Hub<M, R> {
     pub fn room<W: Wait>(&mut self, rt: &W, conn: u32) -> usize
         ensures room { HasRoomFor result (line_at self.old.state.desk.places.items conn) }
         ensures looks { LooksAt conn self.old.state.desk self.new.state.desk }
-        ensures stays { Stays (Keeps (StandsIdle M.stands M.waits M.bases self.old.state.core) (R.entries self.old.state.recorder) (R.faults self.old.state.recorder) self.old.state.desk)
-            (Keeps (StandsIdle M.stands M.waits M.bases self.new.state.core) (R.entries self.new.state.recorder) (R.faults self.new.state.recorder) self.new.state.desk) }
+        ensures stays { Stays
+            (Keeps (StandsIdle M.stands M.waits M.bases self.old.state.core)
+            (R.entries self.old.state.recorder) (R.faults self.old.state.recorder) self.old.state.desk)
+            (Keeps (StandsIdle M.stands M.waits M.bases self.new.state.core)
+            (R.entries self.new.state.recorder) (R.faults self.new.state.recorder) self.new.state.desk) }
         ensures ends { KeepsEnds self.old.state.desk self.new.state.desk }
         ensures last { self.new.state.last ≡ self.old.state.last }
         ensures bases { M.bases self.new.state.core ≡ M.bases self.old.state.core }
@@ -171,13 +201,18 @@ impl<M: Core, R: Recorder> Hub<M, R> {
     /// A connection ended. With a seat whose number the hub never gave, or has retired, nothing happens.
     pub fn shut<W: Wait>(&mut self, alloc: Global, rt: &W, seat: &Seat) -> Result<(), HubFault>
         ensures shuts { Shuts seat.now.conn (line_at self.old.state.desk.places.items seat.now.conn) result
-            (Keeps (StandsIdle M.stands M.waits M.bases self.old.state.core) (R.entries self.old.state.recorder) (R.faults self.old.state.recorder) self.old.state.desk)
-            (Keeps (StandsIdle M.stands M.waits M.bases self.new.state.core) (R.entries self.new.state.recorder) (R.faults self.new.state.recorder) self.new.state.desk) self.old.state.desk self.new.state.desk }
+            (Keeps (StandsIdle M.stands M.waits M.bases self.old.state.core)
+            (R.entries self.old.state.recorder) (R.faults self.old.state.recorder) self.old.state.desk)
+            (Keeps (StandsIdle M.stands M.waits M.bases self.new.state.core)
+            (R.entries self.new.state.recorder) (R.faults self.new.state.recorder) self.new.state.desk)
+            self.old.state.desk self.new.state.desk }
         ensures ends { KeepsEnds self.old.state.desk self.new.state.desk }
         ensures last { self.new.state.last ≡ self.old.state.last }
         ensures bases { M.bases self.new.state.core ≡ M.bases self.old.state.core }
-        ensures shown { ShowsFault self.old.state.desk.ending self.new.state.desk.ending (R.faults self.old.state.recorder) (R.faults self.new.state.recorder) }
-        ensures failed { FailsShown result (R.faults self.old.state.recorder) (R.faults self.new.state.recorder) }
+        ensures shown { ShowsFault self.old.state.desk.ending self.new.state.desk.ending
+            (R.faults self.old.state.recorder) (R.faults self.new.state.recorder) }
+        ensures failed { FailsShown result (R.faults self.old.state.recorder)
+            (R.faults self.new.state.recorder) }
     {
         self.state.shut(alloc, rt, seat.conn)
     }
@@ -186,13 +221,18 @@ impl<M: Core, R: Recorder> Hub<M, R> {
     pub fn shut_up<W: Wait>(&mut self, alloc: Global, rt: &W, why: UpWhy) -> Result<(), HubFault>
         requires { is_full_reason why ≡ false }
         ensures shuts { ShutsUp why result
-            (Keeps (StandsIdle M.stands M.waits M.bases self.old.state.core) (R.entries self.old.state.recorder) (R.faults self.old.state.recorder) self.old.state.desk)
-            (Keeps (StandsIdle M.stands M.waits M.bases self.new.state.core) (R.entries self.new.state.recorder) (R.faults self.new.state.recorder) self.new.state.desk) self.old.state.desk self.new.state.desk }
+            (Keeps (StandsIdle M.stands M.waits M.bases self.old.state.core)
+            (R.entries self.old.state.recorder) (R.faults self.old.state.recorder) self.old.state.desk)
+            (Keeps (StandsIdle M.stands M.waits M.bases self.new.state.core)
+            (R.entries self.new.state.recorder) (R.faults self.new.state.recorder) self.new.state.desk)
+            self.old.state.desk self.new.state.desk }
         ensures ends { KeepsEnds self.old.state.desk self.new.state.desk }
         ensures last { self.new.state.last ≡ self.old.state.last }
         ensures bases { M.bases self.new.state.core ≡ M.bases self.old.state.core }
-        ensures shown { ShowsFault self.old.state.desk.ending self.new.state.desk.ending (R.faults self.old.state.recorder) (R.faults self.new.state.recorder) }
-        ensures failed { FailsShown result (R.faults self.old.state.recorder) (R.faults self.new.state.recorder) }
+        ensures shown { ShowsFault self.old.state.desk.ending self.new.state.desk.ending
+            (R.faults self.old.state.recorder) (R.faults self.new.state.recorder) }
+        ensures failed { FailsShown result (R.faults self.old.state.recorder)
+            (R.faults self.new.state.recorder) }
     {
         self.state.shut_up(alloc, rt, why)
     }
@@ -209,12 +249,16 @@ impl<M: Core, R: Recorder> Hub<M, R> {
         outward: Taker,
     ) -> Receipt
         ensures retires { RetiresSo seat.conn (length (put_of inward)) (length (taken_of outward)) result
-            (Keeps (StandsIdle M.stands M.waits M.bases self.old.state.core) (R.entries self.old.state.recorder) (R.faults self.old.state.recorder) self.old.state.desk)
-            (Keeps (StandsIdle M.stands M.waits M.bases self.new.state.core) (R.entries self.new.state.recorder) (R.faults self.new.state.recorder) self.new.state.desk) self.old.state.desk self.new.state.desk }
+            (Keeps (StandsIdle M.stands M.waits M.bases self.old.state.core)
+            (R.entries self.old.state.recorder) (R.faults self.old.state.recorder) self.old.state.desk)
+            (Keeps (StandsIdle M.stands M.waits M.bases self.new.state.core)
+            (R.entries self.new.state.recorder) (R.faults self.new.state.recorder) self.new.state.desk)
+            self.old.state.desk self.new.state.desk }
         ensures ends { KeepsOtherEnds seat.conn self.old.state.desk self.new.state.desk }
         ensures last { self.new.state.last ≡ self.old.state.last }
         ensures bases { M.bases self.new.state.core ≡ M.bases self.old.state.core }
-        ensures shown { ShowsFault self.old.state.desk.ending self.new.state.desk.ending (R.faults self.old.state.recorder) (R.faults self.new.state.recorder) }
+        ensures shown { ShowsFault self.old.state.desk.ending self.new.state.desk.ending
+            (R.faults self.old.state.recorder) (R.faults self.new.state.recorder) }
     {
         self.state.retire(alloc, rt, seat.conn, inward, outward)
     }
@@ -224,8 +268,11 @@ impl<M: Core, R: Recorder> Hub<M, R> {
         requires spent { why ≢ stops.Spent }
         requires record_fault { why ≢ stops.Record }
         ensures stops { Stops why self.old.state.desk self.new.state.desk }
-        ensures stays { Stays (Keeps (StandsIdle M.stands M.waits M.bases self.old.state.core) (R.entries self.old.state.recorder) (R.faults self.old.state.recorder) self.old.state.desk)
-            (Keeps (StandsIdle M.stands M.waits M.bases self.new.state.core) (R.entries self.new.state.recorder) (R.faults self.new.state.recorder) self.new.state.desk) }
+        ensures stays { Stays
+            (Keeps (StandsIdle M.stands M.waits M.bases self.old.state.core)
+            (R.entries self.old.state.recorder) (R.faults self.old.state.recorder) self.old.state.desk)
+            (Keeps (StandsIdle M.stands M.waits M.bases self.new.state.core)
+            (R.entries self.new.state.recorder) (R.faults self.new.state.recorder) self.new.state.desk) }
         ensures ends { KeepsEnds self.old.state.desk self.new.state.desk }
         ensures last { self.new.state.last ≡ self.old.state.last }
         ensures bases { M.bases self.new.state.core ≡ M.bases self.old.state.core }
@@ -242,7 +289,10 @@ impl<M: Core, R: Recorder> Hub<M, R> {
 
     /// Whether the connection with this number is open: it is alive, and no ending was kept.
     pub fn is_open(&self, conn: u32) -> bool
-        ensures { (T : List HistoryEntry) → Keeps (StandsIdle M.stands M.waits M.bases self.now.state.core) (R.entries self.now.state.recorder) (R.faults self.now.state.recorder) self.now.state.desk T → result ≡ is_open_by conn self.now.state.desk.ending T }
+        ensures { (T : List HistoryEntry)
+            → Keeps (StandsIdle M.stands M.waits M.bases self.now.state.core)
+            (R.entries self.now.state.recorder) (R.faults self.now.state.recorder) self.now.state.desk T
+            → result ≡ is_open_by conn self.now.state.desk.ending T }
     {
         self.state.desk.ending.is_none() && self.state.core.alive(conn)
     }
@@ -250,7 +300,10 @@ impl<M: Core, R: Recorder> Hub<M, R> {
     /// Whether all connections that entered are over: each was retired and has its close in the history, and no more arrived
     /// from it than was pushed, and it took no more than was handed. No memory is taken.
     pub fn all_closed(&self) -> bool
-        ensures { (T : List HistoryEntry) → Keeps (StandsIdle M.stands M.waits M.bases self.now.state.core) (R.entries self.now.state.recorder) (R.faults self.now.state.recorder) self.now.state.desk T → TellsOver result self.now.state.desk.places.items T }
+        ensures { (T : List HistoryEntry)
+            → Keeps (StandsIdle M.stands M.waits M.bases self.now.state.core)
+            (R.entries self.now.state.recorder) (R.faults self.now.state.recorder) self.now.state.desk T
+            → TellsOver result self.now.state.desk.places.items T }
     {
         self.state.all_closed()
     }
@@ -259,8 +312,12 @@ impl<M: Core, R: Recorder> Hub<M, R> {
     /// by the history of the core, which is that of the recorder's entries where these are told. No memory is taken.
     pub fn close(self) -> (R, Receipts)
         ensures recorder { result.0 ≡ self.state.recorder }
-        ensures receipts { (T : List HistoryEntry) → Keeps (StandsIdle M.stands M.waits M.bases self.state.core) (R.entries self.state.recorder) (R.faults self.state.recorder) self.state.desk T → ClosesWith (R.entries result.0) self.state.desk result.1 T }
-        ensures history { ∥ ClosesSome M.follows (M.bases self.state.core) (R.entries result.0) self.state.desk result.1 ∥₁ }
+        ensures receipts { (T : List HistoryEntry)
+            → Keeps (StandsIdle M.stands M.waits M.bases self.state.core) (R.entries self.state.recorder)
+            (R.faults self.state.recorder) self.state.desk T
+            → ClosesWith (R.entries result.0) self.state.desk result.1 T }
+        ensures history { ∥ ClosesSome M.follows (M.bases self.state.core) (R.entries result.0)
+            self.state.desk result.1 ∥₁ }
     {
         self.state.close()
     }
