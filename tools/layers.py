@@ -12,8 +12,8 @@ HEAD = re.compile(r"# layer (?P<name>[^:]+): (?P<what>.+)")
 PROGRAM, TESTS = "rtspgate", "tests"
 # What a letter takes in a box's first line, and in a small one.
 WIDE, SMALL = 8, 6.4
-# How many letters of crates stand in a line of a layer's box at most.
-LINE = 62
+# How many letters stand in a line of a layer's box at most.
+LINE = 54
 # Between two boxes of a row, from row to row, round a whole picture, and what a line that passes a row takes of it.
 GAP, STEP, EDGE, PASSING = 22, 44, 26, 30
 TURNS = 400
@@ -113,8 +113,10 @@ class Plan:
         self.joined = {}
         for way in self.ways:
             for one, other in zip(way, way[1:]):
-                self.joined.setdefault(one, []).append(other)
-                self.joined.setdefault(other, []).append(one)
+                # A line that passes rows is straight before all else.
+                weight = (1, 2, 8)[(one not in sizes) + (other not in sizes)]
+                self.joined.setdefault(one, []).append((other, weight))
+                self.joined.setdefault(other, []).append((one, weight))
         self.order()
         self.place()
 
@@ -130,7 +132,11 @@ class Plan:
     def mean(self, part, at):
         """Where those are, in the middle, that something is joined to; else where it is."""
         near = self.joined.get(part)
-        return sum(at[other] for other in near) / len(near) if near else at[part]
+        return sum(weight * at[other] for other, weight in near) / self.weight(part) if near else at[part]
+
+    def weight(self, part):
+        """How much that counts."""
+        return sum(weight for _, weight in self.joined.get(part, ())) or 1
 
     def place(self):
         """Gives each part its place: those of a row by what they are joined to, and the rows above each other."""
@@ -144,7 +150,7 @@ class Plan:
         for turn in range(TURNS):
             for row in self.rows if turn % 2 else reversed(self.rows):
                 apart = [0] + [(wide[one] + wide[other]) / 2 + GAP for one, other in zip(row, row[1:])]
-                weights = [len(self.joined.get(part, "1")) for part in row]
+                weights = [self.weight(part) for part in row]
                 across.update(zip(row, spread([self.mean(part, across) for part in row], weights, apart)))
         left = min(across[part] - wide[part] / 2 for part in across)
         self.width = max(across[part] + wide[part] / 2 for part in across) - left + 2 * EDGE
@@ -176,21 +182,21 @@ class Plan:
             picture.path(data)
 
 
-def lines_within(names, most):
-    """Names in lines of so many letters at most."""
-    lines = [names[0]]
-    for name in names[1:]:
-        if len(lines[-1]) + 2 + len(name) > most:
-            lines[-1:] = [lines[-1] + ",", name]
+def lines_within(words, most):
+    """Words in lines of so many letters at most."""
+    lines = [words[0]]
+    for word in words[1:]:
+        if len(lines[-1]) + 1 + len(word) > most:
+            lines.append(word)
         else:
-            lines[-1] += ", " + name
+            lines[-1] += " " + word
     return lines
 
 
-def lines_of(names):
-    """Names in as few lines as they fit into, and these as short as can be."""
-    few = len(lines_within(names, LINE))
-    return next(lines for most in range(LINE + 1) for lines in [lines_within(names, most)] if len(lines) <= few)
+def lines_of(text):
+    """A text in as few lines as it fits into, and these as short as can be."""
+    few = len(lines_within(text.split(), LINE))
+    return next(lines for most in range(LINE + 1) for lines in [lines_within(text.split(), most)] if len(lines) <= few)
 
 
 def kind_of(layer):
@@ -200,16 +206,17 @@ def kind_of(layer):
 
 def draw_layers(layers):
     """The layers, with their crates, and what each stands on."""
-    texts = {layer.name: [layer.name, layer.what] + lines_of(list(layer.crates)) for layer in layers}
-    sizes = {name: (max(SMALL * len(line) for line in lines) + 30, 17 * len(lines) + 14) for name, lines in texts.items()}
+    texts = {layer.name: [(layer.name, "name"), *((line, "quiet") for line in lines_of(layer.what)),
+                          *((line, "small") for line in lines_of(", ".join(layer.crates)))] for layer in layers}
+    sizes = {name: (max(SMALL * len(line) for line, _ in lines) + 30, 17 * len(lines) + 14) for name, lines in texts.items()}
     plan = Plan(below_layers(layers), sizes)
     picture = Picture(plan.width, plan.height, "the layers of the crates, and what each uses")
     plan.draw(picture, 0)
     for layer in layers:
         (x, y), lines = plan.at[layer.name], texts[layer.name]
         picture.box(x, y, *sizes[layer.name], [], kind_of(layer))
-        for place, line in enumerate(lines):
-            picture.text(x, y + 17 * (place - (len(lines) - 1) / 2), line, ("name", "quiet")[place] if place < 2 else "small")
+        for place, (line, kind) in enumerate(lines):
+            picture.text(x, y + 17 * (place - (len(lines) - 1) / 2), line, kind)
     for name, lower, other, higher in upward(layers):
         (x, y), (u, v) = ((plan.at[one][0] - sizes[one][0] / 4, plan.at[one][1]) for one in (lower, higher))
         top, foot = y - sizes[lower][1] / 2, v + sizes[higher][1] / 2
