@@ -14,7 +14,7 @@ use gate_bytes::Memory;
 use slab::Slab;
 use std::alloc::Global;
 
-/// A connection where it is kept: a plan for it tells the key, so that it is looked up once an event.
+/// A connection where it is kept. A plan for it tells the key, so its number is not searched for again when the plan is carried out.
 #[derive(Clone, Copy)]
 pub struct KeyedSlot<'a> {
     /// The key of its slot.

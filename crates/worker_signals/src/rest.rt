@@ -3,7 +3,7 @@
 use client_ports::Bell;
 use std::sync::Wait;
 
-/// Waits for ever. What no right run meets is answered by nothing.
+/// Waits for ever: where no true answer can be given, which no right run meets, none is.
 pub fn rest_for_ever<W: Wait, T>(rt: &W) -> T
     ensures { ⊥ }
 {
