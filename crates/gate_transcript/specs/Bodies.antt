@@ -2,21 +2,28 @@
 use Rattle.std.specs.Prelude.{ℕ, nat_le, ◌==◌, Bool, true, is_some, List, [], ◌∷◌, Option, Some, None, if◌then◌else◌}
 use Rattle.gate_transcript.specs.declared.entry.EntryKind.{EntryKind}
 use Rattle.gate_transcript.specs.declared.entry.EntryKind.TheVariants.{Enter, Client, Upstream, End, Slow, UpEnd}
-use Rattle.gate_transcript.specs.declared.entry.UpEndReason.{UpEndReason}
-use Rattle.gate_transcript.specs.declared.entry.UpEndReason.TheVariants.{Ended, ReadFault, WriteFault, Full}
+use Rattle.gate_transcript.specs.declared.entry.UpWhy.{UpWhy}
+use Rattle.gate_transcript.specs.declared.entry.UpWhy.TheVariants.{Ended, ReadFault, WriteFault, UpFull}
 use Rattle.gate_transcript.specs.declared.entry.TheConstants.{ENDED_REASON, READ_FAULT_REASON, WRITE_FAULT_REASON, FULL_REASON}
 use Rattle.gate_transcript.specs.declared.head.TheConstants.{LONGEST_BODY}
 
+-- the byte of a reason for which the connection to the server ends
+abbrev pub reason_byte : UpWhy → ℕ
+reason_byte Ended = ENDED_REASON
+reason_byte ReadFault = READ_FAULT_REASON
+reason_byte WriteFault = WRITE_FAULT_REASON
+reason_byte UpFull = FULL_REASON
+
 -- why the connection to the server ends, as a byte tells it
-abbrev pub end_reason_by : ℕ → Option UpEndReason
+abbrev pub end_reason_by : ℕ → Option UpWhy
 end_reason_by b =
     if b == ENDED_REASON then Some Ended
     else (if b == READ_FAULT_REASON then Some ReadFault
     else (if b == WRITE_FAULT_REASON then Some WriteFault
-    else (if b == FULL_REASON then Some Full else None)))
+    else (if b == FULL_REASON then Some UpFull else None)))
 
 -- the same as a body tells it, which is that byte alone
-abbrev pub end_reason_in : List ℕ → Option UpEndReason
+abbrev pub end_reason_in : List ℕ → Option UpWhy
 end_reason_in [] = None
 end_reason_in (b ∷ []) = end_reason_by b
 end_reason_in (b ∷ c ∷ more) = None

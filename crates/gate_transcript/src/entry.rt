@@ -51,21 +51,37 @@ pub enum EntryKind {
     UpEnd,
 }
 
-/// Why the connection to the server ends at an entry.
+/// Why the connection to the server ended, where no item of the server is the cause.
 #[derive(Clone, Copy, Debug, PartialEq, Eq)]
-pub enum UpEndReason {
+pub enum UpWhy {
     /// `E`: the server ended it.
     Ended,
     /// `R`: reading from it failed.
     ReadFault,
     /// `W`: writing to it failed.
     WriteFault,
-    /// `Q`: the server's queue was full.
-    Full,
+    /// `Q`: the server took its bytes too slowly.
+    UpFull,
+}
+
+impl UpWhy {
+    ghost use Rattle.gate_transcript.specs.Bodies.{reason_byte};
+
+    /// The byte that tells this reason in an entry.
+    pub fn byte(self) -> u8
+        ensures { result ≡ reason_byte self }
+    {
+        match self {
+            UpWhy::Ended => ENDED_REASON,
+            UpWhy::ReadFault => READ_FAULT_REASON,
+            UpWhy::WriteFault => WRITE_FAULT_REASON,
+            UpWhy::UpFull => FULL_REASON,
+        }
+    }
 }
 
 /// The reason that a body is; none where it is not the one byte of a reason.
-pub fn end_reason_in(body: &[u8]) -> Option<UpEndReason>
+pub fn end_reason_in(body: &[u8]) -> Option<UpWhy>
     ensures { result ≡ end_reason_in body.now }
 {
     match body {
@@ -75,14 +91,14 @@ pub fn end_reason_in(body: &[u8]) -> Option<UpEndReason>
 }
 
 /// The reason that a byte tells.
-fn end_reason_by(byte: u8) -> Option<UpEndReason>
+fn end_reason_by(byte: u8) -> Option<UpWhy>
     ensures { result ≡ end_reason_by byte }
 {
     match byte {
-        ENDED_REASON => Some(UpEndReason::Ended),
-        READ_FAULT_REASON => Some(UpEndReason::ReadFault),
-        WRITE_FAULT_REASON => Some(UpEndReason::WriteFault),
-        FULL_REASON => Some(UpEndReason::Full),
+        ENDED_REASON => Some(UpWhy::Ended),
+        READ_FAULT_REASON => Some(UpWhy::ReadFault),
+        WRITE_FAULT_REASON => Some(UpWhy::WriteFault),
+        FULL_REASON => Some(UpWhy::UpFull),
         _ => None,
     }
 }

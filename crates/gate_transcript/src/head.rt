@@ -1,5 +1,5 @@
 //! The head of an entry, and what may be wrong with it.
-ghost use Rattle.std.specs.Prelude.{◌≡◌, ◌≤◌, ◌-◌, length, take, drop};
+ghost use Rattle.std.specs.Prelude.{◌≡◌, ◌≤◌, ◌-◌, length, take};
 ghost use Rattle.std.specs.Int.{w32, from_be_bytes};
 ghost use Rattle.gate_transcript.specs.Connections.{has};
 ghost use Rattle.gate_transcript.specs.Transcript.{entry_kind, may_come, entry_head, sound_head, first_head};

@@ -23,7 +23,7 @@ mod unread;
 
 pub use entry::{
     CLIENT_BYTE, END_BYTE, ENDED_REASON, ENTER_BYTE, Entry, EntryKind, FULL_REASON,
-    READ_FAULT_REASON, SLOW_BYTE, UP_END_BYTE, UPSTREAM_BYTE, UpEndReason, WRITE_FAULT_REASON,
+    READ_FAULT_REASON, SLOW_BYTE, UP_END_BYTE, UPSTREAM_BYTE, UpWhy, WRITE_FAULT_REASON,
     end_reason_in,
 };
 pub use entry_text::{write_entry, written_entries_are_read};

@@ -1,5 +1,5 @@
 //! A recorder in memory, whose calls go by a script.
-ghost use Rattle.std.specs.Prelude.{◌≡◌, ◌<◌, ◌≤◌, ◌↔◌, [], length, slice_get, Some, Err, Contains, OnOk};
+ghost use Rattle.std.specs.Prelude.{◌≡◌, ◌<◌, ◌≤◌, ◌↔◌, [], length, Some, Err, Contains, OnOk};
 ghost use Rattle.gate_outside.specs.Causes.{counted_on};
 ghost use Rattle.gate_transcript.specs.declared.head.TheConstants.{LONGEST_BODY};
 ghost use Rattle.gate_transcript.specs.declared.recorder.NoteFault.TheVariants.{Failed};

@@ -12,8 +12,8 @@ use Rattle.gateway_claim.specs.declared.event.ToClient.{ToClient}
 use Rattle.gateway_claim.specs.declared.event.ToUp.{ToUp}
 use Rattle.gateway_claim.specs.declared.event.UpCause.{UpCause}
 use Rattle.gateway_claim.specs.declared.event.UpCause.TheVariants as causes
-use Rattle.gateway_claim.specs.declared.event.UpWhy.{UpWhy}
-use Rattle.gateway_claim.specs.declared.event.UpWhy.TheVariants as whys
+use Rattle.gate_transcript.specs.declared.entry.UpWhy.{UpWhy}
+use Rattle.gate_transcript.specs.declared.entry.UpWhy.TheVariants as whys
 use Rattle.gateway_claim.specs.declared.event.Outcome.{Outcome}
 use Rattle.gateway_claim.specs.declared.event.Event.{Event}
 use Rattle.gateway_claim.specs.declared.event.Event.TheVariants.{Client, Up, End, Slow, UpEnd}

@@ -2,6 +2,7 @@
 
 use client_machine::CloseWhy;
 use gate_bytes::Text;
+use gate_transcript::UpWhy;
 use rtsp_head::{BadKind, Item};
 
 /// What can happen to a gateway, but for a connection that enters.
@@ -17,19 +18,6 @@ pub enum Event {
     Slow(u32),
     /// The connection to the server ended.
     UpEnd(UpWhy),
-}
-
-/// Why the connection to the server ended, where no item of the server is the cause.
-#[derive(Clone, Copy, Debug, PartialEq, Eq)]
-pub enum UpWhy {
-    /// The server ended it.
-    Ended,
-    /// Reading from it failed.
-    ReadFault,
-    /// Writing to it failed.
-    WriteFault,
-    /// The server took its bytes too slowly.
-    UpFull,
 }
 
 /// Which connections an event closed.

@@ -1,10 +1,9 @@
 //! Laws over the definitions of a history. Each holds by its contract alone: no call is made.
-ghost use Rattle.std.specs.Prelude.{◌≡◌, ◌+◌, ◌≤◌, ◌^◌, ℕ, slice_get, Option, Some, None, IfSome, List, map};
+ghost use Rattle.std.specs.Prelude.{◌≡◌, ◌+◌, ◌^◌, ℕ, slice_get, Some, None, IfSome, List, map};
 ghost use Rattle.rtsp_head.specs.Items.{Shape};
 ghost use Rattle.rtsp_head.specs.declared.item.ItemKind.TheVariants as items;
 ghost use Rattle.rtsp_uri.specs.declared.base.Bases.{Bases};
 ghost use Rattle.rtsp_small.specs.declared.cseq.TheConstants.{CSEQ_TWO_DIGITS, LAST_CSEQ_TWO};
-ghost use Rattle.client_slot.specs.Client.{Client};
 ghost use Rattle.client_machine.specs.Alone.{private_after, sent_up};
 ghost use Rattle.client_machine.specs.Apart.{streams_of, AreAllStreamsApart};
 ghost use Rattle.client_machine.specs.Events.{PrivateEvent};

@@ -15,7 +15,8 @@ mod laws;
 pub use client_machine::CloseWhy;
 pub use closes::{BAD_ITEM_CLOSE, END_CLOSE, SLOW_CLOSE, UPSTREAM_CLOSE, close_byte};
 pub use cores::Core;
-pub use event::{Closed, Event, FramingFault, Outcome, ToClient, ToUp, UpCause, UpMessage, UpWhy};
+pub use event::{Closed, Event, FramingFault, Outcome, ToClient, ToUp, UpCause, UpMessage};
+pub use gate_transcript::UpWhy;
 pub use laws::{
     a_frame_of_a_player_goes_up_on_its_own_pair, a_frame_of_the_server_reaches_its_holder_alone,
     a_turn_is_one_step_by_the_books, at_most_one_history, at_most_one_history_of_a_core,

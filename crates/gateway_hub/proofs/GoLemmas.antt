@@ -8,7 +8,7 @@ use Rattle.hub_queues.specs.declared.line.HubConnection.{HubConnection}
 use Rattle.gateway_hub.specs.declared.desk.Desk.{Desk}
 use Rattle.gateway_hub.specs.declared.seat.Taken.{Taken}
 use Rattle.gateway_hub.specs.declared.seat.Taken.TheVariants.{Done, Empty, Busy, Closed}
-use Rattle.gateway_claim.specs.declared.event.UpWhy.{UpWhy}
+use Rattle.gate_transcript.specs.declared.entry.UpWhy.{UpWhy}
 use Rattle.gateway_hub.specs.Calls.{GrowsBy, Fails, TakesFirst, TakesFirstUp, Shuts, ShutsUp}
 
 -- Whichever answer a call of a hub gives, there is a history with which the hub keeps what it keeps.

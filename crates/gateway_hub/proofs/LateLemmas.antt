@@ -6,7 +6,7 @@ use Rattle.std.proofs.lemmas.List.{append_assoc}
 use Rattle.gate_transcript.specs.declared.entry.Entry.{Entry as Noted}
 use Rattle.client_ports.specs.Ends.{fulls_of}
 use Rattle.gateway_claim.specs.declared.event.UpCause.{UpCause}
-use Rattle.gateway_claim.specs.declared.event.UpWhy.TheVariants as whys
+use Rattle.gate_transcript.specs.declared.entry.UpWhy.TheVariants as whys
 use Rattle.gateway_claim.specs.Happenings.{Happening, HistoryEntry, enters, takes, ends, lags, hears, up_ends, enters_here, fault_in, is_alive}
 use Rattle.hub_queues.specs.declared.ending.Ending.{Ending}
 use Rattle.hub_queues.specs.declared.ending.Ending.TheVariants.{Upstream, Stopped}

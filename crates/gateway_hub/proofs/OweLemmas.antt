@@ -10,7 +10,7 @@ use Rattle.gate_transcript.specs.declared.entry.Entry.{Entry as Noted}
 use Rattle.rtsp_head.specs.Items.{Shape}
 use Rattle.client_ports.specs.Ends.{put_of, fulls_of}
 use Rattle.gateway_claim.specs.declared.event.UpCause.{UpCause}
-use Rattle.gateway_claim.specs.declared.event.UpWhy.TheVariants as whys
+use Rattle.gate_transcript.specs.declared.entry.UpWhy.TheVariants as whys
 use Rattle.gateway_claim.specs.Happenings.{Happening, HistoryEntry, up_ends, fault_in}
 use Rattle.hub_queues.specs.declared.ending.Ending.{Ending}
 use Rattle.hub_queues.specs.declared.ending.Ending.TheVariants.{Upstream, Stopped}

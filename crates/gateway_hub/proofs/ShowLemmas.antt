@@ -6,7 +6,7 @@ use Rattle.gate_transcript.specs.declared.entry.Entry.{Entry as Noted}
 use Rattle.gate_transcript.specs.declared.recorder.NoteFault.{NoteFault}
 use Rattle.gate_transcript.specs.declared.recorder.NoteFault.TheVariants.{Failed, Memory}
 use Rattle.gateway_claim.specs.declared.event.UpCause.{UpCause}
-use Rattle.gateway_claim.specs.declared.event.UpWhy.{UpWhy}
+use Rattle.gate_transcript.specs.declared.entry.UpWhy.{UpWhy}
 use Rattle.gateway_claim.specs.Happenings.{HistoryEntry}
 use Rattle.hub_queues.specs.declared.ending.Ending.{Ending}
 use Rattle.hub_queues.specs.declared.ending.Ending.TheVariants.{Upstream, Stopped}

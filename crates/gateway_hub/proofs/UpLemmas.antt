@@ -9,7 +9,7 @@ use Rattle.client_ports.specs.Ends.{put_of, fulls_of}
 use Rattle.gateway_claim.specs.declared.event.Outcome.{Outcome}
 use Rattle.gateway_claim.specs.declared.event.ToUp.{ToUp}
 use Rattle.gateway_claim.specs.declared.event.UpCause.{UpCause}
-use Rattle.gateway_claim.specs.declared.event.UpWhy.TheVariants as whys
+use Rattle.gate_transcript.specs.declared.entry.UpWhy.TheVariants as whys
 use Rattle.gateway_claim.specs.Happenings.{Happening, HistoryEntry, up_ends, fault_in, nothing_up}
 use Rattle.gateway_hub.specs.Endings.{fell_full}
 use Rattle.hub_queues.specs.Parcels.{up_parcels, handed_up}

@@ -9,7 +9,7 @@ use Rattle.client_ports.specs.Ends.{WasEmpty}
 use Rattle.gateway_claim.specs.declared.event.Event.{Event}
 use Rattle.gateway_claim.specs.declared.event.Event.TheVariants.{Client, Up, End, Slow, UpEnd}
 use Rattle.gateway_claim.specs.declared.event.Outcome.{Outcome}
-use Rattle.gateway_claim.specs.declared.event.UpWhy.{UpWhy}
+use Rattle.gate_transcript.specs.declared.entry.UpWhy.{UpWhy}
 use Rattle.gateway_claim.specs.Happenings.{Happening, takes, ends, hears, up_ends, HistoryEntry, is_alive}
 use Rattle.hub_queues.specs.declared.ending.Ending.{Ending}
 use Rattle.hub_queues.specs.declared.ending.Ending.TheVariants.{Upstream, Stopped}

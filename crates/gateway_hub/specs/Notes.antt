@@ -3,21 +3,12 @@ use Rattle.std.specs.Prelude.{◌≡◌, ℕ, List, [], ◌∷◌, Option, Some,
 use Rattle.gate_transcript.specs.declared.entry.Entry.{Entry as Noted}
 use Rattle.gate_transcript.specs.declared.entry.EntryKind.{EntryKind}
 use Rattle.gate_transcript.specs.declared.entry.EntryKind.TheVariants.{Enter, Client, Upstream, End, Slow, UpEnd}
-use Rattle.gate_transcript.specs.declared.entry.TheConstants.{ENDED_REASON, READ_FAULT_REASON, WRITE_FAULT_REASON, FULL_REASON}
-use Rattle.gateway_claim.specs.declared.event.UpWhy.{UpWhy}
-use Rattle.gateway_claim.specs.declared.event.UpWhy.TheVariants as whys
+use Rattle.gate_transcript.specs.Bodies.{reason_byte}
 use Rattle.gateway_claim.specs.Happenings.{Happening, enters, takes, ends, lags, hears, up_ends, HistoryEntry}
 
 -- an entry as a recorder is told of it
 abbrev pub noting : EntryKind → ℕ → List ℕ → Noted
 noting kind conn body = record { kind = kind; conn = conn; body = body }
-
--- the byte of a reason
-abbrev pub reason_noted : UpWhy → ℕ
-reason_noted whys.Ended = ENDED_REASON
-reason_noted whys.ReadFault = READ_FAULT_REASON
-reason_noted whys.WriteFault = WRITE_FAULT_REASON
-reason_noted whys.UpFull = FULL_REASON
 
 -- The entry of an event: an item is one entry, which has its exact bytes. The server's entries have the number 0.
 abbrev pub note_of : Happening → Noted
@@ -26,7 +17,7 @@ note_of (takes conn shape) = noting Client conn shape.bytes
 note_of (ends conn) = noting End conn []
 note_of (lags conn) = noting Slow conn []
 note_of (hears shape) = noting Upstream 0 shape.bytes
-note_of (up_ends why) = noting UpEnd 0 (reason_noted why ∷ [])
+note_of (up_ends why) = noting UpEnd 0 (reason_byte why ∷ [])
 
 -- the entries of a history, the newest first
 abbrev pub notes : List HistoryEntry → List Noted

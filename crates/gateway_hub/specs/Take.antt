@@ -4,7 +4,7 @@ use Rattle.gate_outside.specs.Causes.{Rose}
 use Rattle.gate_transcript.specs.declared.entry.Entry.{Entry as Noted}
 use Rattle.client_ports.specs.Ends.{fulls_of}
 use Rattle.gateway_claim.specs.declared.event.Outcome.{Outcome}
-use Rattle.gateway_claim.specs.declared.event.UpWhy.TheVariants as whys
+use Rattle.gate_transcript.specs.declared.entry.UpWhy.TheVariants as whys
 use Rattle.gateway_claim.specs.Happenings.{Happening, enters, takes, ends, lags, hears, up_ends, HistoryEntry, is_alive, fault_in}
 use Rattle.gate_transcript.specs.declared.recorder.NoteFault.{NoteFault}
 use Rattle.gate_transcript.specs.declared.recorder.NoteFault.TheVariants.{Failed, Memory}
@@ -21,7 +21,7 @@ use Rattle.hub_queues.specs.declared.ending.Ending.TheVariants.{Stopped}
 use Rattle.hub_queues.specs.declared.ending.StopWhy.{StopWhy}
 use Rattle.hub_queues.specs.declared.ending.StopWhy.TheVariants as stops
 use Rattle.std.specs.Option.{option_or}
-use Rattle.gateway_claim.specs.declared.event.UpWhy.{UpWhy}
+use Rattle.gate_transcript.specs.declared.entry.UpWhy.{UpWhy}
 use Rattle.hub_queues.specs.Places.{line_at, IsRefused, IsSeated}
 use Rattle.gateway_hub.specs.Keeps.{Underway, ArePortsSettled, EndsRightly, KeepsOwing}
 

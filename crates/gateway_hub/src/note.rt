@@ -2,27 +2,13 @@
 ghost use Rattle.std.specs.Prelude.{◌≡◌};
 ghost use Rattle.gateway_claim.specs.Happenings.{happening_of};
 ghost use Rattle.hub_queues.specs.Closes.{is_heard};
-ghost use Rattle.gateway_hub.specs.Notes.{noting, note_of, reason_noted, asker_noted};
+ghost use Rattle.gateway_hub.specs.Notes.{noting, note_of, asker_noted};
 ghost use Rattle.gate_transcript.specs.Notes.{NotesSo, HasNoteCause};
 
 use crate::{NoteFault, Recorder};
-use gate_transcript::{
-    ENDED_REASON, EntryKind, FULL_REASON, READ_FAULT_REASON, WRITE_FAULT_REASON,
-};
-use gateway_claim::{Event, UpWhy};
+use gate_transcript::EntryKind;
+use gateway_claim::Event;
 use rtsp_head::Item;
-
-/// The byte of a reason.
-fn reason_byte(why: UpWhy) -> u8
-    ensures { result ≡ reason_noted why }
-{
-    match why {
-        UpWhy::Ended => ENDED_REASON,
-        UpWhy::ReadFault => READ_FAULT_REASON,
-        UpWhy::WriteFault => WRITE_FAULT_REASON,
-        UpWhy::UpFull => FULL_REASON,
-    }
-}
 
 /// Notes an item as one entry, which has room for it.
 fn note_item<R: Recorder>(
@@ -70,6 +56,6 @@ pub fn note<R: Recorder>(recorder: &mut R, event: &Event) -> Result<(), NoteFaul
         Event::Up(item) => note_item(recorder, EntryKind::Upstream, 0, item),
         Event::End(conn) => recorder.note(EntryKind::End, *conn, &[]),
         Event::Slow(conn) => recorder.note(EntryKind::Slow, *conn, &[]),
-        Event::UpEnd(why) => recorder.note(EntryKind::UpEnd, 0, &[reason_byte(*why)]),
+        Event::UpEnd(why) => recorder.note(EntryKind::UpEnd, 0, &[why.byte()]),
     }
 }

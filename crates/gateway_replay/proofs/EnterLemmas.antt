@@ -6,7 +6,7 @@ use Rattle.gateway_claim.specs.Cores.{ever_entered}
 use Rattle.gate_transcript.specs.declared.entry.Entry.{Entry}
 use Rattle.gate_transcript.specs.declared.entry.EntryKind.{EntryKind}
 use Rattle.gate_transcript.specs.declared.entry.EntryKind.TheVariants.{Enter, Client, Upstream, End, Slow, UpEnd}
-use Rattle.gate_transcript.specs.declared.entry.UpEndReason.{UpEndReason}
+use Rattle.gate_transcript.specs.declared.entry.UpWhy.{UpWhy}
 use Rattle.gate_transcript.specs.Bodies.{end_reason_in}
 use Rattle.gate_transcript.specs.Transcript.{is_enter, has_entered}
 use Rattle.gateway_replay.specs.declared.streams.Speaker.{Speaker}
@@ -48,7 +48,7 @@ none_enters : (i : ℕ) (who : Speaker) (shapes : List Shape) → any_enters i (
 none_enters i who [] = refl
 none_enters i who (s ∷ shapes) = ap (λ b. b || any_enters i (map (said_by who) shapes)) (item_enters i who s) ∙ none_enters i who shapes
 
-up_end_enters : (i : ℕ) (reason : Option UpEndReason) → any_enters i (up_end_told reason) ≡ false
+up_end_enters : (i : ℕ) (reason : Option UpWhy) → any_enters i (up_end_told reason) ≡ false
 up_end_enters i None = refl
 up_end_enters i (Some reason) = refl
 

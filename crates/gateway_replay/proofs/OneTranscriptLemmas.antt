@@ -5,7 +5,7 @@ use Rattle.rtsp_uri.specs.declared.base.Bases.{Bases}
 use Rattle.gate_transcript.specs.declared.entry.Entry.{Entry}
 use Rattle.gate_transcript.specs.declared.entry.EntryKind.{EntryKind}
 use Rattle.gate_transcript.specs.declared.entry.EntryKind.TheVariants.{Enter, Client, Upstream, End, Slow, UpEnd}
-use Rattle.gate_transcript.specs.declared.entry.UpEndReason.{UpEndReason}
+use Rattle.gate_transcript.specs.declared.entry.UpWhy.{UpWhy}
 use Rattle.gate_transcript.specs.Bodies.{end_reason_in}
 use Rattle.gate_transcript.specs.Transcript.{is_enter, has_entered}
 use Rattle.gateway_claim.specs.Cores.{ever_entered}
@@ -50,7 +50,7 @@ said_enters j who [] = refl
 said_enters j (speaker.Client i) (shape ∷ shapes) = said_enters j (speaker.Client i) shapes
 said_enters j speaker.Server (shape ∷ shapes) = said_enters j speaker.Server shapes
 
-up_end_enters : (j : ℕ) (reason : Option UpEndReason) → enters_in j (up_end_told reason) ≡ false
+up_end_enters : (j : ℕ) (reason : Option UpWhy) → enters_in j (up_end_told reason) ≡ false
 up_end_enters j None = refl
 up_end_enters j (Some reason) = refl
 

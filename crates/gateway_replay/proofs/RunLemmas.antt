@@ -18,14 +18,14 @@ use Rattle.gateway_claim.specs.Happenings.{Happening, ends, lags, up_ends, Histo
 use Rattle.gate_transcript.specs.declared.entry.Entry.{Entry}
 use Rattle.gate_transcript.specs.declared.entry.EntryKind.{EntryKind}
 use Rattle.gate_transcript.specs.declared.entry.EntryKind.TheVariants.{Enter, Client, Upstream, End, Slow, UpEnd}
-use Rattle.gate_transcript.specs.declared.entry.UpEndReason.{UpEndReason}
+use Rattle.gate_transcript.specs.declared.entry.UpWhy.{UpWhy}
 use Rattle.gate_transcript.specs.Bodies.{end_reason_in}
 use Rattle.gateway_replay.specs.declared.streams.Streams.{Streams}
 use Rattle.gateway_replay.specs.declared.streams.Speaker.{Speaker}
 use Rattle.gateway_replay.specs.declared.streams.Speaker.TheVariants as speaker
 use Rattle.gateway_replay.specs.declared.core_records.ProcessFault.{ProcessFault}
 use Rattle.gateway_replay.specs.declared.core_records.ProcessFault.TheVariants.{Sink, Memory}
-use Rattle.gateway_replay.specs.Events.{speaks, stream_of, said_by, why_of, up_end_told, events_by}
+use Rattle.gateway_replay.specs.Events.{speaks, stream_of, said_by, up_end_told, events_by}
 use Rattle.gateway_replay.specs.Framers.{FramerFed}
 use Rattle.gateway_replay.specs.Streams.{framer_at}
 use Rattle.gateway_replay.specs.RecordTexts.{records, records_after, records_of}
@@ -369,7 +369,7 @@ takes_nothing streams made before now entry written none tells kept = record {
   told = λ earlier fit. (no_bytes streams entry earlier none fit, tells earlier);
 }
 
-takes_up_end_by : (streams : Streams) (made before now : Histories) (entry : Entry) (reason : Option UpEndReason) (written_before written_now : Option (List ℕ)) (result : Result (Unit {0}) ProcessFault)
+takes_up_end_by : (streams : Streams) (made before now : Histories) (entry : Entry) (reason : Option UpWhy) (written_before written_now : Option (List ℕ)) (result : Result (Unit {0}) ProcessFault)
     → ((who : Speaker) → speaks who entry.kind entry.conn ≡ false) → ((earlier : List Entry) → up_end_told reason ≡ events_by entry.kind entry earlier)
     → TakesUpEnd made before now reason written_before written_now result
     → TakesEntry streams streams made (with_new entry.kind entry.conn before) now entry written_before written_now result
@@ -378,7 +378,7 @@ takes_up_end_by streams made before now entry None written_before written_now re
     (subst (λ (w : Option (List ℕ)). TakesEntry streams streams made (with_new entry.kind entry.conn before) now entry written_before w (Ok tt)) (sym event.1)
     (takes_nothing streams made before now entry written_before none tells event.0))
 takes_up_end_by streams made before now entry (Some reason) written_before written_now result none tells event =
-    takes_event streams made before now entry (up_ends (why_of reason)) written_before written_now result none tells event
+    takes_event streams made before now entry (up_ends reason) written_before written_now result none tells event
 
 pub takes_up_end : (streams streams_now : Streams) (made before now : Histories) (entry : Entry) (written_before written_now : Option (List ℕ)) (result : Result (Unit {0}) ProcessFault) → entry.kind ≡ UpEnd
     → streams_now ≡ streams → TakesUpEnd made before now (end_reason_in entry.body) written_before written_now result

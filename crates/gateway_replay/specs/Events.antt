@@ -2,13 +2,10 @@
 use Rattle.std.specs.Prelude.{ℕ, Bool, true, false, ◌==◌, List, [], ◌∷◌, ◌++◌, length, drop, map, Option, Some, None, if◌then◌else◌}
 use Rattle.rtsp_head.specs.Items.{Shape, items_of}
 use Rattle.gateway_claim.specs.Happenings.{Happening, enters, takes, ends, lags, hears, up_ends}
-use Rattle.gateway_claim.specs.declared.event.UpWhy.{UpWhy}
-use Rattle.gateway_claim.specs.declared.event.UpWhy.TheVariants as why
+use Rattle.gate_transcript.specs.declared.entry.UpWhy.{UpWhy}
 use Rattle.gate_transcript.specs.declared.entry.Entry.{Entry}
 use Rattle.gate_transcript.specs.declared.entry.EntryKind.{EntryKind}
 use Rattle.gate_transcript.specs.declared.entry.EntryKind.TheVariants.{Enter, Client, Upstream, End, Slow, UpEnd}
-use Rattle.gate_transcript.specs.declared.entry.UpEndReason.{UpEndReason}
-use Rattle.gate_transcript.specs.declared.entry.UpEndReason.TheVariants as reason
 use Rattle.gate_transcript.specs.Bodies.{end_reason_in}
 use Rattle.gateway_replay.specs.declared.streams.Speaker.{Speaker}
 use Rattle.gateway_replay.specs.declared.streams.Speaker.TheVariants as speaker
@@ -51,17 +48,10 @@ said_by speaker.Server shape = hears shape
 abbrev pub events_with : Speaker → List ℕ → List Entry → List Happening
 events_with who piece earlier = map (said_by who) (new_items (stream_of who earlier) piece)
 
--- why the connection to the server ends, by the reason of an entry
-abbrev pub why_of : UpEndReason → UpWhy
-why_of reason.Ended = why.Ended
-why_of reason.ReadFault = why.ReadFault
-why_of reason.WriteFault = why.WriteFault
-why_of reason.Full = why.UpFull
-
 -- the end of that connection, where the body has a reason
-abbrev pub up_end_told : Option UpEndReason → List Happening
+abbrev pub up_end_told : Option UpWhy → List Happening
 up_end_told None = []
-up_end_told (Some reason) = up_ends (why_of reason) ∷ []
+up_end_told (Some reason) = up_ends reason ∷ []
 
 -- What an entry tells: bytes are their items, and each other entry is one event.
 abbrev pub events_by : EntryKind → Entry → List Entry → List Happening

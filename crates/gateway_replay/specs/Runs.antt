@@ -13,8 +13,8 @@ use Rattle.gateway_replay.specs.declared.streams.Streams.{Streams}
 use Rattle.gateway_replay.specs.declared.streams.Speaker.{Speaker}
 use Rattle.gateway_replay.specs.declared.core_records.ProcessFault.{ProcessFault}
 use Rattle.gateway_replay.specs.declared.core_records.ProcessFault.TheVariants.{Sink, Memory}
-use Rattle.gate_transcript.specs.declared.entry.UpEndReason.{UpEndReason}
-use Rattle.gateway_replay.specs.Events.{stream_of, said_by, why_of, events_with, events_by}
+use Rattle.gate_transcript.specs.declared.entry.UpWhy.{UpWhy}
+use Rattle.gateway_replay.specs.Events.{stream_of, said_by, events_with, events_by}
 use Rattle.gateway_replay.specs.Framers.{FramerFed}
 use Rattle.gateway_replay.specs.Streams.{framer_at}
 use Rattle.gateway_replay.specs.CoreRecords.{Histories, Advances, left_by}
@@ -103,9 +103,9 @@ ToldWith (Ok u) streams speaker piece earlier told = FitsWith streams speaker pi
 ToldWith (Err fault) streams speaker piece earlier told = ToldInPart told (events_with speaker piece earlier)
 
 -- The connection to the server ended, where a reason was told.
-abbrev pub TakesUpEnd : Histories → Histories → Histories → Option UpEndReason → Option (List ℕ) → Option (List ℕ) → Result (Unit {0}) ProcessFault → Type 0
+abbrev pub TakesUpEnd : Histories → Histories → Histories → Option UpWhy → Option (List ℕ) → Option (List ℕ) → Result (Unit {0}) ProcessFault → Type 0
 TakesUpEnd made before now None written_before written_now result = Advances before now [] × (written_now ≡ written_before) × (result ≡ Ok tt)
-TakesUpEnd made before now (Some reason) written_before written_now result = TakesEvent made before now (up_ends (why_of reason)) written_before written_now result
+TakesUpEnd made before now (Some reason) written_before written_now result = TakesEvent made before now (up_ends reason) written_before written_now result
 
 -- A piece of a speaker's bytes was taken, whichever entries came before it.
 pub record TakesBytes (streams_before streams_now : Streams) (made before now : Histories) (speaker : Speaker) (piece : List ℕ) (written_before written_now : Option (List ℕ)) (result : Result (Unit {0}) ProcessFault) : Type 0 where

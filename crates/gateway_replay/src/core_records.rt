@@ -1,10 +1,9 @@
 //! A core that is watched: the records of what each event hands out are written before the next event.
-ghost use Rattle.std.specs.Prelude.{◌≡◌, [], ◌∷◌, List, false, OnOk, OnErr};
-ghost use Rattle.rtsp_uri.specs.declared.base.Bases.{Bases};
-ghost use Rattle.gateway_claim.specs.Happenings.{HistoryEntry, entering, happening_of};
+ghost use Rattle.std.specs.Prelude.{◌≡◌, [], OnOk, OnErr};
+ghost use Rattle.gateway_claim.specs.Happenings.{happening_of};
 ghost use Rattle.gateway_claim.specs.Cores.{IsCoreHistory, IsNewTo};
 ghost use Rattle.gateway_replay.specs.Runs.{TakesEvent, SinkCause};
-ghost use Rattle.gateway_replay.specs.CoreRecords.{Watches, Advances, EntersAs, StandsForSome};
+ghost use Rattle.gateway_replay.specs.CoreRecords.{Watches, Advances, EntersAs};
 
 use crate::alive::Living;
 use crate::outcomes::write_outcome;

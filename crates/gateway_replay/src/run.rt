@@ -1,9 +1,9 @@
 //! A run: the entries of a transcript, one after another, as the events that they tell.
-ghost use Rattle.std.specs.Prelude.{◌≡◌, ◌≤◌, ℕ, List, []};
+ghost use Rattle.std.specs.Prelude.{◌≡◌, []};
 ghost use Rattle.rtsp_head.specs.Shapes.{shape_of};
 ghost use Rattle.gateway_claim.specs.Cores.{IsCoreHistory};
 ghost use Rattle.gateway_claim.specs.Happenings.{happening_of};
-ghost use Rattle.gateway_replay.specs.Events.{said_by, why_of};
+ghost use Rattle.gateway_replay.specs.Events.{said_by};
 ghost use Rattle.gateway_replay.specs.Runs.{TakesPiece, SinkCause};
 ghost use Rattle.gateway_replay.specs.CoreRecords.{Watches};
 
@@ -11,8 +11,8 @@ use crate::core_records::{ProcessFault, Watched};
 use crate::streams::{Speaker, Streams};
 use gate_bytes::Text;
 use gate_outside::Sink;
-use gate_transcript::{Entry, EntryKind, UpEndReason, end_reason_in};
-use gateway_claim::{Core, Event, UpWhy};
+use gate_transcript::{Entry, EntryKind, end_reason_in};
+use gateway_claim::{Core, Event};
 use rtsp_frame::{Framer, Item};
 use std::alloc::Global;
 
@@ -23,18 +23,6 @@ fn said_by(speaker: Speaker, item: Item) -> Event
     match speaker {
         Speaker::Client(conn) => Event::Client(conn, item),
         Speaker::Server => Event::Up(item),
-    }
-}
-
-/// Why the connection to the server ends, by the reason of an entry.
-fn why_of(reason: UpEndReason) -> UpWhy
-    ensures { result ≡ why_of reason }
-{
-    match reason {
-        UpEndReason::Ended => UpWhy::Ended,
-        UpEndReason::ReadFault => UpWhy::ReadFault,
-        UpEndReason::WriteFault => UpWhy::WriteFault,
-        UpEndReason::Full => UpWhy::UpFull,
     }
 }
 
@@ -136,7 +124,7 @@ impl<M: Core> Run<M> {
         ensures cause { SinkCause (K.faults sink.old) (K.faults sink.new) result }
     {
         match end_reason_in(bytes) {
-            Some(reason) => self.watched.take(alloc, sink, Event::UpEnd(why_of(reason))),
+            Some(reason) => self.watched.take(alloc, sink, Event::UpEnd(reason)),
             None => Ok(()),
         }
     }

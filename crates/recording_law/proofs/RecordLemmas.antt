@@ -6,8 +6,8 @@ use Rattle.gate_transcript.specs.declared.entry.Entry.{Entry as Noted}
 use Rattle.rtsp_head.specs.Items.{Shape, is_bad, items_of}
 use Rattle.rtsp_head.specs.Spellings.{IsItem, EndsAtBad, AreItems}
 use Rattle.rtsp_frame.proofs.AreItemsLemmas.{one_reading, items_are}
-use Rattle.gateway_claim.specs.declared.event.UpWhy.{UpWhy}
-use Rattle.gateway_claim.specs.declared.event.UpWhy.TheVariants as whys
+use Rattle.gate_transcript.specs.declared.entry.UpWhy.{UpWhy}
+use Rattle.gate_transcript.specs.declared.entry.UpWhy.TheVariants as whys
 use Rattle.gateway_claim.specs.Happenings.{Happening, enters, takes, ends, lags, hears, up_ends, HistoryEntry, happened}
 use Rattle.gateway_replay.specs.declared.streams.Speaker.{Speaker}
 use Rattle.gateway_replay.specs.declared.streams.Speaker.TheVariants.{Client, Server}
