@@ -45,7 +45,7 @@ impl<O: Outlet + Drop> WriterDesk<O> {
         ensures { IfErr result (λ back. back ≡ writer) }
     {
         let left = self.slot.lock(rt).hand(writer);
-        self.bell.ring(rt);
+        self.bell.ring();
         left
     }
 
@@ -57,7 +57,7 @@ impl<O: Outlet + Drop> WriterDesk<O> {
     /// Pauses until a writer is handed to the thread; there is none once the desk is closed.
     pub fn take<R: Wait>(&self, rt: &R) -> Option<Writer<O>> {
         for _ in rt.forever() {
-            let seen = self.bell.rings(rt);
+            let seen = self.bell.rings();
             match self.look(rt) {
                 Found::Writer(writer) => return Some(writer),
                 Found::Closed => return None,
@@ -72,7 +72,7 @@ impl<O: Outlet + Drop> WriterDesk<O> {
     /// Gives the writer back to its reader, and wakes it, also where the desk is closed.
     pub fn give_back<R: Wait>(&self, rt: &R, writer: Writer<O>) {
         self.slot.lock(rt).give_back(writer);
-        self.bell.ring(rt);
+        self.bell.ring();
     }
 
     /// Whether the writer has come back and waits for its reader.
@@ -88,7 +88,7 @@ impl<O: Outlet + Drop> WriterDesk<O> {
     /// Pauses until the writer has come back, and takes it, so that another may be handed.
     pub fn collect<R: Wait>(&self, rt: &R) -> Writer<O> {
         for _ in rt.forever() {
-            let seen = self.bell.rings(rt);
+            let seen = self.bell.rings();
             if let Some(writer) = self.look_back(rt) {
                 return writer;
             }
@@ -99,7 +99,7 @@ impl<O: Outlet + Drop> WriterDesk<O> {
 
     /// Pauses until the writer has come back, and takes it, but no longer than this.
     pub fn collect_within<R: Wait + Clock>(&self, rt: &R, most: Duration) -> Option<Writer<O>> {
-        let seen = self.bell.rings(rt);
+        let seen = self.bell.rings();
         if let Some(writer) = self.look_back(rt) {
             return Some(writer);
         }
@@ -110,6 +110,6 @@ impl<O: Outlet + Drop> WriterDesk<O> {
     /// Closes the desk: no writer is handed any more. One that waits or is with the thread is finished first.
     pub fn close<R: Wait>(&self, rt: &R) {
         self.slot.lock(rt).close();
-        self.bell.ring(rt);
+        self.bell.ring();
     }
 }

@@ -14,6 +14,7 @@ use gate_outside::{Failed, Got, Inlet};
 use rtsp_frame::Framer;
 use rtsp_head::{Item, ItemKind};
 use std::alloc::Global;
+use std::mem;
 use std::sync::Wait;
 use text_pool::TextPool;
 
@@ -25,6 +26,8 @@ pub struct Reader<I: Inlet> {
     inward: Putter,
     waiting: Option<Item>,
     over: bool,
+    /// Whether a message was put since that was asked last.
+    said: bool,
 }
 
 impl<I: Inlet> Reader<I> {
@@ -44,6 +47,7 @@ impl<I: Inlet> Reader<I> {
             inward,
             waiting: None,
             over: false,
+            said: false,
         }
     }
 
@@ -121,6 +125,7 @@ impl<I: Inlet> Reader<I> {
         let Some(item) = next_item(&mut self.framer, &mut self.waiting) else {
             return Push::Empty;
         };
+        self.said = self.said || item.kind != ItemKind::Frame;
         match self.inward.put(rt, Parcel::Item(item)) {
             Ok(()) => Push::Put,
             Err(
@@ -137,6 +142,21 @@ impl<I: Inlet> Reader<I> {
                 },
             ) => unreachable!(),
         }
+    }
+
+    /// Whether a message was put since this was asked last; else all that was put are frames.
+    pub fn has_said(&mut self) -> bool
+        ensures inlet { self.new.inlet ≡ self.old.inlet }
+        ensures over { self.new.over ≡ self.old.over }
+        ensures inward { self.new.inward ≡ self.old.inward }
+        ensures reads { (first : Option (List ℕ)) → ReadsItems I.rest first self.old
+            → ReadsItems I.rest first self.new }
+        ensures front { (first : Option (List ℕ)) → ReadsFront I.rest first self.old
+            → ReadsFront I.rest first self.new }
+        ensures all { (first : Option (List ℕ)) → PutAll I.rest first self.old
+            → PutAll I.rest first self.new }
+    {
+        mem::take(&mut self.said)
     }
 
     /// Whether the next item that came is a frame. It waits here then. It takes no memory.

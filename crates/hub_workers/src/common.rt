@@ -38,7 +38,7 @@ impl<'a, M: Core, R: Recorder, W: Wait> Common<'a, M, R, W> {
 
     /// Wakes all workers, since links may be over.
     pub fn tell_over(&self) {
-        self.signals.ring_all(self.rt);
+        self.signals.ring_all();
     }
 
     /// Has it noted that the server's connection ended, unless an ending was kept, and wakes all workers.

@@ -5,6 +5,7 @@
 
 mod common;
 mod life;
+mod lull;
 mod writer_threads;
 
 pub use common::Common;

@@ -2,15 +2,17 @@
 
 use crate::common::Common;
 use crate::life::Life;
+use crate::lull::Lull;
 use gate_outside::Outlet;
 use gateway_claim::{Core, UpWhy};
 use gateway_hub::Recorder;
 use gateway_links::{Writer, WriterDesk, WriterTurn};
 use std::sync::Wait;
+use std::time::Clock;
 use text_pool::TextPool;
 
 /// Writes for one link after another, as the desk hands them over, until the desk is closed.
-pub fn write_from<O: Outlet + Drop, M: Core, R: Recorder, W: Wait>(
+pub fn write_from<O: Outlet + Drop, M: Core, R: Recorder, W: Wait + Clock>(
     common: &Common<'_, M, R, W>,
     desk: &WriterDesk<O>,
 ) {
@@ -22,13 +24,13 @@ pub fn write_from<O: Outlet + Drop, M: Core, R: Recorder, W: Wait>(
         let bell = common.signals.of(writer.conn());
         let writer = write_out(common, desk, writer, &mut spent);
         desk.give_back(common.rt, writer);
-        bell.ring(common.rt);
+        bell.ring();
     }
 }
 
 /// Writes what one link is handed, until the outlet fails, or the link is over and nothing is left to be written. Whoever
 /// reads from the same link is let go then.
-fn write_out<O: Outlet + Drop, M: Core, R: Recorder, W: Wait>(
+fn write_out<O: Outlet + Drop, M: Core, R: Recorder, W: Wait + Clock>(
     common: &Common<'_, M, R, W>,
     desk: &WriterDesk<O>,
     writer: Writer<O>,
@@ -36,14 +38,15 @@ fn write_out<O: Outlet + Drop, M: Core, R: Recorder, W: Wait>(
 ) -> Writer<O> {
     let mut writer = writer;
     let mut life = Life::new();
-    let bell = common.signals.of(writer.conn());
+    let mut lull = Lull::new(common.signals.of(writer.conn()));
     for _ in common.rt.forever() {
-        let seen = bell.rings(common.rt);
+        lull.look();
         let turn = writer.turn(common.rt, spent);
         tell_turn(common, &writer, turn);
         match turn {
             WriterTurn::Wrote => {
                 desk.tell_move();
+                lull.tell_wrote();
                 common.spent.lock(common.rt).keep_all(spent);
             }
             WriterTurn::Stuck => {}
@@ -55,7 +58,7 @@ fn write_out<O: Outlet + Drop, M: Core, R: Recorder, W: Wait>(
             WriterTurn::Idle => {
                 // Where the link is over, the port is looked at once more: what was put before that is written.
                 if !life.is_over(common, writer.conn()) {
-                    bell.pause(common.rt, seen);
+                    lull.wait(common.rt);
                 }
             }
         }

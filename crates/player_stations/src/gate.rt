@@ -5,7 +5,7 @@ ghost use Rattle.player_stations.specs.Gates.{GivesNew, NoneLeft};
 use crate::next::Next;
 use gate_outside::{Arrived, Door, Failed};
 use gateway_claim::Core;
-use gateway_hub::{Recorder, StopWhy};
+use gateway_hub::Recorder;
 use hub_workers::Common;
 use std::sync::{Mutex, Wait};
 use std::time::Clock;

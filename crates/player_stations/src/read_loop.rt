@@ -127,7 +127,7 @@ fn read_turn<I: Inlet + Drop, O: Outlet + Drop, M: Core, R: Recorder, W: Wait + 
         → Rose (I.faults reader.old.inlet) (I.faults reader.new.inlet) }
 {
     let bell = common.signals.of(Some(seat.number()));
-    let seen = bell.rings(common.rt);
+    let seen = bell.rings();
     let put = put_some(
         common.rt,
         reader,
@@ -215,7 +215,7 @@ fn wait_for_reply<O: Outlet + Drop, M: Core, R: Recorder, W: Wait + Clock>(
     let bell = common.signals.of(Some(seat.number()));
     let waiting = Stopwatch::start(common.rt);
     for _ in common.rt.forever() {
-        let seen = bell.rings(common.rt);
+        let seen = bell.rings();
         match take_some(common, seat) {
             LineLeft::More => {}
             LineLeft::Busy if desk.is_back(common.rt) => return,
@@ -247,8 +247,8 @@ fn take_some<M: Core, R: Recorder, W: Wait>(common: &Common<'_, M, R, W>, seat: 
     if line == LineLeft::Over {
         common.tell_over();
     } else if first == LineLeft::More {
-        common.signals.of(Some(seat.number())).ring(common.rt);
-        common.signals.of(None).ring(common.rt);
+        common.signals.of(Some(seat.number())).ring();
+        common.signals.of(None).ring();
     }
     if first == LineLeft::More && line == LineLeft::Empty {
         return LineLeft::More;

@@ -13,13 +13,16 @@ use std::alloc::Global;
 use std::sync::Wait;
 use std::thread;
 use std::time::{Clock, Duration};
-use worker_signals::Due;
+use worker_signals::{Due, Ring};
 
 /// With less room than this a port is nearly full. More is not put under one lock.
 const LEAST_ROOM: usize = 64;
 
 /// With so much room a port is waited for no longer.
 const ENOUGH_ROOM: usize = OUTWARD_CAPACITY / 2;
+
+/// With so many parcels waiting at its port a writer is woken from its rest.
+const MANY_WAITING: usize = 32;
 
 /// How long one pause is, in microseconds.
 const PAUSE_MICROS: u64 = 250;
@@ -65,6 +68,8 @@ pub struct Pace {
     due: Due,
     asked: u64,
     closed: bool,
+    /// Whether what is taken now are not frames alone.
+    said: bool,
 }
 
 impl Pace {
@@ -77,7 +82,14 @@ impl Pace {
             due: Due::new(),
             asked: 0,
             closed: false,
+            said: false,
         }
+    }
+
+    /// Tells whether what is taken next has a message in it: then nobody rests longer for whom something is put. Where it is
+    /// frames alone, a writer that rests is not woken for a few of them.
+    pub fn tell_said(&mut self, said: bool) {
+        self.said = said;
     }
 
     /// Notes for whom the hub put something as it took an item. Where that is another one than for the item before, the port of
@@ -113,13 +125,24 @@ impl Pace {
         let Some(Handed { conn, items }) = self.handed.take() else {
             return;
         };
-        self.due.add(conn);
         let parcels = hub.room(rt, conn);
-        if OUTWARD_CAPACITY.saturating_sub(parcels) <= items {
+        let waiting = OUTWARD_CAPACITY.saturating_sub(parcels);
+        let ring = self.ring_for(waiting);
+        self.due.add(conn, ring);
+        if waiting <= items {
             self.forget(conn);
         }
         if self.least.is_none_or(|least| parcels < least.parcels) {
             self.least = Some(Room { conn, parcels });
+        }
+    }
+
+    /// How the writer is woken at whose port so many parcels wait.
+    fn ring_for(&self, waiting: usize) -> Ring {
+        if self.said || waiting >= MANY_WAITING {
+            Ring::Loud
+        } else {
+            Ring::Soft
         }
     }
 
@@ -142,7 +165,7 @@ impl Pace {
 
     /// Wakes those for whom something was put.
     pub fn wake<M: Core, R: Recorder, W: Wait>(&mut self, common: &Common<'_, M, R, W>) {
-        common.signals.ring_due(common.rt, &mut self.due);
+        common.signals.ring_due(&mut self.due);
     }
 
     /// Waits for the player whose port was found to have the least room, where it is nearly full and it may have pauses.

@@ -5,7 +5,6 @@ ghost use Rattle.client_ports.specs.Ends.{put_of, taken_of};
 ghost use Rattle.gateway_links.specs.ReadItems.{ReadsItems, ReadsFront, PutAll, PutAllSo};
 ghost use Rattle.gateway_links.specs.WrittenParcels.{HasWritten};
 ghost use Rattle.gateway_links.specs.declared.link_read.ReadEnd.TheVariants as ends;
-ghost use Rattle.gateway_links.specs.declared.put.Put.TheVariants as puts;
 ghost use Rattle.server_link.specs.declared.take.TakingEnd.TheVariants as heard;
 ghost use Rattle.gateway_links.specs.Promise.{BeginsGiven};
 ghost use Rattle.std.specs.Option.{option_map};
@@ -199,6 +198,7 @@ fn put_all<I: Inlet + Drop, M: Core, R: Recorder, W: Wait + Clock>(
 {
     for _ in common.rt.forever() {
         let put = put_some(common.rt, reader, ITEMS_A_ROUND, false);
+        pace.tell_said(reader.has_said());
         let heard = take_all(common, pace);
         if put == Put::All || !matches!(heard, TakingEnd::Empty) {
             return heard;

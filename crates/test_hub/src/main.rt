@@ -42,8 +42,8 @@
 //! - `port WORDS` has the words put at a port that holds two parcels, and taken from it where one is `take`. What came of
 //!   each is told; then how many parcels wait and how many it holds; how many were put, how often it was full, and how many
 //!   were taken; and what its ends come to as they meet;
-//! - `bell` rings a bell twice before a pause at it, and tells how often it rang: by the pause, by the bell, and by the bell
-//!   after a pause of a millisecond.
+//! - `bell` rings a bell twice before a pause at it, and once softly behind it, and tells how often it rang: by the pause, by
+//!   the bell, how often loud after a rest of a millisecond, and how often at all after a pause of a millisecond.
 #![tactic(auto)]
 
 mod calls;

@@ -93,17 +93,21 @@ fn put<W: Wait>(rt: &W, alloc: Global, putter: &mut Putter, bytes: &[u8], answer
     }
 }
 
-/// Rings a bell twice before a pause. How often it rang is told, by the pause and by the bell, and again by the bell after a
-/// pause of a millisecond.
+/// Rings a bell twice before a pause, and once softly behind it. How often it rang is told, by the pause and by the bell, how
+/// often it rang loud after a rest of a millisecond, and again how often it rang after a pause of a millisecond.
 pub fn play_bell<W: Wait + Clock>(rt: &W, answer: &mut CaseAnswer) {
     let bell = Bell::new();
-    let seen = bell.rings(rt);
-    bell.ring(rt);
-    bell.ring(rt);
+    let seen = bell.rings();
+    bell.ring();
+    bell.ring();
     answer.push_number(bell.pause(rt, seen));
     answer.push(b", ");
-    answer.push_number(bell.rings(rt));
-    bell.pause_within(rt, 2, Duration::from_millis(1));
+    answer.push_number(bell.rings());
+    bell.ring_softly();
+    bell.rest_within(rt, bell.loud_rings(), Duration::from_millis(1));
     answer.push(b", ");
-    answer.push_number(bell.rings(rt));
+    answer.push_number(bell.loud_rings());
+    bell.pause_within(rt, bell.rings(), Duration::from_millis(1));
+    answer.push(b", ");
+    answer.push_number(bell.rings());
 }

@@ -14,6 +14,6 @@ mod turnstile;
 pub use flow::Flow;
 pub use meeting::Meeting;
 pub use rest::rest_for_ever;
-pub use signals::{Due, Signals};
+pub use signals::{Due, Ring, Signals};
 pub use stopwatch::Stopwatch;
 pub use turnstile::Turnstile;

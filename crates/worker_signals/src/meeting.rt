@@ -27,7 +27,7 @@ impl Meeting {
         let mut arrived = self.arrived.lock(rt);
         *arrived = arrived.saturating_add(1);
         drop(arrived);
-        self.bell.ring(rt);
+        self.bell.ring();
     }
 
     /// Whether both sides have come.
@@ -38,7 +38,7 @@ impl Meeting {
     /// Waits until both sides have come.
     pub fn wait<R: Wait>(&self, rt: &R) {
         for _ in rt.forever() {
-            let seen = self.bell.rings(rt);
+            let seen = self.bell.rings();
             if self.is_complete(rt) {
                 return;
             }

@@ -6,7 +6,6 @@ use crate::meeting::Meeting;
 use crate::turnstile::Turnstile;
 use client_ports::Bell;
 use std::array;
-use std::sync::Wait;
 use std::sync::atomic::{AtomicU64, Ordering};
 
 /// What workers of a run tell each other: the bells, how writers get on, who has begun, and whose turn it is at the door. A
@@ -50,13 +49,15 @@ impl Signals {
     }
 
     /// Rings those that are due, which are due no longer.
-    pub fn ring_due<W: Wait>(&self, rt: &W, due: &mut Due) {
+    pub fn ring_due(&self, due: &mut Due) {
         if due.server {
-            self.server.ring(rt);
+            self.server.ring();
         }
         for place in 0..PLACES {
-            if due.players[place] {
-                self.players[place].ring(rt);
+            match due.players[place] {
+                Some(Ring::Loud) => self.players[place].ring(),
+                Some(Ring::Soft) => self.players[place].ring_softly(),
+                None => {}
             }
         }
         *due = Due::new();
@@ -68,21 +69,30 @@ impl Signals {
     }
 
     /// Rings all, since a link may be over.
-    pub fn ring_all<W: Wait>(&self, rt: &W) {
+    pub fn ring_all(&self) {
         self.overs.fetch_add(1, Ordering::SeqCst);
-        self.server.ring(rt);
+        self.server.ring();
         for bell in &self.players {
-            bell.ring(rt);
+            bell.ring();
         }
     }
 }
 
-/// Which bells are to ring.
+/// How a bell is to ring.
+#[derive(Clone, Copy, Debug, PartialEq, Eq)]
+pub enum Ring {
+    /// It wakes all that wait at it.
+    Loud,
+    /// It lets those rest that do.
+    Soft,
+}
+
+/// Which bells are to ring, and how those of players are.
 #[derive(Clone, Copy)]
 pub struct Due {
     /// Whether that of the server's connection is.
     pub server: bool,
-    players: [bool; PLACES],
+    players: [Option<Ring>; PLACES],
 }
 
 impl Due {
@@ -92,14 +102,17 @@ impl Due {
     {
         Due {
             server: false,
-            players: [false; PLACES],
+            players: [None; PLACES],
         }
     }
 
-    /// That of the connection with this number too.
-    pub fn add(&mut self, conn: u32)
+    /// That of the connection with this number too, at least so loud.
+    pub fn add(&mut self, conn: u32, ring: Ring)
         ensures { self.new.server ≡ self.old.server }
     {
-        self.players[conn as usize % PLACES] = true;
+        let due = &mut self.players[conn as usize % PLACES];
+        if *due != Some(Ring::Loud) {
+            *due = Some(ring);
+        }
     }
 }
