@@ -1,5 +1,5 @@
 -- Where a byte stands in a text, and the parts of the text round it.
-use Rattle.std.specs.Prelude.{ℕ, ◌+◌, ◌==◌, List, [], ◌∷◌, take, drop, Option, Some, None, unwrap_or, if◌then◌else◌}
+use Rattle.std.specs.Prelude.{ℕ, ◌+◌, ◌==◌, List, [], ◌∷◌, length, take, drop, Option, Some, None, unwrap_or, if◌then◌else◌}
 use Rattle.std.specs.Option.{option_map}
 use Rattle.std.specs.List.{slice_split}
 
@@ -7,6 +7,10 @@ use Rattle.std.specs.List.{slice_split}
 abbrev pub place_of : ℕ → List ℕ → Option ℕ
 place_of byte [] = None
 place_of byte (b ∷ text) = if b == byte then Some 0 else option_map (λ k. k + 1) (place_of byte text)
+
+-- how many bytes a search for a byte looks at: those up to and with its first place, or all of the text
+abbrev pub looked_at : ℕ → List ℕ → ℕ
+looked_at byte text = unwrap_or (option_map (λ k. k + 1) (place_of byte text)) (length text)
 
 -- the parts before and after the first place of a byte
 abbrev pub cut_at : ℕ → List ℕ → Option (List ℕ × List ℕ)

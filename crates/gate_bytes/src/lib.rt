@@ -9,6 +9,7 @@ mod decimal;
 mod list;
 mod memory;
 mod place;
+mod steps;
 mod text;
 mod token;
 
@@ -16,5 +17,6 @@ pub use decimal::{MOST_DIGITS, push_decimal, read_decimal};
 pub use list::OwnedList;
 pub use memory::Memory;
 pub use place::{after, before, find, holds_either, split_once, up_to};
+pub use steps::{Steps, look, seek};
 pub use text::Text;
 pub use token::{eq_fold, is_token, trim};
