@@ -9,7 +9,7 @@ use Rattle.gate_transcript.specs.declared.reader.EntryReader.{EntryReader}
 use Rattle.gate_transcript.specs.Connections.{has}
 use Rattle.gate_transcript.specs.Transcript.{first_head}
 use Rattle.gate_transcript.specs.Reads.{HoldsFewer, bytes_held}
-use Rattle.gate_transcript.specs.Steps.{Steps, StopsBy, RemovesEntry}
+use Rattle.gate_transcript.specs.Steps.{ReadsNext, StopsBy, RemovesEntry}
 use Rattle.gate_transcript.proofs.HeadLemmas.{front_len}
 
 taken_less : (old new : EntryReader) (head : EntryHead) (e : Entry) → first_head (has old.entered) old.left ≡ Ok (Some head) → RemovesEntry head old new e → length new.left < length old.left
@@ -26,13 +26,13 @@ stopped_none Length old new e h = let no = h.0 in absurd (cc)
 stopped_none Cut old new e h = let no = h.0 in absurd (cc)
 
 found_less : (first : Result (Option EntryHead) BadEntryKind) (old new : EntryReader) (e : Entry) → first_head (has old.entered) old.left ≡ first
-    → Steps first old new (Ok (Some e)) → length new.left < length old.left
+    → ReadsNext first old new (Ok (Some e)) → length new.left < length old.left
 found_less (Ok None) old new e first h = let no = h.0 in absurd (cc)
 found_less (Ok (Some head)) old new e first h = taken_less old new head e first h
 found_less (Err kind) old new e first h = absurd (stopped_none kind old new e h)
 
 pub next_less : (old new : EntryReader) (result : Result (Option Entry) EntryFault)
-    → Steps (first_head (has old.entered) old.left) old new result → HoldsFewer (bytes_held old) (bytes_held new) result
+    → ReadsNext (first_head (has old.entered) old.left) old new result → HoldsFewer (bytes_held old) (bytes_held new) result
 next_less old new (Ok None) h = tt
 next_less old new (Ok (Some e)) h = found_less (first_head (has old.entered) old.left) old new e refl h
 next_less old new (Err fault) h = tt

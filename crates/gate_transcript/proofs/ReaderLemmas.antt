@@ -20,7 +20,7 @@ use Rattle.gate_transcript.specs.declared.reader.EntryReader.{EntryReader}
 use Rattle.gate_transcript.specs.Connections.{has}
 use Rattle.gate_transcript.specs.Transcript.{magic, is_enter, has_entered, first_head, entry_with, bad_entry, TranscriptReading, reading_on, reading}
 use Rattle.gate_transcript.specs.Reads.{AtFront, InEntries, IsLasting, StopsAt, ReadsBy, ReadsSo, MayGoOn, GivenWhole, GivenFront, IsCutAfter, EndsBy, EndsSo, NextSays}
-use Rattle.gate_transcript.specs.Steps.{PassesMagic, IsSame, RemovesEntry, Steps, ending}
+use Rattle.gate_transcript.specs.Steps.{PassesMagic, IsSame, RemovesEntry, ReadsNext, ending}
 use Rattle.gate_transcript.proofs.HeadLemmas.{IsFinal, front_len, bad_more, first_not_magic}
 use Rattle.gate_transcript.proofs.PieceReadLemmas.{among, onward_more, step_bad, step_none, more_entries, after_magic}
 
@@ -199,7 +199,7 @@ says_bad old new result bad did stops =
     (subst (λ (x : EntryReader). NextSays old x (Err (Bad bad))) (sym did.1) (λ stream given reads. (stops stream given reads, stops stream given reads)))
 
 next_by : (old new : EntryReader) (r : Result (Option EntryHead) BadEntryKind) (result : Result (Option Entry) EntryFault) → old.stage ≡ Entries →
-    first_head (has old.entered) old.left ≡ r → Steps r old new result → NextSays old new result
+    first_head (has old.entered) old.left ≡ r → ReadsNext r old new result → NextSays old new result
 next_by old new (Ok None) result stage first did =
     says_none old new result did (λ stream given reads. nothing_next old stream given first (in_entries old stream given stage reads))
 next_by old new (Ok (Some head)) (Ok (Some e)) stage first takes = λ stream given reads.
@@ -218,7 +218,7 @@ next_by old new (Err Conn) result stage first did =
 next_by old new (Err Length) result stage first did =
     says_bad old new result (record { place = old.place; kind = Length }) did (λ stream given reads. fault_stands old stream given Length (record { whole = λ e. cc }) first (in_entries old stream given stage reads))
 
-pub next_says : (old new : EntryReader) (result : Result (Option Entry) EntryFault) → old.stage ≡ Entries → Steps (first_head (has old.entered) old.left) old new result → NextSays old new result
+pub next_says : (old new : EntryReader) (result : Result (Option Entry) EntryFault) → old.stage ≡ Entries → ReadsNext (first_head (has old.entered) old.left) old new result → NextSays old new result
 next_says old new result stage did = next_by old new (first_head (has old.entered) old.left) result stage refl did
 
 -- the first bytes are fed

@@ -42,13 +42,13 @@ StopsBy Cut old new result = (result ≡ Ok None) × (new ≡ old)
 StopsBy kind old new result = (result ≡ Err (Bad (record { place = old.place; kind = kind }))) × (new ≡ record old { stage = Stopped (record { place = old.place; kind = kind }) })
 
 -- an answer of `next` after the magic, where this stands first in the bytes
-abbrev pub Steps : Result (Option EntryHead) BadEntryKind → EntryReader → EntryReader → Result (Option Entry) EntryFault → Type 0
-Steps (Ok None) old new result = (result ≡ Ok None) × (new ≡ old)
-Steps (Ok (Some head)) old new (Ok (Some e)) = RemovesEntry head old new e
-Steps (Ok (Some head)) old new (Ok None) = ⊥
-Steps (Ok (Some head)) old new (Err Memory) = IsSame old new
-Steps (Ok (Some head)) old new (Err (Bad bad)) = ⊥
-Steps (Err kind) old new result = StopsBy kind old new result
+abbrev pub ReadsNext : Result (Option EntryHead) BadEntryKind → EntryReader → EntryReader → Result (Option Entry) EntryFault → Type 0
+ReadsNext (Ok None) old new result = (result ≡ Ok None) × (new ≡ old)
+ReadsNext (Ok (Some head)) old new (Ok (Some e)) = RemovesEntry head old new e
+ReadsNext (Ok (Some head)) old new (Ok None) = ⊥
+ReadsNext (Ok (Some head)) old new (Err Memory) = IsSame old new
+ReadsNext (Ok (Some head)) old new (Err (Bad bad)) = ⊥
+ReadsNext (Err kind) old new result = StopsBy kind old new result
 
 -- how a transcript ends before this, at the place where the given entries end
 abbrev pub ending : Result (Option EntryHead) BadEntryKind → ℕ → Result (Unit {0}) BadEntry

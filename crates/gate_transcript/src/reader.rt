@@ -41,7 +41,7 @@ impl EntryReader {
     ghost use Rattle.gate_transcript.specs.Connections.{has};
     ghost use Rattle.gate_transcript.specs.Transcript.{first_head};
     ghost use Rattle.gate_transcript.specs.Reads.{ReadsSo, KeepsGiven, NextSays, EndsSo, HoldsFewer, bytes_held};
-    ghost use Rattle.gate_transcript.specs.Steps.{PassesMagic, Steps, RemovesEntry, IsSame, ending};
+    ghost use Rattle.gate_transcript.specs.Steps.{PassesMagic, ReadsNext, RemovesEntry, IsSame, ending};
 
     /// A reader that was fed nothing. It needs no memory.
     pub fn new(alloc: Global) -> EntryReader
@@ -118,7 +118,7 @@ impl EntryReader {
     /// The next entry after the magic.
     fn next_entry(&mut self, alloc: Global) -> Result<Option<Entry>, EntryFault>
         requires { self.old.stage ≡ ReaderStage.Entries }
-        ensures { Steps (first_head (has self.old.entered) self.old.left) self.old self.new result }
+        ensures { ReadsNext (first_head (has self.old.entered) self.old.left) self.old self.new result }
     {
         match first_head(&self.entered, self.left.as_bytes()) {
             Ok(None) => Ok(None),
