@@ -15,7 +15,7 @@ mod message;
 mod start;
 mod tally;
 
-pub use facts::{Facts, LENGTH_DIGITS, Length, check_head};
+pub use facts::{Facts, LENGTH_DIGITS, Length, check_head, check_head_counted};
 pub use fault::HeadFault;
 pub use head::{Head, read_head};
 pub use header::Header;

@@ -4,11 +4,11 @@ use Rattle.rtsp_head.specs.Lines.{head_lines}
 use Rattle.rtsp_head.proofs.TallyLemmas.{ends_so, stops_so}
 use Rattle.rtsp_head.proofs.facts.check_headers.Goals as goal
 
-pub returns-in_err-tally : goal.returns-in_err-tally
-returns-in_err-tally c =
+pub returns-in_err-tally-clause-length : goal.returns-in_err-tally-clause-length
+returns-in_err-tally-clause-length g c =
     let p = err_from_is_err_and c.from_residual.result c.from_residual.ensures.1 in
     rw (p.1, p.2) (stops_so c.loop-line.tally c.in-Some.line (head_lines c.in-Some.after.now) (head_lines c.loop-line.rest.now) (head_lines c.args.bytes.now) c.in_err-tally.field-0.0
-    c.in-Some.ensures.line c.in_err-tally.ensures c.loop-line.invariant)
+    c.in-Some.ensures.line c.in_err-tally.ensures c.loop-line.invariant.tally)
 
-pub returns : goal.returns
-returns c = ap Ok c.length.ensures ∙ ends_so c.loop-line.tally (head_lines c.loop-line.rest.now) (head_lines c.args.bytes.now) c.in_default.ensures.line c.loop-line.invariant
+pub returns-clause-length : goal.returns-clause-length
+returns-clause-length g c = ap Ok c.length.ensures ∙ ends_so c.loop-line.tally (head_lines c.loop-line.rest.now) (head_lines c.args.bytes.now) c.in_default.ensures.line c.loop-line.invariant.tally

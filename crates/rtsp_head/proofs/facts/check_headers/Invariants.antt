@@ -1,11 +1,14 @@
-use Rattle.std.proofs.Common.{◌≡◌, length}
+use Rattle.std.proofs.Common.{◌≡◌, ◌≤◌, ◌+◌, ◌*◌, length}
 use Rattle.rtsp_head.specs.Lines.{head_lines}
 use Rattle.rtsp_head.specs.Tallies.{tally_lines, empty_tally}
 use Rattle.rtsp_head.proofs.facts.check_headers.Given as goal
 
--- the lines that are left bring the tally to where all lines bring an empty one
+-- the lines that are left bring the tally to where all lines bring an empty one, and four steps a byte pay for them
 abbrev pub invariant-loop-line : goal.invariant-loop-line
-invariant-loop-line l = tally_lines l.tally (head_lines l.rest) ≡ tally_lines empty_tally (head_lines l.bytes)
+invariant-loop-line g l = record {
+  tally : tally_lines l.tally (head_lines l.rest) ≡ tally_lines empty_tally (head_lines l.bytes);
+  steps : l.steps + 4 * length l.rest ≤ l.fn.steps + 4 * length l.bytes;
+}
 
 abbrev pub decreases-loop-line : goal.decreases-loop-line
-decreases-loop-line l = length l.rest
+decreases-loop-line g l = length l.rest
