@@ -11,3 +11,6 @@ pub mod WholeLemmas
 pub mod SpellLemmas
 pub mod AreItemsLemmas
 pub mod EndLemmas
+pub mod ReachLemmas
+pub mod FrontLemmas
+pub mod RestLemmas

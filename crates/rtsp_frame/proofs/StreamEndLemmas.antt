@@ -1,17 +1,14 @@
 -- An item that a piece ends, and then the items of the rest of the piece.
-use Rattle.std.proofs.Common.{◌≡◌, ℕ, ◌+◌, ◌*◌, ◌≤◌, cond, get_or, Bool, true, false, not, List, [], ◌∷◌, ◌++◌, length, take, drop, Option, Some, None, refl, sym, ap, ◌∙◌, subst, arith, append_assoc, take-append-drop}
-use Rattle.std.proofs.lemmas.List.{take-take, take_at, length-append, get_or_append_left, length-take-le}
-use Rattle.std.proofs.lemmas.Bool.{le-ltb}
-use Rattle.gate_bytes.specs.Ascii as ascii
+use Rattle.std.proofs.Common.{◌≡◌, ℕ, ◌+◌, ◌≤◌, Bool, true, false, not, List, [], ◌∷◌, ◌++◌, length, take, drop, Option, Some, None, refl, sym, ap, ◌∙◌, subst, arith, append_assoc, take-append-drop}
+use Rattle.std.proofs.lemmas.List.{take-take, take_at, length-append, length-take-le}
 use Rattle.std.specs.Option.{option_map}
-use Rattle.rtsp_head.specs.Items.{Shape, Cut, begins_blank, when_whole, span_of, is_bad, behind, cut}
+use Rattle.rtsp_head.specs.Items.{Shape, Cut, is_bad, behind, cut}
 use Rattle.rtsp_head.specs.Shapes.{shape_of, shapes}
 use Rattle.rtsp_head.specs.declared.item.Item.{Item}
 use Rattle.rtsp_head.specs.declared.item.Span.{Span}
-use Rattle.rtsp_head.specs.declared.item.ItemKind.TheVariants as kinds
-use Rattle.rtsp_frame.specs.CutItems.{Joined, Fed, IsWhole, IsFrameFront, left_if}
-use Rattle.rtsp_frame.proofs.LineLemmas.{blank_ends}
-use Rattle.rtsp_frame.proofs.ExtentLemmas.{when_whole_from, frame_of, span_from_dollar, extent_at}
+use Rattle.rtsp_frame.specs.CutItems.{Joined, Fed, IsWhole, left_if}
+use Rattle.rtsp_frame.specs.Fronts.{IsItemFront}
+use Rattle.rtsp_frame.proofs.ExtentLemmas.{when_whole_from, extent_at}
 use Rattle.rtsp_frame.proofs.CutLemmas.{joined_rest, cut_append}
 use Rattle.rtsp_frame.proofs.CutStepLemmas.{joins, whole_cut}
 
@@ -23,31 +20,16 @@ goes_on_from : (bad : Bool) (shape : Shape) (more : List ℕ) → joined_rest (s
 goes_on_from true shape more = refl
 goes_on_from false shape more = refl
 
--- no empty line begins with a `$`
-no_blank : (b : ℕ) (bytes : List ℕ) → b ≡ ascii.dollar → begins_blank (b ∷ bytes) ≡ false
-no_blank b bytes is = subst (λ (n : ℕ). begins_blank (n ∷ bytes) ≡ false) (sym is) refl
-
--- the front of a frame and the bytes that it lacks are a whole frame
-pub frame_whole : (held ends : List ℕ) (n : ℕ) → IsFrameFront held n → length ends ≡ n
-    → IsWhole (held ++ ends) (record { kind = kinds.Frame; len = length (held ++ ends); head = 0 })
-frame_whole [] ends n h come = absurd (omega (arith, h.told))
-frame_whole (b ∷ held) ends n h come =
-    let front : List ℕ = (b ∷ held) ++ ends in
-    let enough : 4 ≤ length front = omega (arith, h.told, length-append (b ∷ held) ends) in
-    let high : get_or front 2 0 ≡ get_or (b ∷ held) 2 0 = get_or_append_left (b ∷ held) ends 0 2 (omega (arith, h.told)) in
-    let low : get_or front 3 0 ≡ get_or (b ∷ held) 3 0 = get_or_append_left (b ∷ held) ends 0 3 (omega (arith, h.told)) in
-    let len : 4 + (256 * get_or (b ∷ held) 2 0 + get_or (b ∷ held) 3 0) ≡ length front = omega (arith, h.whole, come, length-append (b ∷ held) ends) in
-    let span : Span = frame_of (get_or (b ∷ held) 2 0) (get_or (b ∷ held) 3 0) in
+-- the front of an item and the bytes that it lacks are this item
+pub end_whole : (held ends : List ℕ) (span : Span) → IsItemFront held span → length held + length ends ≡ span.len
+    → IsWhole (held ++ ends) (record { kind = span.kind; len = length (held ++ ends); head = span.head })
+end_whole held ends span h come =
+    let len : span.len ≡ length (held ++ ends) = omega (arith, come, length-append held ends) in
     record {
       first =
-          ap (λ (k : ℕ). option_map (extent_at k) (span_of (drop k front))) (blank_ends front (no_blank b (held ++ ends) h.begins))
-          ∙ ap (option_map (extent_at 0)) (
-          span_from_dollar front (omega (arith, enough)) h.begins
-          ∙ ap (λ (t : Bool). cond t None (when_whole (length front) (frame_of (get_or front 2 0) (get_or front 3 0)))) (le-ltb (length front) 4 enough)
-          ∙ ap (λ (k : ℕ). when_whole (length front) (frame_of k (get_or front 3 0))) high
-          ∙ ap (λ (k : ℕ). when_whole (length front) (frame_of (get_or (b ∷ held) 2 0) k)) low
-          ∙ when_whole_from (length front) span (omega (arith, len))
-          ∙ ap (λ (k : ℕ). Some (record { kind = kinds.Frame; len = k; head = 0 })) len);
+          h.first ends
+          ∙ ap (option_map (extent_at 0)) (when_whole_from (length (held ++ ends)) span (omega (arith, len)))
+          ∙ ap (λ (k : ℕ). Some (record { skipped = 0; span = record { kind = span.kind; len = k; head = span.head } })) len;
       all = refl;
     }
 
@@ -64,12 +46,15 @@ ended_first front held piece n span split is =
     ∙ ap (λ (rest : Option (List ℕ)). joined_rest (shape_with front span ∷ []) rest (drop n piece)) (sym alone.rest)
     ∙ goes_on_from (is_bad span.kind) (shape_with front span) (drop n piece)
 
--- the same where the front of a frame was held, and the piece has the bytes that it lacks
-pub frame_first : (held piece : List ℕ) (n : ℕ) → IsFrameFront held n → n ≤ length piece
-    → cut (held ++ piece) ≡ behind false (record { kind = kinds.Frame; bytes = held ++ take n piece; head = 0 }) (cut (drop n piece))
-frame_first held piece n h come =
-    ended_first (held ++ take n piece) held piece n (record { kind = kinds.Frame; len = length (held ++ take n piece); head = 0 }) refl
-    (frame_whole held (take n piece) n h (length-take-le n piece come))
+-- the same where the front of an item was held, and the piece has the bytes that it lacks
+pub end_first : (held piece : List ℕ) (n : ℕ) (span : Span) → IsItemFront held span → n ≤ length piece → length held + n ≡ span.len
+    → cut (held ++ piece) ≡ behind false (record { kind = span.kind; bytes = held ++ take n piece; head = span.head }) (cut (drop n piece))
+end_first held piece n span h come sum =
+    let ends = length-take-le n piece come in
+    let shape : Shape = record { kind = span.kind; bytes = held ++ take n piece; head = span.head } in
+    ended_first (held ++ take n piece) held piece n (record { kind = span.kind; len = length (held ++ take n piece); head = span.head }) refl
+    (end_whole held (take n piece) span h (omega (arith, ends, sum)))
+    ∙ ap (λ (b : Bool). behind b shape (cut (drop n piece))) h.sound
 
 -- the items of the rest of the piece joined the queue too
 pub ended_on : (old now : List Item) (held left piece more : List ℕ) (item : Item) (shape : Shape) (used : Option ℕ) (goes_on : Bool) → shape_of item ≡ shape
@@ -82,6 +67,18 @@ ended_on old now held left piece more item shape used goes_on same first h rest 
       ∙ ap (λ (c : Cut). shapes old ++ c.items) (sym first);
   rest = rest ∙ h.rest ∙ ap (λ (c : Cut). c.rest) (sym first);
 }
+
+-- the same behind the item whose front was held
+pub joined_on : (old pushed now : List Item) (held left piece more : List ℕ) (n : ℕ) (span : Span) (used : Option ℕ) (goes_on : Bool) (item : Item) → IsItemFront held span
+    → n ≤ length piece → length held + n ≡ span.len → pushed ≡ old ++ item ∷ []
+    → shape_of item ≡ record { kind = span.kind; bytes = held ++ take n piece; head = span.head } → more ≡ drop n piece
+    → Joined pushed now more used → left_if goes_on left ≡ option_map (λ k. drop k more) used
+    → Fed old now held left piece goes_on
+joined_on old pushed now held left piece more n span used goes_on item h come sum is same split joined rest =
+    let shape : Shape = record { kind = span.kind; bytes = held ++ take n piece; head = span.head } in
+    ended_on old now held left piece more item shape used goes_on same
+    (end_first held piece n span h come sum ∙ ap (λ (l : List ℕ). behind false shape (cut l)) (sym split))
+    (subst (λ (items : List Item). Joined items now more used) is joined) rest
 
 -- what was in the queue before an item stays in front
 pub kept_less : (old now : List Item) (item : Item) → take (length (old ++ item ∷ [])) now ≡ old ++ item ∷ [] → take (length old) now ≡ old

@@ -1,11 +1,12 @@
 -- How bytes are cut into items that join a queue.
-use Rattle.std.specs.Prelude.{◌≡◌, ℕ, ◌≤◌, ◌+◌, ◌*◌, slice_index, Bool, List, ◌++◌, length, take, drop, Option, Some, None, IfSome, if◌then◌else◌}
+use Rattle.std.specs.Prelude.{◌≡◌, ℕ, ◌≤◌, ◌-◌, ◌*◌, Bool, List, ◌++◌, length, take, drop, Option, Some, None, IfSome, if◌then◌else◌}
 use Rattle.std.specs.Option.{option_map}
-use Rattle.gate_bytes.specs.Ascii.{dollar}
 use Rattle.rtsp_head.specs.Items.{first_extent, cut}
 use Rattle.rtsp_head.specs.Shapes.{shapes}
 use Rattle.rtsp_head.specs.declared.item.Item.{Item}
 use Rattle.rtsp_head.specs.declared.item.Span.{Span}
+use Rattle.rtsp_frame.specs.declared.item_front.Leftover.{Leftover}
+use Rattle.rtsp_frame.specs.Fronts.{IsKnownFront, head_held}
 
 -- The items of the bytes joined the queue; they and the empty lines behind them took so many of
 -- the bytes, or the last one is bad.
@@ -38,8 +39,15 @@ pub record IsWhole (bytes : List ℕ) (span : Span) : Type 0 where
   pub first : first_extent bytes ≡ Some (record { skipped = 0; span = span })
   pub all : span.len ≡ length bytes
 
--- The front of a frame that lacks so many bytes of its length, which its first four bytes tell (RFC 2326, 10.12).
-pub record IsFrameFront (bytes : List ℕ) (missing : ℕ) : Type 0 where
-  pub begins : slice_index bytes 0 ≡ dollar
-  pub told : 4 ≤ length bytes
-  pub whole : length bytes + missing ≡ 4 + (256 * slice_index bytes 2 + slice_index bytes 3)
+-- how many bytes the items took, where something is left
+abbrev pub used_of : Option Leftover → Option ℕ
+used_of left = option_map (λ left. left.used) left
+
+-- what is known of what is left
+abbrev pub IsLeftover : List ℕ → Option Leftover → Type 0
+IsLeftover bytes left = IfSome left (λ left. IsKnownFront (drop left.used bytes) left.front)
+
+-- four steps a byte of an unfinished head that is left of so many bytes
+abbrev pub due_after : Option Leftover → ℕ → ℕ
+due_after None come = 0
+due_after (Some left) come = 4 * head_held left.front (come - left.used)

@@ -1,14 +1,19 @@
 //! Cutting bytes into items.
-ghost use Rattle.std.specs.Prelude.{◌≡◌, ◌++◌, Some, [], length, take, drop, ◌≤◌, IfOk, IfSome, OnErr};
+ghost use Rattle.std.specs.Prelude.{◌≡◌, ◌++◌, ◌+◌, ◌-◌, ◌*◌, Some, [], length, take, drop, ◌≤◌, IfOk, IfSome, OnErr};
 ghost use Rattle.rtsp_head.specs.Items.{first_extent, shape_at};
 ghost use Rattle.rtsp_head.specs.Shapes.{shape_of};
-ghost use Rattle.rtsp_frame.specs.CutItems.{Joined, Fed, Same, IsUndone, IsWhole, IsFrameFront};
+ghost use Rattle.rtsp_frame.specs.CutItems.{Joined, Fed, Same, IsUndone, IsWhole, used_of, IsLeftover, due_after};
+ghost use Rattle.rtsp_frame.specs.Fronts.{IsKnownFront, IsItemFront, head_held};
+ghost use Rattle.rtsp_frame.specs.StreamFronts.{IsStreamFront, owed};
 
-use crate::extent::{blank_lines, first_extent};
-use gate_bytes::{Memory, after, before};
-use rtsp_head::{Extent, Item, ItemKind, Span};
+use crate::extent::{front_with, stream_front};
+use crate::item_front::{ItemFront, Leftover, StreamFront};
+use gate_bytes::{Memory, Steps, after, before};
+use rtsp_head::{Extent, Item, Span};
 use std::alloc::Global;
 use std::collections::VecDeque;
+use std::marker::Brand;
+use std::sync::ledger::{Blank, Ledger};
 use text_pool::TextPool;
 
 /// The items that wait to be given, and the texts in whose memory those of the next items are made.
@@ -20,82 +25,92 @@ pub struct Queue {
 
 /// Cuts what was held and a piece that follows it, and keeps what is left of both. Whether the
 /// stream goes on: it does not where the last item is bad. Where memory is wanting, nothing changes.
-pub fn feed(
+pub fn feed<L: Ledger>(
     alloc: Global,
     queue: &mut Queue,
     rest: &mut Vec<u8>,
+    front: &mut ItemFront,
     piece: &[u8],
+    steps: &mut Steps<L>,
 ) -> Result<bool, Memory>
+    requires { IsKnownFront rest.old.items front.old }
     ensures ok { IfOk result (λ goes_on.
         Fed queue.old.waiting.items queue.new.waiting.items rest.old.items rest.new.items piece.now goes_on) }
     ensures err { OnErr result (
         Same queue.old.waiting.items queue.new.waiting.items rest.old.items rest.new.items) }
+    ensures known { IsKnownFront rest.new.items front.new }
+    ensures steps { IfOk result (λ goes_on. steps.new + 4 * head_held front.new (length rest.new.items)
+        ≤ steps.old + 4 * head_held front.old (length rest.old.items) + 8 * length piece.now + 4) }
 {
     if rest.is_empty() {
-        return feed_fresh(alloc, queue, rest, piece);
+        return feed_fresh(alloc, queue, rest, front, piece, steps);
     }
-    match missing_of_frame(rest.as_slice()) {
-        Some(missing) if missing <= piece.len() => {
-            feed_frame(alloc, queue, rest, piece, missing)
+    match *front {
+        ItemFront::End(span) if span.len - rest.len() <= piece.len() => {
+            feed_end(alloc, queue, rest, front, span, piece, steps)
         }
-        _ => feed_more(alloc, queue, rest, piece),
+        _ => feed_more(alloc, queue, rest, front, piece, steps),
     }
-}
-
-/// How many bytes the frame lacks whose front this is; none where it is no front of a frame, or too short to tell.
-fn missing_of_frame(bytes: &[u8]) -> Option<usize>
-    ensures { IfSome result (IsFrameFront bytes.now) }
-{
-    if bytes.len() < 4 || bytes[0] != b'$' {
-        return None;
-    }
-    let whole = 4 + (256 * usize::from(bytes[2]) + usize::from(bytes[3]));
-    whole.checked_sub(bytes.len())
 }
 
 /// The same where nothing was held: the items are cut straight from the piece.
-fn feed_fresh(
+fn feed_fresh<L: Ledger>(
     alloc: Global,
     queue: &mut Queue,
     rest: &mut Vec<u8>,
+    front: &mut ItemFront,
     piece: &[u8],
+    steps: &mut Steps<L>,
 ) -> Result<bool, Memory>
-    requires { rest.old.items ≡ [] }
+    requires known { IsKnownFront rest.old.items front.old }
+    requires nothing { rest.old.items ≡ [] }
     ensures ok { IfOk result (λ goes_on.
         Fed queue.old.waiting.items queue.new.waiting.items rest.old.items rest.new.items piece.now goes_on) }
     ensures err { OnErr result (
         Same queue.old.waiting.items queue.new.waiting.items rest.old.items rest.new.items) }
+    ensures known { IsKnownFront rest.new.items front.new }
+    ensures steps { IfOk result (λ goes_on. steps.new + 4 * head_held front.new (length rest.new.items)
+        ≤ steps.old + 4 * head_held front.old (length rest.old.items) + 8 * length piece.now + 4) }
 {
     let waited = queue.waiting.len();
-    let Some(used) = cut(alloc, queue, piece)? else {
+    let first = stream_front(piece, steps);
+    let Some(left) = cut(alloc, queue, piece, first, steps)? else {
+        *front = ItemFront::Nothing;
         return Ok(false);
     };
-    if rest.extend_from_slice(after(piece, used)).is_err() {
+    if rest.extend_from_slice(after(piece, left.used)).is_err() {
         queue.waiting.truncate(waited);
         return Err(Memory);
     }
+    *front = left.front;
     Ok(true)
 }
 
-/// The same where the front of a frame was held that lacks so many bytes: these alone join it, and the items behind it are cut
-/// straight from the piece. It is called apart, so that messages cost nothing of it.
+/// The same where the front of an item was held whose last byte is in the piece: the bytes that it lacks join it alone,
+/// and the items behind it are cut straight from the piece. It is called apart, so that heads cost nothing of it.
 #[inline(never)]
-fn feed_frame(
+fn feed_end<L: Ledger>(
     alloc: Global,
     queue: &mut Queue,
     rest: &mut Vec<u8>,
+    front: &mut ItemFront,
+    span: Span,
     piece: &[u8],
-    missing: usize,
+    steps: &mut Steps<L>,
 ) -> Result<bool, Memory>
-    requires front { IsFrameFront rest.old.items missing }
-    requires come { missing ≤ length piece.now }
+    requires known { IsItemFront rest.old.items span }
+    requires front { front.old ≡ ItemFront.End span }
+    requires come { span.len ≤ length rest.old.items + length piece.now }
     ensures ok { IfOk result (λ goes_on.
         Fed queue.old.waiting.items queue.new.waiting.items rest.old.items rest.new.items piece.now goes_on) }
     ensures err { OnErr result (
         Same queue.old.waiting.items queue.new.waiting.items rest.old.items rest.new.items) }
+    ensures known { IsKnownFront rest.new.items front.new }
+    ensures steps { IfOk result (λ goes_on. steps.new + 4 * head_held front.new (length rest.new.items)
+        ≤ steps.old + 4 * head_held front.old (length rest.old.items) + 8 * length piece.now + 4) }
 {
     let waited = queue.waiting.len();
-    let result = end_frame(alloc, queue, rest, piece, missing);
+    let result = end_item(alloc, queue, rest, front, span, piece, steps);
     if result.is_err() {
         queue.waiting.truncate(waited);
     }
@@ -103,56 +118,79 @@ fn feed_frame(
 }
 
 /// The same, where items that were cut already may stay when memory is wanting.
-fn end_frame(
+fn end_item<L: Ledger>(
     alloc: Global,
     queue: &mut Queue,
     rest: &mut Vec<u8>,
+    front: &mut ItemFront,
+    span: Span,
     piece: &[u8],
-    missing: usize,
+    steps: &mut Steps<L>,
 ) -> Result<bool, Memory>
-    requires front { IsFrameFront rest.old.items missing }
-    requires come { missing ≤ length piece.now }
+    requires known { IsItemFront rest.old.items span }
+    requires front { front.old ≡ ItemFront.End span }
+    requires come { span.len ≤ length rest.old.items + length piece.now }
     ensures ok { IfOk result (λ goes_on.
         Fed queue.old.waiting.items queue.new.waiting.items rest.old.items rest.new.items piece.now goes_on) }
     ensures err { OnErr result (
         IsUndone queue.old.waiting.items queue.new.waiting.items rest.old.items rest.new.items) }
+    ensures known { IsKnownFront rest.new.items front.new }
+    ensures steps { IfOk result (λ goes_on. steps.new + 4 * head_held front.new (length rest.new.items)
+        ≤ steps.old + 8 * length piece.now) }
 {
-    let frame = queue
+    let missing = span.len - rest.len();
+    let bytes = queue
         .pool
         .join(alloc, rest.as_slice(), before(piece, missing))?;
     queue.waiting.push_back(Item {
-        kind: ItemKind::Frame,
-        bytes: frame,
-        head: 0,
+        kind: span.kind,
+        bytes,
+        head: span.head,
     })?;
     let more = after(piece, missing);
-    let Some(used) = cut(alloc, queue, more)? else {
+    let first = stream_front(more, steps);
+    let Some(left) = cut(alloc, queue, more, first, steps)? else {
+        rest.clear();
+        *front = ItemFront::Nothing;
         return Ok(false);
     };
-    *rest = Vec::from_slice(alloc, after(more, used))?;
+    *rest = Vec::from_slice(alloc, after(more, left.used))?;
+    *front = left.front;
     Ok(true)
 }
 
 /// The same where something was held: the piece joins it in place.
-fn feed_more(
+fn feed_more<L: Ledger>(
     alloc: Global,
     queue: &mut Queue,
     rest: &mut Vec<u8>,
+    front: &mut ItemFront,
     piece: &[u8],
+    steps: &mut Steps<L>,
 ) -> Result<bool, Memory>
+    requires { IsKnownFront rest.old.items front.old }
     ensures ok { IfOk result (λ goes_on.
         Fed queue.old.waiting.items queue.new.waiting.items rest.old.items rest.new.items piece.now goes_on) }
     ensures err { OnErr result (
         Same queue.old.waiting.items queue.new.waiting.items rest.old.items rest.new.items) }
+    ensures known { IsKnownFront rest.new.items front.new }
+    ensures steps { IfOk result (λ goes_on. steps.new + 4 * head_held front.new (length rest.new.items)
+        ≤ steps.old + 4 * head_held front.old (length rest.old.items) + 8 * length piece.now + 4) }
 {
     let held = rest.len();
     rest.extend_from_slice(piece)?;
-    match cut(alloc, queue, rest.as_slice()) {
-        Ok(Some(used)) => {
-            drop_front(rest, used);
+    let first = front_with(rest.as_slice(), *front, held, steps);
+    match cut(alloc, queue, rest.as_slice(), first, steps) {
+        Ok(Some(left)) => {
+            drop_front(rest, left.used);
+            *front = left.front;
             Ok(true)
         }
-        Ok(None) => Ok(false),
+        Ok(None) => {
+            rest.clear();
+            *front = ItemFront::Nothing;
+            Ok(false)
+        }
         Err(Memory) => {
             rest.truncate(held);
             Err(Memory)
@@ -173,14 +211,24 @@ fn drop_front(bytes: &mut Vec<u8>, count: usize)
     bytes.truncate(left);
 }
 
-/// Cuts the items of these bytes, which join the queue. How many bytes they took, with the empty
-/// lines behind them; none where the last of them is bad. Where memory is wanting, nothing changes.
-fn cut(alloc: Global, queue: &mut Queue, bytes: &[u8]) -> Result<Option<usize>, Memory>
-    ensures ok { IfOk result (λ used. Joined queue.old.waiting.items queue.new.waiting.items bytes.now used) }
+/// Cuts the items of these bytes, of which this stands first, and which join the queue. What is left behind them and
+/// the empty lines that follow; none where the last of them is bad. Where memory is wanting, nothing changes.
+fn cut<L: Ledger>(
+    alloc: Global,
+    queue: &mut Queue,
+    bytes: &[u8],
+    first: StreamFront,
+    steps: &mut Steps<L>,
+) -> Result<Option<Leftover>, Memory>
+    requires { IsStreamFront bytes.now first }
+    ensures ok { IfOk result (λ left. Joined queue.old.waiting.items queue.new.waiting.items bytes.now (used_of left)) }
+    ensures left { IfOk result (λ left. IsLeftover bytes.now left) }
     ensures err { OnErr result (queue.new.waiting.items ≡ queue.old.waiting.items) }
+    ensures steps { IfOk result (λ left. steps.new + due_after left (length bytes.now)
+        ≤ steps.old + owed first (length bytes.now)) }
 {
     let waited = queue.waiting.len();
-    let result = cut_on(alloc, queue, bytes);
+    let result = cut_on(alloc, queue, bytes, first, steps);
     if result.is_err() {
         queue.waiting.truncate(waited);
     }
@@ -188,24 +236,45 @@ fn cut(alloc: Global, queue: &mut Queue, bytes: &[u8]) -> Result<Option<usize>, 
 }
 
 /// The same, where items that were cut already may stay when memory is wanting.
-fn cut_on(alloc: Global, queue: &mut Queue, bytes: &[u8]) -> Result<Option<usize>, Memory>
-    ensures ok { IfOk result (λ used. Joined queue.old.waiting.items queue.new.waiting.items bytes.now used) }
+fn cut_on<L: Ledger>(
+    alloc: Global,
+    queue: &mut Queue,
+    bytes: &[u8],
+    first: StreamFront,
+    steps: &mut Steps<L>,
+) -> Result<Option<Leftover>, Memory>
+    requires { IsStreamFront bytes.now first }
+    ensures ok { IfOk result (λ left. Joined queue.old.waiting.items queue.new.waiting.items bytes.now (used_of left)) }
+    ensures left { IfOk result (λ left. IsLeftover bytes.now left) }
     ensures err { OnErr result
         (take (length queue.old.waiting.items) queue.new.waiting.items ≡ queue.old.waiting.items) }
+    ensures steps { IfOk result (λ left. steps.new + due_after left (length bytes.now)
+        ≤ steps.old + owed first (length bytes.now)) }
 {
     let mut used = 0;
     let mut left = bytes;
-    while let Some(extent) = first_extent(left) {
-        let item = copy_item(alloc, &mut queue.pool, left, extent)?;
-        queue.waiting.push_back(item)?;
-        if extent.span.kind.is_bad() {
-            return Ok(None);
+    let mut next = first;
+    'items: loop {
+        match next {
+            StreamFront::Whole(extent) => {
+                let item = copy_item(alloc, &mut queue.pool, left, extent)?;
+                queue.waiting.push_back(item)?;
+                if extent.span.kind.is_bad() {
+                    return Ok(None);
+                }
+                let taken = extent.skipped + extent.span.len;
+                used += taken;
+                left = after(left, taken);
+                next = stream_front(left, steps);
+            }
+            StreamFront::Begun { skipped, front } => {
+                return Ok(Some(Leftover {
+                    used: used + skipped,
+                    front,
+                }));
+            }
         }
-        let taken = extent.skipped + extent.span.len;
-        used += taken;
-        left = after(left, taken);
     }
-    Ok(Some(used + blank_lines(left)))
 }
 
 /// The first item of a stream. It is called apart, so that a piece in which no item ends costs nothing of it.
@@ -231,10 +300,20 @@ fn copy_item(
 pub fn whole(bytes: &[u8]) -> Option<Span>
     ensures { IfSome result (IsWhole bytes.now) }
 {
-    let extent = first_extent(bytes)?;
-    if extent.skipped == 0 && extent.span.len == bytes.len() {
-        Some(extent.span)
-    } else {
-        None
+    whole_with::<Brand>(bytes, Blank::new(1))
+}
+
+/// The same, with steps of a ledger of their own.
+fn whole_with<L: Ledger>(bytes: &[u8], blank: Blank) -> Option<Span>
+    requires name { blank.name ≡ L.name }
+    requires parts { blank.parts ≡ L.parts }
+    requires share { blank.parts ≡ 1 }
+    ensures { IfSome result (IsWhole bytes.now) }
+{
+    match stream_front(bytes, &mut Steps::<L>::new(blank)) {
+        StreamFront::Whole(extent) if extent.skipped == 0 && extent.span.len == bytes.len() => {
+            Some(extent.span)
+        }
+        _ => None,
     }
 }

@@ -1,16 +1,20 @@
 //! The framer of a stream.
-ghost use Rattle.std.specs.Prelude.{◌≡◌, ℕ, List, [], ◌∷◌, ◌++◌, IfSome, IfNone, IfOk, OnOk, OnErr};
+ghost use Rattle.std.specs.Prelude.{◌≡◌, ◌≤◌, ℕ, ◌+◌, ◌*◌, List, [], ◌∷◌, ◌++◌, length, IfSome, IfNone, IfOk, OnOk, OnErr};
 ghost use Rattle.rtsp_head.specs.Items.{Shape, items_of};
 ghost use Rattle.rtsp_head.specs.Shapes.{shape_of};
 ghost use Rattle.rtsp_frame.specs.FramerState.{Framed, IsAlone, GivesNext};
+ghost use Rattle.rtsp_frame.specs.Fronts.{unfinished_of};
 
 use crate::cut_items;
 use crate::cut_items::Queue;
-use gate_bytes::{Memory, Text};
+use crate::item_front::ItemFront;
+use crate::rest::Rest;
+use gate_bytes::{Memory, Steps, Text};
 use rtsp_head::{Item, Span};
 use std::alloc::Global;
 use std::collections::VecDeque;
-use std::marker::Model;
+use std::marker::{Brand, Model};
+use std::sync::ledger::{Blank, Ledger};
 use text_pool::TextPool;
 
 /// Takes a stream piece by piece, and gives its items in order.
@@ -20,7 +24,7 @@ use text_pool::TextPool;
 #[derive(Drop)]
 pub struct Framer {
     queue: Queue,
-    rest: Option<Vec<u8>>,
+    rest: Option<Rest>,
 }
 
 impl Model for Framer {
@@ -32,7 +36,7 @@ impl Model for Framer {
 
     ghost view = { λ f. record {
       waiting = shapes f.queue.waiting.items;
-      rest = option_map (λ rest. rest.items) f.rest;
+      rest = option_map (λ rest. rest.bytes.items) f.rest;
     } };
 }
 
@@ -46,7 +50,10 @@ impl Framer {
                 waiting: VecDeque::new(alloc),
                 pool: TextPool::new(alloc),
             },
-            rest: Some(Vec::new(alloc)),
+            rest: Some(Rest {
+                bytes: Vec::new(alloc),
+                front: ItemFront::Nothing,
+            }),
         }
     }
 
@@ -64,13 +71,66 @@ impl Framer {
             Framed self.old stream given → Framed self.new (stream ++ piece.now) given) }
         ensures err { OnErr result (self.new ≡ self.old) }
     {
+        self.feed_with::<Brand>(alloc, piece, Blank::new(1))
+    }
+
+    /// The same, with steps of a ledger of their own.
+    fn feed_with<L: Ledger>(
+        &mut self,
+        alloc: Global,
+        piece: &[u8],
+        blank: Blank,
+    ) -> Result<(), Memory>
+        requires name { blank.name ≡ L.name }
+        requires parts { blank.parts ≡ L.parts }
+        requires share { blank.parts ≡ 1 }
+        ensures ok { OnOk result ((stream : List ℕ) (given : List Shape) →
+            Framed self.old stream given → Framed self.new (stream ++ piece.now) given) }
+        ensures err { OnErr result (self.new ≡ self.old) }
+    {
+        self.feed_counted(alloc, piece, &mut Steps::<L>::new(blank))
+    }
+
+    /// What [`Framer::feed`] does, with a bound on the steps: eight a byte of the piece, and four. Of these, four a byte of
+    /// an unfinished head are left for the look at all of it, once its end has come.
+    pub fn feed_counted<L: Ledger>(
+        &mut self,
+        alloc: Global,
+        piece: &[u8],
+        steps: &mut Steps<L>,
+    ) -> Result<(), Memory>
+        ensures ok { OnOk result ((stream : List ℕ) (given : List Shape) →
+            Framed self.old stream given → Framed self.new (stream ++ piece.now) given) }
+        ensures err { OnErr result (self.new ≡ self.old) }
+        ensures steps { OnOk result (steps.new + 4 * unfinished_of self.new.rest
+            ≤ steps.old + 4 * unfinished_of self.old.rest + 8 * length piece.now + 4) }
+    {
         let Some(rest) = &mut self.rest else {
             return Ok(());
         };
-        if !cut_items::feed(alloc, &mut self.queue, rest, piece)? {
+        let goes_on = cut_items::feed(
+            alloc,
+            &mut self.queue,
+            &mut rest.bytes,
+            &mut rest.front,
+            piece,
+            steps,
+        )?;
+        if !goes_on {
             self.rest = None;
         }
         Ok(())
+    }
+
+    /// How many bytes are held of a head whose empty line has not come: 0 in a body, in a frame and between items. A CR
+    /// counts of which is not known yet whether it ends an empty line.
+    pub fn unfinished(&self) -> usize
+        ensures { result ≡ unfinished_of self.now.rest }
+    {
+        match &self.rest {
+            Some(rest) => rest.unfinished(),
+            None => 0,
+        }
     }
 
     /// Takes the next piece of the stream, which is given away, and gives the next whole item; none
@@ -101,9 +161,8 @@ impl Framer {
         ensures { IfSome result (IsAlone self.now piece.now) }
     {
         match &self.rest {
-            Some(rest) if rest.is_empty() && self.queue.waiting.is_empty() => cut_items::whole(
-                piece,
-            ),
+            Some(rest) if rest.bytes.is_empty() && self.queue.waiting.is_empty() =>
+                cut_items::whole(piece),
             _ => None,
         }
     }

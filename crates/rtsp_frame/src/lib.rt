@@ -8,8 +8,10 @@
 mod cut_items;
 mod extent;
 mod framer;
+mod item_front;
 mod law;
 mod message;
+mod rest;
 
 pub use framer::Framer;
 pub use law::{computed_items, longer_streams, one_reading, one_spelling, whole_items};

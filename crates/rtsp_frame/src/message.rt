@@ -1,22 +1,39 @@
 //! A message at the front of a stream: a head, then its body.
-ghost use Rattle.std.specs.Prelude.{◌≡◌, ◌≤◌, ◌<◌, ◌+◌, length, take};
+ghost use Rattle.std.specs.Prelude.{◌≡◌, ◌≤◌, ◌<◌, ◌+◌, ◌*◌, length, take, Some, IfOk, IfErr, OnErr};
 ghost use Rattle.rtsp_frame.specs.Lines.{is_empty_line};
-ghost use Rattle.rtsp_head.specs.Items.{head_len, message_span, judged_span, body_span, bad_span, bad_kind, message_kind};
+ghost use Rattle.rtsp_frame.specs.Fronts.{OpensMessage, IsLineTo};
+ghost use Rattle.rtsp_frame.specs.StreamFronts.{IsSpanFound, span_cost, told_span, told_body};
+ghost use Rattle.rtsp_head.specs.Items.{head_len, bad_span, bad_kind, message_kind};
 
-use crate::extent::when_whole;
-use gate_bytes::{after, before, find};
+use crate::extent::when_come;
+use crate::item_front::ItemFront;
+use gate_bytes::{Steps, after, before, look, seek};
 use rtsp_head::{
-    BadKind, Facts, HeadFault, ItemKind, Length, MOST_BODY, MOST_HEAD, Span, check_head,
+    BadKind, Facts, HeadFault, ItemKind, Length, MOST_BODY, MOST_HEAD, Span, check_head_counted,
 };
+use std::sync::ledger::Ledger;
 
-/// The message at the front, where it is whole.
-pub fn message_span(bytes: &[u8]) -> Option<Span>
-    ensures { result ≡ message_span bytes.now }
+/// The message at the front, a line of which begins at one place and was searched up to another.
+pub fn message_span<L: Ledger>(
+    bytes: &[u8],
+    line: usize,
+    searched: usize,
+    steps: &mut Steps<L>,
+) -> Result<Span, ItemFront>
+    requires begins { OpensMessage bytes.now }
+    requires short { searched < MOST_HEAD }
+    requires reached { IsLineTo bytes.now line searched }
+    ensures found { IsSpanFound bytes.now result }
+    ensures steps { steps.new + 2 * searched ≤ steps.old + span_cost (length bytes.now) result }
+    ensures more { IfOk result (λ span. searched < span.len) }
 {
-    match head_len(front(bytes)) {
-        Some(len) => judged_span(bytes.len(), len, check_head(before(bytes, len))),
-        None if bytes.len() < MOST_HEAD => None,
-        None => Some(bad_span(BadKind::Head, MOST_HEAD)),
+    match head_end(front(bytes), line, searched, steps) {
+        Ok(len) => {
+            let facts = check_head_counted(before(bytes, len), steps);
+            when_come(bytes.len(), judged_span(len, facts))
+        }
+        Err(line) if bytes.len() < MOST_HEAD => Err(ItemFront::Line(line)),
+        Err(_) => Ok(bad_span(BadKind::Head, MOST_HEAD)),
     }
 }
 
@@ -31,68 +48,75 @@ fn front(bytes: &[u8]) -> &[u8]
     }
 }
 
-/// The length of the head at the front, up to and with its first empty line.
-fn head_len(bytes: &[u8]) -> Option<usize>
-    ensures { result ≡ head_len bytes.now }
+/// The length of the head at the front, up to and with its first empty line; or where its last line begins, if it goes
+/// on. A line begins at one place and was searched up to another.
+fn head_end<L: Ledger>(
+    bytes: &[u8],
+    line: usize,
+    searched: usize,
+    steps: &mut Steps<L>,
+) -> Result<usize, usize>
+    requires { IsLineTo bytes.now line searched }
+    ensures ok { IfOk result (λ len. head_len bytes.now ≡ Some len) }
+    ensures more { IfOk result (λ len. searched < len) }
+    ensures cost { IfOk result (λ len. steps.new + 2 * searched ≤ steps.old + 2 * len) }
+    ensures err { IfErr result (λ last. IsLineTo bytes.now last (length bytes.now)) }
+    ensures err_cost { OnErr result (steps.new + 2 * searched ≤ steps.old + 2 * length bytes.now) }
 {
-    let mut at = 0;
-    let mut left = bytes;
-    while let Some(end) = find(b'\n', left) {
-        at += end + 1;
-        if is_empty_line(before(left, end)) {
-            return Some(at);
+    let mut begin = line;
+    let mut from = searched;
+    while let Some(end) = seek(after(bytes, from), b'\n', steps) {
+        let at = from + end;
+        if is_empty_line(after(before(bytes, at), begin), steps) {
+            return Ok(at + 1);
         }
-        left = after(left, end + 1);
+        begin = at + 1;
+        from = begin;
     }
-    None
+    Err(begin)
 }
 
 /// Whether a line without its LF is empty: nothing, or the CR of its end.
-fn is_empty_line(line: &[u8]) -> bool
-    ensures { result ≡ is_empty_line line.now }
+fn is_empty_line<L: Ledger>(line: &[u8], steps: &mut Steps<L>) -> bool
+    ensures empty { result ≡ is_empty_line line.now }
+    ensures steps { steps.new ≤ steps.old + 1 }
 {
-    match line {
-        [] => true,
-        [byte] => *byte == b'\r',
+    match line.len() {
+        0 => true,
+        1 => look(line, 0, steps) == b'\r',
         _ => false,
     }
 }
 
-/// What a head of this length begins, where so many bytes have come.
-fn judged_span(come: usize, len: usize, facts: Result<Facts, HeadFault>) -> Option<Span>
+/// What a head of this length begins.
+fn judged_span(len: usize, facts: Result<Facts, HeadFault>) -> Span
     requires { len ≤ MOST_HEAD }
-    ensures { result ≡ judged_span come len facts }
+    ensures { result ≡ told_span len facts }
 {
     match facts {
-        Ok(facts) => body_span(message_kind(facts.request), come, len, facts.length),
-        Err(fault) => Some(bad_span(bad_kind(fault), len)),
+        Ok(facts) => body_span(message_kind(facts.request), len, facts.length),
+        Err(fault) => bad_span(bad_kind(fault), len),
     }
 }
 
-/// The item whose head has this length and names this body, where so many bytes have come.
-fn body_span(kind: ItemKind, come: usize, len: usize, length: Length) -> Option<Span>
+/// The item whose head has this length and names this body.
+fn body_span(kind: ItemKind, len: usize, length: Length) -> Span
     requires { len ≤ MOST_HEAD }
-    ensures { result ≡ body_span kind come len length }
+    ensures { result ≡ told_body kind len length }
 {
     match length {
-        Length::Absent => when_whole(
-            come,
-            Span {
-                kind,
-                len,
-                head: len,
-            },
-        ),
-        Length::Bytes(body) if body > MOST_BODY => Some(bad_span(BadKind::Body, len)),
-        Length::Bytes(body) => {
-            let whole = Span {
-                kind,
-                len: len + body as usize,
-                head: len,
-            };
-            when_whole(come, whole)
-        }
-        Length::Bad => Some(bad_span(BadKind::Length, len)),
+        Length::Absent => Span {
+            kind,
+            len,
+            head: len,
+        },
+        Length::Bytes(body) if body > MOST_BODY => bad_span(BadKind::Body, len),
+        Length::Bytes(body) => Span {
+            kind,
+            len: len + body as usize,
+            head: len,
+        },
+        Length::Bad => bad_span(BadKind::Length, len),
     }
 }
 

@@ -1,61 +1,67 @@
-use Rattle.std.proofs.Common.{◌≡◌, ◌+◌, ℕ, List, Some, None, length, drop, sym, ap, ◌∙◌, subst, arith, length-drop}
+use Rattle.std.proofs.Common.{◌+◌, ℕ, List, Some, None, length, drop, sym, ap, ◌∙◌, subst, arith, length-drop}
 use Rattle.rtsp_head.specs.declared.item.Item.{Item}
+use Rattle.rtsp_frame.specs.declared.item_front.StreamFront.{StreamFront}
 use Rattle.rtsp_frame.specs.CutItems.{Joined}
+use Rattle.rtsp_frame.specs.StreamFronts.{IsStreamFront, owed}
 use Rattle.rtsp_frame.proofs.HeadLemmas.{blank_lines_fit}
-use Rattle.rtsp_frame.proofs.ExtentLemmas.{IsFirstExtent, first_is}
+use Rattle.rtsp_frame.proofs.ExtentLemmas.{first_is}
 use Rattle.rtsp_frame.proofs.CutStepLemmas.{Cutting, cutting_more, cutting_ends, cutting_breaks}
 use Rattle.rtsp_frame.proofs.cut_items.cut_on.Goals as goal
-use Rattle.rtsp_frame.proofs.cut_items.cut_on.Goals.{In-Some}
-
-found : (c : In-Some) → IsFirstExtent c.loop-extent.left.now c.in-Some.extent
-found c = first_is c.loop-extent.left.now c.in-Some.extent (sym c.in-Some.ensures)
-
-left_over : (c : In-Some) → length c.loop-extent.left.now + c.loop-extent.used ≡ length c.args.bytes.now
-left_over c =
-    omega (arith, ap length c.loop-extent.invariant.place, length-drop c.loop-extent.used c.args.bytes.now, c.loop-extent.invariant.within)
 
 pub returns-then-is_bad-clause-ok : goal.returns-then-is_bad-clause-ok
-returns-then-is_bad-clause-ok c =
-    subst (λ (items : List Item). Joined c.args.queue.now.waiting.items items c.args.bytes.now None) (sym {A = List Item} c.in_ok-push_back.ensures.items)
-    (cutting_breaks c.args.queue.now.waiting.items c.loop-extent.queue.waiting.items c.args.bytes.now c.loop-extent.left.now c.loop-extent.used
-    c.in-Some.extent c.in_ok-item.item c.loop-extent.invariant (sym c.in-Some.ensures) c.in_ok-item.ensures
+returns-then-is_bad-clause-ok g c =
+    let left = c.items.left.now in
+    let at = subst (λ (f : StreamFront). IsStreamFront left f) c.in-Whole.is c.items.invariant.next in
+    subst (λ (items : List Item). Joined c.args.queue.now.waiting.items items c.args.bytes.now None) (sym {A = List Item} c.in_ok-push_back-in-Whole.ensures.items)
+    (cutting_breaks c.args.queue.now.waiting.items c.items.queue.waiting.items c.args.bytes.now left c.items.used
+    c.in-Whole.extent c.in_ok-item-in-Whole.item c.items.invariant.cutting at c.in_ok-item-in-Whole.ensures
     (sym c.is_bad.ensures ∙ c.if-is_bad.true))
 
 pub overflow_add-taken : goal.overflow_add-taken
-overflow_add-taken c =
-    let fits = (found (goal.at.overflow_add-taken c).In-Some).fits in
-    omega (arith, fits, left_over (goal.at.overflow_add-taken c).In-Some)
+overflow_add-taken g c =
+    let left = c.items.left.now in
+    let at = subst (λ (f : StreamFront). IsStreamFront left f) c.in-Whole.is c.items.invariant.next in
+    let fits = (first_is left c.in-Whole.extent at).fits in
+    omega (arith, fits, ap length c.items.invariant.cutting.place, length-drop c.items.used c.args.bytes.now, c.items.invariant.cutting.within)
 
 pub overflow_add-used : goal.overflow_add-used
-overflow_add-used c =
-    let fits = (found (goal.at.overflow_add-used c).In-Some).fits in
-    omega (arith, fits, left_over (goal.at.overflow_add-used c).In-Some)
+overflow_add-used g c =
+    let left = c.items.left.now in
+    let at = subst (λ (f : StreamFront). IsStreamFront left f) c.in-Whole.is c.items.invariant.next in
+    let fits = (first_is left c.in-Whole.extent at).fits in
+    omega (arith, fits, ap length c.items.invariant.cutting.place, length-drop c.items.used c.args.bytes.now, c.items.invariant.cutting.within)
 
 pub after-left-requires : goal.after-left-requires
-after-left-requires c = (found (goal.at.after-left-requires c).In-Some).fits
+after-left-requires g c =
+    let left = c.items.left.now in
+    (first_is left c.in-Whole.extent (subst (λ (f : StreamFront). IsStreamFront left f) c.in-Whole.is c.items.invariant.next)).fits
 
-pub loop-extent-preserved : goal.loop-extent-preserved
-loop-extent-preserved c =
-    let taken = c.in-Some.extent.skipped + c.in-Some.extent.span.len in
-    subst (λ (left : List ℕ). Cutting c.args.queue.now.waiting.items c.push_back.new.self.items c.args.bytes.now left (c.loop-extent.used + taken)) (sym {A = List ℕ} c.after-left.ensures)
-    (subst (λ (items : List Item). Cutting c.args.queue.now.waiting.items items c.args.bytes.now (drop taken c.loop-extent.left.now) (c.loop-extent.used + taken)) (sym {A = List Item} c.in_ok-push_back.ensures.items)
-    (cutting_more c.args.queue.now.waiting.items c.loop-extent.queue.waiting.items c.args.bytes.now c.loop-extent.left.now c.loop-extent.used
-    c.in-Some.extent c.in_ok-item.item c.loop-extent.invariant (sym c.in-Some.ensures) c.in_ok-item.ensures
-    (sym c.is_bad.ensures ∙ c.if-is_bad.false)))
+pub items-preserved : goal.items-preserved
+items-preserved g c =
+    let left = c.items.left.now in
+    let at = subst (λ (f : StreamFront). IsStreamFront left f) c.in-Whole.is c.items.invariant.next in
+    let taken = c.in-Whole.extent.skipped + c.in-Whole.extent.span.len in
+    let due = ap (λ (f : StreamFront). owed f (length left)) c.in-Whole.is in
+    record {
+      cutting =
+          subst (λ (rest : List ℕ). Cutting c.args.queue.now.waiting.items c.push_back.new.self.items c.args.bytes.now rest (c.items.used + taken)) (sym {A = List ℕ} c.after-left.ensures)
+          (subst (λ (items : List Item). Cutting c.args.queue.now.waiting.items items c.args.bytes.now (drop taken left) (c.items.used + taken)) (sym {A = List Item} c.in_ok-push_back-in-Whole.ensures.items)
+          (cutting_more c.args.queue.now.waiting.items c.items.queue.waiting.items c.args.bytes.now left c.items.used
+          c.in-Whole.extent c.in_ok-item-in-Whole.item c.items.invariant.cutting at c.in_ok-item-in-Whole.ensures
+          (sym c.is_bad.ensures ∙ c.if-is_bad.false)));
+      next = c.stream_front-next.ensures.front;
+      steps = omega (arith, due, c.stream_front-next.ensures.steps, c.items.invariant.steps, ap length c.after-left.ensures, length-drop taken left);
+    }
 
 pub overflow_add-result : goal.overflow_add-result
-overflow_add-result c =
-    omega (
-      arith,
-      c.blank_lines.ensures,
-      blank_lines_fit c.loop-extent.left.now,
-      ap length c.loop-extent.invariant.place,
-      length-drop c.loop-extent.used c.args.bytes.now,
-      c.loop-extent.invariant.within,
-    )
+overflow_add-result g c =
+    let left = c.items.left.now in
+    let here = subst (λ (f : StreamFront). IsStreamFront left f) c.in-Begun.is c.items.invariant.next in
+    omega (arith, here.1, blank_lines_fit left, ap length c.items.invariant.cutting.place, length-drop c.items.used c.args.bytes.now, c.items.invariant.cutting.within)
 
-pub returns-clause-ok : goal.returns-clause-ok
-returns-clause-ok c =
-    subst (λ (n : ℕ). Joined c.args.queue.now.waiting.items c.loop-extent.queue.waiting.items c.args.bytes.now (Some (c.loop-extent.used + n))) (sym c.blank_lines.ensures)
-    (cutting_ends c.args.queue.now.waiting.items c.loop-extent.queue.waiting.items c.args.bytes.now c.loop-extent.left.now c.loop-extent.used
-    c.loop-extent.invariant (sym c.in_default.ensures))
+pub returns-in-Begun-clause-ok : goal.returns-in-Begun-clause-ok
+returns-in-Begun-clause-ok g c =
+    let left = c.items.left.now in
+    let here = subst (λ (f : StreamFront). IsStreamFront left f) c.in-Begun.is c.items.invariant.next in
+    subst (λ (n : ℕ). Joined c.args.queue.now.waiting.items c.items.queue.waiting.items c.args.bytes.now (Some (c.items.used + n))) (sym here.1)
+    (cutting_ends c.args.queue.now.waiting.items c.items.queue.waiting.items c.args.bytes.now left c.items.used c.items.invariant.cutting here.0)

@@ -1,12 +1,62 @@
-use Rattle.std.proofs.Common.{sym, ap, ◌∙◌}
+use Rattle.std.proofs.Common.{◌≡◌, ◌≤◌, Some, Result, ℕ, List, length, take, sym, ap, ◌∙◌, subst, arith}
+use Rattle.std.proofs.lemmas.List.{length-take, length-take-le, take_all}
 use Rattle.rtsp_head.specs.Items.{head_len}
+use Rattle.rtsp_head.specs.Heads.{facts_of}
+use Rattle.rtsp_head.specs.declared.item.Span.{Span}
+use Rattle.rtsp_head.specs.declared.item.TheConstants.{MOST_HEAD}
+use Rattle.rtsp_frame.specs.declared.item_front.ItemFront.{ItemFront}
+use Rattle.rtsp_frame.specs.Fronts.{IsLineTo}
+use Rattle.rtsp_frame.specs.StreamFronts.{IsSpanFound, when_come, told_span, span_cost}
 use Rattle.rtsp_frame.proofs.ExtentLemmas.{head_within}
+use Rattle.rtsp_frame.proofs.ReachLemmas.{reached_front}
+use Rattle.rtsp_frame.proofs.FrontLemmas.{IsTold, found_head, found_line, found_longest, is_told, when_cost}
 use Rattle.rtsp_frame.proofs.message.message_span.Goals as goal
 
+pub head_end-requires : goal.head_end-requires
+head_end-requires g c =
+    let short : c.args.searched ≤ MOST_HEAD = omega (arith, c.requires.short) in
+    subst (λ (l : List ℕ). IsLineTo l c.args.line c.args.searched) (sym c.front.ensures)
+    (reached_front c.args.bytes.now MOST_HEAD c.args.line c.args.searched short c.requires.reached)
+
 pub before-requires : goal.before-requires
-before-requires c =
-    (head_within c.args.bytes.now c.in-Some.len (ap head_len (sym c.front.ensures) ∙ sym c.in-Some.ensures)).0
+before-requires g c = (head_within c.args.bytes.now c.in-Ok.len (ap head_len (sym c.front.ensures) ∙ c.in-Ok.ensures.ok)).0
 
 pub judged_span-requires : goal.judged_span-requires
-judged_span-requires c =
-    (head_within c.args.bytes.now c.in-Some.len (ap head_len (sym c.front.ensures) ∙ sym c.in-Some.ensures)).1
+judged_span-requires g c = (head_within c.args.bytes.now c.in-Ok.len (ap head_len (sym c.front.ensures) ∙ c.in-Ok.ensures.ok)).1
+
+pub returns-in-Ok-clause-found : goal.returns-in-Ok-clause-found
+returns-in-Ok-clause-found g c =
+    let at : head_len (take MOST_HEAD c.args.bytes.now) ≡ Some c.in-Ok.len = ap head_len (sym c.front.ensures) ∙ c.in-Ok.ensures.ok in
+    let told = c.judged_span.ensures ∙ ap (told_span c.in-Ok.len) (c.check_head_counted-facts.ensures.facts ∙ ap facts_of c.before-in-Ok.ensures) in
+    subst (λ (r : Result Span ItemFront). IsSpanFound c.args.bytes.now r) (sym (c.when_come.ensures ∙ ap (when_come (length c.args.bytes.now)) told))
+    (found_head c.args.bytes.now c.in-Ok.len c.requires.begins at)
+
+pub returns-in-Ok-clause-steps : goal.returns-in-Ok-clause-steps
+returns-in-Ok-clause-steps g c =
+    let fits = (head_within c.args.bytes.now c.in-Ok.len (ap head_len (sym c.front.ensures) ∙ c.in-Ok.ensures.ok)).0 in
+    let told : IsTold c.in-Ok.len c.judged_span.result = subst (λ (s : Span). IsTold c.in-Ok.len s) (sym c.judged_span.ensures) (is_told c.in-Ok.len c.check_head_counted-facts.result) in
+    let cost = when_cost (length c.args.bytes.now) c.in-Ok.len c.judged_span.result told.head fits in
+    let paid = ap (span_cost (length c.args.bytes.now)) c.when_come.ensures in
+    omega (arith, c.check_head_counted-facts.ensures.steps, c.in-Ok.ensures.cost, ap length c.before-in-Ok.ensures, length-take-le c.in-Ok.len c.args.bytes.now fits, cost, paid)
+
+pub returns-in-Err-clause-found : goal.returns-in-Err-clause-found
+returns-in-Err-clause-found g c =
+    let whole = c.front.ensures ∙ take_all MOST_HEAD c.args.bytes.now (omega (arith, c.if-bytes-lt-MOST_HEAD.true)) in
+    found_line c.args.bytes.now c.in-Err.line c.requires.begins c.if-bytes-lt-MOST_HEAD.true
+    (subst (λ (l : List ℕ). IsLineTo l c.in-Err.line (length l)) whole c.in-Err.ensures.err)
+
+pub returns-in-Err-clause-steps : goal.returns-in-Err-clause-steps
+returns-in-Err-clause-steps g c =
+    let whole = c.front.ensures ∙ take_all MOST_HEAD c.args.bytes.now (omega (arith, c.if-bytes-lt-MOST_HEAD.true)) in
+    omega (arith, c.in-Err.ensures.err_cost, ap length whole)
+
+pub returns-in-Err-2-clause-found : goal.returns-in-Err-2-clause-found
+returns-in-Err-2-clause-found g c =
+    found_longest c.args.bytes.now c.in-Err-2.field-0 c.requires.begins (omega (arith, c.if-bytes-lt-MOST_HEAD.false))
+    (subst (λ (l : List ℕ). IsLineTo l c.in-Err-2.field-0 (length l)) c.front.ensures c.in-Err-2.ensures.err)
+    ∙ ap (λ (s : Span). Some s) (sym c.bad_span.ensures)
+
+pub returns-in-Err-2-clause-steps : goal.returns-in-Err-2-clause-steps
+returns-in-Err-2-clause-steps g c =
+    let long = ap (λ (s : Span). s.len) c.bad_span.ensures in
+    omega (arith, c.in-Err-2.ensures.err_cost, ap length c.front.ensures, length-take MOST_HEAD c.args.bytes.now, long)
