@@ -11,7 +11,7 @@ use Rattle.std.proofs.lemmas.Fmt.{digits_decimal}
 use Rattle.gate_bytes.specs.Ascii.{nul, lf, cr}
 use Rattle.gate_bytes.specs.Tokens.{is_blank, without_front, without_end, trimmed}
 use Rattle.rtsp_head.specs.declared.header.Header.{Header}
-use Rattle.rtsp_head.specs.declared.start.Start.{Start}
+use Rattle.rtsp_head.specs.HeadParts.{Start}
 use Rattle.rtsp_head.specs.Items.{head_from, head_len}
 use Rattle.rtsp_head.specs.HeadText.{ended, start_text, header_text, head_text, is_line_text, is_start, is_trimmed, is_value, is_header, CanBeWritten}
 use Rattle.rtsp_head.specs.Messages.{number_headers, length_headers, message_headers, is_added, own_fields}

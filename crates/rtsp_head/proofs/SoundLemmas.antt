@@ -12,8 +12,7 @@ use Rattle.gate_bytes.specs.Places.{cut_at}
 use Rattle.gate_bytes.specs.Numbers.{number_in}
 use Rattle.rtsp_head.specs.declared.header.Header.{Header}
 use Rattle.rtsp_head.specs.declared.head.Head.{Head}
-use Rattle.rtsp_head.specs.declared.start.Start.{Start}
-use Rattle.rtsp_head.specs.declared.start.Start.TheVariants.{Request, Status}
+use Rattle.rtsp_head.specs.HeadParts.{Start, Request, Status}
 use Rattle.rtsp_head.specs.declared.fault.HeadFault.{HeadFault}
 use Rattle.rtsp_head.specs.declared.fault.HeadFault.TheVariants as faults
 use Rattle.rtsp_head.specs.Lines.{and_then, result_map, head_lines, has_control}

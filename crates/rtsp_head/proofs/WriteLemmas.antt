@@ -14,8 +14,7 @@ use Rattle.gate_bytes.specs.Tokens.{is_token, is_token_byte, trimmed}
 use Rattle.gate_bytes.specs.Places.{cut_at}
 use Rattle.gate_bytes.specs.Numbers.{number_in}
 use Rattle.rtsp_head.specs.declared.header.Header.{Header}
-use Rattle.rtsp_head.specs.declared.start.Start.{Start}
-use Rattle.rtsp_head.specs.declared.start.Start.TheVariants.{Request, Status}
+use Rattle.rtsp_head.specs.HeadParts.{Start, Request, Status}
 use Rattle.rtsp_head.specs.declared.fault.HeadFault.TheVariants as faults
 use Rattle.rtsp_head.specs.Lines.{and_then, result_map, before_empty, head_lines}
 use Rattle.rtsp_head.specs.Starts.{is_unspaced, names_protocol, request_with, request_of, code_of, status_with, status_of, start_of}

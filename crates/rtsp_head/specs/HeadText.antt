@@ -6,8 +6,7 @@ use Rattle.gate_bytes.specs.Tokens.{is_token, trimmed}
 use Rattle.rtsp_head.specs.declared.headers.TheConstants.{MOST_HEADERS}
 use Rattle.rtsp_head.specs.declared.start.TheConstants.{LEAST_CODE, GREATEST_CODE}
 use Rattle.rtsp_head.specs.declared.header.Header.{Header}
-use Rattle.rtsp_head.specs.declared.start.Start.{Start}
-use Rattle.rtsp_head.specs.declared.start.Start.TheVariants.{Request, Status}
+use Rattle.rtsp_head.specs.HeadParts.{Start, Request, Status}
 use Rattle.rtsp_head.specs.Starts.{is_unspaced, names_protocol}
 
 -- a line with its end, CR LF

@@ -9,4 +9,6 @@ pub mod Spellings
 pub mod Starts
 pub mod Tallies
 pub mod Views
+pub mod FieldViews
+pub mod HeadParts
 pub mod HeadText

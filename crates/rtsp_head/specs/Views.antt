@@ -1,6 +1,5 @@
 -- What the private types of this crate say, without where it lies in memory.
-use Rattle.rtsp_head.specs.declared.start.Start.{Start}
-use Rattle.rtsp_head.specs.declared.start.Start.TheVariants.{Request, Status}
+use Rattle.rtsp_head.specs.HeadParts.{Start, Request, Status}
 use Rattle.rtsp_head.specs.declared.start.StartLine.{StartLine}
 use Rattle.rtsp_head.specs.declared.start.StartLine.TheVariants as start_lines
 use Rattle.rtsp_head.specs.declared.further.FurtherLine.{FurtherLine}

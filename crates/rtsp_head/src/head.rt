@@ -4,24 +4,49 @@ ghost use Rattle.gate_bytes.specs.Outcomes.{UnlessMemory};
 ghost use Rattle.rtsp_head.specs.Lines.{head_refusal, head_lines};
 ghost use Rattle.rtsp_head.specs.Headers.{header_limit, field_of, headers_of};
 ghost use Rattle.rtsp_head.specs.Heads.{head_of};
+ghost use Rattle.rtsp_head.specs.Optional.{said_where};
 ghost use Rattle.rtsp_head.specs.HeadText.{is_value, CanBeWritten};
+ghost use Rattle.rtsp_head.specs.Views.{start_seen};
 
 use crate::header_lines::Reading;
 use crate::line::next_line;
 use crate::start::start_line;
-use crate::{HeadFault, Headers, Start};
+use crate::{HeadFault, HeadFields, StartLine};
 use std::alloc::Global;
+use std::marker::Model;
 
-/// The head of a message of RTSP 1.0 or RTSP 2.0.
+/// The head of a message of RTSP 1.0 or RTSP 2.0, seen where it stands: its bytes lend all of it but the
+/// values that go on over several lines. Contracts see what it says.
 #[derive(Drop)]
-pub struct Head {
-    /// The first line.
-    pub start: Start,
-    /// The headers, in their order.
-    pub headers: Headers,
+pub struct Head<'a> {
+    start: StartLine<'a>,
+    headers: HeadFields<'a>,
 }
 
-impl Head {
+impl<'a> Model for Head<'a> {
+    ghost use Rattle.rtsp_head.specs.HeadParts.{HeadParts};
+    ghost use Rattle.rtsp_head.specs.Views.{start_seen};
+
+    ghost Value = { HeadParts };
+
+    ghost view = { λ head. record { start = start_seen head.start; headers = head.headers } };
+}
+
+impl<'a> Head<'a> {
+    /// The first line.
+    pub fn start(&self) -> StartLine<'a>
+        ensures { start_seen result ≡ self.now.start }
+    {
+        self.start
+    }
+
+    /// The headers, in their order.
+    pub fn headers(&self) -> &HeadFields<'a>
+        ensures { result.now ≡ self.now.headers }
+    {
+        &self.headers
+    }
+
     /// The value of the first header of a name, without ASCII case (RFC 7826, 5.2).
     pub fn field(&self, name: &[u8]) -> Option<&[u8]>
         ensures value { option_map (λ value. value.now) result ≡ field_of self.now.headers name.now }
@@ -30,24 +55,32 @@ impl Head {
     {
         self.headers.field(name)
     }
+
+    /// The same where a condition holds. Nothing is looked up where it doesn't.
+    pub fn field_where(&self, holds: bool, name: &[u8]) -> Option<&[u8]>
+        ensures { option_map (λ value. value.now) result
+            ≡ said_where holds (field_of self.now.headers name.now) }
+    {
+        if holds { self.field(name) } else { None }
+    }
 }
 
 /// The head that the bytes spell, or its first fault. The bytes are a head with its empty line; what
 /// stands after that is not read.
-pub fn read_head(alloc: Global, bytes: &[u8]) -> Result<Head, HeadFault>
+pub fn read_head(alloc: Global, bytes: &[u8]) -> Result<Head<'_>, HeadFault>
     ensures head { UnlessMemory head_refusal result (head_of bytes.now) }
     ensures writable { IfOk result (λ head. CanBeWritten head.start head.headers) }
 {
     let Some((line, rest)) = next_line(bytes) else {
         return Err(HeadFault::Start);
     };
-    let start = start_line(line)?.own(alloc)?;
+    let start = start_line(line)?;
     let headers = read_headers(alloc, rest)?;
     Ok(Head { start, headers })
 }
 
 /// The headers of a head's further lines, or their first fault.
-fn read_headers(alloc: Global, bytes: &[u8]) -> Result<Headers, HeadFault>
+fn read_headers(alloc: Global, bytes: &[u8]) -> Result<HeadFields<'_>, HeadFault>
     ensures { UnlessMemory head_refusal result (headers_of header_limit (head_lines bytes.now)) }
 {
     let mut reading = Reading::new(alloc);

@@ -1,11 +1,10 @@
 //! The list of a head's headers.
 ghost use Rattle.std.specs.Prelude.{◌≡◌, ◌<◌, ◌↔◌, [], ◌∷◌, ◌++◌, length, slice_get, option_map, IsTrue, IfErr, OnOk, OnErr};
 ghost use Rattle.std.specs.Option.{option_copied};
-ghost use Rattle.rtsp_head.specs.Headers.{field_of};
 ghost use Rattle.rtsp_head.specs.Optional.{header_with, said_where};
 
 use crate::Header;
-use gate_bytes::{Memory, OwnedList, Text, eq_fold};
+use gate_bytes::{Memory, OwnedList, Text};
 use std::alloc::Global;
 use std::marker::Model;
 
@@ -107,18 +106,6 @@ impl Headers {
         ensures { result.now ≡ self.now }
     {
         self.items.as_slice()
-    }
-
-    /// The value of the first header of a name, without ASCII case (RFC 7826, 5.2).
-    pub(crate) fn field(&self, name: &[u8]) -> Option<&[u8]>
-        ensures { option_map (λ value. value.now) result ≡ field_of self.now name.now }
-    {
-        for header in self.as_slice() {
-            if eq_fold(header.name.as_bytes(), name) {
-                return Some(header.value.as_bytes());
-            }
-        }
-        None
     }
 }
 

@@ -3,7 +3,7 @@ ghost use Rattle.std.specs.Prelude.{◌≡◌, ◌++◌, ℕ, List, [], ◌∷�
 ghost use Rattle.std.specs.Option.{option_map};
 ghost use Rattle.std.specs.List.{flat_map};
 ghost use Rattle.rtsp_head.specs.declared.header.Header.{Header};
-ghost use Rattle.rtsp_head.specs.declared.start.Start.{Start};
+ghost use Rattle.rtsp_head.specs.HeadParts.{Start};
 ghost use Rattle.rtsp_head.specs.HeadText.{ended, header_text};
 ghost use Rattle.rtsp_head.specs.Messages.{number_headers, length_headers, message_headers, message_text, message, messages_of, IsReadable};
 

@@ -1,5 +1,5 @@
 //! The first line of a head.
-ghost use Rattle.std.specs.Prelude.{◌≡◌, IfOk, option_map, nat_eq};
+ghost use Rattle.std.specs.Prelude.{◌≡◌, option_map, nat_eq};
 ghost use Rattle.rtsp_head.specs.Lines.{result_map};
 ghost use Rattle.rtsp_head.specs.Starts.{names_protocol, is_unspaced, code_of, request_of, status_of, start_of};
 ghost use Rattle.rtsp_head.specs.Heads.{is_request};
@@ -7,8 +7,7 @@ ghost use Rattle.rtsp_head.specs.Views.{start_seen};
 
 use crate::HeadFault;
 use crate::line::Line;
-use gate_bytes::{Memory, Text, read_decimal, split_once};
-use std::alloc::Global;
+use gate_bytes::{read_decimal, split_once};
 
 /// The least code of a status line (RFC 2326, 7.1.1; RFC 7826, 8.1.1).
 pub const LEAST_CODE: u16 = 100;
@@ -19,40 +18,25 @@ pub const GREATEST_CODE: u16 = 999;
 /// The digits of a code.
 const CODE_DIGITS: u32 = 3;
 
-/// What the first line of a head says.
-#[derive(Drop)]
-pub enum Start {
+/// What the first line of a head says, with its parts where they stand in it.
+#[derive(Clone, Copy)]
+pub enum StartLine<'a> {
     /// A request line: three parts without a space, of which the version begins with `RTSP/`.
     Request {
         /// The method, as it was written; it need not be a token.
-        method: Text,
+        method: &'a [u8],
         /// The URI, as it was written.
-        uri: Text,
+        uri: &'a [u8],
         /// The version.
-        version: Text,
+        version: &'a [u8],
     },
     /// A status line.
     Status {
         /// The version, which begins with `RTSP/`.
-        version: Text,
+        version: &'a [u8],
         /// The code, [`LEAST_CODE`] to [`GREATEST_CODE`].
         code: u16,
         /// The reason, which may be empty.
-        reason: Text,
-    },
-}
-
-/// What a first line says, with its parts where they stand in it.
-#[derive(Clone, Copy)]
-pub(crate) enum StartLine<'a> {
-    Request {
-        method: &'a [u8],
-        uri: &'a [u8],
-        version: &'a [u8],
-    },
-    Status {
-        version: &'a [u8],
-        code: u16,
         reason: &'a [u8],
     },
 }
@@ -63,32 +47,6 @@ impl StartLine<'_> {
         ensures { result ≡ is_request (start_seen self.now) }
     {
         matches!(self, StartLine::Request { .. })
-    }
-
-    /// The same, owned.
-    pub(crate) fn own(&self, alloc: Global) -> Result<Start, Memory>
-        ensures { IfOk result (λ start. start ≡ start_seen self.now) }
-    {
-        match self {
-            StartLine::Request {
-                method,
-                uri,
-                version,
-            } => Ok(Start::Request {
-                method: Text::copy(alloc, method)?,
-                uri: Text::copy(alloc, uri)?,
-                version: Text::copy(alloc, version)?,
-            }),
-            StartLine::Status {
-                version,
-                code,
-                reason,
-            } => Ok(Start::Status {
-                version: Text::copy(alloc, version)?,
-                code: *code,
-                reason: Text::copy(alloc, reason)?,
-            }),
-        }
     }
 }
 
