@@ -5,7 +5,7 @@ use Rattle.std.specs.List.{list_all}
 use Rattle.std.proofs.lemmas.Bool.{and_parts}
 use Rattle.gate_bytes.specs.Tokens.{is_token, equal_fold}
 use Rattle.rtsp_small.specs.declared.cseq.TheConstants.{CSEQ_ONE_DIGITS}
-use Rattle.rtsp_head.specs.declared.start.Start.TheVariants.{Status}
+use Rattle.rtsp_head.specs.HeadParts.{Status}
 use Rattle.rtsp_head.specs.Messages.{is_added}
 use Rattle.rtsp_head.specs.Optional.{Field, field_headers}
 use Rattle.rtsp_head.specs.HeadText.{is_line_text, is_start, is_header}

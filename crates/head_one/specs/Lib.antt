@@ -1,3 +1,4 @@
+pub mod ClientRequests
 pub mod Refusals
 pub mod Replies
 pub mod Requests

@@ -9,30 +9,46 @@ ghost use Rattle.head_one.specs.Views.{parts_seen};
 use crate::rule::{RequestParts, check_parts};
 use crate::{Refusal, RequestFault};
 use gate_bytes::{Memory, Text};
-use rtsp_head::{Head, HeadFault, Item, Start, read_head};
+use rtsp_head::{Head, HeadFault, Item, StartLine, read_head};
 use rtsp_small::Method;
 use std::alloc::Global;
+use std::marker::Model;
 
-/// A request that is not refused by the rules on its head (RFC 2326, 6).
+/// A request that is not refused by the rules on its head (RFC 2326, 6), seen where it stands: its item
+/// lends the texts. Contracts see what it says.
 #[derive(Drop)]
-pub struct Request1 {
+pub struct Request1<'a> {
     /// The method.
     pub method: Method,
     /// The URI, or `*`.
-    pub uri: Text,
+    pub uri: &'a [u8],
     /// Its number.
     pub cseq: u64,
     /// The whole head.
-    pub head: Head,
+    pub head: Head<'a>,
     /// The body; it is empty where there is none.
-    pub body: Text,
+    pub body: &'a [u8],
+}
+
+impl<'a> Model for Request1<'a> {
+    ghost use Rattle.head_one.specs.ClientRequests.{ClientRequest};
+
+    ghost Value = { ClientRequest };
+
+    ghost view = { λ it. record {
+      method = it.method;
+      uri = it.uri.now;
+      cseq = it.cseq;
+      head = it.head;
+      body = it.body.now;
+    } };
 }
 
 /// The request that an item is, or how the first rule that applies refuses it: 400 where the method
 /// is no token, 505 for another version than RTSP/1.0, 400 where the number can't be read, 501 for an
 /// unknown method, 551 where an option is required, 400 where no resource is named. An item without
 /// a request line is refused with 400.
-pub fn read_request(alloc: Global, item: &Item) -> Result<Request1, RequestFault>
+pub fn read_request(alloc: Global, item: &Item) -> Result<Request1<'_>, RequestFault>
     ensures { UnlessMemory request_refusal result (request_of_item (shape_of item.now)) }
 {
     let head = match read_head(alloc, item.head_bytes()) {
@@ -40,27 +56,25 @@ pub fn read_request(alloc: Global, item: &Item) -> Result<Request1, RequestFault
         Err(HeadFault::Memory) => return Err(RequestFault::Memory),
         Err(_) => return Err(RequestFault::Refused(no_request())),
     };
-    let Start::Request {
+    let StartLine::Request {
         method,
         uri,
         version,
-    } = &head.start
+    } = head.start()
     else {
         return Err(RequestFault::Refused(no_request()));
     };
-    let parts = RequestParts::read(method.as_bytes(), uri.as_bytes(), version.as_bytes(), &head);
+    let parts = RequestParts::read(method, uri, version, &head);
     let (method, cseq) = match check_parts(&parts) {
         Ok(known) => known,
         Err(code) => return Err(RequestFault::Refused(refusal(alloc, &parts, code)?)),
     };
-    let uri = Text::copy(alloc, uri.as_bytes())?;
-    let body = Text::copy(alloc, item.body_bytes())?;
     Ok(Request1 {
         method,
         uri,
         cseq,
         head,
-        body,
+        body: item.body_bytes(),
     })
 }
 

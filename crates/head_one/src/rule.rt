@@ -34,7 +34,7 @@ impl<'a> RequestParts<'a> {
         method: &'a [u8],
         uri: &'a [u8],
         version: &'a [u8],
-        head: &'a Head,
+        head: &'a Head<'_>,
     ) -> RequestParts<'a>
         ensures { parts_seen result ≡ request_parts method.now uri.now version.now head.now.headers }
     {
@@ -75,14 +75,14 @@ pub(crate) fn check_parts(parts: &RequestParts<'_>) -> Result<(Method, u64), u16
 }
 
 /// The number of a request: its CSeq (RFC 2326, 12.17).
-fn client_cseq(head: &Head) -> Option<u64>
+fn client_cseq(head: &Head<'_>) -> Option<u64>
     ensures { result ≡ client_cseq head.now.headers }
 {
     read_cseq_one(head.field(b"CSeq")?)
 }
 
 /// What a request requires of the server, or else of a proxy (RFC 2326, 12.32 and 12.27).
-fn required(head: &Head) -> Option<&[u8]>
+fn required<'a>(head: &'a Head<'_>) -> Option<&'a [u8]>
     ensures { option_map (λ value. value.now) result ≡ required head.now.headers }
 {
     match said(head.field(b"Require")) {
