@@ -5,7 +5,7 @@ use Rattle.std.specs.Option.{option_and_then, option_map}
 use Rattle.std.specs.List.{list_all}
 use Rattle.std.proofs.lemmas.Bool.{and_parts, eqb-true}
 use Rattle.rtsp_status.specs.Reasons.{Reason, reasons, reason_in, reason_of, has_reason}
-use Rattle.rtsp_head.specs.declared.start.Start.TheVariants.{Status}
+use Rattle.rtsp_head.specs.HeadParts.{Status}
 use Rattle.rtsp_head.specs.Messages.{message_headers, messages_of, is_added, IsReadable}
 use Rattle.rtsp_head.specs.HeadText.{is_line_text, is_value, is_start, is_header}
 use Rattle.rtsp_small.specs.declared.cseq.TheConstants.{CSEQ_TWO_DIGITS}

@@ -21,8 +21,7 @@ use Rattle.head_two.specs.declared.fault.TwoFault.{TwoFault}
 use Rattle.head_two.specs.declared.fault.TwoFault.TheVariants.{Version, Cseq}
 use Rattle.head_two.specs.Replies.{ask_at_start, ask_of_head, ask_of_item}
 use Rattle.rtsp_head.specs.declared.header.Header.{Header}
-use Rattle.rtsp_head.specs.declared.start.Start.{Start}
-use Rattle.rtsp_head.specs.declared.start.Start.TheVariants.{Request, Status}
+use Rattle.rtsp_head.specs.HeadParts.{Start, Request, Status}
 use Rattle.rtsp_head.specs.Messages.{message_headers, messages_of, IsReadable}
 use Rattle.rtsp_head.specs.Spellings.{begins_frame}
 use Rattle.rtsp_head.specs.HeadText.{start_text, is_start}

@@ -2,3 +2,4 @@ pub mod Answers
 pub mod Messages
 pub mod Replies
 pub mod Requests
+pub mod ServerMessages

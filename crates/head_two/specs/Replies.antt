@@ -4,8 +4,7 @@ use Rattle.rtsp_head.specs.Heads.{head_of}
 use Rattle.rtsp_head.specs.Items.{Shape}
 use Rattle.rtsp_head.specs.Lines.{result_map}
 use Rattle.rtsp_head.specs.declared.head.Head.{Head}
-use Rattle.rtsp_head.specs.declared.start.Start.{Start}
-use Rattle.rtsp_head.specs.declared.start.Start.TheVariants.{Request, Status}
+use Rattle.rtsp_head.specs.HeadParts.{Start, Request, Status}
 use Rattle.rtsp_head.specs.declared.fault.HeadFault.{HeadFault}
 use Rattle.head_two.specs.declared.fault.TwoFault.{TwoFault}
 use Rattle.head_two.specs.declared.fault.TwoFault.TheVariants.{Version}

@@ -4,8 +4,7 @@ use Rattle.std.specs.Option.{option_and_then, option_map}
 use Rattle.std.specs.List.{list_all}
 use Rattle.std.specs.Str.{bytes_eq}
 use Rattle.rtsp_head.specs.declared.header.Header.{Header}
-use Rattle.rtsp_head.specs.declared.start.Start.{Start}
-use Rattle.rtsp_head.specs.declared.start.Start.TheVariants.{Request, Status}
+use Rattle.rtsp_head.specs.HeadParts.{Start, Request, Status}
 use Rattle.rtsp_head.specs.Messages.{message_headers, message_text, Message, message, message_of, is_added, own_fields}
 use Rattle.rtsp_head.specs.Spellings.{begins_frame}
 use Rattle.rtsp_head.specs.HeadText.{CanBeWritten}
