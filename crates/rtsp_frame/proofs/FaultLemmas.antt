@@ -5,7 +5,7 @@ use Rattle.gate_bytes.specs.Ascii.{colon}
 use Rattle.gate_bytes.specs.Tokens.{is_token, trimmed}
 use Rattle.gate_bytes.specs.Places.{cut_at}
 use Rattle.rtsp_head.specs.declared.header.Header.{Header}
-use Rattle.rtsp_head.specs.declared.start.Start.{Start}
+use Rattle.rtsp_head.specs.HeadParts.{Start}
 use Rattle.rtsp_head.specs.declared.fault.HeadFault.{HeadFault}
 use Rattle.rtsp_head.specs.declared.fault.HeadFault.TheVariants as faults
 use Rattle.rtsp_head.specs.Lines.{and_then, result_map, has_control, head_lines}
