@@ -7,8 +7,7 @@ use Rattle.rtsp_head.specs.Heads.{head_of}
 use Rattle.rtsp_head.specs.Starts.{names_protocol}
 use Rattle.rtsp_head.specs.HeadText.{is_part, is_line_text, is_start, is_header, CanBeWritten}
 use Rattle.rtsp_head.specs.declared.head.Head.{Head}
-use Rattle.rtsp_head.specs.declared.start.Start.{Start}
-use Rattle.rtsp_head.specs.declared.start.Start.TheVariants.{Request, Status}
+use Rattle.rtsp_head.specs.HeadParts.{Start, Request, Status}
 use Rattle.rtsp_head.specs.declared.fault.HeadFault.{HeadFault}
 use Rattle.rtsp_head.proofs.SoundLemmas.{read_sound}
 use Rattle.rtsp_small.specs.declared.method.Method.{Method}

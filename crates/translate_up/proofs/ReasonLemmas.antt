@@ -6,8 +6,7 @@ use Rattle.rtsp_status.specs.Reasons.{has_reason}
 use Rattle.rtsp_head.specs.Items.{Shape}
 use Rattle.rtsp_head.specs.Heads.{head_of}
 use Rattle.rtsp_head.specs.declared.head.Head.{Head}
-use Rattle.rtsp_head.specs.declared.start.Start.{Start}
-use Rattle.rtsp_head.specs.declared.start.Start.TheVariants.{Request, Status}
+use Rattle.rtsp_head.specs.HeadParts.{Start, Request, Status}
 use Rattle.rtsp_head.specs.declared.fault.HeadFault.{HeadFault}
 use Rattle.rtsp_small.specs.declared.method.Method.{Method}
 use Rattle.head_one.specs.declared.refusal.Refusal.{Refusal}

@@ -6,7 +6,7 @@ use Rattle.std.specs.Str.{bytes_eq}
 use Rattle.std.proofs.lemmas.Bool.{and_parts}
 use Rattle.gate_bytes.specs.Tokens.{equal_fold}
 use Rattle.rtsp_head.specs.declared.header.Header.{Header}
-use Rattle.rtsp_head.specs.declared.start.Start.TheVariants.{Request}
+use Rattle.rtsp_head.specs.HeadParts.{Request}
 use Rattle.rtsp_head.specs.Messages.{is_added}
 use Rattle.rtsp_head.specs.HeadText.{is_part, is_line_text, is_value, is_start, is_header}
 use Rattle.rtsp_head.proofs.SoundLemmas.{field_sound}

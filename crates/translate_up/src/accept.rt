@@ -21,7 +21,7 @@ use std::alloc::Global;
 pub(crate) fn serve(
     alloc: Global,
     view: &View<'_>,
-    request: &Request1,
+    request: &Request1<'_>,
     said: &SaidFields<'_>,
     uri: Text,
     admission: Admission,
@@ -45,7 +45,7 @@ pub(crate) fn serve(
 fn play(
     alloc: Global,
     view: &View<'_>,
-    request: &Request1,
+    request: &Request1<'_>,
     said: &SaidFields<'_>,
     uri: Text,
     range: Option<Range>,
@@ -65,7 +65,7 @@ fn play(
 fn forward(
     alloc: Global,
     view: &View<'_>,
-    request: &Request1,
+    request: &Request1<'_>,
     said: &SaidFields<'_>,
     uri: Text,
     range: Option<Range>,
@@ -84,7 +84,7 @@ fn forward(
 fn play_on(
     alloc: Global,
     view: &View<'_>,
-    request: &Request1,
+    request: &Request1<'_>,
     said: &SaidFields<'_>,
     uri: Text,
     range: Option<Range>,

@@ -55,14 +55,18 @@ pub fn decide(alloc: Global, view: &View<'_>, item: &Item) -> Result<Decision, M
 
 /// What becomes of a request that its head does not refuse. No rule refuses one for the gateway itself,
 /// so its URI is not looked at.
-fn decide_request(alloc: Global, view: &View<'_>, request: &Request1) -> Result<Decision, Memory>
+fn decide_request(
+    alloc: Global,
+    view: &View<'_>,
+    request: &Request1<'_>,
+) -> Result<Decision, Memory>
     ensures { IfOk result (λ decision. decision ≡ decide_request (given_of view.now) request.now) }
 {
     let said = SaidFields::read(view.tracks, request);
     if is_for_gateway(request.method, &said) {
         return Ok(Decision::Answer(options_text(alloc, request.cseq)?));
     }
-    let uri = uri_up(alloc, view, request.uri.as_bytes())?;
+    let uri = uri_up(alloc, view, request.uri)?;
     match check_rules(view, request.method, &said, uri.as_bytes()) {
         Ok(admission) => serve(alloc, view, request, &said, uri, admission),
         Err(code) => Ok(Decision::Answer(answer(alloc, code, Some(request.cseq))?)),

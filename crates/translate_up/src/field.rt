@@ -33,7 +33,7 @@ pub(crate) struct SaidFields<'a> {
 
 impl<'a> SaidFields<'a> {
     /// What a request says on a connection with these streams.
-    pub(crate) fn read(tracks: &[Track], request: &'a Request1) -> SaidFields<'a>
+    pub(crate) fn read(tracks: &[Track], request: &'a Request1<'_>) -> SaidFields<'a>
         ensures said { said_seen result ≡ said_of tracks.now request.now }
         ensures range { HasWritableRange result }
     {
@@ -128,7 +128,7 @@ pub(crate) fn is_track(tracks: &[Track], uri: &[u8]) -> bool
 }
 
 /// The scale of a request, where it has one in the grammar (RFC 2326, 12.34).
-pub(crate) fn scale_of(request: &Request1) -> Option<&[u8]>
+pub(crate) fn scale_of<'a>(request: &'a Request1<'_>) -> Option<&'a [u8]>
     ensures { option_copied result ≡ scale_of request.now }
 {
     let value = request.head.field(b"Scale")?;

@@ -1,10 +1,12 @@
 //! Requests as they go up.
 ghost use Rattle.std.specs.Prelude.{◌≡◌, [], if◌then◌else◌, IfOk, IfSome, IsTrue, option_map};
-ghost use Rattle.rtsp_head.specs.Optional.{field_headers};
+ghost use Rattle.std.specs.Option.{option_copied};
+ghost use Rattle.rtsp_head.specs.Optional.{field_headers, said_where};
 ghost use Rattle.rtsp_range.specs.Writable.{can_be_written};
 ghost use Rattle.rtsp_range.specs.RangeText.{range_text};
 ghost use Rattle.translate_up.specs.Views.{given_of};
 ghost use Rattle.translate_up.specs.SeenFields.{said_seen};
+ghost use Rattle.translate_up.specs.Fields.{is_play, scale_of};
 ghost use Rattle.translate_up.specs.Upward.{uri_up, method_up, has_body_up, fields_up, request_up, asked_of};
 
 use crate::field::{
@@ -41,7 +43,7 @@ pub(crate) fn uri_up(alloc: Global, view: &View<'_>, uri: &[u8]) -> Result<Text,
 pub(crate) fn request_up(
     alloc: Global,
     view: &View<'_>,
-    request: &Request1,
+    request: &Request1<'_>,
     said: &SaidFields<'_>,
     uri: Text,
     range: Option<Range>,
@@ -61,7 +63,7 @@ pub(crate) fn request_up(
 /// What is kept of a request that goes up with this URI.
 pub(crate) fn asked_of(
     alloc: Global,
-    request: &Request1,
+    request: &Request1<'_>,
     said: &SaidFields<'_>,
     uri: &[u8],
 ) -> Result<Asked, Memory>
@@ -87,18 +89,18 @@ fn method_up(method: Method) -> Method
 }
 
 /// Whether a request brings a body, and may.
-fn has_body_up(request: &Request1) -> bool
+fn has_body_up(request: &Request1<'_>) -> bool
     ensures { result ≡ has_body_up request.now }
 {
-    brings_body_up(request.method) && request.body.len() != 0
+    brings_body_up(request.method) && !request.body.is_empty()
 }
 
 /// The body that goes up.
-fn body_up(alloc: Global, request: &Request1) -> Result<Text, Memory>
+fn body_up(alloc: Global, request: &Request1<'_>) -> Result<Text, Memory>
     ensures { IfOk result (λ body. body ≡ (if has_body_up request.now then request.now.body else [])) }
 {
     if has_body_up(request) {
-        Text::copy(alloc, request.body.as_bytes())
+        Text::copy(alloc, request.body)
     } else {
         Ok(Text::new(alloc))
     }
@@ -108,7 +110,7 @@ fn body_up(alloc: Global, request: &Request1) -> Result<Text, Memory>
 fn headers_up(
     alloc: Global,
     view: &View<'_>,
-    request: &Request1,
+    request: &Request1<'_>,
     said: &SaidFields<'_>,
     range: Option<Range>,
 ) -> Result<Headers, Memory>
@@ -120,11 +122,11 @@ fn headers_up(
     let method = request.method;
     let range = range_up(alloc, range)?;
     let has_body = has_body_up(request);
-    let accept = said_where(is_describe(method), head.field(b"Accept"));
+    let accept = head.field_where(is_describe(method), b"Accept");
     let units = said_where(is_setup(method), Some(UNITS));
-    let scale = said_where(is_play(method), scale_of(request));
-    let kind = said_where(has_body, head.field(b"Content-Type"));
-    let encoding = said_where(has_body, head.field(b"Content-Encoding"));
+    let scale = scale_up(request);
+    let kind = head.field_where(has_body, b"Content-Type");
+    let encoding = head.field_where(has_body, b"Content-Encoding");
     let mut headers = Headers::new(alloc);
     headers.push_copy(alloc, b"Session", session_said(view, said))?;
     headers.push_copy(alloc, b"Accept", accept)?;
@@ -134,6 +136,17 @@ fn headers_up(
     headers.push_copy(alloc, b"Content-Type", kind)?;
     headers.push_copy(alloc, b"Content-Encoding", encoding)?;
     Ok(headers)
+}
+
+/// The scale that goes up, with PLAY.
+fn scale_up<'a>(request: &'a Request1<'_>) -> Option<&'a [u8]>
+    ensures { option_copied result ≡ said_where (is_play request.now.method) (scale_of request.now) }
+{
+    if is_play(request.method) {
+        scale_of(request)
+    } else {
+        None
+    }
 }
 
 /// A range in the one form that both versions read.
