@@ -6,7 +6,7 @@ ghost use Rattle.translate_down.specs.Contents.{asks_description, asks_body, com
 use crate::Context;
 use gate_bytes::{Memory, Text, eq_fold, trim, up_to};
 use head_two::Reply2;
-use rtsp_head::{Head, said_where};
+use rtsp_head::Head;
 use rtsp_small::Method;
 use rtsp_uri::{rewrite_sdp, swap_authority};
 use std::alloc::Global;
@@ -15,14 +15,14 @@ use std::alloc::Global;
 const DESCRIPTION: &[u8] = b"application/sdp";
 
 /// Whether a description comes with a reply.
-fn comes_with_description(method: Method, body: &Text) -> bool
+fn comes_with_description(method: Method, body: &[u8]) -> bool
     ensures { result ≡ comes_with_description method body.now }
 {
     method == Method::Describe && !body.is_empty()
 }
 
 /// Whether a body comes with a reply that asked for one.
-fn comes_with_body(method: Method, body: &Text) -> bool
+fn comes_with_body(method: Method, body: &[u8]) -> bool
     ensures { result ≡ comes_with_body method body.now }
 {
     matches!(method, Method::Describe | Method::GetParameter) && !body.is_empty()
@@ -33,40 +33,43 @@ pub(crate) fn base(
     alloc: Global,
     context: &Context<'_>,
     method: Method,
-    reply: &Reply2,
+    reply: &Reply2<'_>,
 ) -> Result<Option<Text>, Memory>
     ensures { IfOk result (λ value.
         value ≡ base_value (setting_of context.now) method reply.now.head.headers reply.now.body) }
 {
-    match reply.head.field(b"Content-Base") {
-        Some(value) if comes_with_description(method, &reply.body) => {
+    let comes = comes_with_description(method, reply.body);
+    match reply.head.field_where(comes, b"Content-Base") {
+        Some(value) => {
             let bases = context.bases;
             Ok(Some(swap_authority(alloc, &bases.up, &bases.front, value)?))
         }
-        _ => Ok(None),
+        None => Ok(None),
     }
 }
 
 /// The value of Content-Type, with a body.
-pub(crate) fn kind(alloc: Global, method: Method, reply: &Reply2) -> Result<Option<Text>, Memory>
+pub(crate) fn kind(
+    alloc: Global,
+    method: Method,
+    reply: &Reply2<'_>,
+) -> Result<Option<Text>, Memory>
     ensures { IfOk result (λ value. value ≡ type_value method reply.now.head.headers reply.now.body) }
 {
-    let comes = comes_with_body(method, &reply.body);
-    let value = reply.head.field(b"Content-Type");
-    Text::copied(alloc, said_where(comes, value))
+    let comes = comes_with_body(method, reply.body);
+    Text::copied(alloc, reply.head.field_where(comes, b"Content-Type"))
 }
 
 /// The value of Content-Encoding, with a body.
 pub(crate) fn encoding(
     alloc: Global,
     method: Method,
-    reply: &Reply2,
+    reply: &Reply2<'_>,
 ) -> Result<Option<Text>, Memory>
     ensures { IfOk result (λ value. value ≡ encoding_value method reply.now.head.headers reply.now.body) }
 {
-    let comes = comes_with_body(method, &reply.body);
-    let value = reply.head.field(b"Content-Encoding");
-    Text::copied(alloc, said_where(comes, value))
+    let comes = comes_with_body(method, reply.body);
+    Text::copied(alloc, reply.head.field_where(comes, b"Content-Encoding"))
 }
 
 /// The body that a player gets: a session description under the player's address, any other as it
@@ -75,13 +78,13 @@ pub(crate) fn body(
     alloc: Global,
     context: &Context<'_>,
     method: Method,
-    reply: &Reply2,
+    reply: &Reply2<'_>,
 ) -> Result<Text, Memory>
     ensures { IfOk result (λ body.
         body ≡ body_told (setting_of context.now) method reply.now.head.headers reply.now.body) }
 {
-    let body = reply.body.as_bytes();
-    if !comes_with_body(method, &reply.body) {
+    let body = reply.body;
+    if !comes_with_body(method, body) {
         Ok(Text::new(alloc))
     } else if is_read(method, &reply.head) {
         rewrite_sdp(alloc, &context.bases.up, &context.bases.front, body)
@@ -91,14 +94,14 @@ pub(crate) fn body(
 }
 
 /// Whether the body that comes with a reply is a session description.
-fn is_read(method: Method, head: &Head) -> bool
+fn is_read(method: Method, head: &Head<'_>) -> bool
     ensures { result ≡ is_read method head.now.headers }
 {
     method == Method::Describe && is_description(head)
 }
 
 /// Whether a head is that of a session description without an encoding.
-fn is_description(head: &Head) -> bool
+fn is_description(head: &Head<'_>) -> bool
     ensures { result ≡ is_description head.now.headers }
 {
     names_description(head.field(b"Content-Type")) && head.field(b"Content-Encoding").is_none()

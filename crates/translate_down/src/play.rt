@@ -12,12 +12,12 @@ use rtsp_small::{Method, is_scale};
 use std::alloc::Global;
 
 /// The value of Range, with PLAY and PAUSE, where the server's can be read.
-pub(crate) fn range(alloc: Global, method: Method, head: &Head) -> Result<Option<Text>, Memory>
+pub(crate) fn range(alloc: Global, method: Method, head: &Head<'_>) -> Result<Option<Text>, Memory>
     ensures { IfOk result (λ value. value ≡ range_value method head.now.headers) }
 {
-    match head.field(b"Range") {
-        Some(value) if moves(method) => range_told(alloc, value),
-        _ => Ok(None),
+    match head.field_where(moves(method), b"Range") {
+        Some(value) => range_told(alloc, value),
+        None => Ok(None),
     }
 }
 
@@ -40,11 +40,11 @@ fn range_told(alloc: Global, value: &[u8]) -> Result<Option<Text>, Memory>
 }
 
 /// The value of Scale, with PLAY, where the server's can be read.
-pub(crate) fn scale(alloc: Global, method: Method, head: &Head) -> Result<Option<Text>, Memory>
+pub(crate) fn scale(alloc: Global, method: Method, head: &Head<'_>) -> Result<Option<Text>, Memory>
     ensures { IfOk result (λ value. value ≡ scale_value method head.now.headers) }
 {
-    match head.field(b"Scale") {
-        Some(value) if plays(method) && is_scale(value) => Ok(Some(Text::copy(alloc, value)?)),
+    match head.field_where(plays(method), b"Scale") {
+        Some(value) if is_scale(value) => Ok(Some(Text::copy(alloc, value)?)),
         _ => Ok(None),
     }
 }
@@ -61,12 +61,12 @@ pub(crate) fn info(
     alloc: Global,
     context: &Context<'_>,
     method: Method,
-    head: &Head,
+    head: &Head<'_>,
 ) -> Result<Option<Text>, Memory>
     ensures { IfOk result (λ value. value ≡ info_value (setting_of context.now) method head.now.headers) }
 {
-    match head.field(b"RTP-Info") {
-        Some(value) if plays(method) => info_told(alloc, context.bases, value),
-        _ => Ok(None),
+    match head.field_where(plays(method), b"RTP-Info") {
+        Some(value) => info_told(alloc, context.bases, value),
+        None => Ok(None),
     }
 }

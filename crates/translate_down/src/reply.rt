@@ -13,7 +13,7 @@ use crate::session::{session, transport};
 use gate_bytes::{Memory, Text};
 use head_one::{Reply1, write_reply};
 use head_two::Reply2;
-use rtsp_head::{Headers, said_where};
+use rtsp_head::Headers;
 use rtsp_small::{Method, push_methods};
 use rtsp_status::to_one;
 use session_one::{Asked, is_success};
@@ -29,7 +29,7 @@ pub fn reply_one(
     alloc: Global,
     context: &Context<'_>,
     asked: &Asked,
-    reply: &Reply2,
+    reply: &Reply2<'_>,
 ) -> Result<Text, Memory>
     requires { CanBeTold (setting_of context.now) }
     ensures { IfOk result (λ text.
@@ -43,7 +43,7 @@ pub fn reply_one(
 }
 
 /// The text of a refusal.
-fn refusal(alloc: Global, asked: &Asked, reply: &Reply2) -> Result<Text, Memory>
+fn refusal(alloc: Global, asked: &Asked, reply: &Reply2<'_>) -> Result<Text, Memory>
     ensures { IfOk result (λ text. text ≡ reply_text (refusal_of asked.now (told_whole reply.now))) }
 {
     let mut headers = Headers::new(alloc);
@@ -58,11 +58,11 @@ fn refusal(alloc: Global, asked: &Asked, reply: &Reply2) -> Result<Text, Memory>
 }
 
 /// The value of Unsupported, with 551.
-fn unsupported(alloc: Global, reply: &Reply2) -> Result<Option<Text>, Memory>
+fn unsupported(alloc: Global, reply: &Reply2<'_>) -> Result<Option<Text>, Memory>
     ensures { IfOk result (λ value. value ≡ unsupported_value (told_whole reply.now)) }
 {
     let is_told = reply.code == 551;
-    Text::copied(alloc, said_where(is_told, reply.head.field(b"Unsupported")))
+    Text::copied(alloc, reply.head.field_where(is_told, b"Unsupported"))
 }
 
 /// The text of a success.
@@ -70,7 +70,7 @@ fn success(
     alloc: Global,
     context: &Context<'_>,
     asked: &Asked,
-    reply: &Reply2,
+    reply: &Reply2<'_>,
 ) -> Result<Text, Memory>
     requires { CanBeTold (setting_of context.now) }
     ensures { IfOk result (λ text.
@@ -90,7 +90,7 @@ fn success_headers(
     alloc: Global,
     context: &Context<'_>,
     asked: &Asked,
-    reply: &Reply2,
+    reply: &Reply2<'_>,
 ) -> Result<Headers, Memory>
     requires { CanBeTold (setting_of context.now) }
     ensures { IfOk result (λ headers.
@@ -129,7 +129,7 @@ fn push_play(
     headers: &mut Headers,
     context: &Context<'_>,
     method: Method,
-    reply: &Reply2,
+    reply: &Reply2<'_>,
 ) -> Result<(), Memory>
     ensures { OnOk result
         (headers.new
@@ -163,7 +163,7 @@ fn push_content(
     headers: &mut Headers,
     context: &Context<'_>,
     method: Method,
-    reply: &Reply2,
+    reply: &Reply2<'_>,
 ) -> Result<(), Memory>
     ensures { OnOk result
         (headers.new

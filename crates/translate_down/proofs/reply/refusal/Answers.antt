@@ -3,6 +3,7 @@ use Rattle.std.specs.Prelude.{codes}
 use Rattle.rtsp_head.specs.declared.header.Header.{Header}
 use Rattle.head_one.specs.declared.reply.Reply1.{Reply1}
 use Rattle.head_one.specs.Replies.{reply_text}
+use Rattle.head_two.specs.ServerMessages.{ReplyParts}
 use Rattle.rtsp_status.specs.Codes.{code_one}
 use Rattle.rtsp_head.specs.Optional.{header_with}
 use Rattle.translate_down.specs.Replies.{unsupported_value, refusal_of, told_whole}
@@ -19,7 +20,7 @@ returns c =
     ∙ ap (λ (hs : List Header). hs ++ header_with (codes "Unsupported") c.in_ok-unsupported.field-0) c.new-headers.ensures
     ∙ ap (header_with (codes "Unsupported")) c.in_ok-unsupported.ensures in
     let whole : refusal_with c.args.asked.now.cseq c.to_one.result c.push_value.new.self c.new.result ≡ refusal_of c.args.asked.now (told_whole c.args.reply.now) =
-    ap (λ (n : ℕ). refusal_with c.args.asked.now.cseq n c.push_value.new.self c.new.result) c.to_one.ensures.one
+    ap (λ (n : ℕ). refusal_with c.args.asked.now.cseq n c.push_value.new.self c.new.result) (c.to_one.ensures.one ∙ ap (λ (r : ReplyParts). code_one r.code) c.reply.view_is)
     ∙ ap (λ (hs : List Header). refusal_with c.args.asked.now.cseq (code_one c.args.reply.now.code) hs c.new.result) told
     ∙ ap (λ (b : List ℕ). refusal_with c.args.asked.now.cseq (code_one c.args.reply.now.code) (header_with (codes "Unsupported") (unsupported_value (told_whole c.args.reply.now))) b) c.new.ensures in
     subst (λ (reply : Reply1). IfOk c.write_reply.result (λ text. text ≡ reply_text reply)) whole c.write_reply.ensures
