@@ -9,7 +9,7 @@ use session_two::Names;
 #[derive(Clone, Copy)]
 pub struct ServerReply<'a> {
     /// The reply.
-    pub reply: &'a Reply2,
+    pub reply: &'a Reply2<'a>,
     /// The source of RTP packets that its Transport names, where that names one.
     pub source: Option<u32>,
 }

@@ -24,7 +24,7 @@ use std::alloc::Global;
 use translate_down::{Context, reply_one};
 
 /// What a reply's Transport grants, where that can be read.
-pub fn grant_said(reply: &Reply2) -> Option<Grant>
+pub fn grant_said(reply: &Reply2<'_>) -> Option<Grant>
     ensures { result ≡ grant_said reply.now }
 {
     match read_grant(reply.head.field(b"Transport")?) {
@@ -34,7 +34,7 @@ pub fn grant_said(reply: &Reply2) -> Option<Grant>
 }
 
 /// What the field Session of a reply says.
-pub(crate) fn session_told(reply: &Reply2) -> Option<SessionField<'_>>
+pub(crate) fn session_told<'a>(reply: &'a Reply2<'_>) -> Option<SessionField<'a>>
     ensures said { option_map session_seen result ≡ session_told (told_by reply.now) }
     ensures valid { IfSome result (λ field. is_session_id field.id.now ≡ true) }
     ensures timeout { IfSome result (λ field.

@@ -27,7 +27,8 @@ pub(crate) fn plan_reply(
     ensures { IfOk result
         (IsPlan bases.now next pair slot.now (replies answer.entry.reply.now answer.entry.source)) }
 {
-    if answer.reply.code < 200 {
+    let reply = answer.reply;
+    if reply.code < 200 {
         return Ok(idle(alloc));
     }
     match slot.pending() {
@@ -52,11 +53,12 @@ fn settle<'a>(
     ensures { IfOk result
         (IsPlan bases.entry.now next pair slot.entry.now (replies answer.entry.reply.now answer.entry.source)) }
 {
-    let told = session_told(answer.reply);
+    let reply = answer.reply;
+    let told = session_told(reply);
     let timeout = timeout_told(told);
     let id = new_id(slot, pending, told);
-    let seen = after_reply(slot, pending, answer.reply.code, id);
+    let seen = after_reply(slot, pending, reply.code, id);
     let hand = reply_hand(alloc, bases, slot, pending, answer, seen.id, timeout)?;
-    let change = Change::Settles(answer.reply.code, Text::copied(alloc, id)?);
+    let change = Change::Settles(reply.code, Text::copied(alloc, id)?);
     onward(alloc, bases, slot, next, pair, &seen, change, hand)
 }
