@@ -10,8 +10,8 @@ use Rattle.rtsp_head.specs.Messages.{is_added, own_fields}
 use Rattle.rtsp_head.specs.HeadText.{is_header, CanBeWritten}
 use Rattle.rtsp_head.specs.declared.head.Head.{Head}
 use Rattle.rtsp_head.specs.declared.header.Header.{Header}
-use Rattle.rtsp_head.specs.declared.start.Start.{Start}
-use Rattle.rtsp_head.specs.declared.start.Start.TheVariants as starts
+use Rattle.rtsp_head.specs.HeadParts.{Start}
+use Rattle.rtsp_head.specs.HeadParts as starts
 use Rattle.rtsp_head.specs.declared.fault.HeadFault.{HeadFault}
 use Rattle.rtsp_head.specs.declared.item.ItemKind.{ItemKind}
 use Rattle.rtsp_head.specs.declared.item.ItemKind.TheVariants.{Request, Response, Frame, Bad}
