@@ -1,8 +1,7 @@
 -- What a request asks the drill's server (RFC 7826, 7).
 use Rattle.std.specs.Prelude.{ℕ, List, [], Option, Some, None, unwrap_or, Result, Ok, Err}
 use Rattle.rtsp_head.specs.Headers.{field_of}
-use Rattle.rtsp_head.specs.declared.start.Start.{Start}
-use Rattle.rtsp_head.specs.declared.start.Start.TheVariants.{Request, Status}
+use Rattle.rtsp_head.specs.HeadParts.{Start, Request, Status}
 use Rattle.rtsp_transport.specs.Grants.{grant_of}
 use Rattle.rtsp_transport.specs.declared.fault.TransportFault.{TransportFault}
 use Rattle.rtsp_transport.specs.declared.grant.Grant.{Grant}

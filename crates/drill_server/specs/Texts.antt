@@ -4,7 +4,7 @@ use Rattle.std.specs.List.{flat_map}
 use Rattle.std.specs.Str.{bytes_eq}
 use Rattle.gate_bytes.specs.Ascii.{dollar}
 use Rattle.rtsp_head.specs.declared.header.Header.{Header}
-use Rattle.rtsp_head.specs.declared.start.Start.TheVariants.{Status}
+use Rattle.rtsp_head.specs.HeadParts.{Status}
 use Rattle.rtsp_head.specs.Messages.{message_text}
 use Rattle.head_two.specs.Messages.{version_two}
 use Rattle.head_two.specs.Requests.{request_text}
