@@ -15,7 +15,7 @@ use rtsp_transport::Grant;
 use up_books::SessionBook;
 
 /// The id of the session that a reply says.
-pub(crate) fn id_said(reply: &Reply2) -> Option<&[u8]>
+pub(crate) fn id_said<'a>(reply: &'a Reply2<'_>) -> Option<&'a [u8]>
     ensures { option_copied result ≡ id_said reply.now }
 {
     let value = reply.head.field(b"Session")?;
@@ -73,7 +73,7 @@ pub(crate) fn wrong_grant(
     pair: u8,
     session: Option<&[u8]>,
     grant: Option<Grant>,
-    reply: &Reply2,
+    reply: &Reply2<'_>,
 ) -> Option<UpCause>
     requires low { pair < PAIRS }
     requires grant { grant ≡ grant_said reply.now }

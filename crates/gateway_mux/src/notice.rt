@@ -58,11 +58,11 @@ impl NoticeRefusal {
 /// What a request of the server tells, or why it is refused.
 pub(crate) fn read_notice<'a>(
     sessions: &SessionBook,
-    ask: &'a Ask2,
+    ask: &'a Ask2<'_>,
 ) -> Result<Notice<'a>, NoticeRefusal>
     ensures { notice_seen result ≡ notice_of (λ id. holder_of sessions.now id) ask.now }
 {
-    if ask.method.as_bytes() != b"PLAY_NOTIFY".as_slice() {
+    if ask.method != b"PLAY_NOTIFY".as_slice() {
         return Err(NoticeRefusal::Method);
     }
     let Some(id) = session(ask) else {
@@ -75,7 +75,7 @@ pub(crate) fn read_notice<'a>(
 }
 
 /// The session that it names.
-fn session(ask: &Ask2) -> Option<&[u8]>
+fn session<'a>(ask: &'a Ask2<'_>) -> Option<&'a [u8]>
     ensures { option_copied result ≡ session_named ask.now }
 {
     let value = ask.head.field(b"Session")?;
@@ -83,7 +83,7 @@ fn session(ask: &Ask2) -> Option<&[u8]>
 }
 
 /// What it tells the connection that has the session.
-fn told<'a>(ask: &'a Ask2, id: &'a [u8], conn: u32) -> Result<Notice<'a>, NoticeRefusal>
+fn told<'a>(ask: &'a Ask2<'_>, id: &'a [u8], conn: u32) -> Result<Notice<'a>, NoticeRefusal>
     ensures { notice_seen result
         ≡ said_reason ask.now id.now conn (notice_field ask.now (codes "Notify-Reason")) }
 {

@@ -89,7 +89,7 @@ impl Connections {
     }
 
     /// What a reply of the server does.
-    fn plan_reply(&self, alloc: Global, reply: &Reply2) -> Result<Act, Memory>
+    fn plan_reply(&self, alloc: Global, reply: &Reply2<'_>) -> Result<Act, Memory>
         ensures act { (shape : Shape) → heard shape ≡ replies reply.now
             → IfOk result (IsAct self.now.bases (picture self.now.seats self.now.upstream) (hears shape)) }
         ensures short { IfOk result IsShortAct }
@@ -136,7 +136,7 @@ impl Connections {
         pending: Pending<'_>,
         session: Option<&[u8]>,
         grant: Option<Grant>,
-        reply: &Reply2,
+        reply: &Reply2<'_>,
     ) -> Option<UpCause>
         requires low { IsLowPurpose (purpose_seen pending) }
         requires grant { grant ≡ grant_said reply.now }
@@ -161,7 +161,7 @@ impl Connections {
     }
 
     /// What a request of the server does.
-    fn plan_ask(&self, alloc: Global, ask: &Ask2) -> Result<Act, Memory>
+    fn plan_ask(&self, alloc: Global, ask: &Ask2<'_>) -> Result<Act, Memory>
         ensures act { (shape : Shape) → heard shape ≡ requests ask.now
             → IfOk result (IsAct self.now.bases (picture self.now.seats self.now.upstream) (hears shape)) }
         ensures short { IfOk result IsShortAct }

@@ -15,17 +15,17 @@ use std::alloc::Global;
 
 /// An item of the server that is no frame, as it is taken.
 #[derive(Drop)]
-pub(crate) enum ServerItem {
+pub(crate) enum ServerItem<'a> {
     /// A reply to a request that went up.
-    Reply(Reply2),
+    Reply(Reply2<'a>),
     /// A request of the server's own.
-    Ask(Ask2),
+    Ask(Ask2<'a>),
     /// Nothing that can be taken, and why.
     Fault(FramingFault),
 }
 
 /// What an item of the server says that is no frame.
-pub(crate) fn hear(alloc: Global, item: &Item) -> Result<ServerItem, Memory>
+pub(crate) fn hear(alloc: Global, item: &Item) -> Result<ServerItem<'_>, Memory>
     requires { is_frame item.now.kind ≡ false }
     ensures says { IfOk result (λ said. heard_seen said ≡ heard (shape_of item.now)) }
     ensures free { is_message item.now.kind ≡ false → IsOk result }
@@ -39,7 +39,7 @@ pub(crate) fn hear(alloc: Global, item: &Item) -> Result<ServerItem, Memory>
 }
 
 /// What a reply of the server says.
-fn hear_reply(alloc: Global, item: &Item) -> Result<ServerItem, Memory>
+fn hear_reply(alloc: Global, item: &Item) -> Result<ServerItem<'_>, Memory>
     ensures { IfOk result (λ said. heard_seen said ≡ heard_reply (reply_of_item (shape_of item.now))) }
 {
     match read_reply(alloc, item) {
@@ -51,7 +51,7 @@ fn hear_reply(alloc: Global, item: &Item) -> Result<ServerItem, Memory>
 }
 
 /// What a request of the server says.
-fn hear_ask(alloc: Global, item: &Item) -> Result<ServerItem, Memory>
+fn hear_ask(alloc: Global, item: &Item) -> Result<ServerItem<'_>, Memory>
     ensures { IfOk result (λ said. heard_seen said ≡ heard_ask (ask_of_item (shape_of item.now))) }
 {
     match read_ask(alloc, item) {

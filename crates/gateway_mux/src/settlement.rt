@@ -35,7 +35,7 @@ pub(crate) fn what_settles<'a>(
     conn: u32,
     pending: Pending<'a>,
     session: Option<&'a [u8]>,
-    reply: &Reply2,
+    reply: &Reply2<'_>,
 ) -> Result<Settlement, Memory>
     requires { 200 ≤ reply.now.code }
     ensures { IfOk result (λ settled.
