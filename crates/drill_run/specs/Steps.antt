@@ -2,7 +2,7 @@
 use Rattle.std.specs.Prelude.{ℕ, ◌%◌, codes, decimal, Bool, true, false, List, [], ◌∷◌, ◌++◌, map, Option, Some, None, if◌then◌else◌}
 use Rattle.gate_bytes.specs.Ascii.{dollar}
 use Rattle.rtsp_head.specs.declared.header.Header.{Header}
-use Rattle.rtsp_head.specs.declared.start.Start.TheVariants.{Request}
+use Rattle.rtsp_head.specs.HeadParts.{Request}
 use Rattle.rtsp_head.specs.Items.{items_of}
 use Rattle.rtsp_head.specs.Messages.{message_text}
 use Rattle.head_one.specs.Refusals.{version_one}

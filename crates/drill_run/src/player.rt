@@ -108,7 +108,7 @@ fn session_told(alloc: Global, reply: &Item) -> Result<Option<Text>, Memory>
 }
 
 /// The session that a head names.
-fn session_in_head(alloc: Global, head: &Head) -> Result<Option<Text>, Memory>
+fn session_in_head(alloc: Global, head: &Head<'_>) -> Result<Option<Text>, Memory>
     ensures { IfOk result (λ session. session ≡ session_in_head (Ok head.now)) }
 {
     let Some(value) = head.field(b"Session") else {
