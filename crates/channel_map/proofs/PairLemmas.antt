@@ -1,9 +1,9 @@
 -- Lemmas on the table of pairs.
-use Rattle.std.proofs.Common.{◌≡◌, ◌≢◌, ◌∙◌, ℕ, suc, zero, ◌+◌, ◌-◌, ◌<◌, ◌≤◌, ◌==◌, Bool, true, false, not, List, [], ◌∷◌, length, replicate, Option, Some, None, is_some, if◌then◌else◌, refl, sym, ap, subst, arith, set, get_or-set_same, get_or-set_other, length-set}
-use Rattle.std.proofs.lemmas.Bool.{eqb-true, eqb-false}
+use Rattle.std.proofs.Common.{◌≡◌, ◌≢◌, ◌∙◌, ℕ, suc, zero, ◌+◌, ◌-◌, ◌<◌, ◌≤◌, ◌==◌, Bool, true, false, not, List, [], ◌∷◌, length, replicate, Option, Some, None, is_some, IsSome, inl, inr, if◌then◌else◌, refl, sym, ap, subst, arith, set, get_or-set_same, get_or-set_other, length-set}
+use Rattle.std.proofs.lemmas.Bool.{eqb-true, eqb-false, eq-eqb, ne_eqb, cases_lt}
 use Rattle.std.proofs.lemmas.List.Sums.{count_by-le-length, sum_by-cons}
 use Rattle.channel_map.specs.declared.map.Held.{Held}
-use Rattle.channel_map.specs.declared.map.Freed.TheVariants.{Nothing}
+use Rattle.channel_map.specs.declared.map.Freed.TheVariants.{Nothing, Pair}
 use Rattle.channel_map.specs.declared.map.TheConstants.{PAIRS}
 use Rattle.channel_map.specs.Pairs.{IsTable, held_at, is_free, kept, first_free, lowest_free, held_count}
 
@@ -106,17 +106,21 @@ pub lowest_free_by : (n : ℕ) (free : ℕ → Bool) → n ≡ PAIRS → lowest_
 unfolding lowest_free
 lowest_free_by n free size = let P : ℕ → Type 0 = λ k. first_free PAIRS 0 free ≡ first_free k 0 free in subst P (sym size) refl
 
--- the table stays one where a place that speaks of its own pair is written
-pub written-table : (table : List (Option Held)) (held : Held) → IsTable table → held.pair < length table → IsTable (set table held.pair (Some held))
-written-table table held is low = record {
-  size = length-set table held.pair (Some held) ∙ is.size;
-  own = λ p there at. own_by (p == held.pair) p there refl (sym (held_at-set table held.pair p (Some held) low) ∙ at);
+-- the table stays one where what is written at a place speaks of its pair
+pub written-table : (table : List (Option Held)) (pair : ℕ) (place : Option Held) → IsTable table → pair < length table → ((held : Held) → place ≡ Some held → held.pair ≡ pair) → IsTable (set table pair place)
+written-table table pair place is low own = record {
+  size = length-set table pair place ∙ is.size;
+  own = λ p there at. own_by (p == pair) p there refl (sym (held_at-set table pair p place low) ∙ at);
 } where
-  own_by : (same : Bool) (p : ℕ) (there : Held) → (p == held.pair) ≡ same → (if p == held.pair then Some held else held_at p table) ≡ Some there → there.pair ≡ p
-  own_by true p there e at =
-      let here : p ≡ held.pair = eqb-true p held.pair e in
-      let one : Some held ≡ Some there = rw e at at in cc
+  own_by : (same : Bool) (p : ℕ) (there : Held) → (p == pair) ≡ same → (if p == pair then place else held_at p table) ≡ Some there → there.pair ≡ p
+  own_by true p there e at = let here : p ≡ pair = eqb-true p pair e in own there (rw e at at) ∙ sym here
   own_by false p there e at = let one : held_at p table ≡ Some there = rw e at at in is.own p there one
+
+-- past the table nothing is held
+pub held_at-past : (table : List (Option Held)) (p : ℕ) → length table ≤ p → held_at p table ≡ None
+held_at-past [] p past = refl
+held_at-past (place ∷ table) zero past = absurd (omega arith)
+held_at-past (place ∷ table) (suc p) past = held_at-past table p (omega arith)
 
 -- tests that agree find the same
 pub first_free_same : (n at : ℕ) (f g : ℕ → Bool) → ((p : ℕ) → f p ≡ g p) → first_free n at f ≡ first_free n at g
@@ -131,6 +135,35 @@ lowest_free_same f g same = first_free_same PAIRS 0 f g same
 pub kept-Nothing : (place : Option Held) → kept Nothing place ≡ place
 kept-Nothing None = refl
 kept-Nothing (Some held) = refl
+
+-- what is held stands in the table
+pub held-within : (table : List (Option Held)) (p : ℕ) → IsSome (held_at p table) → p < length table
+held-within table p some = elim (cases_lt p (length table)) [
+  | inl low ↦ low
+  | inr past ↦ let nobody : held_at p table ≡ None = held_at-past table p past in let contradiction : false ≡ true = rw nobody at some in cc
+]
+
+-- where one pair is freed, it alone is not held
+same_by : (pair : ℕ) (place : Option Held) → ((held : Held) → place ≡ Some held → held.pair ≡ pair) → kept (Pair pair) place ≡ None
+same_by pair None own = refl
+same_by pair (Some held) own = rw (eq-eqb held.pair pair (own held refl)) refl
+
+other_by : (pair p : ℕ) (place : Option Held) → p ≢ pair → ((held : Held) → place ≡ Some held → held.pair ≡ p) → kept (Pair pair) place ≡ place
+other_by pair p None apart own = refl
+other_by pair p (Some held) apart own = let far : held.pair ≢ pair = λ e. apart (sym (own held refl) ∙ e) in rw (ne_eqb held.pair pair far) refl
+
+pub kept-Pair_same : (table : List (Option Held)) (pair : ℕ) → IsTable table → kept (Pair pair) (held_at pair table) ≡ None
+kept-Pair_same table pair is = same_by pair (held_at pair table) (is.own pair)
+
+pub kept-Pair_other : (table : List (Option Held)) (pair p : ℕ) → IsTable table → p ≢ pair → kept (Pair pair) (held_at p table) ≡ held_at p table
+kept-Pair_other table pair p is apart = other_by pair p (held_at p table) apart (is.own p)
+
+-- a pair past the table is not held, so that nothing is freed with it
+pub kept-Pair_past : (table : List (Option Held)) (pair p : ℕ) → IsTable table → length table ≤ pair → kept (Pair pair) (held_at p table) ≡ held_at p table
+kept-Pair_past table pair p is past = past_by (p == pair) refl where
+  past_by : (same : Bool) → (p == pair) ≡ same → kept (Pair pair) (held_at p table) ≡ held_at p table
+  past_by true e = let here : p ≡ pair = eqb-true p pair e in rw (here, held_at-past table pair past) refl
+  past_by false e = kept-Pair_other table pair p is (eqb-false p pair e)
 
 pub lowest_free-Nothing : (table : List (Option Held)) → lowest_free (λ p. is_free (kept Nothing (held_at p table))) ≡ lowest_free (λ p. is_free (held_at p table))
 lowest_free-Nothing table = lowest_free_same _ _ (λ p. ap is_free (kept-Nothing (held_at p table)))

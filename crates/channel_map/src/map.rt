@@ -1,6 +1,7 @@
 //! Which pairs of channels are held, and by whom.
-ghost use Rattle.channel_map.specs.Pairs.{held_at, is_free, kept, first_free};
-ghost use Rattle.std.specs.Prelude.{length, ◌<◌, ◌≡◌, ◌==◌, ◌/◌, ◌↔◌, ℕ, false, true, None, Some, IsSome, IsNone, IfSome, IfNone, if◌then◌else◌};
+ghost use Rattle.channel_map.specs.Pairs.{held_at, is_free, kept, first_free, lowest_free};
+ghost use Rattle.channel_map.specs.Bits.{HasBitWhere};
+ghost use Rattle.std.specs.Prelude.{Bool, length, ◌<◌, ◌≡◌, ◌==◌, ◌/◌, ◌↔◌, ℕ, false, true, None, Some, IsSome, IsNone, IfSome, IfNone, if◌then◌else◌};
 
 use std::marker::Model;
 
@@ -59,23 +60,25 @@ impl Freed {
     }
 }
 
-/// The table of all pairs: who holds each.
+/// The table of all pairs: who holds each, and a bit for each, the pair's number from the lowest on,
+/// which is set where nobody does.
 #[derive(Drop)]
 pub struct ChannelMap {
     table: [Option<Held>; PAIRS],
+    free: u128,
 }
 
 impl Model for ChannelMap {
     ghost use Rattle.std.specs.Prelude.{List, Option};
     ghost use Rattle.channel_map.specs.declared.map.Held.{Held};
+    ghost use Rattle.channel_map.specs.Pairs.{IsTable, held_at, is_free};
+    ghost use Rattle.channel_map.specs.Bits.{HasBitWhere};
 
     ghost Value = { List (Option Held) };
 
-    ghost use Rattle.channel_map.specs.Pairs.{IsTable};
-
     ghost view = { λ map. map.table };
 
-    ghost invariant = { λ map. IsTable map.table };
+    ghost invariant = { λ map. IsTable map.table × HasBitWhere map.free (λ p. is_free (held_at p map.table)) };
 }
 
 impl ChannelMap {
@@ -87,6 +90,7 @@ impl ChannelMap {
     {
         ChannelMap {
             table: [None; PAIRS],
+            free: u128::MAX,
         }
     }
 
@@ -102,8 +106,8 @@ impl ChannelMap {
             else held_at p self.old)) }
         ensures none { IfNone result (self.new ≡ self.old) }
     {
-        let pair = self.free_after(Freed::Nothing)?;
-        self.table[usize::from(pair)] = Some(Held {
+        let pair = lowest(self.free)?;
+        self.hold(Held {
             conn,
             pair,
             granted: false,
@@ -115,9 +119,19 @@ impl ChannelMap {
     pub fn free_after(&self, freed: Freed) -> Option<u8>
         ensures lowest { result ≡ lowest_free (λ p. is_free (kept freed (held_at p self.now))) }
     {
-        match first_free(&self.table, freed) {
-            Some(place) => Some(place as u8),
-            None => None,
+        match freed {
+            Freed::Nothing => lowest(self.free),
+            Freed::Pair(pair) => {
+                if usize::from(pair) < PAIRS {
+                    lowest(self.free | 1 << pair)
+                } else {
+                    lowest(self.free)
+                }
+            }
+            Freed::Granted(_) => match first_free(&self.table, freed) {
+                Some(place) => Some(place as u8),
+                None => None,
+            },
         }
     }
 
@@ -129,7 +143,7 @@ impl ChannelMap {
             ≡ (if p == pair then granted_now (held_at p self.old) else held_at p self.old) }
     {
         if let Some(held) = self.table[usize::from(pair)] {
-            self.table[usize::from(pair)] = Some(Held {
+            self.hold(Held {
                 granted: true,
                 ..held
             });
@@ -149,6 +163,7 @@ impl ChannelMap {
         ensures { (p : ℕ) → held_at p self.new ≡ (if p == pair then None else held_at p self.old) }
     {
         self.table[usize::from(pair)] = None;
+        self.free |= 1 << pair;
     }
 
     /// Frees what a reply frees.
@@ -157,7 +172,18 @@ impl ChannelMap {
     {
         match freed {
             Freed::Nothing => {}
-            Freed::Pair(_) | Freed::Granted(_) => keep(&mut self.table, freed),
+            Freed::Pair(pair) => {
+                if let Some(Some(_)) = self.table.get(usize::from(pair)) {
+                    self.release(pair);
+                }
+            }
+            Freed::Granted(_) => {
+                let mut left = !self.free;
+                while let Some(pair) = lowest(left) {
+                    left &= !(1 << pair);
+                    self.free_pair(pair, freed);
+                }
+            }
         }
     }
 
@@ -165,7 +191,41 @@ impl ChannelMap {
     pub fn held(&self) -> usize
         ensures { result ≡ held_count self.now }
     {
-        self.table.iter().filter(|held| held.is_some()).count()
+        PAIRS - self.free.count_ones() as usize
+    }
+
+    /// Writes who holds a pair.
+    fn hold(&mut self, held: Held)
+        requires { held.pair < PAIRS }
+        ensures { (p : ℕ) → held_at p self.new ≡ (if p == held.pair then Some held else held_at p self.old) }
+    {
+        self.table[usize::from(held.pair)] = Some(held);
+        self.free &= !(1 << held.pair);
+    }
+
+    /// Frees a pair where what a reply frees has it.
+    fn free_pair(&mut self, pair: u8, freed: Freed)
+        requires { pair < PAIRS }
+        ensures { (p : ℕ)
+            → held_at p self.new
+            ≡ (if p == pair then kept freed (held_at p self.old) else held_at p self.old) }
+    {
+        if let Some(held) = self.table[usize::from(pair)] {
+            if freed.frees(held) {
+                self.release(pair);
+            }
+        }
+    }
+}
+
+/// The lowest pair of those whose bits are set.
+fn lowest(free: u128) -> Option<u8>
+    ensures { (is : ℕ → Bool) → HasBitWhere free is → result ≡ lowest_free is }
+{
+    if free == 0 {
+        None
+    } else {
+        Some(free.trailing_zeros() as u8)
     }
 }
 
@@ -181,17 +241,4 @@ fn first_free(table: &[Option<Held>], freed: Freed) -> Option<usize>
         }
     }
     None
-}
-
-/// Frees what a reply frees, at each place of a table.
-fn keep(table: &mut [Option<Held>], freed: Freed)
-    ensures { (p : ℕ) → held_at p table.new ≡ kept freed (held_at p table.old) }
-{
-    for place in table.iter_mut() {
-        if let Some(held) = *place {
-            if freed.frees(held) {
-                *place = None;
-            }
-        }
-    }
 }
