@@ -1,8 +1,11 @@
 //! The books of open requests and of sessions.
+ghost use Rattle.std.specs.Prelude.{◌≡◌};
 
-use crate::answer::{push_named, push_short};
+use crate::answer::{push_named, push_option, push_short};
 use crate::words::Words;
-use gate_bytes::Text;
+use gate_bytes::{Steps, Text};
+use std::marker::Brand;
+use std::sync::ledger::{Blank, Ledger};
 use test_text::{CaseAnswer, CaseFault};
 use up_books::{CseqBook, LAST_NUMBER, SessionBook};
 
@@ -17,6 +20,20 @@ pub fn step(book: &mut CseqBook, words: &mut Words<'_>, answer: &mut CaseAnswer)
         "ask" => {
             let conn = words.short(answer);
             ask(book, conn, answer);
+        }
+        "many" => {
+            let count = words.short(answer);
+            let conn = words.short(answer);
+            ask_many(book, count, conn, answer);
+        }
+        "evens" => {
+            let last = words.short(answer);
+            settle_evens(book, last, answer);
+        }
+        "find" => {
+            let number = words.short(answer);
+            let place = find::<Brand>(book, number, Blank::new(1));
+            push_option(answer, place.map(|place| place as u64));
         }
         "owner" => {
             let number = words.short(answer);
@@ -38,6 +55,42 @@ fn ask(book: &mut CseqBook, conn: u32, answer: &mut CaseAnswer) {
         Ok(()) => push_short(answer, book.issue(conn).ok()),
         Err(_memory) => answer.fail(CaseFault::Memory),
     }
+}
+
+/// Issues so many numbers to a connection, and tells the last one.
+fn ask_many(book: &mut CseqBook, count: u32, conn: u32, answer: &mut CaseAnswer) {
+    for _ in 0..count {
+        match book.room() {
+            Ok(()) => {
+                let _ = book.issue(conn);
+            }
+            Err(_memory) => {
+                answer.fail(CaseFault::Memory);
+                return;
+            }
+        }
+    }
+    push_short(answer, Some(book.issued()));
+}
+
+/// Settles the even numbers up to this one, and tells how many were open.
+fn settle_evens(book: &mut CseqBook, last: u32, answer: &mut CaseAnswer) {
+    let mut settled = 0u32;
+    for half in 0..last / 2 {
+        if book.settle(2 * half + 2).is_some() {
+            settled = settled.saturating_add(1);
+        }
+    }
+    push_short(answer, Some(settled));
+}
+
+/// Where an open request stands in the book.
+fn find<L: Ledger>(book: &CseqBook, number: u32, blank: Blank) -> Option<usize>
+    requires name { blank.name ≡ L.name }
+    requires parts { blank.parts ≡ L.parts }
+    requires share { blank.parts ≡ 1 }
+{
+    book.find(number, &mut Steps::<L>::new(blank))
 }
 
 /// Does a step with the book of sessions.

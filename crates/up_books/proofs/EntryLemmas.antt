@@ -1,10 +1,15 @@
 -- Lemmas on the entries of a book, for keys that a test tells apart.
-use Rattle.std.proofs.Common.{◌≡◌, ◌∙◌, ℕ, zero, suc, ◌+◌, ◌<◌, Bool, true, false, List, [], ◌∷◌, ◌++◌, length, get_or, Option, Some, None, if◌then◌else◌, refl, sym, arith}
-use Rattle.std.specs.List.{position, position_from, remove}
+use Rattle.std.proofs.Common.{◌≡◌, ◌∙◌, ℕ, zero, suc, ◌+◌, ◌<◌, ◌≤◌, Bool, true, false, List, [], ◌∷◌, length, get_or, Option, Some, None, if◌then◌else◌, refl, sym, ap, arith}
+use Rattle.std.specs.List.{position, position_from, insert, remove}
 use Rattle.std.proofs.lemmas.Iterator.Adapters.{position_from-zero}
 use Rattle.std.proofs.lemmas.List.Quantifiers.{position-Some}
 use Rattle.up_books.specs.declared.entry.BookEntry.{BookEntry}
-use Rattle.up_books.specs.Entries.{conn_of_key, HasEachKeyOnce}
+use Rattle.up_books.specs.Entries.{conn_of_key}
+
+-- no key has two entries
+abbrev pub HasEachKeyOnce : {K : Type 0} → (K → K → Bool) → List (BookEntry K) → Type 0
+HasEachKeyOnce same [] = Unit {0}
+HasEachKeyOnce same (entry ∷ entries) = (conn_of_key same entry.key entries ≡ None) × HasEachKeyOnce same entries
 
 -- a test of keys that tells them apart
 pub record TellsApart (K : Type 0) (same : K → K → Bool) : Type 0 where
@@ -67,26 +72,54 @@ append_by true true a b rest apart = let contradiction : true ≡ false = apart 
 append_by true false a b rest apart = refl
 append_by false one a b rest apart = refl
 
-pub conn_of_key-append : (K : Type 0) (same : K → K → Bool) → TellsApart K same → (entries : List (BookEntry K)) (one : BookEntry K) (key : K)
-    → conn_of_key same one.key entries ≡ None → conn_of_key same key (entries ++ one ∷ []) ≡ (if same key one.key then Some one.conn else conn_of_key same key entries)
-conn_of_key-append K same tells [] one key fresh = single_by (same one.key key) (same key one.key) refl refl where
-  single_by : (b d : Bool) → same one.key key ≡ b → same key one.key ≡ d → (if b then Some one.conn else None) ≡ (if d then Some one.conn else None)
-  single_by true true e f = refl
-  single_by false false e f = refl
-  single_by true false e f = let other : same one.key key ≡ false = other_way K same tells key one.key f in cc
-  single_by false true e f = let other : same key one.key ≡ false = other_way K same tells one.key key e in cc
-conn_of_key-append K same tells (entry ∷ entries) one key fresh =
+pub conn_of_key-insert : (K : Type 0) (same : K → K → Bool) → TellsApart K same → (entries : List (BookEntry K)) (at : ℕ) (one : BookEntry K) (key : K)
+    → at ≤ length entries → conn_of_key same one.key entries ≡ None → conn_of_key same key (insert entries at one) ≡ (if same key one.key then Some one.conn else conn_of_key same key entries)
+conn_of_key-insert K same tells entries zero one key within fresh = first_by (same one.key key) (same key one.key) refl refl where
+  first_by : (b d : Bool) → same one.key key ≡ b → same key one.key ≡ d → (if b then Some one.conn else conn_of_key same key entries) ≡ (if d then Some one.conn else conn_of_key same key entries)
+  first_by true true e f = refl
+  first_by false false e f = refl
+  first_by true false e f = let other : same one.key key ≡ false = other_way K same tells key one.key f in cc
+  first_by false true e f = let other : same key one.key ≡ false = other_way K same tells one.key key e in cc
+conn_of_key-insert K same tells [] (suc at) one key within fresh = absurd (omega arith)
+conn_of_key-insert K same tells (entry ∷ entries) (suc at) one key within fresh =
     let parts = fresh-tail K same one.key entry entries fresh in
-    rw (conn_of_key-append K same tells entries one key parts.1)
+    rw (conn_of_key-insert K same tells entries at one key (omega arith) parts.1)
     (append_by (same entry.key key) (same key one.key) entry.conn one.conn (conn_of_key same key entries)
     (λ is. let equal : entry.key ≡ key = tells.equal entry.key key is in rw equal at parts.0))
 
-pub once-append : (K : Type 0) (same : K → K → Bool) → TellsApart K same → (entries : List (BookEntry K)) (one : BookEntry K)
-    → conn_of_key same one.key entries ≡ None → HasEachKeyOnce same entries → HasEachKeyOnce same (entries ++ one ∷ [])
-once-append K same tells [] one fresh once = (refl, tt)
-once-append K same tells (entry ∷ entries) one fresh once =
-    let parts = fresh-tail K same one.key entry entries fresh in
-    (rw (conn_of_key-append K same tells entries one entry.key parts.1, parts.0) once.0, once-append K same tells entries one parts.1 once.1)
+-- a key that each entry is apart from
+pub conn_of_key-absent : (K : Type 0) (same : K → K → Bool) (key : K) (entries : List (BookEntry K)) → ((k : ℕ) (d : BookEntry K) → k < length entries → same (get_or entries k d).key key ≡ false) → conn_of_key same key entries ≡ None
+conn_of_key-absent K same key [] apart = refl
+conn_of_key-absent K same key (entry ∷ entries) apart =
+    rw (apart 0 entry (omega arith)) (conn_of_key-absent K same key entries (λ k d low. apart (suc k) d (omega arith)))
+
+pub absent-each : (K : Type 0) (same : K → K → Bool) (key : K) (entries : List (BookEntry K)) → conn_of_key same key entries ≡ None → (k : ℕ) (d : BookEntry K) → k < length entries → same (get_or entries k d).key key ≡ false
+absent-each K same key [] none k d low = absurd (omega arith)
+absent-each K same key (entry ∷ entries) none zero d low = (fresh-tail K same key entry entries none).0
+absent-each K same key (entry ∷ entries) none (suc k) d low = absent-each K same key entries (fresh-tail K same key entry entries none).1 k d (omega arith)
+
+position_from-absent : (K : Type 0) (same : K → K → Bool) (key : K) (entries : List (BookEntry K)) (i : ℕ) → ((k : ℕ) (d : BookEntry K) → k < length entries → same (get_or entries k d).key key ≡ false) → position_from (λ entry. same entry.key key) i entries ≡ None
+position_from-absent K same key [] i apart = refl
+position_from-absent K same key (entry ∷ entries) i apart =
+    rw (apart 0 entry (omega arith)) (position_from-absent K same key entries (i + 1) (λ k d low. apart (suc k) d (omega arith)))
+
+pub position-absent : (K : Type 0) (same : K → K → Bool) (key : K) (entries : List (BookEntry K)) → ((k : ℕ) (d : BookEntry K) → k < length entries → same (get_or entries k d).key key ≡ false) → position (λ entry. same entry.key key) entries ≡ None
+position-absent K same key entries apart = position_from-zero (λ entry. same entry.key key) entries ∙ position_from-absent K same key entries 0 apart
+
+-- the first entry that has a key
+position_from-first : (K : Type 0) (same : K → K → Bool) (key : K) (entries : List (BookEntry K)) (i at place : ℕ) → place ≡ i + at → at < length entries → ((d : BookEntry K) → same (get_or entries at d).key key ≡ true)
+    → ((k : ℕ) (d : BookEntry K) → k < at → same (get_or entries k d).key key ≡ false) → position_from (λ entry. same entry.key key) i entries ≡ Some place
+position_from-first K same key [] i at place sum within here before = absurd (omega arith)
+position_from-first K same key (entry ∷ entries) i zero place sum within here before =
+    let same_place : i ≡ place = omega arith in rw (here entry) (ap (λ (n : ℕ). Some n) same_place)
+position_from-first K same key (entry ∷ entries) i (suc at) place sum within here before =
+    rw (before 0 entry (omega arith))
+    (position_from-first K same key entries (i + 1) at place (omega arith) (omega arith) here (λ k d low. before (suc k) d (omega arith)))
+
+pub position-first : (K : Type 0) (same : K → K → Bool) (key : K) (entries : List (BookEntry K)) (at : ℕ) → at < length entries → ((d : BookEntry K) → same (get_or entries at d).key key ≡ true)
+    → ((k : ℕ) (d : BookEntry K) → k < at → same (get_or entries k d).key key ≡ false) → position (λ entry. same entry.key key) entries ≡ Some at
+position-first K same key entries at within here before =
+    position_from-zero (λ entry. same entry.key key) entries ∙ position_from-first K same key entries 0 at at (omega arith) within here before
 
 -- without the entry of a key
 pub conn_of_key-remove : (K : Type 0) (same : K → K → Bool) → TellsApart K same → (entries : List (BookEntry K)) (at : ℕ) (d : BookEntry K) (key other : K)
@@ -110,12 +143,3 @@ conn_of_key-remove K same tells (entry ∷ entries) (suc at) d key other once is
     later_by true true a rest apart = let contradiction : true ≡ false = apart refl in cc
     later_by true false a rest apart = refl
     later_by false one a rest apart = refl
-
-pub once-remove : (K : Type 0) (same : K → K → Bool) → TellsApart K same → (entries : List (BookEntry K)) (at : ℕ) (d : BookEntry K) (key : K)
-    → HasEachKeyOnce same entries → IsFirst same key entries at d → HasEachKeyOnce same (remove entries at)
-once-remove K same tells [] at d key once is = absurd (omega (arith, is.low))
-once-remove K same tells (entry ∷ entries) zero d key once is = once.1
-once-remove K same tells (entry ∷ entries) (suc at) d key once is =
-    let apart : same entry.key key ≡ false = is.before 0 (omega arith) in
-    let tail = first-tail K same key entry entries at d is in
-    (rw (conn_of_key-remove K same tells entries at d key entry.key once.1 tail, apart) once.0, once-remove K same tells entries at d key once.1 tail)

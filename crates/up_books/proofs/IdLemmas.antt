@@ -1,14 +1,26 @@
 -- Lemmas on the ids of sessions.
-use Rattle.std.proofs.Common.{◌≡◌, ℕ, Bool, true, false, List, [], ◌∷◌, ◌++◌, get_or, Some, None, if◌then◌else◌, refl}
+use Rattle.std.proofs.Common.{◌≡◌, ◌∙◌, ℕ, Bool, true, false, List, get_or, Some, None, if◌then◌else◌, refl, sym, ap}
 use Rattle.std.specs.Str.{bytes_eq}
-use Rattle.std.specs.List.{position, remove}
+use Rattle.std.specs.Ordering.{is_eq}
+use Rattle.std.specs.List.{position, insert, remove}
 use Rattle.std.proofs.lemmas.Slice.Eq.{bytes_eq-Decides}
+use Rattle.std.proofs.lemmas.Cmp.{nat_list_cmp_total}
+use Rattle.std.proofs.lemmas.Map.Text.{is_eq-slice_cmp}
 use Rattle.up_books.specs.declared.entry.BookEntry.{BookEntry}
-use Rattle.up_books.specs.Ids.{holder_in, IsIds}
-use Rattle.up_books.proofs.EntryLemmas.{TellsApart, conn_of_key-none, conn_of_key-some, first-position, conn_of_key-append, once-append, conn_of_key-remove, once-remove}
+use Rattle.up_books.specs.Entries.{IsGapFor}
+use Rattle.up_books.specs.Ids.{id_order, holder_in, IsIds}
+use Rattle.up_books.proofs.EntryLemmas.{TellsApart, conn_of_key-none, conn_of_key-some, first-position, conn_of_key-insert, conn_of_key-remove}
+use Rattle.up_books.proofs.KeyLemmas.{IsKeyOrder, tells_apart, rising-once, rising-remove, rising-insert}
+
+pub ids_order : IsKeyOrder (List ℕ) bytes_eq id_order
+ids_order = record {
+  total = nat_list_cmp_total;
+  one = λ a b is. (bytes_eq-Decides a b).0 (sym (is_eq-slice_cmp a b) ∙ ap is_eq is);
+  tells = λ a b. sym (is_eq-slice_cmp a b);
+}
 
 ids_tell : TellsApart (List ℕ) bytes_eq
-ids_tell = record { equal = λ a b. (bytes_eq-Decides a b).0; alike = λ a. (bytes_eq-Decides a a).1 refl }
+ids_tell = tells_apart (List ℕ) bytes_eq id_order ids_order
 
 -- which place tells whose an id is
 pub holder-none : (id : List ℕ) (bound : List (BookEntry (List ℕ))) → position (λ entry. bytes_eq entry.key id) bound ≡ None → holder_in id bound ≡ None
@@ -18,20 +30,20 @@ pub holder-some : (id : List ℕ) (bound : List (BookEntry (List ℕ))) (at : �
 holder-some id bound at d is = conn_of_key-some (List ℕ) bytes_eq id bound at d (first-position (List ℕ) bytes_eq id bound at d is)
 
 -- an id that no connection has is bound
-pub holder-bind : (id : List ℕ) (conn : ℕ) (other : List ℕ) (bound : List (BookEntry (List ℕ))) → holder_in id bound ≡ None
-    → holder_in other (bound ++ record { key = id; conn = conn } ∷ []) ≡ (if bytes_eq other id then Some conn else holder_in other bound)
-holder-bind id conn other bound fresh = conn_of_key-append (List ℕ) bytes_eq ids_tell bound (record { key = id; conn = conn }) other fresh
+pub holder-bind : (id : List ℕ) (conn : ℕ) (other : List ℕ) (at : ℕ) (bound : List (BookEntry (List ℕ))) → IsGapFor id_order id at bound → holder_in id bound ≡ None
+    → holder_in other (insert bound at (record { key = id; conn = conn })) ≡ (if bytes_eq other id then Some conn else holder_in other bound)
+holder-bind id conn other at bound gap fresh = conn_of_key-insert (List ℕ) bytes_eq ids_tell bound at (record { key = id; conn = conn }) other gap.within fresh
 
-pub ids-bind : (id : List ℕ) (conn : ℕ) (bound : List (BookEntry (List ℕ))) → holder_in id bound ≡ None → IsIds bound → IsIds (bound ++ record { key = id; conn = conn } ∷ [])
-ids-bind id conn bound fresh is = once-append (List ℕ) bytes_eq ids_tell bound (record { key = id; conn = conn }) fresh is
+pub ids-bind : (id : List ℕ) (conn at : ℕ) (bound : List (BookEntry (List ℕ))) → IsGapFor id_order id at bound → IsIds bound → IsIds (insert bound at (record { key = id; conn = conn }))
+ids-bind id conn at bound gap is = rising-insert (List ℕ) bytes_eq id_order ids_order bound at (record { key = id; conn = conn }) gap is
 
 -- an id is bound no longer
 pub holder-free : (id other : List ℕ) (at : ℕ) (bound : List (BookEntry (List ℕ))) (d : BookEntry (List ℕ)) → IsIds bound → position (λ entry. bytes_eq entry.key id) bound ≡ Some at
     → holder_in other (remove bound at) ≡ (if bytes_eq other id then None else holder_in other bound)
-holder-free id other at bound d is found = conn_of_key-remove (List ℕ) bytes_eq ids_tell bound at d id other is (first-position (List ℕ) bytes_eq id bound at d found)
+holder-free id other at bound d is found = conn_of_key-remove (List ℕ) bytes_eq ids_tell bound at d id other (rising-once (List ℕ) bytes_eq id_order ids_order bound is) (first-position (List ℕ) bytes_eq id bound at d found)
 
 pub ids-free : (id : List ℕ) (at : ℕ) (bound : List (BookEntry (List ℕ))) (d : BookEntry (List ℕ)) → IsIds bound → position (λ entry. bytes_eq entry.key id) bound ≡ Some at → IsIds (remove bound at)
-ids-free id at bound d is found = once-remove (List ℕ) bytes_eq ids_tell bound at d id is (first-position (List ℕ) bytes_eq id bound at d found)
+ids-free id at bound d is found = rising-remove (List ℕ) bytes_eq id_order ids_order bound at (first-position (List ℕ) bytes_eq id bound at d found).low is
 
 -- where it was not bound, nothing changes
 pub holder-absent : (id other : List ℕ) (bound : List (BookEntry (List ℕ))) → holder_in id bound ≡ None → holder_in other bound ≡ (if bytes_eq other id then None else holder_in other bound)

@@ -1,3 +1,4 @@
 pub mod EntryLemmas
 pub mod IdLemmas
+pub mod KeyLemmas
 pub mod NumberLemmas

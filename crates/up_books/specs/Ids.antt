@@ -1,9 +1,12 @@
 -- The book of the ids of sessions (RFC 7826, 4.3, has the ids; that one is bound to one connection is this project's own).
 use Rattle.std.specs.Prelude.{ℕ, List, Option, Some, None, Result, Ok, Err}
 use Rattle.std.specs.Str.{bytes_eq}
+use Rattle.std.specs.declared.cmp.Ordering.{Ordering}
+use Rattle.std.specs.Ordering.{nat_cmp}
+use Rattle.std.specs.Cmp.Lexicographic.{slice_cmp}
 use Rattle.up_books.specs.declared.entry.BookEntry.{BookEntry}
 use Rattle.up_books.specs.declared.session.BoundElsewhere.{BoundElsewhere}
-use Rattle.up_books.specs.Entries.{conn_of_key, HasEachKeyOnce}
+use Rattle.up_books.specs.Entries.{conn_of_key, HasRisingKeys}
 
 -- for how many more sessions there is room, and the connection that each id is bound to
 pub record Ids : Type 0 where
@@ -23,6 +26,10 @@ abbrev pub binding : List ℕ → Option ℕ → Result Unit BoundElsewhere
 binding id None = Ok tt
 binding id (Some owner) = Err (record { id = id; owner = owner })
 
--- no id is bound twice
+-- the order of two ids, by their bytes from the front on
+abbrev pub id_order : List ℕ → List ℕ → Ordering
+id_order a b = slice_cmp nat_cmp a b
+
+-- the ids rise, so none is bound twice
 abbrev pub IsIds : List (BookEntry (List ℕ)) → Type 0
-IsIds bound = HasEachKeyOnce bytes_eq bound
+IsIds bound = HasRisingKeys id_order bound

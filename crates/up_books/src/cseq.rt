@@ -1,12 +1,14 @@
 //! The numbers of open requests (RFC 7826, 18.20).
-ghost use Rattle.std.specs.Prelude.{◌≡◌, ◌==◌, ◌+◌, ◌<◌, ◌≤◌, ℕ, None, Some, is_some, OnOk, OnErr, IfOk, if◌then◌else◌};
+ghost use Rattle.std.specs.Prelude.{◌≡◌, ◌==◌, ◌+◌, ◌-◌, ◌*◌, ◌^◌, ◌<◌, ◌≤◌, ℕ, length, None, Some, is_some, OnOk, OnErr, IfOk, if◌then◌else◌};
 ghost use Rattle.up_books.specs.declared.cseq.TheConstants.{LAST_NUMBER};
 
 use crate::entry::BookEntry;
-use gate_bytes::Memory;
+use gate_bytes::{Memory, Steps};
 use rtsp_small::LAST_CSEQ_TWO;
 use std::alloc::Global;
-use std::marker::Model;
+use std::cmp::Ordering;
+use std::marker::{Brand, Model};
+use std::sync::ledger::{Blank, Ledger};
 
 /// The last number of a request: the largest of nine digits (RFC 7826, 20.2.3).
 pub const LAST_NUMBER: u32 = LAST_CSEQ_TWO;
@@ -15,8 +17,8 @@ pub const LAST_NUMBER: u32 = LAST_CSEQ_TWO;
 #[derive(Clone, Copy, Debug, PartialEq, Eq)]
 pub struct Spent;
 
-/// The open requests by their numbers, and the last number that was issued. Spare is the number of
-/// further requests that need no memory.
+/// The open requests by their numbers, which rise, and the last number that was issued. Spare is the
+/// number of further requests that need no memory.
 #[derive(Drop)]
 pub struct CseqBook {
     issued: u32,
@@ -127,10 +129,42 @@ impl CseqBook {
         Some(loan.conn)
     }
 
-    /// Where an open request stands in the book.
+    /// Where an open request stands in the book, among the open ones by rising numbers. A step is one that
+    /// was looked at: the book is halved until it is found.
+    pub fn find<L: Ledger>(&self, number: u32, steps: &mut Steps<L>) -> Option<usize>
+        ensures place { result ≡ position (λ loan. loan.key == number) self.now.loans }
+        ensures open { is_some result ≡ is_some (asker_of self.now number) }
+        ensures counted { steps.old ≤ steps.new }
+        ensures cost { 2 ^ (steps.new - steps.old) ≤ 2 * length self.now.loans + 1 }
+    {
+        let mut low = 0;
+        let mut high = self.loans.len();
+        while low < high {
+            let middle = low + (high - low) / 2;
+            steps.add(1);
+            match self.loans[middle].key.cmp(&number) {
+                Ordering::Less => low = middle + 1,
+                Ordering::Equal => return Some(middle),
+                Ordering::Greater => high = middle,
+            }
+        }
+        None
+    }
+
+    /// Where an open request stands, by a count of its own.
+    fn find_counted<L: Ledger>(&self, number: u32, blank: Blank) -> Option<usize>
+        requires name { blank.name ≡ L.name }
+        requires parts { blank.parts ≡ L.parts }
+        requires share { blank.parts ≡ 1 }
+        ensures { result ≡ position (λ loan. loan.key == number) self.now.loans }
+    {
+        self.find(number, &mut Steps::<L>::new(blank))
+    }
+
+    /// Where an open request stands.
     fn place(&self, number: u32) -> Option<usize>
         ensures { result ≡ position (λ loan. loan.key == number) self.now.loans }
     {
-        self.loans.iter().position(|loan| loan.key == number)
+        self.find_counted::<Brand>(number, Blank::new(1))
     }
 }

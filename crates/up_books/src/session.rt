@@ -1,10 +1,13 @@
 //! The sessions by their ids.
-ghost use Rattle.std.specs.Prelude.{◌≡◌, ◌==◌, ◌+◌, ◌<◌, ℕ, List, None, Some, Ok, Err, is_some, position, OnOk, OnErr, if◌then◌else◌};
+ghost use Rattle.std.specs.Prelude.{◌≡◌, ◌==◌, ◌+◌, ◌<◌, ℕ, List, None, Some, Ok, Err, is_some, position, OnOk, OnErr, IfErr, if◌then◌else◌};
 ghost use Rattle.std.specs.Str.{bytes_eq};
+ghost use Rattle.up_books.specs.Entries.{IsGapFor};
+ghost use Rattle.up_books.specs.Ids.{id_order};
 
 use crate::entry::BookEntry;
 use gate_bytes::{Memory, Text};
 use std::alloc::Global;
+use std::cmp::Ordering;
 use std::marker::Model;
 
 /// An id that can't be bound, since it is another connection's.
@@ -16,7 +19,7 @@ pub struct BoundElsewhere {
     pub owner: u32,
 }
 
-/// The sessions by their ids. Spare is the number of further sessions that need no memory.
+/// The sessions by their ids, which rise. Spare is the number of further sessions that need no memory.
 #[derive(Drop)]
 pub struct SessionBook {
     spare: usize,
@@ -36,6 +39,7 @@ impl Model for SessionBook {
 
 impl SessionBook {
     ghost use Rattle.up_books.specs.Ids.{holder_of, binding};
+    ghost use Rattle.std.specs.Result.{result_ok};
 
     /// No id is bound. It takes no memory, and nothing is spare.
     pub fn new(alloc: Global) -> SessionBook
@@ -71,19 +75,26 @@ impl SessionBook {
             ≡ (if bytes_eq other id then Some conn else holder_of self.old other)) }
         ensures err { OnErr result (self.new ≡ self.old) }
     {
-        if let Some(owner) = self.owner(id.as_bytes()) {
-            return Err(BoundElsewhere { id, owner });
+        match self.place(id.as_bytes()) {
+            Ok(place) => {
+                let owner = self.bound[place].conn;
+                Err(BoundElsewhere { id, owner })
+            }
+            Err(place) => {
+                let Ok(()) = self.bound.insert(place, BookEntry { key: id, conn }) else {
+                    unreachable!();
+                };
+                self.spare -= 1;
+                Ok(())
+            }
         }
-        self.bound.push_reserved(BookEntry { key: id, conn });
-        self.spare -= 1;
-        Ok(())
     }
 
     /// The connection that an id is bound to.
     pub fn owner(&self, id: &[u8]) -> Option<u32>
         ensures { result ≡ holder_of self.now id.now }
     {
-        let place = self.place(id)?;
+        let place = self.place(id).ok()?;
         Some(self.bound[place].conn)
     }
 
@@ -94,25 +105,24 @@ impl SessionBook {
         ensures bound { (other : List ℕ)
             → holder_of self.new other ≡ (if bytes_eq other id.now then None else holder_of self.old other) }
     {
-        if let Some(place) = self.place(id) {
+        if let Ok(place) = self.place(id) {
             let BookEntry { key: _, conn: _ } = self.bound.remove(place);
             self.spare += 1;
         }
     }
 
-    /// Where an id stands in the book.
-    fn place(&self, id: &[u8]) -> Option<usize>
-        ensures { result ≡ position (λ entry. bytes_eq entry.key id.now) self.now.bound }
+    /// Where an id stands in the book; where it doesn't, where it would.
+    fn place(&self, id: &[u8]) -> Result<usize, usize>
+        ensures found { result_ok result ≡ position (λ entry. bytes_eq entry.key id.now) self.now.bound }
+        ensures gap { IfErr result (λ place. IsGapFor id_order id.now place self.now.bound) }
     {
-        self.bound.iter().position(|entry| is_key(&entry.key, id))
+        self.bound.binary_search_by(|entry| compare(&entry.key, id))
     }
 }
 
-/// Whether a key is this id. The ids of one server may be alike up to their ends, so these are compared
-/// first.
-fn is_key(key: &Text, id: &[u8]) -> bool
-    ensures { result ≡ bytes_eq key.now id.now }
+/// The order of a key to an id, by their bytes.
+fn compare(key: &Text, id: &[u8]) -> Ordering
+    ensures { result ≡ id_order key.now id.now }
 {
-    let key = key.as_bytes();
-    key.len() == id.len() && key.last() == id.last() && key == id
+    key.as_bytes().cmp(id)
 }
