@@ -6,7 +6,6 @@ use Rattle.std.specs.declared.cmp.Ordering.TheVariants.{Less, Equal, Greater}
 use Rattle.std.specs.Ordering.{nat_cmp, is_eq}
 use Rattle.std.proofs.lemmas.Bool.{eqb-true, eqb-false, eq-eqb, ne_eqb, cases_lt}
 use Rattle.std.proofs.lemmas.Cmp.{ranked, nat_cmp_total}
-use Rattle.std.proofs.lemmas.List.{get_or_default}
 use Rattle.std.proofs.lemmas.Nat.{mul-le}
 use Rattle.std.proofs.Math.Nat.{pow-suc, mul_assoc, le-mul_of_pos_right}
 use Rattle.up_books.specs.declared.entry.BookEntry.{BookEntry}
@@ -96,12 +95,6 @@ asker-absent number n loans none = absent_by (n == number) refl where
   absent_by : (b : Bool) → (n == number) ≡ b → asker_in n loans ≡ (if b then None else asker_in n loans)
   absent_by true e = let equal : n ≡ number = eqb-true n number e in rw equal none
   absent_by false e = refl
-
--- what a comparison with the loan at a place tells
-pub compared : (items loans : List (BookEntry ℕ)) (at number : ℕ) (found : BookEntry ℕ) (answer : Ordering) → items ≡ loans → at < length loans → found ≡ get_or items at found → answer ≡ nat_cmp found.key number
-    → (d : BookEntry ℕ) → nat_cmp (get_or loans at d).key number ≡ answer
-compared items loans at number found answer same within is told d =
-    let here : get_or loans at d ≡ found = get_or_default loans at d found within ∙ sym (rw same at is) in rw here (sym told)
 
 -- with each step what is left is halved at least
 pub halve-step : (before steps width half n : ℕ) → before ≤ steps → 0 < width → half + half ≤ width → 2 ^ (steps - before) * width ≤ n → (2 ^ (steps + 1 - before) * half ≤ n) × (2 ^ (steps + 1 - before) ≤ 2 * n + 1)

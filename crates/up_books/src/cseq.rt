@@ -1,6 +1,7 @@
 //! The numbers of open requests (RFC 7826, 18.20).
-ghost use Rattle.std.specs.Prelude.{◌≡◌, ◌==◌, ◌+◌, ◌-◌, ◌*◌, ◌^◌, ◌<◌, ◌≤◌, ℕ, length, None, Some, is_some, OnOk, OnErr, IfOk, if◌then◌else◌};
+ghost use Rattle.std.specs.Prelude.{◌≡◌, ◌==◌, ◌+◌, ◌-◌, ◌*◌, ◌^◌, ◌<◌, ◌≤◌, ℕ, length, None, Some, is_some, slice_index_or, OnOk, OnErr, IfOk, if◌then◌else◌};
 ghost use Rattle.up_books.specs.declared.cseq.TheConstants.{LAST_NUMBER};
+ghost use Rattle.up_books.specs.declared.entry.BookEntry.{BookEntry};
 
 use crate::entry::BookEntry;
 use gate_bytes::{Memory, Steps};
@@ -141,14 +142,23 @@ impl CseqBook {
         let mut high = self.loans.len();
         while low < high {
             let middle = low + (high - low) / 2;
-            steps.add(1);
-            match self.loans[middle].key.cmp(&number) {
+            match self.look(middle, steps).cmp(&number) {
                 Ordering::Less => low = middle + 1,
                 Ordering::Equal => return Some(middle),
                 Ordering::Greater => high = middle,
             }
         }
         None
+    }
+
+    /// The number of the open request at a place. One step.
+    fn look<L: Ledger>(&self, place: usize, steps: &mut Steps<L>) -> u32
+        requires { place < length self.now.loans }
+        ensures number { (other : BookEntry ℕ) → (slice_index_or self.now.loans place other).key ≡ result }
+        ensures steps { steps.new ≡ steps.old + 1 }
+    {
+        steps.add(1);
+        self.loans[place].key
     }
 
     /// Where an open request stands, by a count of its own.
