@@ -4,7 +4,9 @@ use crate::answer::{keep, push_bytes, push_named, push_part};
 use crate::content::content_of;
 use crate::words::Words;
 use gate_bytes::Text;
-use rtsp_head::{Facts, Head, Headers, Length, Start, check_head, push_message, read_head};
+use rtsp_head::{
+    Facts, Head, HeadFields, Headers, Length, StartLine, check_head, push_message, read_head,
+};
 use std::alloc::Global;
 use test_text::CaseAnswer;
 
@@ -52,42 +54,53 @@ fn tell_read(alloc: Global, bytes: &[u8], answer: &mut CaseAnswer) {
 }
 
 /// Tells the first line of a head, how many headers it has, and how they are written again.
-fn push_head(alloc: Global, answer: &mut CaseAnswer, head: &Head) {
+fn push_head(alloc: Global, answer: &mut CaseAnswer, head: &Head<'_>) {
     push_counted(answer, head);
     answer.push(b", written ");
-    push_written(alloc, None, &head.headers, b"", answer);
+    let headers = copied(alloc, head.headers(), answer);
+    push_written(alloc, None, &headers, b"", answer);
+}
+
+/// The headers of a head, to be written.
+fn copied(alloc: Global, fields: &HeadFields<'_>, answer: &mut CaseAnswer) -> Headers {
+    let mut headers = Headers::new(alloc);
+    for field in fields.as_slice() {
+        let pushed = headers.push_copy(alloc, field.name, Some(field.value.as_bytes()));
+        keep(answer, pushed);
+    }
+    headers
 }
 
 /// Tells the first line of a head, and how many headers it has.
-fn push_counted(answer: &mut CaseAnswer, head: &Head) {
-    push_start(answer, &head.start);
+fn push_counted(answer: &mut CaseAnswer, head: &Head<'_>) {
+    push_start(answer, head.start());
     answer.push(b", ");
-    answer.push_number(head.headers.len() as u64);
+    answer.push_number(head.headers().len() as u64);
     answer.push(b" headers");
 }
 
 /// Tells what a first line says.
-fn push_start(answer: &mut CaseAnswer, start: &Start) {
+fn push_start(answer: &mut CaseAnswer, start: StartLine<'_>) {
     match start {
-        Start::Request {
+        StartLine::Request {
             method,
             uri,
             version,
         } => {
             answer.push(b"request");
-            push_part(answer, b" ", method.as_bytes());
-            push_part(answer, b" ", uri.as_bytes());
-            push_part(answer, b" ", version.as_bytes());
+            push_part(answer, b" ", method);
+            push_part(answer, b" ", uri);
+            push_part(answer, b" ", version);
         }
-        Start::Status {
+        StartLine::Status {
             version,
             code,
             reason,
         } => {
             answer.push(b"status");
-            push_part(answer, b" ", version.as_bytes());
-            push_named(answer, b" ", Some(u64::from(*code)));
-            push_part(answer, b" ", reason.as_bytes());
+            push_part(answer, b" ", version);
+            push_named(answer, b" ", Some(u64::from(code)));
+            push_part(answer, b" ", reason);
         }
     }
 }
@@ -103,7 +116,7 @@ fn tell_field(mut words: Words<'_>, answer: &mut CaseAnswer) {
 }
 
 /// Tells the value of a head's field.
-fn push_field(answer: &mut CaseAnswer, head: &Head, name: &[u8]) {
+fn push_field(answer: &mut CaseAnswer, head: &Head<'_>, name: &[u8]) {
     match head.field(name) {
         Some(value) => push_bytes(answer, value),
         None => answer.push(b"none"),

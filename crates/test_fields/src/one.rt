@@ -28,16 +28,16 @@ fn push_read(alloc: Global, answer: &mut CaseAnswer, item: &Item) {
 }
 
 /// Tells a request.
-fn push_request(alloc: Global, answer: &mut CaseAnswer, request: &Request1) {
+fn push_request(alloc: Global, answer: &mut CaseAnswer, request: &Request1<'_>) {
     answer.push_debug(alloc, &request.method);
     answer.push(b" of ");
-    push_bytes(answer, request.uri.as_bytes());
+    push_bytes(answer, request.uri);
     push_named(answer, b" cseq ", Some(request.cseq));
-    push_body(answer, &request.head, request.body.as_bytes());
+    push_body(answer, &request.head, request.body);
 }
 
 /// Tells how long a body is by the head, where that says it, and the body.
-pub fn push_body(answer: &mut CaseAnswer, head: &Head, body: &[u8]) {
+pub fn push_body(answer: &mut CaseAnswer, head: &Head<'_>, body: &[u8]) {
     if let Some(length) = head.field(b"content-length") {
         push_part(answer, b" content-length ", length);
     }

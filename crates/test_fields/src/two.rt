@@ -27,10 +27,10 @@ fn push_read(alloc: Global, answer: &mut CaseAnswer, item: &Item) {
 }
 
 /// Tells a reply.
-fn push_reply(answer: &mut CaseAnswer, reply: &Reply2) {
+fn push_reply(answer: &mut CaseAnswer, reply: &Reply2<'_>) {
     answer.push_number(u64::from(reply.code));
     push_named(answer, b" cseq ", Some(u64::from(reply.cseq)));
-    push_body(answer, &reply.head, reply.body.as_bytes());
+    push_body(answer, &reply.head, reply.body);
 }
 
 /// The request of the server that a stream begins with, or its fault.
@@ -45,7 +45,7 @@ pub fn tell_ask(words: Words<'_>, answer: &mut CaseAnswer) {
 fn push_ask(alloc: Global, answer: &mut CaseAnswer, item: &Item) {
     match read_ask(alloc, item) {
         Ok(ask) => {
-            push_bytes(answer, ask.method.as_bytes());
+            push_bytes(answer, ask.method);
             push_named(answer, b" cseq ", Some(u64::from(ask.cseq)));
         }
         Err(fault) => answer.push_debug(alloc, &fault),

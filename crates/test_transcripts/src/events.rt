@@ -66,20 +66,23 @@ impl Trial {
 
     /// The server tells the reply that a text means.
     fn hear(&mut self, alloc: Global, text: &[u8], answer: &mut CaseAnswer) {
-        match reply_in(alloc, text) {
-            Ok(reply) => {
-                let source = match grant_said(&reply) {
-                    Some(grant) => grant.ssrc,
-                    None => None,
-                };
-                let told = ServerReply {
-                    reply: &reply,
-                    source,
-                };
-                self.come(alloc, &Incoming::Reply(told), answer);
-            }
+        match item_in(alloc, text) {
+            Ok(item) => match read_reply(alloc, &item) {
+                Ok(reply) => self.hear_reply(alloc, &reply, answer),
+                Err(_fault) => answer.unreadable(),
+            },
             Err(fault) => answer.fail(fault),
         }
+    }
+
+    /// The server tells a reply.
+    fn hear_reply(&mut self, alloc: Global, reply: &Reply2<'_>, answer: &mut CaseAnswer) {
+        let source = match grant_said(reply) {
+            Some(grant) => grant.ssrc,
+            None => None,
+        };
+        let told = ServerReply { reply, source };
+        self.come(alloc, &Incoming::Reply(told), answer);
     }
 
     /// Something comes.
@@ -112,14 +115,6 @@ impl Trial {
             self.number = next;
         }
         push_done(&done, answer);
-    }
-}
-
-/// The reply that a text means.
-fn reply_in(alloc: Global, text: &[u8]) -> Result<Reply2, CaseFault> {
-    match read_reply(alloc, &item_in(alloc, text)?) {
-        Ok(reply) => Ok(reply),
-        Err(_fault) => Err(CaseFault::Unreadable),
     }
 }
 

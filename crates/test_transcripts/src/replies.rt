@@ -5,7 +5,7 @@ ghost use Rattle.translate_down.specs.Settings.{setting_of, CanBeTold};
 use crate::print::tell_written;
 use gate_bytes::{Memory, Text};
 use head_two::Reply2;
-use rtsp_head::{Head, Start, read_head};
+use rtsp_head::{StartLine, read_head};
 use rtsp_small::{Method, read_method};
 use rtsp_transport::Pair;
 use rtsp_uri::Bases;
@@ -32,13 +32,20 @@ pub fn tell_reply(alloc: Global, bases: &Bases, line: &[u8], answer: &mut CaseAn
         timeout: (seconds != b"-".as_slice()).then_some(30),
     };
     match said(alloc, method, named == b"named".as_slice(), text) {
-        Ok((asked, reply)) => {
-            tell_written(b"", reply_one(alloc, &with, &asked, &reply), answer);
-            tell_written(
-                b"",
-                reply_one(alloc, &without_session(bases), &asked, &reply),
-                answer,
-            );
+        Ok(said) => tell_case(alloc, &with, &said, answer),
+        Err(fault) => answer.fail(fault),
+    }
+}
+
+/// Tells what a player with a session gets of a reply, and one without.
+fn tell_case(alloc: Global, with: &Context<'_>, said: &ReplyCase, answer: &mut CaseAnswer)
+    requires { CanBeTold (setting_of with.now) }
+{
+    match reply_in(alloc, said) {
+        Ok(reply) => {
+            let without = without_session(with.bases);
+            tell_written(b"", reply_one(alloc, with, &said.asked, &reply), answer);
+            tell_written(b"", reply_one(alloc, &without, &said.asked, &reply), answer);
         }
         Err(fault) => answer.fail(fault),
     }
@@ -57,19 +64,26 @@ fn without_session(bases: &Bases) -> Context<'_>
     }
 }
 
-/// The player's request, and the server's reply to it.
-fn said(
-    alloc: Global,
-    method: &[u8],
-    named: bool,
-    text: &[u8],
-) -> Result<(Asked, Reply2), CaseFault> {
+/// A player's request, and the texts of the server's reply to it.
+#[derive(Drop)]
+struct ReplyCase {
+    asked: Asked,
+    head: Text,
+    body: Text,
+}
+
+/// The player's request, and the server's reply to it. All that follows its head is its body.
+fn said(alloc: Global, method: &[u8], named: bool, text: &[u8]) -> Result<ReplyCase, CaseFault> {
     let Some(method) = read_method(method) else {
         return Err(CaseFault::Unreadable);
     };
-    let reply = reply_in(alloc, text)?;
-    let asked = asked(alloc, method, named, b"rtsp://media.example/m")?;
-    Ok((asked, reply))
+    let parts = str::from_utf8(text).unwrap_or("").split_once("||");
+    let (_, body) = parts.unwrap_or(("", ""));
+    Ok(ReplyCase {
+        asked: asked(alloc, method, named, b"rtsp://media.example/m")?,
+        head: meant(alloc, text)?,
+        body: meant(alloc, body.as_bytes())?,
+    })
 }
 
 /// A request with the number 7.
@@ -84,27 +98,19 @@ pub fn asked(alloc: Global, method: Method, named: bool, uri: &[u8]) -> Result<A
     })
 }
 
-/// The server's reply that a text means. All that follows its head is its body. A text of a request has the code 0.
-fn reply_in(alloc: Global, text: &[u8]) -> Result<Reply2, CaseFault> {
-    let parts = str::from_utf8(text).unwrap_or("").split_once("||");
-    let (_, body) = parts.unwrap_or(("", ""));
-    let head = head_in(alloc, text)?;
-    let code = match &head.start {
-        Start::Status { code, .. } => *code,
-        _ => 0,
+/// The server's reply. A head of a request has the code 0.
+fn reply_in(alloc: Global, said: &ReplyCase) -> Result<Reply2<'_>, CaseFault> {
+    let Ok(head) = read_head(alloc, said.head.as_bytes()) else {
+        return Err(CaseFault::Unreadable);
+    };
+    let code = match head.start() {
+        StartLine::Status { code, .. } => code,
+        StartLine::Request { .. } => 0,
     };
     Ok(Reply2 {
         code,
         cseq: 3,
-        body: meant(alloc, body.as_bytes())?,
+        body: said.body.as_bytes(),
         head,
     })
-}
-
-/// The head that a text means.
-fn head_in(alloc: Global, text: &[u8]) -> Result<Head, CaseFault> {
-    match read_head(alloc, meant(alloc, text)?.as_bytes()) {
-        Ok(head) => Ok(head),
-        Err(_fault) => Err(CaseFault::Unreadable),
-    }
 }
