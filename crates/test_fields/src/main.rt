@@ -23,6 +23,7 @@ mod numbers;
 mod one;
 mod pairs;
 mod plays;
+mod singly;
 mod small;
 mod stream;
 mod two;

@@ -3,6 +3,7 @@ ghost use Rattle.std.specs.Prelude.{◌<◌};
 
 use crate::answer::{keep, push_named, push_part};
 use crate::content::fed;
+use crate::singly::tell_singly;
 use crate::words::Words;
 use gate_bytes::{after, before};
 use rtsp_frame::{Framer, Item};
@@ -21,6 +22,7 @@ pub fn tell(framer: &mut Framer, name: &str, words: Words<'_>, answer: &mut Case
             answer.push(b"begun");
         }
         "take" => tell_taken(framer, words, answer),
+        "singly" => tell_singly(words, answer),
         "next" => push_item(words.alloc, answer, &framer.next()),
         _ => return false,
     }
