@@ -1,5 +1,5 @@
 //! Laws over the definitions of the machine. Each holds by its contract alone: no call is made.
-ghost use Rattle.std.specs.Prelude.{◌≡◌, ◌&&◌, ℕ, Bool, false, is_none, Option, Some, None, option_map};
+ghost use Rattle.std.specs.Prelude.{◌≡◌, ◌&&◌, ℕ, false, is_none, Option, Some, None, option_map};
 ghost use Rattle.rtsp_uri.specs.declared.base.Bases.{Bases};
 ghost use Rattle.client_slot.specs.Client.{Client};
 ghost use Rattle.client_slot.specs.Renumber.{client_under};

@@ -16,7 +16,6 @@ pub(crate) struct ClosingRoom {
 }
 
 impl ClosingRoom {
-    ghost use Rattle.std.specs.Prelude.{IfOk};
     ghost use Rattle.head_two.specs.Requests.{request_text};
     ghost use Rattle.client_slot.specs.Teardown.{teardown_request};
 

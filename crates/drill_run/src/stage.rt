@@ -9,7 +9,7 @@ ghost use Rattle.drill_run.specs.Turns.{Drilled, started, ready_one, ready_from,
 
 use crate::counts::{Counts, add, counts_with, none};
 use crate::player::Player;
-use crate::script::{PlayerWords, said_at};
+use crate::script::PlayerWords;
 use crate::turn::Who;
 use drill_server::{Draw, DrillServer};
 use gate_bytes::{Memory, Text};

@@ -1,5 +1,5 @@
 //! An inlet in memory, whose calls go by a script and whose parts wait for outlets.
-ghost use Rattle.std.specs.Prelude.{◌≡◌, ◌<◌, ◌≤◌, ◌⊎◌, ◌∷◌, ◌++◌, [], length, drop, Ok, Some, IsErr, IfOk, IfSome, OnOk, OnErr, Contains};
+ghost use Rattle.std.specs.Prelude.{◌≡◌, ◌<◌, ◌≤◌, ◌⊎◌, ◌∷◌, ◌++◌, [], length, Ok, Some, IsErr, IfOk, OnOk, OnErr, Contains};
 ghost use Rattle.gate_outside.specs.declared.links.Got.TheVariants.{End, NotYet};
 ghost use Rattle.gate_outside.specs.Causes.{HasCause, RisesWith, capped, counted_on};
 ghost use Rattle.gate_outside.specs.Links.{Gets, FitsIn, parts_joined};

@@ -1,5 +1,5 @@
 //! A source and a sink in memory, whose calls go by a script.
-ghost use Rattle.std.specs.Prelude.{◌≡◌, ℕ, ◌<◌, ◌↔◌, ◌⊎◌, ◌+◌, ◌≤◌, List, [], length, drop, min, Some, IsErr, IsTrue, IfOk, OnOk, OnErr, Contains};
+ghost use Rattle.std.specs.Prelude.{◌≡◌, ◌<◌, ◌↔◌, ◌⊎◌, ◌+◌, ◌≤◌, [], length, drop, min, Some, IsErr, IsTrue, IfOk, OnOk, OnErr, Contains};
 ghost use Rattle.gate_outside.specs.Causes.{HasCause, capped, counted_on};
 ghost use Rattle.gate_outside.specs.Contents.{Reads, Writes};
 

@@ -1,5 +1,5 @@
 //! An outlet in memory, which counts what it has taken for the inlets that wait for it.
-ghost use Rattle.std.specs.Prelude.{◌≡◌, ℕ, ◌<◌, ◌≤◌, ◌⊎◌, [], length, min, true, Some, IsErr, IfOk, OnErr, Contains};
+ghost use Rattle.std.specs.Prelude.{◌≡◌, ◌<◌, ◌≤◌, ◌⊎◌, [], length, min, true, Some, IsErr, IfOk, OnErr, Contains};
 ghost use Rattle.gate_outside.specs.Causes.{HasCause, capped, counted_on};
 ghost use Rattle.gate_outside.specs.Contents.{Writes, Offers};
 

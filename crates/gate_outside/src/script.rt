@@ -1,5 +1,5 @@
 //! Which calls of an object in memory fail, and the count of those that did.
-ghost use Rattle.std.specs.Prelude.{◌≡◌, ℕ, ◌<◌, ◌≤◌, List, [], Contains, OnOk, IsErr, IsTrue, ◌↔◌, ◌+◌, ◌-◌, ◌^◌, min};
+ghost use Rattle.std.specs.Prelude.{◌≡◌, ◌<◌, [], Contains, OnOk, IsErr, IsTrue, ◌↔◌, ◌-◌, min};
 ghost use Rattle.gate_outside.specs.Causes.{HasCause, counted_on};
 
 use crate::Failed;

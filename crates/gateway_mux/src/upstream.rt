@@ -12,9 +12,9 @@ ghost use Rattle.gateway_mux.specs.Upstream.{reserved_by};
 
 use crate::settlement::Settlement;
 use channel_map::{ChannelMap, Freed};
-use gate_bytes::{Memory, Text};
+use gate_bytes::Text;
 use std::alloc::Global;
-use up_books::{BoundElsewhere, CseqBook, SessionBook, Spent};
+use up_books::{CseqBook, SessionBook, Spent};
 
 /// What is kept of the connection to the server: its open requests, its sessions, and its pairs of
 /// channels.

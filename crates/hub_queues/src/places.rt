@@ -1,5 +1,5 @@
 //! The connections of the hub, by their numbers.
-ghost use Rattle.std.specs.Prelude.{◌≡◌, Bool, None, is_some};
+ghost use Rattle.std.specs.Prelude.{◌≡◌, None, is_some};
 ghost use Rattle.hub_queues.specs.Places.{LineChanges, PutsBytes, CountsItem, Closes, FetchesLine, PutsFirst, HandsOut, ClosesOne, line_at};
 ghost use Rattle.hub_queues.specs.Room.{HasRoomFor, IsLookedAt};
 

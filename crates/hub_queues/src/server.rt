@@ -1,5 +1,4 @@
 //! The connection to the server: the hub's ends of its two ports.
-ghost use Rattle.std.specs.Prelude.{◌≡◌};
 ghost use Rattle.hub_queues.specs.Parcels.{answer_parcels, message_parcels};
 ghost use Rattle.hub_queues.specs.Places.{PutsAll};
 ghost use Rattle.hub_queues.specs.Servers.{HandsUp, FetchesUp, PutsFirstUp};

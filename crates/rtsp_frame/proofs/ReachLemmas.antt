@@ -1,13 +1,13 @@
 -- How far the lines of a head were searched, and what follows of its length.
-use Rattle.std.proofs.Common.{◌≡◌, ℕ, zero, suc, ◌+◌, ◌-◌, ◌<◌, ◌≤◌, Bool, true, false, cond, eqb, List, [], ◌∷◌, ◌++◌, length, take, drop, Option, Some, None, refl, sym, ap, ◌∙◌, subst, arith, append_assoc, take-append-drop}
+use Rattle.std.proofs.Common.{◌≡◌, ℕ, zero, suc, ◌+◌, ◌-◌, ◌<◌, ◌≤◌, Bool, true, false, cond, eqb, List, [], ◌∷◌, ◌++◌, length, take, drop, Option, Some, None, refl, sym, ap, ◌∙◌, arith, append_assoc, take-append-drop}
 use Rattle.std.specs.Option.{option_map}
-use Rattle.std.proofs.lemmas.List.{take_all, take-take, take-append-le, drop-append-le, length-take, length-drop, length-take-le, length-append, drop-take, drop-drop, drop_all, drop_at, take_at}
+use Rattle.std.proofs.lemmas.List.{take_all, take-take, take-append-le, drop-append-le, length-take, length-drop, length-take-le, length-append, drop-take, drop-drop, drop_at}
 use Rattle.gate_bytes.specs.Ascii as ascii
 use Rattle.gate_bytes.specs.Places.{place_of}
 use Rattle.rtsp_head.specs.Items.{head_len}
 use Rattle.rtsp_frame.specs.Lines.{is_empty_line}
 use Rattle.rtsp_frame.specs.Fronts.{IsLineTo}
-use Rattle.rtsp_frame.proofs.LineLemmas.{later, later_zero, later_later, place_turn, no_turn, head_ends, head_goes_on, head_needs_lf}
+use Rattle.rtsp_frame.proofs.LineLemmas.{later, later_zero, later_later, head_ends, head_goes_on, head_needs_lf}
 
 -- Places of a byte in parts of a text
 

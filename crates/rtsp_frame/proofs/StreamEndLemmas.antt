@@ -1,5 +1,5 @@
 -- An item that a piece ends, and then the items of the rest of the piece.
-use Rattle.std.proofs.Common.{◌≡◌, ℕ, ◌+◌, ◌≤◌, Bool, true, false, not, List, [], ◌∷◌, ◌++◌, length, take, drop, Option, Some, None, refl, sym, ap, ◌∙◌, subst, arith, append_assoc, take-append-drop}
+use Rattle.std.proofs.Common.{◌≡◌, ℕ, ◌+◌, ◌≤◌, Bool, true, false, not, List, [], ◌∷◌, ◌++◌, length, take, drop, Option, Some, refl, sym, ap, ◌∙◌, subst, arith, append_assoc, take-append-drop}
 use Rattle.std.proofs.lemmas.List.{take-take, take_at, length-append, length-take-le}
 use Rattle.std.specs.Option.{option_map}
 use Rattle.rtsp_head.specs.Items.{Shape, Cut, is_bad, behind, cut}

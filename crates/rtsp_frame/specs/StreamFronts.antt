@@ -1,5 +1,5 @@
 -- What stands first in a stream, and the steps that are to be paid for what follows it.
-use Rattle.std.specs.Prelude.{◌≡◌, ℕ, ◌+◌, ◌*◌, ◌-◌, nat_lt, List, length, drop, Some, None, Result, Ok, Err, if◌then◌else◌}
+use Rattle.std.specs.Prelude.{◌≡◌, ℕ, ◌+◌, ◌*◌, ◌-◌, nat_lt, List, drop, Some, None, Result, Ok, Err, if◌then◌else◌}
 use Rattle.rtsp_head.specs.Items.{blank_lines, bad_span, bad_kind, message_kind, span_of, first_extent}
 use Rattle.rtsp_head.specs.declared.facts.Facts.{Facts}
 use Rattle.rtsp_head.specs.declared.facts.Length.{Length}

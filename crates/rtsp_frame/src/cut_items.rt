@@ -1,5 +1,5 @@
 //! Cutting bytes into items.
-ghost use Rattle.std.specs.Prelude.{◌≡◌, ◌++◌, ◌+◌, ◌-◌, ◌*◌, Some, [], length, take, drop, ◌≤◌, IfOk, IfSome, OnErr};
+ghost use Rattle.std.specs.Prelude.{◌≡◌, ◌+◌, ◌-◌, ◌*◌, Some, [], length, take, drop, ◌≤◌, IfOk, IfSome, OnErr};
 ghost use Rattle.rtsp_head.specs.Items.{first_extent, shape_at};
 ghost use Rattle.rtsp_head.specs.Shapes.{shape_of};
 ghost use Rattle.rtsp_frame.specs.CutItems.{Joined, Fed, Same, IsUndone, IsWhole, used_of, IsLeftover, due_after};

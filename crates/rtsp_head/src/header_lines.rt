@@ -1,7 +1,7 @@
 //! The headers of a head, line by line.
-ghost use Rattle.std.specs.Prelude.{◌≡◌, [], Option, Some, None, Ok, Err, IfOk, IfErr, IfSome, OnOk};
+ghost use Rattle.std.specs.Prelude.{◌≡◌, Option, Some, None, Ok, Err, IfOk, IfErr, IfSome, OnOk};
 ghost use Rattle.rtsp_head.specs.Lines.{head_refusal};
-ghost use Rattle.rtsp_head.specs.Headers.{header_limit, SoFar, closed, continued, with_header, with_line, headers_in, no_headers};
+ghost use Rattle.rtsp_head.specs.Headers.{header_limit, closed, continued, with_header, with_line, headers_in, no_headers};
 ghost use Rattle.rtsp_head.specs.Views.{so_far};
 
 use crate::HeadFault;

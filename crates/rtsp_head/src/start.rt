@@ -1,5 +1,5 @@
 //! The first line of a head.
-ghost use Rattle.std.specs.Prelude.{◌≡◌, option_map, nat_eq};
+ghost use Rattle.std.specs.Prelude.{◌≡◌, option_map};
 ghost use Rattle.rtsp_head.specs.Lines.{result_map};
 ghost use Rattle.rtsp_head.specs.Starts.{names_protocol, is_unspaced, code_of, request_of, status_of, start_of};
 ghost use Rattle.rtsp_head.specs.Heads.{is_request};

@@ -1,5 +1,5 @@
 //! The length of a body by the headers, line by line, without memory.
-ghost use Rattle.std.specs.Prelude.{◌≡◌, None, Ok, Err, IfErr, OnOk};
+ghost use Rattle.std.specs.Prelude.{◌≡◌, None, Ok, Err};
 ghost use Rattle.rtsp_head.specs.Tallies.{empty_tally, part_of, joined, last_part, last_of, tally_more, tally_header, tally_line, tally_length};
 
 use crate::further::{FurtherLine, further_line};

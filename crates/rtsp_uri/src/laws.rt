@@ -1,5 +1,5 @@
 //! Laws over the definitions of addresses. Each holds by its contract alone: no call is made.
-ghost use Rattle.std.specs.Prelude.{◌≡◌, ◌<◌, ◌≤◌, ◌^◌, length, true, false, not, List, ◌++◌, ℕ, Some};
+ghost use Rattle.std.specs.Prelude.{◌≡◌, ◌≤◌, length, true, false, not, List, ◌++◌, ℕ, Some};
 ghost use Rattle.std.specs.List.{list_all};
 ghost use Rattle.gate_bytes.specs.Ascii.{lf};
 ghost use Rattle.gate_bytes.specs.Places.{parts_at};

@@ -1,5 +1,5 @@
 -- What the command that serves players says.
-use Rattle.std.proofs.Common.{◌≡◌, ℕ, Bool, true, false, List, Option, None, Some, Result, Ok, Err, inl, inr, refl, sym, subst, ◌∙◌, ap}
+use Rattle.std.proofs.Common.{◌≡◌, ℕ, true, false, List, Option, None, Some, inl, inr, refl, sym, subst, ◌∙◌, ap}
 use Rattle.gate_transcript.specs.declared.entry.Entry.{Entry as Noted}
 use Rattle.serve_world.specs.declared.tally.WorldTally.{WorldTally}
 use Rattle.run_status.specs.declared.status.Status.{Status}

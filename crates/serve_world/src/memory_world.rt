@@ -1,5 +1,5 @@
 //! A world in memory, for tests.
-ghost use Rattle.std.specs.Prelude.{◌≡◌, ◌+◌, length, Some, None, IfOk, IsOk, IsSome, is_ok, option_map};
+ghost use Rattle.std.specs.Prelude.{◌≡◌, length, Some, None, IfOk, IsOk, IsSome, is_ok, option_map};
 ghost use Rattle.std.specs.Option.{ForSome, option_copied};
 ghost use Rattle.std.specs.Result.{result_ok};
 ghost use Rattle.gate_outside.specs.Memories.{write_faults};
@@ -9,7 +9,7 @@ ghost use Rattle.gate_outside.specs.NewLinks.{halves_of};
 ghost use Rattle.gate_transcript.specs.Recordings.{entries_recorded, note_faults};
 ghost use Rattle.serve_world.specs.NewThings.{IsNewMemoryDoor, IsNewMemoryRecorder, unless};
 ghost use Rattle.serve_world.specs.Tallies.{no_tally, after_listen, after_dial, after_record, after_refusal, after_door, after_link, after_recorder, CountsRecorder};
-ghost use Rattle.serve_world.specs.Worlds.{IsNewDoor, IsNewRecorder};
+ghost use Rattle.serve_world.specs.Worlds.{IsNewDoor};
 
 use crate::{ThreadRefusal, World, WorldTally};
 use gate_bytes::Memory;

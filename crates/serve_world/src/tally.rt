@@ -1,5 +1,5 @@
 //! What has happened to a world, in counts.
-ghost use Rattle.std.specs.Prelude.{◌≡◌, ◌+◌};
+ghost use Rattle.std.specs.Prelude.{◌≡◌};
 ghost use Rattle.serve_world.specs.Tallies.{no_tally, after_listen, after_dial, after_record, after_refusal, after_door, after_link, after_recorder};
 
 /// What has happened to a world so far. Each count stays at its last value.

@@ -1,5 +1,5 @@
 //! The bytes that wait for a file.
-ghost use Rattle.std.specs.Prelude.{◌≡◌, ◌+◌, ◌-◌, ◌≤◌, [], ◌++◌, length, take, IfOk, OnOk, OnErr};
+ghost use Rattle.std.specs.Prelude.{◌≡◌, ◌+◌, ◌-◌, ◌≤◌, [], ◌++◌, length, take, IfOk, OnErr};
 ghost use Rattle.serve_world_tcp.specs.Backlogs.{count_put};
 ghost use Rattle.serve_world_tcp.specs.declared.backlog.TheConstants.{QUEUE_BYTES};
 

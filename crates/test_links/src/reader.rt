@@ -4,7 +4,7 @@ ghost use Rattle.std.specs.Prelude.{◌<◌};
 use crate::draft::Draft;
 use crate::links::{new_inlet, number_in};
 use client_ports::{Parcel, Taker, port};
-use gate_bytes::{Memory, Text};
+use gate_bytes::Text;
 use gate_outside::MemoryInlet;
 use gateway_links::{Push, Read, Reader};
 use std::alloc::Global;

@@ -1,5 +1,5 @@
 //! A core that refuses: it answers every request of a player with 501, and asks the server nothing.
-ghost use Rattle.std.specs.Prelude.{◌≡◌, ◌∷◌, [], ℕ, false, None, Some, nat_eq};
+ghost use Rattle.std.specs.Prelude.{◌≡◌, [], ℕ, false, None, Some, nat_eq};
 ghost use Rattle.std.specs.HashSet.{contains};
 ghost use Rattle.gateway_claim.specs.Cores.{stays_alive};
 ghost use Rattle.gateway_claim.specs.Happenings.{happening_of, nothing_up, silent, cause_of};

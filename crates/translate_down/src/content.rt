@@ -1,7 +1,7 @@
 //! The body of a reply, and what the reply tells of it.
 ghost use Rattle.std.specs.Prelude.{◌≡◌, IfOk, option_map};
 ghost use Rattle.translate_down.specs.Settings.{setting_of};
-ghost use Rattle.translate_down.specs.Contents.{asks_description, asks_body, comes_with_description, comes_with_body, base_value, type_value, encoding_value, media_type, names_description, is_description, is_read, body_told};
+ghost use Rattle.translate_down.specs.Contents.{comes_with_description, comes_with_body, base_value, type_value, encoding_value, media_type, names_description, is_description, is_read, body_told};
 
 use crate::Context;
 use gate_bytes::{Memory, Text, eq_fold, trim, up_to};

@@ -1,7 +1,7 @@
 //! What a reply tells of playing.
 ghost use Rattle.std.specs.Prelude.{◌≡◌, IfOk};
 ghost use Rattle.translate_down.specs.Settings.{setting_of};
-ghost use Rattle.translate_down.specs.Plays.{moves, plays, range_told, scale_told, range_value, scale_value, info_value};
+ghost use Rattle.translate_down.specs.Plays.{moves, plays, range_told, range_value, scale_value, info_value};
 
 use crate::Context;
 use crate::info::info_told;

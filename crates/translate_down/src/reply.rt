@@ -1,6 +1,5 @@
 //! The server's replies as players get them.
 ghost use Rattle.std.specs.Prelude.{◌≡◌, IfOk, OnOk};
-ghost use Rattle.rtsp_head.specs.Messages.{own_fields};
 ghost use Rattle.rtsp_head.specs.Optional.{then_headers, field_headers};
 ghost use Rattle.head_one.specs.Replies.{reply_text};
 ghost use Rattle.translate_down.specs.Settings.{setting_of, CanBeTold};

@@ -1,5 +1,5 @@
 //! What the gateway answers by itself.
-ghost use Rattle.std.specs.Prelude.{◌≡◌, true, codes, [], IfOk};
+ghost use Rattle.std.specs.Prelude.{◌≡◌, true, [], IfOk};
 ghost use Rattle.std.specs.Option.{option_copied};
 ghost use Rattle.rtsp_status.specs.Reasons.{has_reason};
 ghost use Rattle.translate_up.specs.Answers.{own_answer, refusal_text, options_text, play_text, HasReason};

@@ -9,7 +9,7 @@ ghost use Rattle.rtsp_range.specs.Writable.{can_be_written};
 ghost use Rattle.rtsp_range.specs.Meaning.{One, meaning};
 ghost use Rattle.rtsp_range.specs.declared.range.Range.{Range};
 ghost use Rattle.rtsp_range.specs.declared.fault.RangeFault.{RangeFault};
-ghost use Rattle.std.specs.Prelude.{option_map, codes};
+ghost use Rattle.std.specs.Prelude.{option_map};
 
 use crate::channels::client_pair;
 use crate::view::View;

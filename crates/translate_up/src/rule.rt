@@ -1,5 +1,5 @@
 //! The rules by which a request is refused that its head does not refuse, and what they let through.
-ghost use Rattle.std.specs.Prelude.{◌≡◌, true, IfOk, IfErr, IsTrue, IfSome};
+ghost use Rattle.std.specs.Prelude.{◌≡◌, true, IfOk, IfErr};
 ghost use Rattle.std.specs.Option.{option_copied};
 ghost use Rattle.rtsp_status.specs.Reasons.{has_reason};
 ghost use Rattle.translate_up.specs.Views.{given_of};

@@ -1,5 +1,5 @@
 //! The sessions by their ids.
-ghost use Rattle.std.specs.Prelude.{◌≡◌, ◌==◌, ◌+◌, ◌<◌, ℕ, List, None, Some, Ok, Err, is_some, position, OnOk, OnErr, IfErr, if◌then◌else◌};
+ghost use Rattle.std.specs.Prelude.{◌≡◌, ◌+◌, ◌<◌, ℕ, List, None, Some, Ok, Err, is_some, position, OnOk, OnErr, IfErr, if◌then◌else◌};
 ghost use Rattle.std.specs.Str.{bytes_eq};
 ghost use Rattle.up_books.specs.Entries.{IsGapFor};
 ghost use Rattle.up_books.specs.Ids.{id_order};

@@ -1,5 +1,5 @@
 //! What changes a session.
-ghost use Rattle.std.specs.Prelude.{◌≡◌, ◌≤◌, ◌<◌, length, drop, slice_get, true, IfSome, IsSome, OnSome};
+ghost use Rattle.std.specs.Prelude.{◌≡◌, ◌≤◌, ◌<◌, length, drop, slice_get, true, IfSome, IsSome};
 ghost use Rattle.client_slot.specs.declared.limits.TheConstants.{LONGEST_URI};
 ghost use Rattle.session_one.specs.declared.parts.TheConstants.{MOST_TRACKS};
 ghost use Rattle.play_queue.specs.declared.queue.TheConstants.{MOST_PLAYS};
@@ -13,7 +13,7 @@ use session_one::{Asked, Play, State, Track, after, is_success};
 use session_two::Names;
 
 impl Session {
-    ghost use Rattle.client_slot.specs.SessionChanges.{when_set_up, when_played, when_paused, when_torn_down, when_described, when_granted, when_moved, when_answered, when_released, when_left, when_ended, when_queued, when_unqueued};
+    ghost use Rattle.client_slot.specs.SessionChanges.{when_set_up, when_played, when_paused, when_torn_down, when_described, when_granted, when_answered, when_released, when_left, when_ended, when_queued, when_unqueued};
 
     /// A SETUP was granted.
     fn set_up(&mut self, uri: Text, track: Option<Track>, id: Option<Text>)

@@ -1,5 +1,5 @@
-use Rattle.std.proofs.Common.{◌≡◌, ◌∙◌, ℕ, Option, IfOk, ap, subst}
-use Rattle.std.specs.Option.{option_copied, option_map}
+use Rattle.std.proofs.Common.{◌≡◌, ℕ, Option, IfOk, ap, subst}
+use Rattle.std.specs.Option.{option_copied}
 use Rattle.rtsp_transport.specs.declared.channels.Pair.{Pair}
 use Rattle.translate_down.specs.Settings.{Setting}
 use Rattle.translate_down.specs.Replies.{told_by, reply_text_of}

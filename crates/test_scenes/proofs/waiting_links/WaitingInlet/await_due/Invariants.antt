@@ -1,4 +1,4 @@
-use Rattle.std.proofs.Common.{◌≡◌, ◌<◌, ℕ, length}
+use Rattle.std.proofs.Common.{◌≡◌, ◌<◌, length}
 use Rattle.test_scenes.proofs.waiting_links.WaitingInlet.await_due.Given as goal
 
 -- the counts are as they were, and there is room for what comes
