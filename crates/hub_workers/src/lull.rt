@@ -9,25 +9,20 @@ use worker_signals::Stopwatch;
 /// then, so that more of them are written at once.
 const CLOSE_MILLIS: u64 = 1;
 
-/// How a writer waited last.
-#[derive(Clone, Copy, PartialEq, Eq)]
-enum LastWait {
-    /// It was woken long after it had begun to pause, or has not waited yet.
-    Long,
-    /// It was woken soon, or found something after a rest.
-    Close,
-    /// It rested, and has found nothing since.
-    Rested,
-}
+/// With more parcels than this at once a writer is worth being woken for, and doesn't rest.
+const FEW_PARCELS: u64 = 8;
 
-/// How a writer waits for more. Where what is put comes close behind one another it rests a millisecond first, in which few
-/// frames don't wake it; a loud ring does.
+/// How a writer waits for more. Where few parcels come at once, and close behind one another, it rests a millisecond, in which
+/// few frames don't wake it; a loud ring does.
 #[derive(Drop)]
 pub struct Lull<'a> {
     bell: &'a Bell,
     seen: u64,
     seen_loud: u64,
-    last: LastWait,
+    /// How many parcels had been taken when it waited last.
+    taken: u64,
+    /// Whether its last pause was short.
+    close: bool,
 }
 
 impl<'a> Lull<'a> {
@@ -37,7 +32,8 @@ impl<'a> Lull<'a> {
             bell,
             seen: 0,
             seen_loud: 0,
-            last: LastWait::Long,
+            taken: 0,
+            close: false,
         }
     }
 
@@ -47,27 +43,17 @@ impl<'a> Lull<'a> {
         self.seen_loud = self.bell.loud_rings();
     }
 
-    /// Tells that something was written.
-    pub fn tell_wrote(&mut self) {
-        if self.last == LastWait::Rested {
-            self.last = LastWait::Close;
-        }
-    }
-
-    /// Waits until the bell rings. After a rest it may end without a ring.
-    pub fn wait<W: Wait + Clock>(&mut self, rt: &W) {
-        if self.last == LastWait::Close {
+    /// Waits until the bell rings, where so many parcels have been taken. After a rest it may end without a ring.
+    pub fn wait<W: Wait + Clock>(&mut self, rt: &W, taken: u64) {
+        let came = taken.saturating_sub(self.taken);
+        self.taken = taken;
+        if self.close && came > 0 && came <= FEW_PARCELS {
             let most = Duration::from_millis(CLOSE_MILLIS);
             self.bell.rest_within(rt, self.seen_loud, most);
-            self.last = LastWait::Rested;
             return;
         }
         let paused = Stopwatch::start(rt);
         self.bell.pause(rt, self.seen);
-        self.last = if paused.has_passed(rt, CLOSE_MILLIS) {
-            LastWait::Long
-        } else {
-            LastWait::Close
-        };
+        self.close = !paused.has_passed(rt, CLOSE_MILLIS);
     }
 }

@@ -46,7 +46,6 @@ fn write_out<O: Outlet + Drop, M: Core, R: Recorder, W: Wait + Clock>(
         match turn {
             WriterTurn::Wrote => {
                 desk.tell_move();
-                lull.tell_wrote();
                 common.spent.lock(common.rt).keep_all(spent);
             }
             WriterTurn::Stuck => {}
@@ -58,7 +57,7 @@ fn write_out<O: Outlet + Drop, M: Core, R: Recorder, W: Wait + Clock>(
             WriterTurn::Idle => {
                 // Where the link is over, the port is looked at once more: what was put before that is written.
                 if !life.is_over(common, writer.conn()) {
-                    lull.wait(common.rt);
+                    lull.wait(common.rt, writer.taken());
                 }
             }
         }
