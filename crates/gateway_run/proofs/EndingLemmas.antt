@@ -26,7 +26,7 @@ use Rattle.gateway_hub.specs.Receipts.{ClosesWith}
 use Rattle.run_report.specs.declared.run_end.RunEnd.{RunEnd}
 use Rattle.run_report.specs.Report.{report_text}
 use Rattle.run_report.specs.Endings.{GoesWith, unrecorded, unreported, met_by}
-use Rattle.gateway_run.specs.WholeRun.{EndsHistory, HasShown, HasLeftNone, NoneIsLeft, LinkShows, RanTo, WroteReport, TakesBack}
+use Rattle.gateway_run.specs.WholeRun.{RunSeen, EndsHistory, HasShown, HasLeftNone, NoneIsLeft, LinkShows, RanTo, WroteReport, TakesBack}
 
 -- the history ends as the status says, before what is written last is looked at
 ends_so : (status : Status) (told : RunEnd) (faults : ℕ) (desk : Desk) (history : List HistoryEntry) → GoesWith status told → told.ending ≡ desk.ending
@@ -93,10 +93,10 @@ after_both status flushed_status last (Err u) (Err v) desk history a b c d ends 
     subst (λ (s : Status). EndsHistory s desk history) (sym (d ∙ ap unreported b)) (ends_unreported (unrecorded status) desk history (ends_unrecorded status desk history ends))
 
 -- the report was written, or the sink failed
-pub wrote_report : {T E : Type 0} (before now : Option (List ℕ)) (a b : ℕ) (text : List ℕ) (written : Result T E) → WritesAll before now text written → OnErr written (Rose a b)
-    → WroteReport before now a b text
-wrote_report before now a b text (Ok u) wrote rose = inl wrote
-wrote_report before now a b text (Err e) wrote rose = inr (rose, wrote)
+pub wrote_report : {T E : Type 0} (seen : RunSeen) (text : List ℕ) (written : Result T E) → WritesAll seen.before seen.now text written
+    → OnErr written (Rose seen.faults seen.later) → WroteReport seen text
+wrote_report seen text (Ok u) wrote rose = inl wrote
+wrote_report seen text (Err e) wrote rose = inr (rose, wrote)
 
 -- What the workers met shows in the counts of what comes back: of the door, the two halves of the server's link, and the recorder.
 pub record Met (told : RunEnd) (refused : Bool) (df de lf lo le rf : ℕ) : Type 0 where
@@ -122,75 +122,75 @@ link_shows causes.CseqSpent told refused df de lf lo le rf before now met all ba
 link_shows causes.UpFull told refused df de lf lo le rf before now met all back = tt
 
 -- the cause of a status shows, before what is written last is looked at
-shows : (status : Status) (told : RunEnd) (refused : Bool) (df de lf lo le rf : ℕ) (before now : WorldTally) (a b : ℕ) → GoesWith status told → Met told refused df de lf lo le rf
-    → TakesBack refused df de lf lo le rf before now → HasShown status before now a b
-shows Done told refused df de lf lo le rf before now a b goes all back = back.door_end (all.ended goes.1)
-shows (Upstream cause) told refused df de lf lo le rf before now a b goes all back = link_shows cause told refused df de lf lo le rf before now goes.1 all back
-shows NumbersSpent told refused df de lf lo le rf before now a b goes all back = tt
-shows RecordFault told refused df de lf lo le rf before now a b goes all back = inr (back.recorder (all.recorder goes))
-shows AcceptFault told refused df de lf lo le rf before now a b goes all back = back.door (all.failed goes)
-shows CrewRefused told refused df de lf lo le rf before now a b goes all back = back.refusals (sym all.refused_so ∙ goes)
-shows Memory told refused df de lf lo le rf before now a b goes all back = tt
-shows (Usage place) told refused df de lf lo le rf before now a b goes all back = absurd goes
-shows SourceFault told refused df de lf lo le rf before now a b goes all back = absurd goes
-shows SinkFault told refused df de lf lo le rf before now a b goes all back = absurd goes
-shows (BadTranscript place fault) told refused df de lf lo le rf before now a b goes all back = absurd goes
-shows TooLong told refused df de lf lo le rf before now a b goes all back = absurd goes
-shows ListenFault told refused df de lf lo le rf before now a b goes all back = absurd goes
-shows DialFault told refused df de lf lo le rf before now a b goes all back = absurd goes
+shows : (status : Status) (told : RunEnd) (refused : Bool) (df de lf lo le rf : ℕ) (seen : RunSeen) → GoesWith status told → Met told refused df de lf lo le rf
+    → TakesBack refused df de lf lo le rf seen.opened seen.closed → HasShown status seen
+shows Done told refused df de lf lo le rf seen goes all back = back.door_end (all.ended goes.1)
+shows (Upstream cause) told refused df de lf lo le rf seen goes all back = link_shows cause told refused df de lf lo le rf seen.opened seen.closed goes.1 all back
+shows NumbersSpent told refused df de lf lo le rf seen goes all back = tt
+shows RecordFault told refused df de lf lo le rf seen goes all back = inr (back.recorder (all.recorder goes))
+shows AcceptFault told refused df de lf lo le rf seen goes all back = back.door (all.failed goes)
+shows CrewRefused told refused df de lf lo le rf seen goes all back = back.refusals (sym all.refused_so ∙ goes)
+shows Memory told refused df de lf lo le rf seen goes all back = tt
+shows (Usage place) told refused df de lf lo le rf seen goes all back = absurd goes
+shows SourceFault told refused df de lf lo le rf seen goes all back = absurd goes
+shows SinkFault told refused df de lf lo le rf seen goes all back = absurd goes
+shows (BadTranscript place fault) told refused df de lf lo le rf seen goes all back = absurd goes
+shows TooLong told refused df de lf lo le rf seen goes all back = absurd goes
+shows ListenFault told refused df de lf lo le rf seen goes all back = absurd goes
+shows DialFault told refused df de lf lo le rf seen goes all back = absurd goes
 
 -- it shows so too where the recording could not be written to its end
-shows_unrecorded : (status : Status) (before now : WorldTally) (a b : ℕ) → Rose before.record_faults now.record_faults → HasShown status before now a b → HasShown (unrecorded status) before now a b
-shows_unrecorded Done before now a b rose shown = inr rose
-shows_unrecorded (Upstream cause) before now a b rose shown = shown
-shows_unrecorded NumbersSpent before now a b rose shown = shown
-shows_unrecorded RecordFault before now a b rose shown = shown
-shows_unrecorded AcceptFault before now a b rose shown = shown
-shows_unrecorded CrewRefused before now a b rose shown = shown
-shows_unrecorded Memory before now a b rose shown = shown
-shows_unrecorded (Usage place) before now a b rose shown = shown
-shows_unrecorded SourceFault before now a b rose shown = shown
-shows_unrecorded SinkFault before now a b rose shown = shown
-shows_unrecorded (BadTranscript place fault) before now a b rose shown = shown
-shows_unrecorded TooLong before now a b rose shown = shown
-shows_unrecorded ListenFault before now a b rose shown = shown
-shows_unrecorded DialFault before now a b rose shown = shown
+shows_unrecorded : (status : Status) (seen : RunSeen) → Rose seen.opened.record_faults seen.closed.record_faults → HasShown status seen → HasShown (unrecorded status) seen
+shows_unrecorded Done seen rose shown = inr rose
+shows_unrecorded (Upstream cause) seen rose shown = shown
+shows_unrecorded NumbersSpent seen rose shown = shown
+shows_unrecorded RecordFault seen rose shown = shown
+shows_unrecorded AcceptFault seen rose shown = shown
+shows_unrecorded CrewRefused seen rose shown = shown
+shows_unrecorded Memory seen rose shown = shown
+shows_unrecorded (Usage place) seen rose shown = shown
+shows_unrecorded SourceFault seen rose shown = shown
+shows_unrecorded SinkFault seen rose shown = shown
+shows_unrecorded (BadTranscript place fault) seen rose shown = shown
+shows_unrecorded TooLong seen rose shown = shown
+shows_unrecorded ListenFault seen rose shown = shown
+shows_unrecorded DialFault seen rose shown = shown
 
 -- and where the report could not be written
-shows_unreported : (status : Status) (before now : WorldTally) (a b : ℕ) → Rose a b → HasShown status before now a b → HasShown (unreported status) before now a b
-shows_unreported Done before now a b rose shown = rose
-shows_unreported (Upstream cause) before now a b rose shown = shown
-shows_unreported NumbersSpent before now a b rose shown = shown
-shows_unreported RecordFault before now a b rose shown = shown
-shows_unreported AcceptFault before now a b rose shown = shown
-shows_unreported CrewRefused before now a b rose shown = shown
-shows_unreported Memory before now a b rose shown = shown
-shows_unreported (Usage place) before now a b rose shown = shown
-shows_unreported SourceFault before now a b rose shown = shown
-shows_unreported SinkFault before now a b rose shown = shown
-shows_unreported (BadTranscript place fault) before now a b rose shown = shown
-shows_unreported TooLong before now a b rose shown = shown
-shows_unreported ListenFault before now a b rose shown = shown
-shows_unreported DialFault before now a b rose shown = shown
+shows_unreported : (status : Status) (seen : RunSeen) → Rose seen.faults seen.later → HasShown status seen → HasShown (unreported status) seen
+shows_unreported Done seen rose shown = rose
+shows_unreported (Upstream cause) seen rose shown = shown
+shows_unreported NumbersSpent seen rose shown = shown
+shows_unreported RecordFault seen rose shown = shown
+shows_unreported AcceptFault seen rose shown = shown
+shows_unreported CrewRefused seen rose shown = shown
+shows_unreported Memory seen rose shown = shown
+shows_unreported (Usage place) seen rose shown = shown
+shows_unreported SourceFault seen rose shown = shown
+shows_unreported SinkFault seen rose shown = shown
+shows_unreported (BadTranscript place fault) seen rose shown = shown
+shows_unreported TooLong seen rose shown = shown
+shows_unreported ListenFault seen rose shown = shown
+shows_unreported DialFault seen rose shown = shown
 
-shown_flushed : {E : Type 0} (status flushed_status : Status) (flushed : Result (Unit {0}) E) (before now : WorldTally) (a b : ℕ) → OnOk flushed (flushed_status ≡ status)
-    → OnErr flushed (flushed_status ≡ unrecorded status) → OnErr flushed (Rose before.record_faults now.record_faults) → HasShown status before now a b → HasShown flushed_status before now a b
-shown_flushed status flushed_status (Ok u) before now a b ok err rose shown = subst (λ (s : Status). HasShown s before now a b) (sym ok) shown
-shown_flushed status flushed_status (Err u) before now a b ok err rose shown = subst (λ (s : Status). HasShown s before now a b) (sym err) (shows_unrecorded status before now a b rose shown)
+shown_flushed : {E : Type 0} (status flushed_status : Status) (flushed : Result (Unit {0}) E) (seen : RunSeen) → OnOk flushed (flushed_status ≡ status)
+    → OnErr flushed (flushed_status ≡ unrecorded status) → OnErr flushed (Rose seen.opened.record_faults seen.closed.record_faults) → HasShown status seen → HasShown flushed_status seen
+shown_flushed status flushed_status (Ok u) seen ok err rose shown = subst (λ (s : Status). HasShown s seen) (sym ok) shown
+shown_flushed status flushed_status (Err u) seen ok err rose shown = subst (λ (s : Status). HasShown s seen) (sym err) (shows_unrecorded status seen rose shown)
 
-shown_reported : {E : Type 0} (status last : Status) (written : Result (Unit {0}) E) (before now : WorldTally) (a b : ℕ) → OnOk written (last ≡ status)
-    → OnErr written (last ≡ unreported status) → OnErr written (Rose a b) → HasShown status before now a b → HasShown last before now a b
-shown_reported status last (Ok u) before now a b ok err rose shown = subst (λ (s : Status). HasShown s before now a b) (sym ok) shown
-shown_reported status last (Err u) before now a b ok err rose shown = subst (λ (s : Status). HasShown s before now a b) (sym err) (shows_unreported status before now a b rose shown)
+shown_reported : {E : Type 0} (status last : Status) (written : Result (Unit {0}) E) (seen : RunSeen) → OnOk written (last ≡ status)
+    → OnErr written (last ≡ unreported status) → OnErr written (Rose seen.faults seen.later) → HasShown status seen → HasShown last seen
+shown_reported status last (Ok u) seen ok err rose shown = subst (λ (s : Status). HasShown s seen) (sym ok) shown
+shown_reported status last (Err u) seen ok err rose shown = subst (λ (s : Status). HasShown s seen) (sym err) (shows_unreported status seen rose shown)
 
 -- The cause of the answer shows.
-pub shown_last : {E F : Type 0} (status flushed_status last : Status) (told : RunEnd) (refused : Bool) (df de lf lo le rf : ℕ) (before now : WorldTally) (a b : ℕ)
-    (flushed : Result (Unit {0}) E) (written : Result (Unit {0}) F) → GoesWith status told → Met told refused df de lf lo le rf → TakesBack refused df de lf lo le rf before now
-    → OnOk flushed (flushed_status ≡ status) → OnErr flushed (flushed_status ≡ unrecorded status) → OnErr flushed (Rose before.record_faults now.record_faults)
-    → OnOk written (last ≡ flushed_status) → OnErr written (last ≡ unreported flushed_status) → OnErr written (Rose a b) → HasShown last before now a b
-shown_last status flushed_status last told refused df de lf lo le rf before now a b flushed written goes all back ok err flush_rose done undone rose =
-    shown_reported flushed_status last written before now a b done undone rose
-    (shown_flushed status flushed_status flushed before now a b ok err flush_rose (shows status told refused df de lf lo le rf before now a b goes all back))
+pub shown_last : {E F : Type 0} (status flushed_status last : Status) (told : RunEnd) (refused : Bool) (df de lf lo le rf : ℕ) (seen : RunSeen)
+    (flushed : Result (Unit {0}) E) (written : Result (Unit {0}) F) → GoesWith status told → Met told refused df de lf lo le rf → TakesBack refused df de lf lo le rf seen.opened seen.closed
+    → OnOk flushed (flushed_status ≡ status) → OnErr flushed (flushed_status ≡ unrecorded status) → OnErr flushed (Rose seen.opened.record_faults seen.closed.record_faults)
+    → OnOk written (last ≡ flushed_status) → OnErr written (last ≡ unreported flushed_status) → OnErr written (Rose seen.faults seen.later) → HasShown last seen
+shown_last status flushed_status last told refused df de lf lo le rf seen flushed written goes all back ok err flush_rose done undone rose =
+    shown_reported flushed_status last written seen done undone rose
+    (shown_flushed status flushed_status flushed seen ok err flush_rose (shows status told refused df de lf lo le rf seen goes all back))
 
 -- where the run ended with the door, no link is left
 left_so : (status : Status) (told : RunEnd) (left : Option ℕ) → GoesWith status told → (told.ended ≡ true → NoneIsLeft left) → HasLeftNone status left
@@ -267,15 +267,15 @@ recorder_failed stands noted faults desk keeps ending =
     (subst (λ (e : Option Ending). EndsRightly faults (length desk.places.items) e k.history) ending k.keeps.cause).0 refl)
 
 -- The history of the run, its receipts and its report.
-pub ran_to : {E F : Type 0} (follows : Bases → List HistoryEntry → HistoryEntry → Type 0) (kept_bases bases : Bases) (stands : List HistoryEntry → Type 0) (noted recorded : Option (List Noted)) (faults : ℕ)
-    (desk : Desk) (receipts : Receipts) (told : RunEnd) (status flushed_status last : Status) (flushed : Result (Unit {0}) E) (written : Result (Unit {0}) F) (before now : Option (List ℕ)) (a b : ℕ)
+pub ran_to : {E F : Type 0} (follows : Bases → List HistoryEntry → HistoryEntry → Type 0) (kept_bases bases : Bases) (stands : List HistoryEntry → Type 0) (noted : Option (List Noted)) (faults : ℕ)
+    (desk : Desk) (receipts : Receipts) (told : RunEnd) (status flushed_status last : Status) (flushed : Result (Unit {0}) E) (written : Result (Unit {0}) F) (seen : RunSeen)
     → ∥ KeepsSome stands noted faults desk ∥₁ → ((T : List HistoryEntry) → stands T → IsCoreHistory follows kept_bases T) → AreSameAddresses kept_bases bases
-    → ((T : List HistoryEntry) → Keeps stands noted faults desk T → ClosesWith recorded desk receipts T)
+    → ((T : List HistoryEntry) → Keeps stands noted faults desk T → ClosesWith seen.recorded desk receipts T)
     → ((T : List HistoryEntry) → Keeps stands noted faults desk T → TellsOver told.over desk.places.items T)
     → told.ending ≡ desk.ending → GoesWith status told
     → OnOk flushed (flushed_status ≡ status) → OnErr flushed (flushed_status ≡ unrecorded status) → OnOk written (last ≡ flushed_status) → OnErr written (last ≡ unreported flushed_status)
-    → WroteReport before now a b (report_text receipts) → ∥ RanTo follows bases last recorded before now a b ∥₁
-ran_to follows kept_bases bases stands noted recorded faults desk receipts told status flushed_status last flushed written before now a b keeps law same closes over ending goes ok err done undone wrote =
+    → WroteReport seen (report_text receipts) → ∥ RanTo follows bases last seen ∥₁
+ran_to follows kept_bases bases stands noted faults desk receipts told status flushed_status last flushed written seen keeps law same closes over ending goes ok err done undone wrote =
     ∥∥₁_map keeps (λ k. record {
       between = kept_bases;
       addresses = same;

@@ -2,3 +2,4 @@ pub mod EndingLemmas
 pub mod LinkLemmas
 pub mod ReceiptLemmas
 pub mod FaultlessLemmas
+pub mod WholeLemmas

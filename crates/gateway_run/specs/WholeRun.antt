@@ -20,6 +20,18 @@ use Rattle.gateway_hub.specs.Close.{AreOver}
 use Rattle.gateway_hub.specs.Receipts.{ClosesWith}
 use Rattle.run_report.specs.Report.{report_text}
 
+-- What shows of a run from outside: what was recorded, the links that are left at the door, the world's counts and the
+-- sink's text and faults, before it and after it.
+pub record RunSeen : Type 0 where
+  pub recorded : Option (List Noted)
+  pub left : Option ℕ
+  pub opened : WorldTally
+  pub closed : WorldTally
+  pub before : Option (List ℕ)
+  pub now : Option (List ℕ)
+  pub faults : ℕ
+  pub later : ℕ
+
 -- What the end of the server's connection shows at its link.
 abbrev pub LinkShows : UpCause → WorldTally → WorldTally → Type 0
 LinkShows causes.Ended before now = Rose before.link_ends now.link_ends
@@ -27,19 +39,20 @@ LinkShows causes.ReadFault before now = Rose before.link_faults now.link_faults
 LinkShows causes.WriteFault before now = Rose before.link_faults now.link_faults
 LinkShows other before now = Unit {0}
 
--- The count that tells of the answer's cause rose. The last two are the counts of the sink's faults.
-abbrev pub HasShown : Status → WorldTally → WorldTally → ℕ → ℕ → Type 0
-HasShown Done before now a b = Rose before.door_ends now.door_ends
-HasShown SinkFault before now a b = Rose a b
-HasShown (Upstream cause) before now a b = LinkShows cause before now
-HasShown ListenFault before now a b = Rose before.listens_failed now.listens_failed
-HasShown DialFault before now a b = Rose before.dials_failed now.dials_failed
-HasShown RecordFault before now a b = Rose before.records_failed now.records_failed ⊎ Rose before.record_faults now.record_faults
-HasShown CrewRefused before now a b = Rose before.crew_refusals now.crew_refusals
-HasShown AcceptFault before now a b = Rose before.door_faults now.door_faults
-HasShown NumbersSpent before now a b = Unit {0}
-HasShown Memory before now a b = Unit {0}
-HasShown other before now a b = ⊥
+-- The count that tells of the answer's cause rose.
+abbrev pub HasShown : Status → RunSeen → Type 0
+HasShown Done seen = Rose seen.opened.door_ends seen.closed.door_ends
+HasShown SinkFault seen = Rose seen.faults seen.later
+HasShown (Upstream cause) seen = LinkShows cause seen.opened seen.closed
+HasShown ListenFault seen = Rose seen.opened.listens_failed seen.closed.listens_failed
+HasShown DialFault seen = Rose seen.opened.dials_failed seen.closed.dials_failed
+HasShown RecordFault seen =
+    Rose seen.opened.records_failed seen.closed.records_failed ⊎ Rose seen.opened.record_faults seen.closed.record_faults
+HasShown CrewRefused seen = Rose seen.opened.crew_refusals seen.closed.crew_refusals
+HasShown AcceptFault seen = Rose seen.opened.door_faults seen.closed.door_faults
+HasShown NumbersSpent seen = Unit {0}
+HasShown Memory seen = Unit {0}
+HasShown other seen = ⊥
 
 -- no link is left at the door, where that is told
 abbrev pub NoneIsLeft : Option ℕ → Type 0
@@ -62,21 +75,21 @@ EndsHistory SinkFault desk history = AreOver desk.places.items history
 EndsHistory other desk history = Unit {0}
 
 -- The text was written, or the sink failed and a front of it was.
-abbrev pub WroteReport : Option (List ℕ) → Option (List ℕ) → ℕ → ℕ → List ℕ → Type 0
-WroteReport before now a b text = Grows before now text ⊎ (Rose a b × GrowsByFront before now text)
+abbrev pub WroteReport : RunSeen → List ℕ → Type 0
+WroteReport seen text = Grows seen.before seen.now text ⊎ (Rose seen.faults seen.later × GrowsByFront seen.before seen.now text)
 
 -- There is a history of the core between these addresses, which is that of the recorder's entries where these are told. It
 -- ends as the answer says, and the report has a line for each connection that entered in it, which tells what is so.
-pub record RanTo (follows : Bases → List HistoryEntry → HistoryEntry → Type 0) (bases : Bases) (status : Status) (recorded : Option (List Noted)) (before now : Option (List ℕ)) (a b : ℕ) : Type 0 where
+pub record RanTo (follows : Bases → List HistoryEntry → HistoryEntry → Type 0) (bases : Bases) (status : Status) (seen : RunSeen) : Type 0 where
   pub between : Bases
   pub addresses : AreSameAddresses between bases
   pub history : List HistoryEntry
   pub is_history : IsCoreHistory follows between history
   pub desk : Desk
   pub receipts : Receipts
-  pub closes : ClosesWith recorded desk receipts history
+  pub closes : ClosesWith seen.recorded desk receipts history
   pub ends : EndsHistory status desk history
-  pub wrote : WroteReport before now a b (report_text receipts)
+  pub wrote : WroteReport seen (report_text receipts)
 
 -- What was opened, and what could not be, is as it was.
 pub record OpensNothing (before now : WorldTally) : Type 0 where
@@ -120,17 +133,35 @@ pub record OpensEach (before now : WorldTally) : Type 0 where
   pub records : now.records ≡ counted_on before.records
 
 -- What could not be opened, which shows in its count.
-abbrev pub FailsToOpen : Status → WorldTally → WorldTally → Type 0
-FailsToOpen status before now =
-    ((status ≡ ListenFault) × Rose before.listens_failed now.listens_failed)
-    ⊎ (((status ≡ RecordFault) × Rose before.records_failed now.records_failed) ⊎ ((status ≡ DialFault) × Rose before.dials_failed now.dials_failed))
+abbrev pub FailsToOpen : Status → RunSeen → Type 0
+FailsToOpen status seen =
+    ((status ≡ ListenFault) × Rose seen.opened.listens_failed seen.closed.listens_failed)
+    ⊎ (((status ≡ RecordFault) × Rose seen.opened.records_failed seen.closed.records_failed)
+    ⊎ ((status ≡ DialFault) × Rose seen.opened.dials_failed seen.closed.dials_failed))
 
 -- Memory was wanting before the workers ran, and nothing was written; or they ran.
-abbrev pub SaysRan : (Bases → List HistoryEntry → HistoryEntry → Type 0) → Bases → Status → Option (List Noted) → Option (List ℕ) → Option (List ℕ) → ℕ → ℕ → Type 0
-SaysRan follows bases status recorded before now a b = ((status ≡ Memory) × (now ≡ before)) ⊎ ∥ RanTo follows bases status recorded before now a b ∥₁
+abbrev pub SaysRan : (Bases → List HistoryEntry → HistoryEntry → Type 0) → Bases → Status → RunSeen → Type 0
+SaysRan follows bases status seen = ((status ≡ Memory) × (seen.now ≡ seen.before)) ⊎ ∥ RanTo follows bases status seen ∥₁
 
 -- What the answer of a run says: something could not be opened, and nothing was written; or each was opened once, and then
 -- the workers ran or memory was wanting.
-abbrev pub ServeSays : (Bases → List HistoryEntry → HistoryEntry → Type 0) → Bases → Status → Option (List Noted) → WorldTally → WorldTally → Option (List ℕ) → Option (List ℕ) → ℕ → ℕ → Type 0
-ServeSays follows bases status recorded opened closed before now a b =
-    (FailsToOpen status opened closed × (now ≡ before)) ⊎ (OpensEach opened closed × SaysRan follows bases status recorded before now a b)
+abbrev pub ServeSays : (Bases → List HistoryEntry → HistoryEntry → Type 0) → Bases → Status → RunSeen → Type 0
+ServeSays follows bases status seen =
+    (FailsToOpen status seen × (seen.now ≡ seen.before))
+    ⊎ (OpensEach seen.opened seen.closed × SaysRan follows bases status seen)
+
+-- A run over what was opened: what it says, whose cause shows; nothing more was opened, and no link is left where the run
+-- ended with the door.
+pub record RanSo (follows : Bases → List HistoryEntry → HistoryEntry → Type 0) (bases : Bases) (status : Status) (seen : RunSeen) : Type 0 where
+  pub says : SaysRan follows bases status seen
+  pub shown : HasShown status seen
+  pub opens : OpensNothing seen.opened seen.closed
+  pub none_left : HasLeftNone status seen.left
+
+-- A whole run: what it says, whose cause shows; nothing was opened twice, and no link is left where the run ended with the
+-- door.
+pub record ServedSo (follows : Bases → List HistoryEntry → HistoryEntry → Type 0) (bases : Bases) (status : Status) (seen : RunSeen) : Type 0 where
+  pub says : ServeSays follows bases status seen
+  pub shown : HasShown status seen
+  pub once : OpensOnce seen.opened seen.closed
+  pub none_left : HasLeftNone status seen.left

@@ -4,17 +4,54 @@ ghost use denote.Param.Send.{IsSend, IsSync};
 use gate_outside::{Door, Inlet, Outlet};
 use gateway_claim::Core;
 use gateway_hub::{Recorder, StopWhy};
+use gateway_links::Crew;
 use hub_workers::Common;
-use player_stations::{StationPost, work_stations};
+use player_stations::{Gate, StationPost, work_stations};
 use serve_world::{NotBegun, ThreadRefusal, beside};
-use server_link::{ServerPost, UpBack, work_server};
-use std::sync::Wait;
+use server_link::{ServerPost, UpBack, Upstream, work_server};
+use std::sync::{Mutex, Wait};
 use std::thread::Threads;
 use std::time::Clock;
 
 /// Serves players and the server beside each other until all threads have ended. Nobody is served before all have begun. Where
 /// one is refused the hub is stopped; the refusal is told beside what is left of the server's connection.
 pub fn work<
+    D: Door + Drop,
+    I: Inlet + Drop,
+    P: Outlet + Drop,
+    M: Core,
+    R: Recorder,
+    W: Threads + Wait + Clock + Sync,
+>(
+    common: &Common<'_, M, R, W>,
+    gate: &Mutex<Gate<D>>,
+    crew: Crew<D::Outward, P>,
+    upstream: Upstream<I, P>,
+) -> (UpBack<I, P>, Option<ThreadRefusal>)
+where
+    M::Plan: Send,
+{
+    let Crew {
+        desks,
+        server_desk,
+        buffers,
+        server_buffer,
+    } = crew;
+    let stations = StationPost {
+        gate,
+        desks: desks.as_slice(),
+        buffers,
+    };
+    let server = ServerPost {
+        desk: &server_desk,
+        buffer: server_buffer,
+        upstream,
+    };
+    work_beside(common, stations, server)
+}
+
+/// The stations' threads and the server's, beside each other.
+fn work_beside<
     D: Door + Drop,
     I: Inlet + Drop,
     P: Outlet + Drop,

@@ -5,7 +5,7 @@ ghost use Rattle.gateway_hub.specs.Close.{TellsOver};
 ghost use Rattle.gateway_hub.specs.Keeps.{Keeps, StandsIdle};
 ghost use Rattle.gateway_claim.specs.Happenings.{HistoryEntry};
 ghost use Rattle.rtsp_uri.specs.Bases.{AreSameAddresses, IsSameAddress};
-ghost use Rattle.gateway_run.specs.WholeRun.{HasShown, HasLeftNone, RanTo, SaysRan, OpensNothing, TakesBack, OpensOnce, ServeSays, counted_refusal};
+ghost use Rattle.gateway_run.specs.WholeRun.{RanSo, ServedSo, TakesBack, counted_refusal};
 ghost use Rattle.gate_outside.specs.Causes.{Rose};
 
 use crate::crew::work;
@@ -16,12 +16,12 @@ use gateway_claim::Core;
 use gateway_hub::{Hub, Recorder};
 use gateway_links::Crew;
 use hub_workers::Common;
-use player_stations::{Gate, StationPost};
+use player_stations::Gate;
 use rtsp_uri::{Base, Bases, DEFAULT_PORT};
 use run_report::{RunEnd, after_flush, after_report, write_report};
 use run_status::Status;
 use serve_world::{ThreadRefusal, World};
-use server_link::{ServerPost, UpBack, Upstream};
+use server_link::{UpBack, Upstream};
 use std::alloc::Global;
 use std::sync::{Mutex, Wait};
 use std::thread::Threads;
@@ -44,12 +44,16 @@ where
     M::Plan: Send,
     requires core { M.stands core [] }
     requires bases { AreSameAddresses (M.bases core) options.now.bases }
-    ensures says { ServeSays M.follows options.now.bases result (W.recorded world.new) (W.tally world.old)
-        (W.tally world.new) (K.written sink.old) (K.written sink.new) (K.faults sink.old) (K.faults sink.new) }
-    ensures shown { HasShown result (W.tally world.old) (W.tally world.new) (K.faults sink.old)
-        (K.faults sink.new) }
-    ensures once { OpensOnce (W.tally world.old) (W.tally world.new) }
-    ensures left { HasLeftNone result (W.links_left world.new) }
+    ensures served { ServedSo M.follows options.now.bases result (record {
+      recorded = W.recorded world.new;
+      left = W.links_left world.new;
+      opened = W.tally world.old;
+      closed = W.tally world.new;
+      before = K.written sink.old;
+      now = K.written sink.new;
+      faults = K.faults sink.old;
+      later = K.faults sink.new;
+    }) }
     ensures sink_later { K.faults sink.old ≤ K.faults sink.new }
 {
     let Ok(door) = world.listen(options.listen.as_bytes()) else {
@@ -134,18 +138,48 @@ where
     requires bases { AreSameAddresses (M.bases core) options.now.bases }
     requires recorder { ForSome (W.Rec.entries opened.recorder) (λ noted. noted ≡ []) }
     requires outlet { ForSome (W.UpOut.written opened.outlet) (λ written. written ≡ []) }
-    ensures says { SaysRan M.follows options.now.bases result (W.recorded world.new) (K.written sink.old)
-        (K.written sink.new) (K.faults sink.old) (K.faults sink.new) }
-    ensures shown { HasShown result (W.tally world.old) (W.tally world.new) (K.faults sink.old)
-        (K.faults sink.new) }
-    ensures left { HasLeftNone result (W.links_left world.new) }
-    ensures opens { OpensNothing (W.tally world.old) (W.tally world.new) }
+    ensures ran { RanSo M.follows options.now.bases result (record {
+      recorded = W.recorded world.new;
+      left = W.links_left world.new;
+      opened = W.tally world.old;
+      closed = W.tally world.new;
+      before = K.written sink.old;
+      now = K.written sink.new;
+      faults = K.faults sink.old;
+      later = K.faults sink.new;
+    }) }
     ensures sink_later { K.faults sink.old ≤ K.faults sink.new }
 {
     let Ok(crew) = Crew::new(alloc, options.stations) else {
         let _ = give_back(world, opened, None);
         return Status::Memory;
     };
+    let (hub, gate, upstream) = match ready(alloc, core, opened, options.stations) {
+        Ok(made) => made,
+        Err(opened) => {
+            let _ = give_back(world, opened, None);
+            return Status::Memory;
+        }
+    };
+    let ran = run(rt, alloc, hub, gate, crew, upstream);
+    match report(&options.bases, ran, world, sink) {
+        Some(status) => status,
+        None => rest_for_ever(rt),
+    }
+}
+
+/// The hub, the gate to the door, and the server's link with its ends of the hub's queues. Where memory is wanting, what was
+/// opened comes back.
+fn ready<M: Core, D: Door + Drop, I: Inlet, O: Outlet, R: Recorder>(
+    alloc: Global,
+    core: M,
+    opened: OpenedRun<D, I, O, R>,
+    stations: u8,
+) -> Result<(Hub<M, R>, Gate<D>, Upstream<I, O>), OpenedRun<D, I, O, R>>
+    requires core { M.stands core [] }
+    requires recorder { ForSome (R.entries opened.recorder) (λ noted. noted ≡ []) }
+    requires outlet { ForSome (O.written opened.outlet) (λ written. written ≡ []) }
+{
     let OpenedRun {
         door,
         inlet,
@@ -155,14 +189,12 @@ where
     let (hub, inward, outward) = match Hub::new(alloc, core, recorder) {
         Ok(made) => made,
         Err((_, recorder, Memory)) => {
-            let opened = OpenedRun {
+            return Err(OpenedRun {
                 door,
                 inlet,
                 outlet,
                 recorder,
-            };
-            let _ = give_back(world, opened, None);
-            return Status::Memory;
+            });
         }
     };
     let upstream = Upstream {
@@ -171,12 +203,7 @@ where
         inward,
         outward,
     };
-    let gate = Gate::new(door, options.stations);
-    let ran = run(rt, alloc, hub, gate, crew, upstream);
-    match report(&options.bases, ran, world, sink) {
-        Some(status) => status,
-        None => rest_for_ever(rt),
-    }
+    Ok((hub, Gate::new(door, stations), upstream))
 }
 
 /// What is left of a run once all its workers have come back.
@@ -236,12 +263,6 @@ where
     let gate = Mutex::new(gate);
     let signals = Signals::new();
     let spent = Mutex::new(TextPool::new(alloc));
-    let Crew {
-        desks,
-        server_desk,
-        buffers,
-        server_buffer,
-    } = crew;
     let common = Common {
         rt,
         alloc,
@@ -249,17 +270,7 @@ where
         signals: &signals,
         spent: &spent,
     };
-    let stations = StationPost {
-        gate: &gate,
-        desks: desks.as_slice(),
-        buffers,
-    };
-    let server = ServerPost {
-        desk: &server_desk,
-        buffer: server_buffer,
-        upstream,
-    };
-    let (back, refused) = work(&common, stations, server);
+    let (back, refused) = work(&common, &gate, crew, upstream);
     Ran {
         hub: hub.into_inner(),
         gate: gate.into_inner(),
@@ -275,13 +286,16 @@ fn report<M: Core, W: World, K: Sink>(
     world: &mut W,
     sink: &mut K,
 ) -> Option<Status>
-    ensures says { IfSome result (λ status.
-        ∥ RanTo M.follows bases.now status (W.recorded world.new) (K.written sink.old) (K.written sink.new)
-        (K.faults sink.old) (K.faults sink.new) ∥₁) }
-    ensures shown { IfSome result (λ status.
-        HasShown status (W.tally world.old) (W.tally world.new) (K.faults sink.old) (K.faults sink.new)) }
-    ensures left { IfSome result (λ status. HasLeftNone status (W.links_left world.new)) }
-    ensures opens { OpensNothing (W.tally world.old) (W.tally world.new) }
+    ensures ran { IfSome result (λ status. RanSo M.follows bases.now status (record {
+      recorded = W.recorded world.new;
+      left = W.links_left world.new;
+      opened = W.tally world.old;
+      closed = W.tally world.new;
+      before = K.written sink.old;
+      now = K.written sink.new;
+      faults = K.faults sink.old;
+      later = K.faults sink.new;
+    })) }
     ensures sink_later { K.faults sink.old ≤ K.faults sink.new }
 {
     if !are_same_bases(ran.hub.bases(), bases) {

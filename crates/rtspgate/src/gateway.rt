@@ -36,9 +36,16 @@ pub fn gateway<S: Source, K: Sink, W: World, R: Threads + Wait + Clock + Sync>(
     ensures apart { asks_to_serve (map string_bytes words.now) ≡ false
         → W.tally world.new ≡ W.tally world.old }
     ensures serves { asks_to_serve (map string_bytes words.now) ≡ true
-        → ServesWords (map string_bytes words.now) result (W.recorded world.new) (W.links_left world.new)
-        (W.tally world.old) (W.tally world.new) (K.written sink.old) (K.written sink.new)
-        (K.faults sink.old) (K.faults sink.new) }
+        → ServesWords (map string_bytes words.now) result (record {
+          recorded = W.recorded world.new;
+          left = W.links_left world.new;
+          opened = W.tally world.old;
+          closed = W.tally world.new;
+          before = K.written sink.old;
+          now = K.written sink.new;
+          faults = K.faults sink.old;
+          later = K.faults sink.new;
+        }) }
     ensures unread { asks_to_serve (map string_bytes words.now) ≡ true
         → S.rest source.new ≡ S.rest source.old }
     ensures taken { TakesWithin (limit + 1) (S.rest source.old) (S.rest source.new) }

@@ -32,9 +32,16 @@ pub fn serve_words<W: World, K: Sink, R: Threads + Wait + Clock + Sync>(
     requires { asks_to_serve (map string_bytes words.now) ≡ true }
     ensures usage { TellsUsage result (word_fault (map string_bytes words.now)) }
     ensures unknown { word_fault (map string_bytes words.now) ≡ Some 0 → result ≡ ends.Usage 0 }
-    ensures serves { ServesWords (map string_bytes words.now) result (W.recorded world.new)
-        (W.links_left world.new) (W.tally world.old) (W.tally world.new) (K.written sink.old)
-        (K.written sink.new) (K.faults sink.old) (K.faults sink.new) }
+    ensures serves { ServesWords (map string_bytes words.now) result (record {
+      recorded = W.recorded world.new;
+      left = W.links_left world.new;
+      opened = W.tally world.old;
+      closed = W.tally world.new;
+      before = K.written sink.old;
+      now = K.written sink.new;
+      faults = K.faults sink.old;
+      later = K.faults sink.new;
+    }) }
     ensures sink_later { K.faults sink.old ≤ K.faults sink.new }
 {
     match read_words(alloc, words) {
@@ -52,9 +59,16 @@ fn serve_players<W: World, K: Sink, R: Threads + Wait + Clock + Sync>(
     sink: &mut K,
     world: &mut W,
 ) -> Status
-    ensures says { SaysServed options.now result (W.recorded world.new) (W.links_left world.new)
-        (W.tally world.old) (W.tally world.new) (K.written sink.old) (K.written sink.new) (K.faults sink.old)
-        (K.faults sink.new) }
+    ensures says { SaysServed options.now result (record {
+      recorded = W.recorded world.new;
+      left = W.links_left world.new;
+      opened = W.tally world.old;
+      closed = W.tally world.new;
+      before = K.written sink.old;
+      now = K.written sink.new;
+      faults = K.faults sink.old;
+      later = K.faults sink.new;
+    }) }
     ensures sink_later { K.faults sink.old ≤ K.faults sink.new }
 {
     match core_between(alloc, &options.bases) {

@@ -1,4 +1,4 @@
-use Rattle.gateway_run.proofs.crew.fn.work.here+FnOnce.call_once.Goals as goal
+use Rattle.gateway_run.proofs.crew.fn.work_beside.here+FnOnce.call_once.Goals as goal
 
 pub here-requires : goal.here-requires
 here-requires g c =
