@@ -8,6 +8,7 @@ use crate::head::{EntryHead, HEAD_LENGTH, first_head};
 use crate::unread::UnreadBytes;
 use gate_bytes::{Memory, Text, after, before};
 use std::alloc::Global;
+use std::mem;
 
 /// The number of bytes that a transcript begins with.
 pub const MAGIC_LENGTH: usize = 8;
@@ -102,40 +103,47 @@ impl EntryReader {
         self.left.push(piece)
     }
 
-    /// The next entry. Nothing where no whole entry and no fault stands next: more may be fed then. The fault of a
-    /// transcript is answered from then on. Where memory runs out, the entry is still to come.
-    pub fn next(&mut self, alloc: Global) -> Result<Option<Entry>, EntryFault>
+    /// The next entry, whose body is made in the memory of a text that is done with; an empty one is left in its place.
+    /// Nothing where no whole entry and no fault stands next: more may be fed then. The fault of a transcript is answered
+    /// from then on. Where memory runs out, the entry is still to come.
+    pub fn next(&mut self, alloc: Global, spare: &mut Text) -> Result<Option<Entry>, EntryFault>
         ensures says { NextSays self.old self.new result }
         ensures less { HoldsFewer (bytes_held self.old) (bytes_held self.new) result }
     {
         match self.stage {
             ReaderStage::Front => Ok(None),
-            ReaderStage::Entries => self.next_entry(alloc),
+            ReaderStage::Entries => self.next_entry(alloc, spare),
             ReaderStage::Stopped(bad) => Err(EntryFault::Bad(bad)),
         }
     }
 
     /// The next entry after the magic.
-    fn next_entry(&mut self, alloc: Global) -> Result<Option<Entry>, EntryFault>
+    fn next_entry(&mut self, alloc: Global, spare: &mut Text) -> Result<Option<Entry>, EntryFault>
         requires { self.old.stage ≡ ReaderStage.Entries }
         ensures { ReadsNext (first_head (has self.old.entered) self.old.left) self.old self.new result }
     {
         match first_head(&self.entered, self.left.as_bytes()) {
             Ok(None) => Ok(None),
-            Ok(Some(head)) => Ok(Some(self.take_entry(alloc, head)?)),
+            Ok(Some(head)) => Ok(Some(self.take_entry(alloc, spare, head)?)),
             Err(BadEntryKind::Cut) => Ok(None),
             Err(kind) => Err(EntryFault::Bad(self.stop(kind))),
         }
     }
 
     /// Takes the entry with this head off the front.
-    fn take_entry(&mut self, alloc: Global, head: EntryHead) -> Result<Entry, Memory>
+    fn take_entry(
+        &mut self,
+        alloc: Global,
+        spare: &mut Text,
+        head: EntryHead,
+    ) -> Result<Entry, Memory>
         requires { HEAD_LENGTH + head.size ≤ length self.old.left }
         ensures ok { IfOk result (λ e. RemovesEntry head self.old self.new e) }
         ensures err { OnErr result (IsSame self.old self.new) }
     {
         let end = HEAD_LENGTH + head.size as usize;
-        let body = Text::copy(alloc, after(before(self.left.as_bytes(), end), HEAD_LENGTH))?;
+        spare.truncate(0);
+        spare.push_slice(after(before(self.left.as_bytes(), end), HEAD_LENGTH))?;
         if head.kind == EntryKind::Enter {
             self.entered.insert(head.conn)?;
         }
@@ -144,7 +152,7 @@ impl EntryReader {
         Ok(Entry {
             kind: head.kind,
             conn: head.conn,
-            body,
+            body: mem::replace(spare, Text::new(alloc)),
         })
     }
 

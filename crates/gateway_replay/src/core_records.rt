@@ -7,9 +7,9 @@ ghost use Rattle.gateway_replay.specs.CoreRecords.{Watches, Advances, EntersAs};
 
 use crate::alive::Living;
 use crate::outcomes::write_outcome;
-use gate_bytes::Memory;
+use gate_bytes::{Memory, Text};
 use gate_outside::{Failed, Sink};
-use gateway_claim::{Core, Event};
+use gateway_claim::{Core, Event, Outcome};
 use std::alloc::Global;
 
 /// Why an event was not processed whole.
@@ -66,12 +66,14 @@ impl<M: Core> Watched<M> {
         self.core.enter(alloc, conn)
     }
 
-    /// Takes one event, and writes its records.
+    /// Takes one event, and writes its records. The text that was handed to a client is done with then, and takes the place
+    /// of the spare one.
     pub fn take<K: Sink>(
         &mut self,
         alloc: Global,
         sink: &mut K,
         event: Event,
+        spare: &mut Text,
     ) -> Result<(), ProcessFault>
         ensures takes { TakesEvent (IsCoreHistory M.follows)
             (Watches M.stands M.bases self.old.core self.old.living)
@@ -84,8 +86,19 @@ impl<M: Core> Watched<M> {
             Err((_, Memory)) => return Err(ProcessFault::Memory),
         };
         match write_outcome(sink, &mut self.living, &outcome) {
-            Ok(()) => Ok(()),
+            Ok(()) => {
+                spare_text(outcome, spare);
+                Ok(())
+            }
             Err(Failed) => Err(ProcessFault::Sink),
         }
+    }
+}
+
+/// What was handed to a client takes the place of the spare text.
+fn spare_text(outcome: Outcome, spare: &mut Text) {
+    let Outcome { to_client, .. } = outcome;
+    if let Some(piece) = to_client {
+        *spare = piece.bytes;
     }
 }

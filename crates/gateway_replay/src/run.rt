@@ -26,34 +26,37 @@ fn said_by(speaker: Speaker, item: Item) -> Event
     }
 }
 
-/// Takes a piece of a speaker's bytes, whose framer is given, and all items that are whole then.
+/// Takes a piece of a speaker's bytes, whose framer is given, and all items that are whole then. A text that is done with
+/// is left in its place.
 fn take_piece<M: Core, K: Sink>(
     alloc: Global,
     framer: &mut Framer,
     watched: &mut Watched<M>,
     sink: &mut K,
     speaker: Speaker,
-    piece: Text,
+    piece: &mut Text,
 ) -> Result<(), ProcessFault>
     ensures takes { TakesPiece framer.old framer.new (IsCoreHistory M.follows)
         (Watches M.stands M.bases watched.old.core watched.old.living)
-        (Watches M.stands M.bases watched.new.core watched.new.living) speaker piece (K.written sink.old)
+        (Watches M.stands M.bases watched.new.core watched.new.living) speaker piece.old (K.written sink.old)
         (K.written sink.new) result }
     ensures cause { SinkCause (K.faults sink.old) (K.faults sink.new) result }
 {
     let mut next = framer.take(alloc, piece)?;
     while let Some(item) = next {
-        watched.take(alloc, sink, said_by(speaker, item))?;
+        watched.take(alloc, sink, said_by(speaker, item), piece)?;
         next = framer.next();
     }
     Ok(())
 }
 
-/// The connections of a replay: their streams and the core.
+/// The connections of a replay: their streams, the core, and a text that is done with, in whose memory the body of the next
+/// entry is made.
 #[derive(Drop)]
 pub struct Run<M: Core> {
     pub streams: Streams,
     pub watched: Watched<M>,
+    pub spare: Text,
 }
 
 impl<M: Core> Run<M> {
@@ -74,6 +77,7 @@ impl<M: Core> Run<M> {
         Run {
             streams: Streams::new(alloc),
             watched: Watched::new(alloc, core),
+            spare: Text::new(alloc),
         }
     }
 
@@ -103,8 +107,12 @@ impl<M: Core> Run<M> {
             }
             EntryKind::Client => self.take_bytes(alloc, sink, Speaker::Client(conn), body),
             EntryKind::Upstream => self.take_bytes(alloc, sink, Speaker::Server, body),
-            EntryKind::End => self.watched.take(alloc, sink, Event::End(conn)),
-            EntryKind::Slow => self.watched.take(alloc, sink, Event::Slow(conn)),
+            EntryKind::End => self
+                .watched
+                .take(alloc, sink, Event::End(conn), &mut self.spare),
+            EntryKind::Slow => self
+                .watched
+                .take(alloc, sink, Event::Slow(conn), &mut self.spare),
             EntryKind::UpEnd => self.end_up(alloc, sink, body.as_bytes()),
         }
     }
@@ -124,7 +132,9 @@ impl<M: Core> Run<M> {
         ensures cause { SinkCause (K.faults sink.old) (K.faults sink.new) result }
     {
         match end_reason_in(bytes) {
-            Some(reason) => self.watched.take(alloc, sink, Event::UpEnd(reason)),
+            Some(reason) => self
+                .watched
+                .take(alloc, sink, Event::UpEnd(reason), &mut self.spare),
             None => Ok(()),
         }
     }
@@ -143,35 +153,37 @@ impl<M: Core> Run<M> {
             (K.written sink.old) (K.written sink.new) result }
         ensures cause { SinkCause (K.faults sink.old) (K.faults sink.new) result }
     {
+        self.spare = bytes;
         match speaker {
-            Speaker::Client(conn) => self.take_client(alloc, sink, conn, bytes),
+            Speaker::Client(conn) => self.take_client(alloc, sink, conn),
             Speaker::Server => {
                 let framer = &mut self.streams.server;
-                take_piece(alloc, framer, &mut self.watched, sink, speaker, bytes)
+                let piece = &mut self.spare;
+                take_piece(alloc, framer, &mut self.watched, sink, speaker, piece)
             }
         }
     }
 
-    /// Takes bytes of a client, whose framer is made where there is none.
+    /// Takes the bytes that the spare text has as those of a client, whose framer is made where there is none.
     fn take_client<K: Sink>(
         &mut self,
         alloc: Global,
         sink: &mut K,
         conn: u32,
-        bytes: Text,
     ) -> Result<(), ProcessFault>
         ensures takes { TakesBytes self.old.streams self.new.streams (IsCoreHistory M.follows)
             (Watches M.stands M.bases self.old.watched.core self.old.watched.living)
-            (Watches M.stands M.bases self.new.watched.core self.new.watched.living) (Client conn) bytes
+            (Watches M.stands M.bases self.new.watched.core self.new.watched.living) (Client conn) self.old.spare
             (K.written sink.old) (K.written sink.new) result }
         ensures cause { SinkCause (K.faults sink.old) (K.faults sink.new) result }
     {
         let speaker = Speaker::Client(conn);
+        let piece = &mut self.spare;
         match self.streams.clients.get_mut(&conn) {
-            Some(framer) => take_piece(alloc, framer, &mut self.watched, sink, speaker, bytes),
+            Some(framer) => take_piece(alloc, framer, &mut self.watched, sink, speaker, piece),
             None => {
                 let mut framer = Framer::new(alloc);
-                take_piece(alloc, &mut framer, &mut self.watched, sink, speaker, bytes)?;
+                take_piece(alloc, &mut framer, &mut self.watched, sink, speaker, piece)?;
                 match self.streams.clients.insert(conn, framer) {
                     Ok(_) => Ok(()),
                     Err(_) => Err(ProcessFault::Memory),

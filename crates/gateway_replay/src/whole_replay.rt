@@ -219,7 +219,7 @@ fn process_entries<M: Core, K: Sink>(
     ensures cause { StopCause (K.faults sink.old) (K.faults sink.new) result }
 {
     loop {
-        match reader.next(alloc) {
+        match reader.next(alloc, &mut run.spare) {
             Ok(Some(entry)) => run.take(alloc, sink, entry)?,
             Ok(None) => return Ok(()),
             Err(fault) => return Err(Stop::from(fault)),

@@ -14,6 +14,7 @@ use rtsp_head::{Item, Span};
 use std::alloc::Global;
 use std::collections::VecDeque;
 use std::marker::{Brand, Model};
+use std::mem;
 use std::sync::ledger::{Blank, Ledger};
 use text_pool::TextPool;
 
@@ -133,12 +134,12 @@ impl Framer {
         }
     }
 
-    /// Takes the next piece of the stream, which is given away, and gives the next whole item; none
-    /// where all that came were given. A piece that is one whole item is moved and not copied. Where
-    /// memory is wanting the piece was not taken, and nothing changes.
-    pub fn take(&mut self, alloc: Global, piece: Text) -> Result<Option<Item>, Memory>
+    /// Takes the next piece of the stream, and gives the next whole item; none where all that came were given. A piece
+    /// that is one whole item is moved and not copied: an empty text is left in its place. Where memory is wanting the piece
+    /// was not taken, and nothing changes.
+    pub fn take(&mut self, alloc: Global, piece: &mut Text) -> Result<Option<Item>, Memory>
         ensures ok { IfOk result (λ taken. (stream : List ℕ) (given : List Shape) →
-            Framed self.old stream given → GivesNext self.new (stream ++ piece) given taken) }
+            Framed self.old stream given → GivesNext self.new (stream ++ piece.old) given taken) }
         ensures err { OnErr result (self.new ≡ self.old) }
     {
         let Some(span) = self.whole(piece.as_bytes()) else {
@@ -150,7 +151,7 @@ impl Framer {
         }
         Ok(Some(Item {
             kind: span.kind,
-            bytes: piece,
+            bytes: mem::replace(piece, Text::new(alloc)),
             head: span.head,
         }))
     }

@@ -21,8 +21,8 @@ returns-in-Ok-write_outcome-clause-takes g c =
     (watch_took g.M.Core.stands g.M.Core.bases old.core c.step.new.self old.living c.write_outcome.new.living c.args.event c.in-Ok.outcome c.in-Ok.ensures.ok c.step.ensures.bases c.in-Ok-write_outcome.ensures.living)
     (λ bases T s. c.in-Ok-write_outcome.ensures.bytes T s.alive)
 
-pub returns-clause-takes : goal.returns-clause-takes
-returns-clause-takes g c =
+pub returns-in-Err-write_outcome-clause-takes : goal.returns-in-Err-write_outcome-clause-takes
+returns-in-Err-write_outcome-clause-takes g c =
     let laws = g.met.M.Core g.world.𝓛 g.world.𝓜 g.world.𝓡 ((λ s x. x), (λ x. x), (λ x. x), λ x. x) in
     let old = c.args.self.now in
     taken_in_part (IsCoreHistory g.M.Core.follows) (Watches g.M.Core.stands g.M.Core.bases old.core old.living) (Watches g.M.Core.stands g.M.Core.bases c.step.new.self c.write_outcome.new.living) c.args.event c.in-Ok.outcome
