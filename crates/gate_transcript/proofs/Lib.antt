@@ -1,3 +1,4 @@
+pub mod UnreadLemmas
 pub mod GrammarLemmas
 pub mod HeadLemmas
 pub mod PieceReadLemmas

@@ -1,3 +1,4 @@
+pub mod Unread
 pub mod Connections
 pub mod Bodies
 pub mod Transcript

@@ -1,5 +1,6 @@
 -- What a reader of entries was fed and has given, as a relation: nothing of it is kept in the reader. This project's own.
 use Rattle.std.specs.Prelude.{◌≡◌, ℕ, ◌-◌, ◌^◌, ◌<◌, min, false, List, [], ◌∷◌, ◌++◌, length, Option, Some, None, Result, Ok, Err}
+use Rattle.gate_outside.specs.Contents.{ReadsOk}
 use Rattle.gate_transcript.specs.declared.entry.Entry.{Entry}
 use Rattle.gate_transcript.specs.declared.fault.BadEntryKind.{BadEntryKind}
 use Rattle.gate_transcript.specs.declared.fault.BadEntryKind.TheVariants.{Magic, Kind, Conn, Length, Cut}
@@ -54,6 +55,13 @@ ReadsSo reader stream given = ReadsBy reader.stage reader stream given
 -- what was given in a stream is given in the next, where no more is given
 abbrev pub KeepsGiven : EntryReader → EntryReader → Type 0
 KeepsGiven old new = (stream : List ℕ) (given : List Entry) → ReadsSo old stream given → ReadsSo new stream given
+
+-- so many bytes of a source were fed
+pub record ReadsPiece (old new : EntryReader) (before now : Option (List ℕ)) (count : ℕ) : Type 0 where
+  pub piece : List ℕ
+  pub size : length piece ≡ count
+  pub taken : ReadsOk before now count piece
+  pub fed : (stream : List ℕ) (given : List Entry) → ReadsSo old stream given → ReadsSo new (stream ++ piece) given
 
 -- a fault that more bytes may mend: an entry, or a magic, that is not whole
 abbrev pub IsUnfinished : BadEntryKind → List ℕ → Type 0

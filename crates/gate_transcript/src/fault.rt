@@ -1,6 +1,7 @@
 //! Why a transcript can't be read.
 
 use gate_bytes::Memory;
+use std::alloc::AllocError;
 
 /// Why bytes are no transcript.
 #[derive(Clone, Copy, Debug, PartialEq, Eq)]
@@ -43,5 +44,25 @@ impl From<Memory> for EntryFault {
 
     fn from(_: Memory) -> EntryFault {
         EntryFault::Memory
+    }
+}
+
+/// Why nothing was read from a source.
+#[derive(Clone, Copy, Debug, PartialEq, Eq)]
+pub enum ReadFault {
+    /// The source failed.
+    Source,
+    /// Memory ran out, before the source was read.
+    Memory,
+}
+
+impl From<AllocError> for ReadFault {
+    ghost use Rattle.std.specs.Prelude.{◌≡◌};
+    ghost use Rattle.gate_transcript.specs.declared.fault.ReadFault.TheVariants as read_fault;
+
+    ghost from_gives = { λ _ e. e ≡ read_fault.Memory };
+
+    fn from(_: AllocError) -> ReadFault {
+        ReadFault::Memory
     }
 }

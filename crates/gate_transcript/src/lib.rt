@@ -27,9 +27,10 @@ pub use entry::{
     end_reason_in,
 };
 pub use entry_text::{write_entry, written_entries_are_read};
-pub use fault::{BadEntry, BadEntryKind, EntryFault};
+pub use fault::{BadEntry, BadEntryKind, EntryFault, ReadFault};
 pub use head::{HEAD_LENGTH, LONGEST_BODY};
 pub use memory::MemoryRecorder;
 pub use reader::{EntryReader, MAGIC, MAGIC_LENGTH};
 pub use recorder::{NoteFault, Recorder};
 pub use transcript_recorder::TranscriptRecorder;
+pub use unread::READ_SIZE;

@@ -1,12 +1,13 @@
 //! The reader of entries, which takes a transcript in any pieces.
-ghost use Rattle.std.specs.Prelude.{◌≡◌, ℕ, ◌≤◌, ◌+◌, List, [], ◌++◌, length, OnOk, OnErr, IfOk};
+ghost use Rattle.std.specs.Prelude.{◌≡◌, ℕ, ◌≤◌, ◌+◌, ◌<◌, List, [], ◌++◌, length, OnOk, OnErr, IfOk};
 
 use crate::connections::EnteredNumbers;
 use crate::entry::{Entry, EntryKind};
-use crate::fault::{BadEntry, BadEntryKind, EntryFault};
+use crate::fault::{BadEntry, BadEntryKind, EntryFault, ReadFault};
 use crate::head::{EntryHead, HEAD_LENGTH, first_head};
 use crate::unread::UnreadBytes;
 use gate_bytes::{Memory, Text, after, before};
+use gate_outside::Source;
 use std::alloc::Global;
 use std::mem;
 
@@ -41,7 +42,8 @@ impl EntryReader {
     ghost use Rattle.gate_transcript.specs.declared.entry.Entry.{Entry};
     ghost use Rattle.gate_transcript.specs.Connections.{has};
     ghost use Rattle.gate_transcript.specs.Transcript.{first_head};
-    ghost use Rattle.gate_transcript.specs.Reads.{ReadsSo, KeepsGiven, NextSays, EndsSo, HoldsFewer, bytes_held};
+    ghost use Rattle.gate_transcript.specs.Unread.{RoseAtSource};
+    ghost use Rattle.gate_transcript.specs.Reads.{ReadsPiece, ReadsSo, KeepsGiven, NextSays, EndsSo, HoldsFewer, bytes_held};
     ghost use Rattle.gate_transcript.specs.Steps.{PassesMagic, ReadsNext, RemovesEntry, IsSame, ending};
 
     /// A reader that was fed nothing. It needs no memory.
@@ -70,6 +72,25 @@ impl EntryReader {
         }
     }
 
+    /// Takes the next bytes of a source: so many at most, [`READ_SIZE`] at most, and none where it has ended. Where the
+    /// source fails or memory is wanting, nothing was taken.
+    pub fn read<S: Source>(&mut self, source: &mut S, most: usize) -> Result<usize, ReadFault>
+        requires { 0 < most }
+        ensures ok { IfOk result (λ count.
+            ReadsPiece self.old self.new (S.rest source.old) (S.rest source.new) count) }
+        ensures err { OnErr result
+            ((S.rest source.new ≡ S.rest source.old) × KeepsGiven self.old self.new) }
+        ensures within { IfOk result (λ count. count ≤ most) }
+        ensures cause { RoseAtSource (S.faults source.old) (S.faults source.new) result }
+    {
+        let count = self.left.read(source, most)?;
+        match self.stage {
+            ReaderStage::Front => self.pass_magic(),
+            ReaderStage::Entries | ReaderStage::Stopped(_) => (),
+        }
+        Ok(count)
+    }
+
     /// Appends the piece, and looks at the magic once it is whole.
     fn feed_front(&mut self, piece: &[u8]) -> Result<(), Memory>
         requires { self.old.stage ≡ ReaderStage.Front }
@@ -78,9 +99,18 @@ impl EntryReader {
         ensures err { OnErr result (self.new ≡ self.old) }
     {
         self.left.push(piece)?;
+        self.pass_magic();
+        Ok(())
+    }
+
+    /// Looks at the magic once it is whole.
+    fn pass_magic(&mut self)
+        requires { self.old.stage ≡ ReaderStage.Front }
+        ensures { PassesMagic self.old self.new }
+    {
         let bytes = self.left.as_bytes();
         if bytes.len() < MAGIC_LENGTH {
-            return Ok(());
+            return;
         }
         if bytes.starts_with(&MAGIC) {
             self.left.skip(MAGIC_LENGTH);
@@ -92,7 +122,6 @@ impl EntryReader {
                 kind: BadEntryKind::Magic,
             });
         }
-        Ok(())
     }
 
     /// Appends the piece.

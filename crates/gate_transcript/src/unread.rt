@@ -1,25 +1,30 @@
 //! Bytes that wait to be read.
-ghost use Rattle.std.specs.Prelude.{◌≡◌, ◌≤◌, [], ◌++◌, length, drop, OnOk, OnErr};
+ghost use Rattle.std.specs.Prelude.{◌≡◌, ◌<◌, ◌≤◌, [], ◌++◌, length, take, drop, IfOk, OnOk, OnErr};
+ghost use Rattle.gate_outside.specs.Causes.{HasCause};
+ghost use Rattle.gate_transcript.specs.Unread.{ReadsOnto, RoseAtSource};
 
-use gate_bytes::{Memory, after};
+use crate::fault::ReadFault;
+use bytes::BytesMut;
+use gate_bytes::Memory;
+use gate_outside::Source;
 use std::alloc::Global;
 use std::marker::Model;
 
-/// The bytes that were fed and not yet taken. What was taken stands before `at`, until it is half of all.
+/// The most bytes that one read asks for.
+pub const READ_SIZE: usize = 65_536;
+
+/// The bytes that were fed and not yet taken.
 #[derive(Drop)]
 pub struct UnreadBytes {
-    bytes: Vec<u8>,
-    at: usize,
+    bytes: BytesMut,
 }
 
 impl Model for UnreadBytes {
-    ghost use Rattle.std.specs.Prelude.{ℕ, ◌≤◌, List, length, drop};
+    ghost use Rattle.std.specs.Prelude.{ℕ, List};
 
     ghost Value = { List ℕ };
 
-    ghost view = { λ pending. drop pending.at pending.bytes.items };
-
-    ghost invariant = { λ pending. pending.at ≤ length pending.bytes.items };
+    ghost view = { λ unread. unread.bytes.items };
 }
 
 impl UnreadBytes {
@@ -28,8 +33,7 @@ impl UnreadBytes {
         ensures { result ≡ [] }
     {
         UnreadBytes {
-            bytes: Vec::new(alloc),
-            at: 0,
+            bytes: BytesMut::new(alloc),
         }
     }
 
@@ -37,7 +41,7 @@ impl UnreadBytes {
     pub fn as_bytes(&self) -> &[u8]
         ensures { result.now ≡ self.now }
     {
-        after(self.bytes.as_slice(), self.at)
+        self.bytes.as_slice()
     }
 
     /// Takes so many bytes off the front.
@@ -45,7 +49,7 @@ impl UnreadBytes {
         requires { bytes ≤ length self.old }
         ensures { self.new ≡ drop bytes self.old }
     {
-        self.at += bytes;
+        self.bytes.advance(bytes);
     }
 
     /// Appends the piece.
@@ -53,21 +57,31 @@ impl UnreadBytes {
         ensures ok { OnOk result (self.new ≡ self.old ++ piece.now) }
         ensures err { OnErr result (self.new ≡ self.old) }
     {
-        if self.at >= self.bytes.len() - self.at {
-            drop_front(&mut self.bytes, self.at);
-            self.at = 0;
-        }
         self.bytes.extend_from_slice(piece)?;
         Ok(())
     }
-}
 
-/// Drops the first bytes, and moves the others to their place.
-fn drop_front(bytes: &mut Vec<u8>, count: usize)
-    requires { count ≤ length bytes.old.items }
-    ensures { bytes.new.items ≡ drop count bytes.old.items }
-{
-    let rest = bytes.len() - count;
-    bytes.copy_within(count.., 0);
-    bytes.truncate(rest);
+    /// Appends the next bytes of a source, which puts them into their place: so many at most, and [`READ_SIZE`] at most.
+    /// Where memory is wanting the source was not read.
+    pub fn read<S: Source>(&mut self, source: &mut S, most: usize) -> Result<usize, ReadFault>
+        requires { 0 < most }
+        ensures bytes { ReadsOnto (S.rest source.old) (S.rest source.new) self.old self.new result }
+        ensures within { IfOk result (λ count. count ≤ most) }
+        ensures cause { RoseAtSource (S.faults source.old) (S.faults source.new) result }
+    {
+        let most = most.min(READ_SIZE);
+        self.bytes.reserve(most)?;
+        let held = self.bytes.len();
+        self.bytes.advance_mut(most);
+        match source.read(&mut self.bytes.as_mut_slice()[held..]) {
+            Ok(count) => {
+                self.bytes.truncate(held + count);
+                Ok(count)
+            }
+            Err(_) => {
+                self.bytes.truncate(held);
+                Err(ReadFault::Source)
+            }
+        }
+    }
 }

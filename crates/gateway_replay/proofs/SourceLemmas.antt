@@ -2,9 +2,9 @@
 use Rattle.std.proofs.Common.{◌≡◌, ℕ, zero, suc, ◌+◌, ◌-◌, ◌<◌, ◌≤◌, Bool, true, false, cond, List, [], ◌∷◌, ◌++◌, length, take, drop, Option, Some, None, Ok, Err, refl, sym, ◌∙◌, ap, subst, arith, lit<}
 use Rattle.std.specs.Prelude.{nat_le, IfSome}
 use Rattle.std.proofs.lemmas.Bool.{le-leb, leb-true, leb-false, lt-leb}
-use Rattle.std.proofs.lemmas.List.{append_assoc, append-nil, length-append, take-append-drop, take-append-le, take-take, length-take-le}
+use Rattle.std.proofs.lemmas.List.{append_assoc, append-nil, length-append, take-append-drop, take_all, length-take-le}
 use Rattle.std.proofs.Math.Seq.{take-append-add, take-append_seam}
-use Rattle.gate_outside.specs.Contents.{Reads, TakesFront}
+use Rattle.gate_outside.specs.Contents.{Reads, ReadsOk, TakesFront}
 use Rattle.rtsp_uri.specs.declared.base.Bases.{Bases}
 use Rattle.gateway_claim.specs.Happenings.{HistoryEntry, happened}
 use Rattle.gate_transcript.specs.declared.entry.Entry.{Entry}
@@ -14,6 +14,9 @@ use Rattle.gate_transcript.specs.declared.fault.BadEntryKind.TheVariants.{Magic,
 use Rattle.gate_transcript.specs.declared.reader.EntryReader.{EntryReader}
 use Rattle.gate_transcript.specs.Transcript.{reading, TranscriptReading}
 use Rattle.gate_transcript.specs.Reads.{ReadsSo, GivenWhole, IsLasting, StopsAt, MayGoOn, IsUnfinished}
+use Rattle.gate_transcript.specs.declared.fault.ReadFault.{ReadFault}
+use Rattle.gate_transcript.specs.declared.fault.ReadFault.TheVariants as read
+use Rattle.gate_transcript.specs.Unread.{RoseBy}
 use Rattle.run_status.specs.declared.status.Status.{Status}
 use Rattle.run_status.specs.declared.status.Status.TheVariants.{BadTranscript, TooLong}
 use Rattle.gateway_replay.specs.declared.streams.Streams.{Streams}
@@ -23,10 +26,11 @@ use Rattle.gateway_replay.specs.declared.whole_replay.Stop.TheVariants as stop
 use Rattle.gateway_replay.specs.Events.{events_of}
 use Rattle.gateway_replay.specs.Framers.{FramerFed}
 use Rattle.gateway_replay.specs.Streams.{framer_at}
-use Rattle.gateway_replay.specs.Stops.{status_of_stop}
+use Rattle.gateway_replay.specs.Stops.{status_of_stop, status_of_read}
 use Rattle.gateway_replay.specs.Replays.{limit, ends_by, cut_by_kind, cut_by_limit, ends_as, TakenFrom, ReplayedSoFar, IsInterrupted, ProcessedAll, Processed, IsAtEnd, EndsReplay, EndsBySourceFault, EndsWithoutMemory, ReplaySays, FaultRose, StopRose, IsReplaying, TakesWithin, TakesOne}
 use Rattle.gateway_replay.specs.CoreRecords.{Histories, Advances}
 use Rattle.gateway_replay.proofs.RunLemmas.{grows_nothing}
+use Rattle.gateway_replay.proofs.ReplayLemmas.{so_far_interrupted}
 
 -- a piece more was fed
 pub so_far_fed : (bases : Bases) (reader next : EntryReader) (streams : Streams) (stood : Histories) (bytes piece : List ℕ) (before now : Option (List ℕ))
@@ -42,36 +46,28 @@ so_far_fed bases reader next streams stood bytes piece before now s fed = record
   grown = s.grown;
 }
 
--- an interruption before a piece is one after it
-pub interrupted_more : (made : Histories) (bases : Bases) (bytes piece : List ℕ) (before now : Option (List ℕ)) → IsInterrupted made bases bytes before now → IsInterrupted made bases (bytes ++ piece) before now
-interrupted_more made bases bytes piece before now i = record {
-  history = i.history;
-  is_history = i.is_history;
-  tells = record {
-    front = i.tells.front;
-    rest = i.tells.rest ++ piece;
-    whole = sym (append_assoc i.tells.front i.tells.rest piece) ∙ ap (λ (l : List ℕ). l ++ piece) i.tells.whole;
-    told = i.tells.told;
-  };
-  grown = i.grown;
-}
+-- a piece without a byte adds nothing
+pub no_piece : (reader : EntryReader) (bytes piece : List ℕ) (entries : List Entry) → length piece ≡ 0 → ReadsSo reader (bytes ++ piece) entries → ReadsSo reader bytes entries
+no_piece reader bytes [] entries none reads = subst (λ (l : List ℕ). ReadsSo reader l entries) (append-nil bytes) reads
+no_piece reader bytes (b ∷ piece) entries none reads = absurd (omega arith)
 
 -- a piece more was taken
-pub taken_more : (all left now : Option (List ℕ)) (bytes buffer : List ℕ) (n : ℕ) → TakenFrom all left bytes → Reads {E = Unit {0}} left now (Ok n) buffer
-    → TakenFrom all now (bytes ++ take n buffer)
-taken_more None left now bytes buffer n taken reads = subst (λ (o : Option (List ℕ)). Reads {E = Unit {0}} o now (Ok n) buffer) taken reads
-taken_more (Some whole) left now bytes buffer n taken reads =
-    let took : TakesFront taken.0 now n buffer = subst (λ (o : Option (List ℕ)). Reads {E = Unit {0}} o now (Ok n) buffer) taken.2 reads in (
+pub taken_more : (all left now : Option (List ℕ)) (bytes piece : List ℕ) (n : ℕ) → length piece ≡ n → TakenFrom all left bytes → ReadsOk left now n piece
+    → TakenFrom all now (bytes ++ piece)
+taken_more None left now bytes piece n size taken reads = subst (λ (o : Option (List ℕ)). ReadsOk o now n piece) taken reads
+taken_more (Some whole) left now bytes piece n size taken reads =
+    let took : TakesFront taken.0 now n piece = subst (λ (o : Option (List ℕ)). ReadsOk o now n piece) taken.2 reads in
+    let front : piece ≡ take n taken.0 = sym (take_all n piece (omega arith)) ∙ took.front in (
       drop n taken.0,
       taken.1
           ∙ ap (λ (l : List ℕ). bytes ++ l) (sym (take-append-drop n taken.0))
           ∙ sym (append_assoc bytes (take n taken.0) (drop n taken.0))
-          ∙ ap (λ (l : List ℕ). (bytes ++ l) ++ drop n taken.0) (sym took.front),
+          ∙ ap (λ (l : List ℕ). (bytes ++ l) ++ drop n taken.0) (sym front),
       took.left,
     )
 
 -- a read that gave nothing
-pub read_end : (left now : Option (List ℕ)) (buffer : List ℕ) → Reads {E = Unit {0}} left now (Ok 0) buffer → IsAtEnd left × (now ≡ left)
+pub read_end : (left now : Option (List ℕ)) (buffer : List ℕ) → ReadsOk left now 0 buffer → IsAtEnd left × (now ≡ left)
 read_end None now buffer reads = (tt, reads)
 read_end (Some bytes) now buffer reads =
     let none : bytes ≡ [] = reads.end refl in (
@@ -194,6 +190,21 @@ broken_says made bases reader streams stood room all left left_now before now so
       sound = going.processed.whole.unfinished;
     }
 
+-- nothing could be read
+pub unread_says : (made : Histories) (bases : Bases) (fault : ReadFault) (reader : EntryReader) (streams : Streams) (stood : Histories) (room : ℕ) (all left left_now before now : Option (List ℕ)) → Advances stood made []
+    → IsReplaying bases reader streams stood room all left before now → left_now ≡ left → ReplaySays made bases (status_of_read fault) all left_now before now
+unread_says made bases read.Source reader streams stood room all left left_now before now sound going kept =
+    broken_says made bases reader streams stood room all left left_now before now sound going kept
+unread_says made bases read.Memory reader streams stood room all left left_now before now sound going kept = record {
+  bytes = going.bytes;
+  taken = subst (λ (o : Option (List ℕ)). TakenFrom all o going.bytes) (sym kept) going.taken;
+  part = so_far_interrupted made bases reader streams stood going.bytes before now sound going.processed.so_far;
+}
+
+pub unread_rose : (fault : ReadFault) (first before now c d : ℕ) → first ≤ before → RoseBy before now (Err fault) → FaultRose (status_of_read fault) first now c d
+unread_rose read.Source first before now c d later rose = omega (arith, rose)
+unread_rose read.Memory first before now c d later rose = tt
+
 -- the source holds more than the limit
 unfinished_cut : (fault : Option BadEntry) (bytes : List ℕ) → 8 ≤ length bytes → MayGoOn fault bytes → cut_by_limit fault ≡ TooLong
 unfinished_cut None bytes long may = refl
@@ -237,19 +248,6 @@ untaken : (all : Option (List ℕ)) → TakenFrom all all []
 untaken None = refl
 untaken (Some bytes) = (bytes, refl, refl)
 
--- nothing was done yet
-pub nothing_done : (made : Histories) (bases : Bases) (all written : Option (List ℕ)) → made bases [] → EndsWithoutMemory made bases all all written written
-nothing_done made bases all written none = record {
-  bytes = [];
-  taken = untaken all;
-  part = record {
-    history = [];
-    is_history = none;
-    tells = record { front = []; rest = []; whole = refl; told = record { more = []; whole = refl } };
-    grown = grows_nothing written;
-  };
-}
-
 -- nothing was taken yet
 pub nothing_taken : (most : ℕ) (all : Option (List ℕ)) → TakesWithin most all all
 nothing_taken most all = record { bytes = []; taken = untaken all; few = omega arith }
@@ -276,15 +274,14 @@ taken_so_far bases reader streams stood room all left left_now before now going 
   few = omega (arith, going.room_left);
 }
 
-pub taken_piece : (bases : Bases) (reader : EntryReader) (streams : Streams) (stood : Histories) (room n : ℕ) (all left left_now before now : Option (List ℕ)) (buffer : List ℕ)
-    → (going : IsReplaying bases reader streams stood room all left before now) → Reads {E = Unit {0}} left left_now (Ok n) buffer → n ≤ room → n ≤ length buffer
+pub taken_piece : (bases : Bases) (reader : EntryReader) (streams : Streams) (stood : Histories) (room n : ℕ) (all left left_now before now : Option (List ℕ)) (piece : List ℕ)
+    → (going : IsReplaying bases reader streams stood room all left before now) → ReadsOk left left_now n piece → length piece ≡ n → n ≤ room
     → TakesWithin (limit + 1) all left_now
-taken_piece bases reader streams stood room n all left left_now before now buffer going reads fits enough =
-    let size : length (take n buffer) ≡ n = length-take-le n buffer enough in record {
-      bytes = going.bytes ++ take n buffer;
-      taken = taken_more all left left_now going.bytes buffer n going.taken reads;
-      few = omega (arith, length-append going.bytes (take n buffer), going.room_left);
-    }
+taken_piece bases reader streams stood room n all left left_now before now piece going reads size fits = record {
+  bytes = going.bytes ++ piece;
+  taken = taken_more all left left_now going.bytes piece n size going.taken reads;
+  few = omega (arith, length-append going.bytes piece, going.room_left);
+}
 
 one_more : (all left now : Option (List ℕ)) (bytes : List ℕ) (most : ℕ) → TakenFrom all left bytes → length bytes ≤ most → TakesOne left now → TakesWithin (most + 1) all now
 one_more None left now bytes most taken short one = record { bytes = []; taken = subst (λ (o : Option (List ℕ)). TakesOne o now) taken one; few = omega arith }
@@ -320,31 +317,24 @@ unfolding limit
 going_start bases reader streams stood all written reads fed stands = going_from bases reader streams stood all written reads fed stands
 
 -- a piece more was taken and processed
-pub going_on : (bases : Bases) (reader next : EntryReader) (streams streams_now : Streams) (stood now_stood : Histories) (room n : ℕ) (all left left_now before mid now : Option (List ℕ)) (buffer : List ℕ)
-    → (going : IsReplaying bases reader streams stood room all left before mid) → Reads {E = Unit {0}} left left_now (Ok n) buffer → n ≤ room → n ≤ length buffer
-    → ProcessedAll bases next streams_now now_stood (going.bytes ++ take n buffer) before now
+pub going_on : (bases : Bases) (reader next : EntryReader) (streams streams_now : Streams) (stood now_stood : Histories) (room n : ℕ) (all left left_now before mid now : Option (List ℕ)) (piece : List ℕ)
+    → (going : IsReplaying bases reader streams stood room all left before mid) → ReadsOk left left_now n piece → length piece ≡ n → n ≤ room
+    → ProcessedAll bases next streams_now now_stood (going.bytes ++ piece) before now
     → IsReplaying bases next streams_now now_stood (room - n) all left_now before now
-going_on bases reader next streams streams_now stood now_stood room n all left left_now before mid now buffer going reads fits enough processed =
-    let size : length (take n buffer) ≡ n = length-take-le n buffer enough in record {
-      bytes = going.bytes ++ take n buffer;
-      taken = taken_more all left left_now going.bytes buffer n going.taken reads;
-      room_left = omega (arith, length-append going.bytes (take n buffer), going.room_left);
-      processed = processed;
-    }
+going_on bases reader next streams streams_now stood now_stood room n all left left_now before mid now piece going reads size fits processed = record {
+  bytes = going.bytes ++ piece;
+  taken = taken_more all left left_now going.bytes piece n size going.taken reads;
+  room_left = omega (arith, length-append going.bytes piece, going.room_left);
+  processed = processed;
+}
 
 -- and the bytes so far still fit
-pub piece_fits : (bases : Bases) (reader : EntryReader) (streams : Streams) (stood : Histories) (room n : ℕ) (all left before now : Option (List ℕ)) (buffer : List ℕ)
-    → (going : IsReplaying bases reader streams stood room all left before now) → n ≤ room → n ≤ length buffer → length (going.bytes ++ take n buffer) ≤ limit
-piece_fits bases reader streams stood room n all left before now buffer going fits enough =
-    let size : length (take n buffer) ≡ n = length-take-le n buffer enough in
-    omega (arith, length-append going.bytes (take n buffer), going.room_left)
+pub piece_fits : (bases : Bases) (reader : EntryReader) (streams : Streams) (stood : Histories) (room n : ℕ) (all left before now : Option (List ℕ)) (piece : List ℕ)
+    → (going : IsReplaying bases reader streams stood room all left before now) → length piece ≡ n → n ≤ room → length (going.bytes ++ piece) ≤ limit
+piece_fits bases reader streams stood room n all left before now piece going size fits = omega (arith, length-append going.bytes piece, going.room_left)
 
 -- what made a stop rise
 pub stop_rose : (stop : Stop) (a b first c d : ℕ) → first ≤ c → StopRose c d (Err stop) → FaultRose (status_of_stop stop) a b first d
 stop_rose (stop.Bad bad) a b first c d later rose = tt
 stop_rose stop.Sink a b first c d later rose = omega arith
 stop_rose stop.Memory a b first c d later rose = tt
-
--- the front of a front, of one text and another
-pub front_of_front : (count n : ℕ) (one other : List ℕ) → count ≤ n → count ≤ length one → take count (take n (one ++ other)) ≡ take count one
-front_of_front count n one other le short = take-take count n (one ++ other) le ∙ take-append-le count one other short

@@ -1,6 +1,8 @@
 -- What stops a replay, by the part that failed: the reader of entries, or the processing of an event (this project's own).
 use Rattle.gate_transcript.specs.declared.fault.EntryFault.{EntryFault}
 use Rattle.gate_transcript.specs.declared.fault.EntryFault.TheVariants as entry
+use Rattle.gate_transcript.specs.declared.fault.ReadFault.{ReadFault}
+use Rattle.gate_transcript.specs.declared.fault.ReadFault.TheVariants as read
 use Rattle.gateway_replay.specs.declared.core_records.ProcessFault.{ProcessFault}
 use Rattle.gateway_replay.specs.declared.core_records.ProcessFault.TheVariants as fault
 use Rattle.run_status.specs.declared.status.Status.{Status}
@@ -23,3 +25,8 @@ stop_of_reader entry.Memory = stop.Memory
 abbrev pub stop_of_event : ProcessFault → Stop
 stop_of_event fault.Sink = stop.Sink
 stop_of_event fault.Memory = stop.Memory
+
+-- how a replay ends where its source can't be read
+abbrev pub status_of_read : ReadFault → Status
+status_of_read read.Source = status.SourceFault
+status_of_read read.Memory = status.Memory

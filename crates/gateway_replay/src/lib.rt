@@ -14,4 +14,4 @@ mod streams;
 mod whole_replay;
 
 pub use laws::{a_sound_transcript_is_replayed, a_transcript_of_one_player_is_its_own};
-pub use whole_replay::{LONGEST_TRANSCRIPT, READ_SIZE, replay};
+pub use whole_replay::{LONGEST_TRANSCRIPT, replay};

@@ -1,8 +1,7 @@
 //! Replaying a transcript: the loop that reads it from a source and has its entries processed, up to the end of the
 //! source, a fault, or the limit.
-ghost use Rattle.std.specs.Prelude.{◌≡◌, ◌<◌, ◌≤◌, ◌+◌, ◌++◌, [], ℕ, List, Option, length, IfOk};
+ghost use Rattle.std.specs.Prelude.{◌≡◌, ◌≤◌, ◌+◌, [], ℕ, List, Option};
 ghost use Rattle.gate_outside.specs.Causes.{HasCause};
-ghost use Rattle.gate_outside.specs.Contents.{Reads};
 ghost use Rattle.rtsp_uri.specs.declared.base.Bases.{Bases};
 ghost use Rattle.gateway_claim.specs.Cores.{IsCoreHistory};
 ghost use Rattle.gate_transcript.specs.declared.entry.Entry.{Entry};
@@ -10,22 +9,19 @@ ghost use Rattle.gate_transcript.specs.Transcript.{reading};
 ghost use Rattle.gate_transcript.specs.Reads.{ReadsSo, GivenWhole};
 ghost use Rattle.run_status.specs.declared.status.Status.TheVariants.{BadTranscript};
 ghost use Rattle.gateway_replay.specs.CoreRecords.{Watches};
+ghost use Rattle.gateway_replay.specs.Stops.{status_of_read};
 ghost use Rattle.gateway_replay.specs.Replays.{ReplayedSoFar, SomeSoFar, Processed, StopCause, ReplaySays, FaultRose, TakesWithin, TellsMore, ends_by, limit};
 
 use crate::core_records::ProcessFault;
 use crate::run::Run;
-use gate_bytes::before;
 use gate_outside::{Failed, Sink, Source};
-use gate_transcript::{BadEntry, EntryFault, EntryReader};
+use gate_transcript::{BadEntry, EntryFault, EntryReader, ReadFault};
 use gateway_claim::Core;
 use run_status::Status;
-use std::alloc::{AllocError, Global};
+use std::alloc::Global;
 
 /// The longest transcript that is replayed, in bytes.
 pub const LONGEST_TRANSCRIPT: usize = 67_108_864;
-
-/// The most bytes that one read asks for.
-pub const READ_SIZE: usize = 65_536;
 
 /// What stops a replay before the end of its source.
 #[derive(Clone, Copy, Debug, PartialEq, Eq)]
@@ -110,19 +106,16 @@ pub fn replay<M: Core, S: Source, K: Sink>(
 {
     let mut reader = EntryReader::new(alloc);
     let mut run = Run::new(alloc, core);
-    let Ok(mut buffer) = empty_buffer(alloc) else {
-        return Status::Memory;
-    };
     let mut room = LONGEST_TRANSCRIPT;
     while room > 0 {
-        let Ok(count) = read_some(source, buffer.as_mut_slice(), room) else {
-            return Status::SourceFault;
+        let count = match reader.read(source, room) {
+            Ok(count) => count,
+            Err(fault) => return unread(fault),
         };
         if count == 0 {
             return finish(&reader);
         }
-        let piece = before(buffer.as_slice(), count);
-        match take_piece(alloc, &mut reader, &mut run, sink, piece) {
+        match process_entries(alloc, &mut reader, &mut run, sink) {
             Ok(()) => room -= count,
             Err(stop) => return Status::from(stop),
         }
@@ -134,48 +127,14 @@ pub fn replay<M: Core, S: Source, K: Sink>(
     }
 }
 
-/// Room for one piece.
-fn empty_buffer(alloc: Global) -> Result<Vec<u8>, AllocError>
-    ensures { IfOk result (λ buffer. 0 < length buffer.items) }
+/// The answer where nothing could be read.
+fn unread(fault: ReadFault) -> Status
+    ensures { result ≡ status_of_read fault }
 {
-    vec![in alloc; 0u8; READ_SIZE]
-}
-
-/// Reads a piece of the source into the front of the buffer: so many bytes at most.
-fn read_some<S: Source>(source: &mut S, buffer: &mut [u8], most: usize) -> Result<usize, Failed>
-    requires some { 0 < length buffer.old }
-    requires asks { 0 < most }
-    ensures bytes { Reads (S.rest source.old) (S.rest source.new) result buffer.new }
-    ensures within { IfOk result (λ count. (count ≤ most) × (count ≤ length buffer.new)) }
-    ensures cause { HasCause (S.faults source.old) (S.faults source.new) result }
-{
-    let most = most.min(buffer.len());
-    source.read(&mut buffer[..most])
-}
-
-/// Feeds a piece to the reader, and processes all entries that it can give then.
-fn take_piece<M: Core, K: Sink>(
-    alloc: Global,
-    reader: &mut EntryReader,
-    run: &mut Run<M>,
-    sink: &mut K,
-    piece: &[u8],
-) -> Result<(), Stop>
-    requires { SomeSoFar reader.old run.old.streams
-        (Watches M.stands M.bases run.old.watched.core run.old.watched.living) (K.written sink.old) }
-    ensures processed { (bases : Bases) (bytes : List ℕ) (before : Option (List ℕ))
-        → ReplayedSoFar bases reader.old run.old.streams
-        (Watches M.stands M.bases run.old.watched.core run.old.watched.living) bytes before
-        (K.written sink.old)
-        → Processed (IsCoreHistory M.follows) bases result reader.new run.new.streams
-        (Watches M.stands M.bases run.new.watched.core run.new.watched.living) (bytes ++ piece.now) before
-        (K.written sink.new) }
-    ensures cause { StopCause (K.faults sink.old) (K.faults sink.new) result }
-{
-    let Ok(()) = reader.feed(piece) else {
-        return Err(Stop::Memory);
-    };
-    process_entries(alloc, reader, run, sink)
+    match fault {
+        ReadFault::Source => Status::SourceFault,
+        ReadFault::Memory => Status::Memory,
+    }
 }
 
 /// The answer at the end of the source.

@@ -1,4 +1,4 @@
-use Rattle.std.proofs.Common.{◌<◌, ◌≤◌, length}
+use Rattle.std.proofs.Common.{◌≤◌}
 use Rattle.gateway_replay.specs.CoreRecords.{Watches}
 use Rattle.gateway_replay.specs.Replays.{IsReplaying}
 use Rattle.gateway_replay.proofs.whole_replay.replay.Given as goal
@@ -9,7 +9,6 @@ invariant-loop-room g l = record {
   going : IsReplaying (g.M.Core.bases l.fn.core) l.reader l.run.streams (Watches g.M.Core.stands g.M.Core.bases l.run.watched.core l.run.watched.living) l.room (g.S.Source.rest l.fn.source) (g.S.Source.rest l.source) (g.K.Sink.written l.fn.sink) (g.K.Sink.written l.sink);
   source_later : g.S.Source.faults l.fn.source ≤ g.S.Source.faults l.source;
   sink_later : g.K.Sink.faults l.fn.sink ≤ g.K.Sink.faults l.sink;
-  some : 0 < length l.buffer.items;
 }
 
 abbrev pub decreases-loop-room : goal.decreases-loop-room
