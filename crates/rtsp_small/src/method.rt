@@ -1,5 +1,5 @@
 //! Methods by name, and the value of the field Public.
-ghost use Rattle.std.specs.Prelude.{◌≡◌, ◌++◌, Some, OnOk};
+ghost use Rattle.std.specs.Prelude.{◌≡◌, ◌++◌, Some, OnOk, OnErr};
 ghost use Rattle.rtsp_small.specs.Methods.{method_name, method_of, methods_text};
 
 use gate_bytes::{Memory, Text};
@@ -68,15 +68,15 @@ pub fn read_method(text: &[u8]) -> Option<Method>
     None
 }
 
+/// The names of all [`METHODS`], as the field Public has them.
+const METHOD_NAMES: &[u8] =
+    b"OPTIONS, DESCRIBE, SETUP, PLAY, PAUSE, TEARDOWN, GET_PARAMETER, SET_PARAMETER";
+
 /// Appends the value of the field Public: the names of all methods, with a comma and a space between
-/// two (RFC 2326, 12.28; RFC 7826, 18.39). Where memory is wanting, some of them may stand there.
+/// two (RFC 2326, 12.28; RFC 7826, 18.39). Where memory is wanting, the text stays as it was.
 pub fn push_methods(text: &mut Text) -> Result<(), Memory>
-    ensures { OnOk result (text.new ≡ text.old ++ methods_text) }
+    ensures ok { OnOk result (text.new ≡ text.old ++ methods_text) }
+    ensures err { OnErr result (text.new ≡ text.old) }
 {
-    text.push_slice(METHODS[0].name())?;
-    for method in &METHODS[1..] {
-        text.push_slice(b", ")?;
-        text.push_slice(method.name())?;
-    }
-    Ok(())
+    text.push_slice(METHOD_NAMES)
 }
