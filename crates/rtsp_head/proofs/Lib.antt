@@ -12,3 +12,4 @@ pub mod MessageLemmas
 pub mod StreamLemmas
 pub mod FieldLemmas
 pub mod SearchLemmas
+pub mod NameLemmas

@@ -3,6 +3,7 @@ pub mod Heads
 pub mod Items
 pub mod Lines
 pub mod Messages
+pub mod Names
 pub mod Optional
 pub mod Shapes
 pub mod Spellings

@@ -83,7 +83,7 @@ pub fn read_head(alloc: Global, bytes: &[u8]) -> Result<Head<'_>, HeadFault>
 fn read_headers(alloc: Global, bytes: &[u8]) -> Result<HeadFields<'_>, HeadFault>
     ensures { UnlessMemory head_refusal result (headers_of header_limit (head_lines bytes.now)) }
 {
-    let mut reading = Reading::new(alloc);
+    let mut reading = Reading::new(alloc)?;
     let mut rest = bytes;
     while let Some((line, after)) = next_line(rest) {
         reading.take_line(alloc, line)?;

@@ -125,13 +125,13 @@ impl<'a> Model for HeadFields<'a> {
 }
 
 impl<'a> HeadFields<'a> {
-    /// No header. It takes no memory.
-    pub(crate) fn new(alloc: Global) -> HeadFields<'a>
-        ensures { result ≡ [] }
+    /// No header, with room for so many.
+    pub(crate) fn with_room(alloc: Global, headers: usize) -> Result<HeadFields<'a>, Memory>
+        ensures { IfOk result (λ fields. fields ≡ []) }
     {
-        HeadFields {
-            items: Vec::new(alloc),
-        }
+        Ok(HeadFields {
+            items: Vec::with_capacity(alloc, headers)?,
+        })
     }
 
     /// The number of headers.

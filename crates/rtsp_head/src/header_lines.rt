@@ -12,6 +12,9 @@ use crate::line::Line;
 use gate_bytes::Memory;
 use std::alloc::Global;
 
+/// How many headers are made room for at once (this project's own): more than most heads have.
+const USUAL_HEADERS: usize = 8;
+
 /// The headers of the lines so far: the last one apart, since the next line may go on with it.
 #[derive(Drop)]
 pub(crate) struct Reading<'a> {
@@ -21,13 +24,13 @@ pub(crate) struct Reading<'a> {
 
 impl<'a> Reading<'a> {
     /// No header yet.
-    pub(crate) fn new(alloc: Global) -> Reading<'a>
-        ensures { so_far result ≡ no_headers }
+    pub(crate) fn new(alloc: Global) -> Result<Reading<'a>, Memory>
+        ensures { IfOk result (λ reading. so_far reading ≡ no_headers) }
     {
-        Reading {
-            above: HeadFields::new(alloc),
+        Ok(Reading {
+            above: HeadFields::with_room(alloc, USUAL_HEADERS)?,
             last: None,
-        }
+        })
     }
 
     /// Reads one more line. After an error the headers are of no use.
