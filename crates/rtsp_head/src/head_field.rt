@@ -70,6 +70,7 @@ impl<'a> FieldValue<'a> {
     }
 
     /// The value without the blanks round it.
+    #[inline(always)]
     pub(crate) fn closed(self, alloc: Global) -> Result<FieldValue<'a>, Memory>
         ensures { IfOk result (λ value. value ≡ trimmed self.entry) }
     {
