@@ -179,7 +179,16 @@ fn feed_more<L: Ledger>(
 {
     let held = rest.len();
     rest.extend_from_slice(piece)?;
-    let first = front_with(rest.as_slice(), *front, held, steps);
+    let first = match front_with(rest.as_slice(), *front, held, steps) {
+        StreamFront::Begun {
+            skipped: 0,
+            front: more,
+        } => {
+            *front = more;
+            return Ok(true);
+        }
+        found => found,
+    };
     match cut(alloc, queue, rest.as_slice(), first, steps) {
         Ok(Some(left)) => {
             drop_front(rest, left.used);

@@ -25,6 +25,7 @@ pub fn stream_front<L: Ledger>(stream: &[u8], steps: &mut Steps<L>) -> StreamFro
 
 /// What stands first in a stream where something is known of so many bytes, to which the others were added. The four
 /// steps a byte of an unfinished head pay for the look at all of it, once it is whole.
+#[inline(always)]
 pub fn front_with<L: Ledger>(
     bytes: &[u8],
     front: ItemFront,
@@ -75,6 +76,7 @@ fn begins_blank<L: Ledger>(bytes: &[u8], steps: &mut Steps<L>) -> bool
 }
 
 /// The item that begins with the first byte, which no empty line does. That byte was looked at already.
+#[inline(always)]
 fn first_span<L: Ledger>(bytes: &[u8], steps: &mut Steps<L>) -> Result<Span, ItemFront>
     requires { begins_blank bytes.now ≡ false }
     ensures found { IsSpanFound bytes.now result }
@@ -113,6 +115,7 @@ fn frame_span<L: Ledger>(bytes: &[u8], steps: &mut Steps<L>) -> Result<Span, Ite
 }
 
 /// The span, where so many bytes have come that it is whole.
+#[inline(always)]
 pub fn when_come(come: usize, span: Span) -> Result<Span, ItemFront>
     ensures { result ≡ when_come come span }
 {

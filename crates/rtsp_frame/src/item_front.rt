@@ -33,6 +33,7 @@ pub enum StreamFront {
 
 impl StreamFront {
     /// What stands first where no empty line does.
+    #[inline(always)]
     pub fn at_once(found: Result<Span, ItemFront>) -> StreamFront
         ensures { result ≡ at_once found }
     {

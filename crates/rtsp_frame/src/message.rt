@@ -14,6 +14,7 @@ use rtsp_head::{
 use std::sync::ledger::Ledger;
 
 /// The message at the front, a line of which begins at one place and was searched up to another.
+#[inline(always)]
 pub fn message_span<L: Ledger>(
     bytes: &[u8],
     line: usize,
@@ -50,6 +51,7 @@ fn front(bytes: &[u8]) -> &[u8]
 
 /// The length of the head at the front, up to and with its first empty line; or where its last line begins, if it goes
 /// on. A line begins at one place and was searched up to another.
+#[inline(always)]
 fn head_end<L: Ledger>(
     bytes: &[u8],
     line: usize,
