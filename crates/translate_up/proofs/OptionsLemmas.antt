@@ -1,6 +1,7 @@
 -- The answer to OPTIONS, written as it stands.
-use Rattle.std.proofs.Common.{◌≡◌, ℕ, List, [], ◌∷◌, ◌++◌, sym, ◌∙◌, ap}
+use Rattle.std.proofs.Common.{◌≡◌, ℕ, List, [], ◌∷◌, ◌++◌, sym, ◌∙◌, ap, arith}
 use Rattle.std.specs.Prelude.{codes, decimal}
+use Rattle.std.proofs.lemmas.Fmt.{decimal-digits_of}
 use Rattle.std.proofs.lemmas.List.{append_assoc, append-nil}
 use Rattle.rtsp_small.specs.Methods.{methods_text}
 use Rattle.translate_up.specs.Answers.{options_text}
@@ -50,10 +51,17 @@ rest_pushed d e f g fifth sixth seventh =
     ∙ ap (λ (text : List ℕ). text ++ (line_end ++ line_end)) (sixth ∙ ap (λ (text : List ℕ). text ++ methods_text) fifth)
     ∙ rest_joined d (codes "Public: ") methods_text
 
+-- the code as it is written
+code_written : decimal 200 ≡ codes "200"
+code_written = decimal-digits_of 200 (omega arith) (omega arith)
+
+front_joined : codes "RTSP/1.0 200 OK" ++ (line_end ++ codes "CSeq: ") ≡ (codes "RTSP/1.0 " ++ decimal 200) ++ (codes " OK" ++ (line_end ++ codes "CSeq: "))
+front_joined = ap (λ (code : List ℕ). (codes "RTSP/1.0 " ++ code) ++ (codes " OK" ++ (line_end ++ codes "CSeq: "))) (sym code_written)
+
 -- what was pushed piece by piece
-pub options_pushed : (cseq : ℕ) (a b c d e f g : List ℕ) → a ≡ codes "RTSP/1.0 " → b ≡ a ++ decimal 200 → c ≡ b ++ (codes " OK" ++ (line_end ++ codes "CSeq: ")) → d ≡ c ++ decimal cseq →
+pub options_pushed : (cseq : ℕ) (c d e f g : List ℕ) → c ≡ codes "RTSP/1.0 200 OK" ++ (line_end ++ codes "CSeq: ") → d ≡ c ++ decimal cseq →
     e ≡ d ++ (line_end ++ codes "Public: ") → f ≡ e ++ methods_text → g ≡ f ++ (line_end ++ line_end) → g ≡ options_text cseq
-options_pushed cseq a b c d e f g first second third fourth fifth sixth seventh =
-    rest_pushed d e f g fifth sixth seventh
-    ∙ ap (λ (text : List ℕ). text ++ (line_end ++ (public_line ++ line_end))) (fourth ∙ ap (λ (text : List ℕ). text ++ decimal cseq) (third ∙ ap (λ (text : List ℕ). text ++ (codes " OK" ++ (line_end ++ codes "CSeq: "))) (second ∙ ap (λ (text : List ℕ). text ++ decimal 200) first)))
+options_pushed cseq c d e f g first second third fourth fifth =
+    rest_pushed d e f g third fourth fifth
+    ∙ ap (λ (text : List ℕ). text ++ (line_end ++ (public_line ++ line_end))) (second ∙ ap (λ (text : List ℕ). text ++ decimal cseq) (first ∙ front_joined))
     ∙ options_spelled cseq

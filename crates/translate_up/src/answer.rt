@@ -53,9 +53,7 @@ pub(crate) fn options_text(alloc: Global, cseq: u64) -> Result<Text, Memory>
     ensures { IfOk result (λ text. text ≡ options_text cseq) }
 {
     let mut text = Text::with_room(alloc, 160)?;
-    text.push_slice(b"RTSP/1.0 ")?;
-    push_decimal(&mut text, 200)?;
-    text.push_slice(b" OK\r\nCSeq: ")?;
+    text.push_slice(b"RTSP/1.0 200 OK\r\nCSeq: ")?;
     push_decimal(&mut text, cseq)?;
     text.push_slice(b"\r\nPublic: ")?;
     push_methods(&mut text)?;
