@@ -2,8 +2,6 @@
 use Rattle.std.proofs.Common.{◌≡◌, ℕ, ◌+◌, Bool, true, false, cond, List, [], ◌∷◌, Option, Some, Result, Ok, Err, inl, inr, refl, sym, subst, ◌∙◌, ap, ap₂, None, arith}
 use Rattle.std.specs.Prelude.{OnOk, OnErr}
 use Rattle.gate_outside.specs.declared.Failed.{Failed}
-use Rattle.gate_outside.specs.Causes.{Rose}
-use Rattle.drill_run.specs.Reports.{DrillSays, IsDrilledHistory}
 use Rattle.run_status.specs.declared.status.Status.{Status}
 use Rattle.run_status.specs.declared.status.Status.TheVariants.{Done, Usage, SourceFault, SinkFault, BadTranscript, TooLong, Memory, Upstream, ListenFault, RecordFault, CrewRefused, AcceptFault, DialFault, NumbersSpent}
 use Rattle.command_line.specs.declared.words.Command.{Command}
@@ -15,7 +13,6 @@ use Rattle.command_line.specs.Kinds.{is_of, first_fault}
 use Rattle.command_line.specs.Words.{replay_word, drill_word, serve_word, replay_kinds, serve_kinds, word_fault, ReadsWords, MayLackMemory, NamesCommand, asks_to_serve}
 use Rattle.rtspgate.specs.Usage.{fault_or_serve, plain_fault, TellsUsage, TellsUsageAfterFlush}
 use Rattle.rtspgate.specs.Stops.{status_of_words}
-use Rattle.gateway_replay.specs.Replays.{FaultRose}
 use Rattle.rtspgate.specs.Commands.{PlainSays, CommandSays}
 
 -- a fault of a later word has a later place
@@ -63,9 +60,6 @@ read_place word.Memory words says at e = cc
 -- what a refusal tells of the words, where `serve` is refused too and where it is not
 pub usage_says : (found : WordsFault) (words : List (List ℕ)) → ReadsWords (Err found) words → TellsUsage (status_of_words found) (plain_fault words)
 usage_says found words says = refusal_tells found (plain_fault words) (λ at e. told_place words at (read_place found words says at e))
-
-pub refusal_usage : (found : WordsFault) (words : List (List ℕ)) → ReadsWords (Err found) words → TellsUsage (status_of_words found) (word_fault words)
-refusal_usage found words says = refusal_tells found (word_fault words) (read_place found words says)
 
 -- an unknown command is told in any case
 pub unknown_told : (found : WordsFault) (words : List (List ℕ)) → ReadsWords (Err found) words → word_fault words ≡ Some 0 → status_of_words found ≡ Usage 0
@@ -137,28 +131,6 @@ plain_says words (Serve options) DialFault all left before now names says = let 
 plain_says words (Replay bases) NumbersSpent all left before now names says = absurd says
 plain_says words (Drill clients number) NumbersSpent all left before now names says = absurd says.1
 plain_says words (Serve options) NumbersSpent all left before now names says = let refused : NumbersSpent ≡ Usage 0 = says.0 in cc
-
--- a drill's fault has its cause
-pub drill_rose : (clients number : ℕ) (status : Status) (before now : Option (List ℕ)) (a b c d : ℕ) → DrillSays IsDrilledHistory clients number status before now → (status ≡ SinkFault → Rose c d) →
-    FaultRose status a b c d
-drill_rose clients number Done before now a b c d says rose = tt
-drill_rose clients number (Usage place) before now a b c d says rose = tt
-drill_rose clients number SourceFault before now a b c d says rose = absurd says
-drill_rose clients number SinkFault before now a b c d says rose = rose refl
-drill_rose clients number (BadTranscript place fault) before now a b c d says rose = tt
-drill_rose clients number TooLong before now a b c d says rose = tt
-drill_rose clients number Memory before now a b c d says rose = tt
-drill_rose clients number (Upstream cause) before now a b c d says rose = tt
-drill_rose clients number ListenFault before now a b c d says rose = tt
-drill_rose clients number RecordFault before now a b c d says rose = tt
-drill_rose clients number CrewRefused before now a b c d says rose = tt
-drill_rose clients number AcceptFault before now a b c d says rose = tt
-drill_rose clients number DialFault before now a b c d says rose = tt
-drill_rose clients number NumbersSpent before now a b c d says rose = tt
-
-pub refusal_rose : (found : WordsFault) (a b c d : ℕ) → FaultRose (status_of_words found) a b c d
-refusal_rose (word.Place at) a b c d = tt
-refusal_rose word.Memory a b c d = tt
 
 -- a refusal of words after a flush, and where memory is wanting for the sink's buffer
 pub flushed_usage : (result answered : Status) (flushed : Result (Unit {0}) Failed) (fault : Option ℕ) → OnOk flushed (result ≡ answered) → OnErr flushed (result ≡ SinkFault)
