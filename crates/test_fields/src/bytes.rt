@@ -16,27 +16,20 @@ pub fn tell(name: &str, words: Words<'_>, answer: &mut CaseAnswer) -> bool {
         "decimal" => tell_decimal(words, answer),
         "same-fold" => tell_same(words, answer),
         "append-decimal" => tell_appended(words, answer),
-        "find" => tell_place(words.whole, answer),
-        "up-to" => tell_front(words.whole, answer),
-        "split" => tell_parts(words.whole, answer),
+        "find" | "up-to" | "split" => tell_parts(name, words.whole, answer),
+        "text" => tell_pushed(words, answer),
+        "set" => tell_set(words, answer),
+        "room" => tell_room(words, answer),
+        "copied" => tell_copied(words, answer),
         _ => return false,
     }
     true
 }
 
-/// Tells the answer of a case with a text; whether it is one.
-pub fn tell_text(name: &str, mut words: Words<'_>, answer: &mut CaseAnswer) -> bool {
-    match name {
-        "text" => tell_pushed(words, answer),
-        "set" => tell_set(words, answer),
-        "room" => {
-            let bytes = words.short(answer) as usize;
-            push_made(answer, Text::with_room(words.alloc, bytes));
-        }
-        "copied" => tell_copied(words, answer),
-        _ => return false,
-    }
-    true
+/// A text with room for so many bytes.
+fn tell_room(mut words: Words<'_>, answer: &mut CaseAnswer) {
+    let bytes = words.short(answer) as usize;
+    push_made(answer, Text::with_room(words.alloc, bytes));
 }
 
 /// The number that a text of so many digits at most writes.
@@ -61,41 +54,28 @@ fn tell_appended(mut words: Words<'_>, answer: &mut CaseAnswer) {
     push_bytes(answer, written.as_bytes());
 }
 
-/// What stands before the first place of a byte in the text behind it, and what stands from there on.
-fn tell_place(whole: &[u8], answer: &mut CaseAnswer) {
-    match whole {
-        [byte, text @ ..] => match find(*byte, text) {
-            Some(at) => push_two(answer, before(text, at), after(text, at)),
-            None => answer.push(b"none"),
+/// What a byte parts the text behind it into: by `find` what stands before its first place, and from there on; by `split`
+/// before and behind it; and by `up-to` what stands before it, or all.
+fn tell_parts(name: &str, whole: &[u8], answer: &mut CaseAnswer) {
+    let [byte, text @ ..] = whole else {
+        return answer.unreadable();
+    };
+    let parts = match name {
+        "find" => match find(*byte, text) {
+            Some(at) => Some((before(text, at), after(text, at))),
+            None => None,
         },
-        [] => answer.unreadable(),
+        "split" => split_once(*byte, text),
+        _ => return push_bytes(answer, up_to(*byte, text)),
+    };
+    match parts {
+        Some((front, rest)) => {
+            push_bytes(answer, front);
+            answer.push(b" and ");
+            push_bytes(answer, rest);
+        }
+        None => answer.push(b"none"),
     }
-}
-
-/// What stands before the first place of a byte in the text behind it, or all of that.
-fn tell_front(whole: &[u8], answer: &mut CaseAnswer) {
-    match whole {
-        [byte, text @ ..] => push_bytes(answer, up_to(*byte, text)),
-        [] => answer.unreadable(),
-    }
-}
-
-/// The parts of the text behind a byte, before and after its first place.
-fn tell_parts(whole: &[u8], answer: &mut CaseAnswer) {
-    match whole {
-        [byte, text @ ..] => match split_once(*byte, text) {
-            Some((front, rest)) => push_two(answer, front, rest),
-            None => answer.push(b"none"),
-        },
-        [] => answer.unreadable(),
-    }
-}
-
-/// Tells two parts of a text.
-fn push_two(answer: &mut CaseAnswer, front: &[u8], rest: &[u8]) {
-    push_bytes(answer, front);
-    answer.push(b" and ");
-    push_bytes(answer, rest);
 }
 
 /// A text to which words were appended one by one.

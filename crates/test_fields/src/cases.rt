@@ -24,12 +24,10 @@ impl CasePlayer for Readers {
         let whole = read_meant(alloc, left, answer);
         let words = Words::new(alloc, left, whole.as_bytes());
         let is_told = bytes::tell(name, words, answer)
-            || bytes::tell_text(name, words, answer)
             || small::tell(name, words, answer)
             || longer::tell(name, words, answer)
             || uri::tell(name, words, answer)
             || head::tell(name, words, answer)
-            || tell_message(name, words, answer)
             || tell_line(name, words, answer)
             || stream::tell(&mut self.framer, name, words, answer)
             || self.books.tell(name, words, answer);
@@ -50,8 +48,8 @@ impl Readers {
     }
 }
 
-/// Tells the answer of a case with a message; whether it is one.
-fn tell_message(name: &str, words: Words<'_>, answer: &mut CaseAnswer) -> bool {
+/// Tells the answer of a case with a message, a code or words of the command line; whether it is one.
+fn tell_line(name: &str, words: Words<'_>, answer: &mut CaseAnswer) -> bool {
     match name {
         "request" => one::tell_request(words, answer),
         "write-reply" => one::tell_reply(words, answer),
@@ -59,14 +57,6 @@ fn tell_message(name: &str, words: Words<'_>, answer: &mut CaseAnswer) -> bool {
         "ask" => two::tell_ask(words, answer),
         "write-request" => two::tell_request(words, answer),
         "write-answer" => two::tell_answer(words, answer),
-        _ => return false,
-    }
-    true
-}
-
-/// Tells the answer of a case with a code or with words of the command line; whether it is one.
-fn tell_line(name: &str, words: Words<'_>, answer: &mut CaseAnswer) -> bool {
-    match name {
         "status" => code::tell_status(words, answer),
         "reason" => code::tell_reason(words, answer),
         "words" => command::tell_words(words, answer),

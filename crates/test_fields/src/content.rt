@@ -50,10 +50,14 @@ fn push_headers<'a>(
     left
 }
 
-/// The first item of a stream.
-pub fn item_of(alloc: Global, stream: &[u8], answer: &mut CaseAnswer) -> Option<Item> {
-    let mut framer = fed(alloc, stream, answer);
-    framer.next()
+/// The first item of the stream that a case is. Where there is none the case has no meaning.
+pub fn item_of(words: Words<'_>, answer: &mut CaseAnswer) -> Option<Item> {
+    let mut framer = fed(words.alloc, words.whole, answer);
+    let item = framer.next();
+    if item.is_none() {
+        answer.unreadable();
+    }
+    item
 }
 
 /// A framer of a stream of which this has come.

@@ -48,17 +48,14 @@ fn push_facts(answer: &mut CaseAnswer, facts: Facts) {
 /// The first line of a head, how many headers it has, and how they are written again; or its first fault.
 fn tell_read(alloc: Global, bytes: &[u8], answer: &mut CaseAnswer) {
     match read_head(alloc, bytes) {
-        Ok(head) => push_head(alloc, answer, &head),
+        Ok(head) => {
+            push_counted(answer, &head);
+            answer.push(b", written ");
+            let headers = copied(alloc, head.headers(), answer);
+            push_written(alloc, None, &headers, b"", answer);
+        }
         Err(fault) => answer.push_debug(alloc, &fault),
     }
-}
-
-/// Tells the first line of a head, how many headers it has, and how they are written again.
-fn push_head(alloc: Global, answer: &mut CaseAnswer, head: &Head<'_>) {
-    push_counted(answer, head);
-    answer.push(b", written ");
-    let headers = copied(alloc, head.headers(), answer);
-    push_written(alloc, None, &headers, b"", answer);
 }
 
 /// The headers of a head, to be written.
@@ -110,16 +107,11 @@ fn tell_field(mut words: Words<'_>, answer: &mut CaseAnswer) {
     let name = words.next(answer);
     let bytes = words.all(answer);
     match read_head(words.alloc, bytes.as_bytes()) {
-        Ok(head) => push_field(answer, &head, name.as_bytes()),
+        Ok(head) => match head.field(name.as_bytes()) {
+            Some(value) => push_bytes(answer, value),
+            None => answer.push(b"none"),
+        },
         Err(fault) => answer.push_debug(words.alloc, &fault),
-    }
-}
-
-/// Tells the value of a head's field.
-fn push_field(answer: &mut CaseAnswer, head: &Head<'_>, name: &[u8]) {
-    match head.field(name) {
-        Some(value) => push_bytes(answer, value),
-        None => answer.push(b"none"),
     }
 }
 

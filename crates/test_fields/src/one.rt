@@ -5,23 +5,17 @@ use crate::code::next_code;
 use crate::content::{content_of, item_of};
 use crate::words::Words;
 use head_one::{Refusal, Reply1, Request1, RequestFault, read_request, write_reply};
-use rtsp_frame::Item;
 use rtsp_head::Head;
 use std::alloc::Global;
 use test_text::{CaseAnswer, CaseFault};
 
 /// The request that a stream begins with, or how it is refused.
 pub fn tell_request(words: Words<'_>, answer: &mut CaseAnswer) {
-    match item_of(words.alloc, words.whole, answer) {
-        Some(item) => push_read(words.alloc, answer, &item),
-        None => answer.unreadable(),
-    }
-}
-
-/// Tells the request that an item is, or how it is refused.
-fn push_read(alloc: Global, answer: &mut CaseAnswer, item: &Item) {
-    match read_request(alloc, item) {
-        Ok(request) => push_request(alloc, answer, &request),
+    let Some(item) = item_of(words, answer) else {
+        return;
+    };
+    match read_request(words.alloc, &item) {
+        Ok(request) => push_request(words.alloc, answer, &request),
         Err(RequestFault::Refused(refusal)) => push_refusal(answer, &refusal),
         Err(RequestFault::Memory) => answer.fail(CaseFault::Memory),
     }

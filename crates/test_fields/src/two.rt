@@ -6,23 +6,16 @@ use crate::content::{content_of, item_of};
 use crate::one::push_body;
 use crate::words::{Words, some_of};
 use head_two::{Reply2, Request2, read_ask, read_reply, write_answer, write_request};
-use rtsp_frame::Item;
-use std::alloc::Global;
 use test_text::CaseAnswer;
 
 /// The reply that a stream begins with, or its fault.
 pub fn tell_reply(words: Words<'_>, answer: &mut CaseAnswer) {
-    match item_of(words.alloc, words.whole, answer) {
-        Some(item) => push_read(words.alloc, answer, &item),
-        None => answer.unreadable(),
-    }
-}
-
-/// Tells the reply that an item is, or its fault.
-fn push_read(alloc: Global, answer: &mut CaseAnswer, item: &Item) {
-    match read_reply(alloc, item) {
+    let Some(item) = item_of(words, answer) else {
+        return;
+    };
+    match read_reply(words.alloc, &item) {
         Ok(reply) => push_reply(answer, &reply),
-        Err(fault) => answer.push_debug(alloc, &fault),
+        Err(fault) => answer.push_debug(words.alloc, &fault),
     }
 }
 
@@ -33,22 +26,17 @@ fn push_reply(answer: &mut CaseAnswer, reply: &Reply2<'_>) {
     push_body(answer, &reply.head, reply.body);
 }
 
-/// The request of the server that a stream begins with, or its fault.
+/// The method and the number of the request of the server that a stream begins with, or its fault.
 pub fn tell_ask(words: Words<'_>, answer: &mut CaseAnswer) {
-    match item_of(words.alloc, words.whole, answer) {
-        Some(item) => push_ask(words.alloc, answer, &item),
-        None => answer.unreadable(),
-    }
-}
-
-/// Tells the method and the number of the request that an item is, or its fault.
-fn push_ask(alloc: Global, answer: &mut CaseAnswer, item: &Item) {
-    match read_ask(alloc, item) {
+    let Some(item) = item_of(words, answer) else {
+        return;
+    };
+    match read_ask(words.alloc, &item) {
         Ok(ask) => {
             push_bytes(answer, ask.method);
             push_named(answer, b" cseq ", Some(u64::from(ask.cseq)));
         }
-        Err(fault) => answer.push_debug(alloc, &fault),
+        Err(fault) => answer.push_debug(words.alloc, &fault),
     }
 }
 
