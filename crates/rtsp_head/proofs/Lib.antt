@@ -13,3 +13,4 @@ pub mod StreamLemmas
 pub mod FieldLemmas
 pub mod SearchLemmas
 pub mod NameLemmas
+pub mod LastLemmas

@@ -1,6 +1,7 @@
 pub mod Headers
 pub mod Heads
 pub mod Items
+pub mod LastHeader
 pub mod Lines
 pub mod Messages
 pub mod Names

@@ -1,11 +1,13 @@
 -- What the private types of this crate say, without where it lies in memory.
+use Rattle.std.specs.Prelude.{◌≡◌, false}
 use Rattle.rtsp_head.specs.HeadParts.{Start, Request, Status}
 use Rattle.rtsp_head.specs.declared.start.StartLine.{StartLine}
 use Rattle.rtsp_head.specs.declared.start.StartLine.TheVariants as start_lines
 use Rattle.rtsp_head.specs.declared.further.FurtherLine.{FurtherLine}
 use Rattle.rtsp_head.specs.declared.further.FurtherLine.TheVariants as further_lines
 use Rattle.rtsp_head.specs.declared.header_lines.Reading.{Reading}
-use Rattle.rtsp_head.specs.Headers.{Further, More, Begins, SoFar}
+use Rattle.rtsp_head.specs.Headers.{Further, More, Begins, SoFar, headers_in}
+use Rattle.rtsp_head.specs.LastHeader.{apart}
 
 -- what a first line says whose parts are borrowed
 abbrev pub start_seen : StartLine → Start
@@ -19,4 +21,8 @@ further_seen (further_lines.Begins name value) = Begins (record { name = name.no
 
 -- the headers that were read so far
 abbrev pub so_far : Reading → SoFar
-so_far reading = record { above = reading.above; last = reading.last }
+so_far reading = apart reading.headers
+
+-- the last value has no blanks at its ends, where it was not joined of several lines
+abbrev pub IsClosed : Reading → Type 0
+IsClosed reading = reading.folded ≡ false → headers_in (apart reading.headers) ≡ reading.headers

@@ -2,7 +2,8 @@
 ghost use Rattle.std.specs.Prelude.{◌≡◌, [], ◌∷◌, ◌++◌, length, option_map, IfOk, OnOk};
 ghost use Rattle.gate_bytes.specs.Ascii.{space};
 ghost use Rattle.gate_bytes.specs.Tokens.{trimmed};
-ghost use Rattle.rtsp_head.specs.Headers.{field_of};
+ghost use Rattle.rtsp_head.specs.Headers.{field_of, headers_in};
+ghost use Rattle.rtsp_head.specs.LastHeader.{apart, LosesLast};
 
 use gate_bytes::{Memory, Text, eq_fold, trim};
 use std::alloc::Global;
@@ -70,7 +71,6 @@ impl<'a> FieldValue<'a> {
     }
 
     /// The value without the blanks round it.
-    #[inline(always)]
     pub(crate) fn closed(self, alloc: Global) -> Result<FieldValue<'a>, Memory>
         ensures { IfOk result (λ value. value ≡ trimmed self.entry) }
     {
@@ -155,6 +155,27 @@ impl<'a> HeadFields<'a> {
     {
         self.items.push(field)?;
         Ok(())
+    }
+
+    /// Takes the last header off.
+    pub(crate) fn pop(&mut self) -> Option<HeadField<'a>>
+        ensures { LosesLast self.old self.new result }
+    {
+        self.items.pop()
+    }
+
+    /// Trims the value of the last header, if there is one. It is called apart, since few values go on over lines.
+    #[inline(never)]
+    pub(crate) fn close_last(&mut self, alloc: Global) -> Result<(), Memory>
+        ensures { OnOk result (self.new ≡ headers_in (apart self.old)) }
+    {
+        let Some(field) = self.pop() else {
+            return Ok(());
+        };
+        self.push(HeadField {
+            name: field.name,
+            value: field.value.closed(alloc)?,
+        })
     }
 
     /// The value of the first header of a name, without ASCII case (RFC 7826, 5.2).

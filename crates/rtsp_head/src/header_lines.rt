@@ -1,8 +1,9 @@
 //! The headers of a head, line by line.
-ghost use Rattle.std.specs.Prelude.{◌≡◌, Option, Some, None, Ok, Err, IfOk, IfErr, IfSome, OnOk};
+ghost use Rattle.std.specs.Prelude.{◌≡◌, Option, Some, None, Ok, Err, IfOk, IfErr, IfSome, OnOk, true, false};
+ghost use Rattle.gate_bytes.specs.Tokens.{trimmed};
 ghost use Rattle.rtsp_head.specs.Lines.{head_refusal};
-ghost use Rattle.rtsp_head.specs.Headers.{header_limit, closed, continued, with_header, with_line, headers_in, no_headers};
-ghost use Rattle.rtsp_head.specs.Views.{so_far};
+ghost use Rattle.rtsp_head.specs.Headers.{header_limit, continued, with_header, with_line, headers_in, no_headers};
+ghost use Rattle.rtsp_head.specs.Views.{so_far, IsClosed};
 
 use crate::HeadFault;
 use crate::further::{FurtherLine, further_line};
@@ -15,28 +16,32 @@ use std::alloc::Global;
 /// How many headers are made room for at once (this project's own): more than most heads have.
 const USUAL_HEADERS: usize = 8;
 
-/// The headers of the lines so far: the last one apart, since the next line may go on with it.
+/// The headers of the lines so far. The next line may go on with the last one.
 #[derive(Drop)]
 pub(crate) struct Reading<'a> {
-    pub(crate) above: HeadFields<'a>,
-    pub(crate) last: Option<HeadField<'a>>,
+    pub(crate) headers: HeadFields<'a>,
+    /// Whether the value of the last one was joined of several lines, so that it may have blanks at its ends.
+    pub(crate) folded: bool,
 }
 
 impl<'a> Reading<'a> {
     /// No header yet.
     pub(crate) fn new(alloc: Global) -> Result<Reading<'a>, Memory>
-        ensures { IfOk result (λ reading. so_far reading ≡ no_headers) }
+        ensures none { IfOk result (λ reading. so_far reading ≡ no_headers) }
+        ensures closed { IfOk result IsClosed }
     {
         Ok(Reading {
-            above: HeadFields::with_room(alloc, USUAL_HEADERS)?,
-            last: None,
+            headers: HeadFields::with_room(alloc, USUAL_HEADERS)?,
+            folded: false,
         })
     }
 
     /// Reads one more line. After an error the headers are of no use.
     pub(crate) fn take_line(&mut self, alloc: Global, line: Line<'a>) -> Result<(), HeadFault>
+        requires { IsClosed self.old }
         ensures ok { OnOk result
             (with_line header_limit (so_far self.old) line.entry ≡ Ok (so_far self.new)) }
+        ensures closed { OnOk result (IsClosed self.new) }
         ensures err { IfErr result (λ fault.
             IfSome (head_refusal fault) (λ refused.
             with_line header_limit (so_far self.old) line.entry ≡ Err refused)) }
@@ -49,61 +54,68 @@ impl<'a> Reading<'a> {
 
     /// Joins a text to the value of the last header by one space.
     fn go_on(&mut self, alloc: Global, text: &[u8]) -> Result<(), HeadFault>
-        ensures ok { OnOk result (continued (so_far self.old) text.now self.old.last ≡ Ok (so_far self.new)) }
+        ensures ok { OnOk result
+            (continued (so_far self.old) text.now (so_far self.old).last ≡ Ok (so_far self.new)) }
+        ensures folded { OnOk result (self.new.folded ≡ true) }
         ensures err { IfErr result (λ fault.
             IfSome (head_refusal fault) (λ refused.
-            continued (so_far self.old) text.now self.old.last ≡ Err refused)) }
+            continued (so_far self.old) text.now (so_far self.old).last ≡ Err refused)) }
     {
-        let Some(field) = self.last.take() else {
+        let Some(field) = self.headers.pop() else {
             return Err(HeadFault::Colon);
         };
-        self.last = Some(HeadField {
+        self.headers.push(HeadField {
             name: field.name,
             value: field.value.with_more(alloc, text)?,
-        });
+        })?;
+        self.folded = true;
         Ok(())
     }
 
     /// Begins a header.
     fn begin(&mut self, alloc: Global, name: &'a [u8], value: &'a [u8]) -> Result<(), HeadFault>
+        requires closed { IsClosed self.old }
+        requires tidy { trimmed value.now ≡ value.now }
         ensures ok { OnOk result
             (with_header header_limit (so_far self.old) (record { name = name.now; value = value.now })
             ≡ Ok (so_far self.new)) }
+        ensures closed { OnOk result (IsClosed self.new) }
         ensures err { IfErr result (λ fault.
             IfSome (head_refusal fault) (λ refused.
             with_header header_limit (so_far self.old) (record { name = name.now; value = value.now })
             ≡ Err refused)) }
     {
         self.close_last(alloc)?;
-        if self.above.len() >= MOST_HEADERS {
+        if self.headers.len() >= MOST_HEADERS {
             return Err(HeadFault::Many);
         }
-        self.last = Some(HeadField {
+        self.headers.push(HeadField {
             name,
             value: FieldValue::new(value),
-        });
+        })?;
         Ok(())
     }
 
-    /// Puts the last header to those above, with its value trimmed.
+    /// Trims the value of the last header, where it was joined of several lines.
     #[inline(always)]
     fn close_last(&mut self, alloc: Global) -> Result<(), Memory>
-        ensures { OnOk result ((self.new.above ≡ headers_in (so_far self.old)) × (self.new.last ≡ None)) }
+        requires { IsClosed self.old }
+        ensures headers { OnOk result (self.new.headers ≡ headers_in (so_far self.old)) }
+        ensures folded { OnOk result (self.new.folded ≡ false) }
     {
-        let Some(field) = self.last.take() else {
+        if !self.folded {
             return Ok(());
-        };
-        self.above.push(HeadField {
-            name: field.name,
-            value: field.value.closed(alloc)?,
-        })
+        }
+        self.folded = false;
+        self.headers.close_last(alloc)
     }
 
     /// All headers.
     pub(crate) fn finish(mut self, alloc: Global) -> Result<HeadFields<'a>, Memory>
+        requires { IsClosed self }
         ensures { IfOk result (λ headers. headers ≡ headers_in (so_far self.entry)) }
     {
         self.close_last(alloc)?;
-        Ok(self.above)
+        Ok(self.headers)
     }
 }
