@@ -1,5 +1,5 @@
 //! The headers of a head, line by line.
-ghost use Rattle.std.specs.Prelude.{◌≡◌, Option, Some, None, Ok, Err, IfOk, IfErr, IfSome, OnOk, true, false};
+ghost use Rattle.std.specs.Prelude.{◌≡◌, Ok, Err, IfOk, IfErr, IfSome, OnOk, true, false};
 ghost use Rattle.gate_bytes.specs.Tokens.{trimmed};
 ghost use Rattle.rtsp_head.specs.Lines.{head_refusal};
 ghost use Rattle.rtsp_head.specs.Headers.{header_limit, continued, with_header, with_line, headers_in, no_headers};
