@@ -62,13 +62,13 @@ fn stream(
 /// The text of a request with the next number, and of a SETUP with the pair that is free.
 fn going_text(
     alloc: Global,
-    request: Request2,
+    request: Request2<'_>,
     next: u32,
     pair: Option<u8>,
     sets_up: bool,
 ) -> Result<Text, Memory>
     requires { IfSome pair (λ one. one < PAIRS) }
-    ensures { IfOk result (λ text. text ≡ text_up next pair (if sets_up then pair else None) request) }
+    ensures { IfOk result (λ text. text ≡ text_up next pair (if sets_up then pair else None) request.entry) }
 {
     match pair {
         Some(pair) if sets_up => {
@@ -90,11 +90,11 @@ fn ask(
     next: u32,
     pair: Option<u8>,
     streams: usize,
-    going: Upward,
+    going: Upward<'_>,
 ) -> Result<Up, Memory>
     requires pair { IfSome pair (λ one. one < PAIRS) }
     requires room { IsSome going.channels → streams < MOST_TRACKS }
-    ensures up { IfOk result (λ up. up ≡ up_for next pair (Some going)) }
+    ensures up { IfOk result (λ up. up ≡ up_for next pair (Some going.entry)) }
     ensures placed { IfOk result (IsPlacedUp streams) }
 {
     let Upward {
@@ -117,11 +117,11 @@ pub(crate) fn finished(
     pair: Option<u8>,
     streams: usize,
     change: Change,
-    progress: Progress,
+    progress: Progress<'_>,
 ) -> Result<Plan, Memory>
     requires pair { IfSome pair (λ one. one < PAIRS) }
     requires room { HasStreamRoom streams progress.going }
-    ensures { IfOk result (IsFinished next pair streams change progress) }
+    ensures { IfOk result (IsFinished next pair streams change progress.entry) }
 {
     let Progress {
         hand,
@@ -165,14 +165,14 @@ pub(crate) fn idle(alloc: Global) -> Plan
 }
 
 /// What becomes of the requests that wait, which are judged by the session that is seen.
-fn treat_after(
+fn treat_after<'a>(
     alloc: Global,
     bases: &Bases,
-    slot: &Slot,
+    slot: &'a Slot,
     full: bool,
-    seen: &Showing<'_>,
+    seen: &Showing<'a>,
     hand: Text,
-) -> Result<Progress, Memory>
+) -> Result<Progress<'a>, Memory>
     ensures { IfOk result (IsTreated (given_by bases.now full (sight_of seen.now)) slot.now.waiting hand) }
 {
     match seen.added {
@@ -191,13 +191,13 @@ fn treat_after(
 
 /// The plan for a connection that this change leaves with no open request and with the session that
 /// is seen, after these bytes for its client.
-pub(crate) fn onward(
+pub(crate) fn onward<'a>(
     alloc: Global,
     bases: &Bases,
-    slot: &Slot,
+    slot: &'a Slot,
     next: u32,
     pair: Option<u8>,
-    seen: &Showing<'_>,
+    seen: &Showing<'a>,
     change: Change,
     hand: Text,
 ) -> Result<Plan, Memory>

@@ -62,13 +62,13 @@ fn waits(alloc: Global, slot: &Slot, item: &Item) -> Result<Change, Memory>
 
 /// The plan for a request of a connection that has none open and no PLAY due: those that wait are
 /// treated, and it after them.
-fn treat_request(
+fn treat_request<'a>(
     alloc: Global,
     bases: &Bases,
-    slot: &Slot,
+    slot: &'a Slot,
     next: u32,
     pair: Option<u8>,
-    item: &Item,
+    item: &'a Item,
 ) -> Result<Plan, Memory>
     requires sound { CanCome (requests (shape_of item.now)) }
     requires pair { IfSome pair (λ one. one < PAIRS) }

@@ -53,7 +53,7 @@ impl<'a> Showing<'a> {
     }
 
     /// What a request is judged by, with the streams, and by whether all pairs of channels are held.
-    pub fn view<'b>(&self, bases: &'b Bases, tracks: &'b [Track], full: bool) -> View<'b>
+    pub fn view<'b>(&self, bases: &'b Bases, tracks: &'b [Track], full: bool) -> View<'a, 'b>
     where
         'a: 'b,
         ensures { given_of result

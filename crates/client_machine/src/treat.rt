@@ -18,9 +18,9 @@ use translate_up::{Decision, View, decide};
 
 /// A request that goes up.
 #[derive(Drop)]
-pub(crate) struct Upward {
+pub(crate) struct Upward<'a> {
     /// The request, without its number, and a SETUP without its channels.
-    pub request: Request2,
+    pub request: Request2<'a>,
     /// What is kept of the player's request until the reply comes.
     pub asked: Asked,
     /// The player's own channels of a SETUP.
@@ -29,7 +29,7 @@ pub(crate) struct Upward {
 
 /// What became of requests in a row so far.
 #[derive(Drop)]
-pub(crate) struct Progress {
+pub(crate) struct Progress<'a> {
     /// The bytes for the client.
     pub hand: Text,
     /// The PLAYs that wait now, and did not before.
@@ -39,12 +39,12 @@ pub(crate) struct Progress {
     /// How many of the requests that waited were treated.
     pub treated: usize,
     /// The request that goes up.
-    pub going: Option<Upward>,
+    pub going: Option<Upward<'a>>,
 }
 
-impl Progress {
+impl<'a> Progress<'a> {
     /// No request was treated yet, and so many PLAYs wait. These bytes come before the answers.
-    pub fn begun(alloc: Global, hand: Text, queued: usize) -> Progress
+    pub fn begun(alloc: Global, hand: Text, queued: usize) -> Progress<'a>
         ensures { result ≡ begun hand queued }
     {
         Progress {
@@ -57,7 +57,7 @@ impl Progress {
     }
 
     /// One request more is treated.
-    pub fn then(&mut self, alloc: Global, view: &View<'_>, item: &Item) -> Result<(), Memory>
+    pub fn then(&mut self, alloc: Global, view: &View<'a, '_>, item: &'a Item) -> Result<(), Memory>
         ensures treated { OnOk result
             (self.new
             ≡ progressed
@@ -75,9 +75,9 @@ impl Progress {
     }
 
     /// This becomes of one request more.
-    fn decided(&mut self, decision: Decision) -> Result<(), Memory>
+    fn decided(&mut self, decision: Decision<'a>) -> Result<(), Memory>
         requires { HasPlayRoom self.old.queued decision }
-        ensures treated { OnOk result (self.new ≡ progressed decision self.old) }
+        ensures treated { OnOk result (self.new ≡ progressed decision.entry self.old) }
         ensures filled { (queue : ℕ) → IsFilled queue self.old → OnOk result (IsFilled queue self.new) }
     {
         match decision {
@@ -95,7 +95,7 @@ impl Progress {
     }
 }
 
-impl Progress {
+impl<'a> Progress<'a> {
     /// One request is answered. The first answer is handed out as it is.
     fn answered(&mut self, text: Text) -> Result<(), Memory>
         ensures treated { OnOk result (self.new ≡ record self.old { hand = self.old.hand ++ text }) }
@@ -126,10 +126,10 @@ impl Progress {
     }
 
     /// A request goes up, where it sets up a stream with its player's own channels.
-    fn send(&mut self, request: Request2, asked: Asked, channels: Option<Pair>)
+    fn send(&mut self, request: Request2<'a>, asked: Asked, channels: Option<Pair>)
         ensures { self.new
             ≡ record self.old
-            { going = Some (record { request = request; asked = asked; channels = channels }) } }
+            { going = Some (record { request = request.entry; asked = asked; channels = channels }) } }
     {
         self.going = Some(Upward {
             request,
@@ -141,12 +141,12 @@ impl Progress {
 
 /// Treats the requests that wait in order, until one of them goes up. Their answers follow the bytes
 /// that are handed already.
-pub(crate) fn treat_waiting(
+pub(crate) fn treat_waiting<'a>(
     alloc: Global,
-    view: &View<'_>,
-    slot: &Slot,
+    view: &View<'a, '_>,
+    slot: &'a Slot,
     first: Text,
-) -> Result<Progress, Memory>
+) -> Result<Progress<'a>, Memory>
     ensures { IfOk result (λ progress. IsTreated (given_of view.now) slot.now.waiting first progress) }
 {
     let count = slot.waiting();

@@ -24,7 +24,7 @@ fn request(
     method: &[u8],
     uri: &[u8],
     number: u64,
-    fields: &Headers,
+    fields: &Headers<'_>,
 ) -> Result<Text, Memory>
     ensures { IfOk result (λ text. text ≡ drilled_request method.now uri.now number fields.now) }
 {
@@ -48,21 +48,19 @@ fn transport(alloc: Global, channels: &[u8]) -> Result<Text, Memory>
 }
 
 /// Appends the field that asks for a pair of channels.
-fn push_transport(alloc: Global, fields: &mut Headers, channels: &[u8]) -> Result<(), Memory>
+fn push_transport(alloc: Global, fields: &mut Headers<'_>, channels: &[u8]) -> Result<(), Memory>
     ensures { OnOk result
         (fields.new ≡ fields.old ++ drilled_field (codes "Transport") (transport_asked channels.now) ∷ []) }
 {
-    let value = transport(alloc, channels)?;
-    fields.push_copy(alloc, b"Transport", Some(value.as_bytes()))?;
-    Ok(())
+    fields.push_text(b"Transport", Some(transport(alloc, channels)?))
 }
 
 /// The field with a session.
-fn session(alloc: Global, id: &[u8]) -> Result<Headers, Memory>
+fn session(alloc: Global, id: &[u8]) -> Result<Headers<'_>, Memory>
     ensures { IfOk result (λ fields. fields ≡ session_field id.now ∷ []) }
 {
     let mut fields = Headers::new(alloc);
-    fields.push_copy(alloc, b"Session", Some(id))?;
+    fields.push_lent(b"Session", Some(id))?;
     Ok(fields)
 }
 
@@ -87,11 +85,11 @@ fn second_setup(alloc: Global, player: u32, id: &[u8]) -> Result<Text, Memory>
 }
 
 /// The fields of a PLAY of a part.
-fn play_fields(alloc: Global, id: &[u8], range: &[u8]) -> Result<Headers, Memory>
+fn play_fields<'a>(alloc: Global, id: &'a [u8], range: &'a [u8]) -> Result<Headers<'a>, Memory>
     ensures { IfOk result (λ fields. fields ≡ drilled_play_fields id.now range.now) }
 {
     let mut fields = session(alloc, id)?;
-    fields.push_copy(alloc, b"Range", Some(range))?;
+    fields.push_lent(b"Range", Some(range))?;
     Ok(fields)
 }
 

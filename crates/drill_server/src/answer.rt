@@ -73,7 +73,7 @@ fn uri<'a>(ask: &Ask2<'a>) -> &'a [u8]
 fn success_text(
     alloc: Global,
     ask: &Ask2<'_>,
-    fields: &Headers,
+    fields: &Headers<'_>,
     body: &[u8],
 ) -> Result<Text, Memory>
     ensures { IfOk result (λ text. text ≡ success_text ask.now.cseq fields.now body.now) }
@@ -118,7 +118,7 @@ fn setup(alloc: Global, ask: &Ask2<'_>, id: &[u8], session: bool) -> Result<Dril
 {
     let transport = field(ask, b"Transport");
     let mut fields = one_field(alloc, b"Session", id)?;
-    fields.push_copy(alloc, b"Transport", Some(transport))?;
+    fields.push_lent(b"Transport", Some(transport))?;
     Ok(DrillAnswer {
         text: success_text(alloc, ask, &fields, b"")?,
         track: track(alloc, id, channel(transport))?,

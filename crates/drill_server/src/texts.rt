@@ -9,16 +9,21 @@ use rtsp_head::{Headers, push_message};
 use std::alloc::Global;
 
 /// One field.
-pub fn one_field(alloc: Global, name: &[u8], value: &[u8]) -> Result<Headers, Memory>
+pub fn one_field<'a>(alloc: Global, name: &'a [u8], value: &'a [u8]) -> Result<Headers<'a>, Memory>
     ensures { IfOk result (λ fields. fields ≡ answer_field name.now value.now ∷ []) }
 {
     let mut fields = Headers::new(alloc);
-    fields.push_copy(alloc, name, Some(value))?;
+    fields.push_lent(name, Some(value))?;
     Ok(fields)
 }
 
 /// A success with these fields, and this body.
-pub fn success(alloc: Global, number: u32, fields: &Headers, body: &[u8]) -> Result<Text, Memory>
+pub fn success(
+    alloc: Global,
+    number: u32,
+    fields: &Headers<'_>,
+    body: &[u8],
+) -> Result<Text, Memory>
     ensures { IfOk result (λ text. text ≡ success_text number fields.now body.now) }
 {
     let mut text = Text::with_room(alloc, 128)?;
@@ -67,17 +72,22 @@ fn status_value(alloc: Global, number: u32) -> Result<Text, Memory>
 }
 
 /// The request that tells the end of the PLAY with this number.
-fn end_request(alloc: Global, uri: &[u8], id: &[u8], number: u32) -> Result<Request2, Memory>
+fn end_request<'a>(
+    alloc: Global,
+    uri: &[u8],
+    id: &'a [u8],
+    number: u32,
+) -> Result<Request2<'a>, Memory>
     ensures { IfOk result (λ request. request ≡ end_request uri.now id.now number) }
 {
     let mut headers = one_field(alloc, b"Session", id)?;
-    headers.push_copy(alloc, b"Notify-Reason", Some(b"end-of-stream"))?;
-    headers.push_value(alloc, b"Request-Status", Some(status_value(alloc, number)?))?;
+    headers.push_lent(b"Notify-Reason", Some(b"end-of-stream"))?;
+    headers.push_text(b"Request-Status", Some(status_value(alloc, number)?))?;
     Ok(Request2 {
-        method: Text::copy(alloc, b"PLAY_NOTIFY")?,
+        method: b"PLAY_NOTIFY",
         uri: Text::copy(alloc, uri)?,
         headers,
-        body: Text::new(alloc),
+        body: b"",
     })
 }
 

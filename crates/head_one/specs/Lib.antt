@@ -1,3 +1,4 @@
+pub mod ClientReplies
 pub mod ClientRequests
 pub mod Refusals
 pub mod Replies

@@ -7,32 +7,44 @@ use gate_bytes::{Memory, Text, push_decimal};
 use rtsp_head::{Headers, push_message};
 use rtsp_status::reason;
 use std::alloc::Global;
+use std::marker::Model;
 
-/// A reply to a player (RFC 2326, 7).
+/// The room for the text of a reply without its body. Most need no more.
+const HEAD_ROOM: usize = 256;
+
+/// A reply to a player (RFC 2326, 7). What it is written of lends the texts. Contracts see what it says.
 #[derive(Drop)]
-pub struct Reply1 {
+pub struct Reply1<'a> {
     /// The code; it has a reason.
     pub code: u16,
     /// The number of the request, where it could be read.
     pub cseq: Option<u64>,
     /// The headers but for `CSeq` and `Content-Length`, in their order.
-    pub headers: Headers,
+    pub headers: Headers<'a>,
     /// The body; it is empty where there is none.
-    pub body: Text,
+    pub body: &'a [u8],
+}
+
+impl<'a> Model for Reply1<'a> {
+    ghost use Rattle.head_one.specs.ClientReplies.{ClientReply};
+
+    ghost Value = { ClientReply };
+
+    ghost view = { λ it. record { code = it.code; cseq = it.cseq; headers = it.headers; body = it.body.now } };
 }
 
 /// The text of a reply: the status line, `CSeq` where there is a number, the headers in their order,
 /// `Content-Length` where there is a body, an empty line, and the body.
-pub fn write_reply(alloc: Global, reply: &Reply1) -> Result<Text, Memory>
+pub fn write_reply(alloc: Global, reply: &Reply1<'_>) -> Result<Text, Memory>
     requires { has_reason reply.now.code ≡ true }
     ensures { IfOk result (λ text. text ≡ reply_text reply.now) }
 {
-    let mut text = Text::with_room(alloc, 256)?;
+    let mut text = Text::with_room(alloc, reply.body.len().saturating_add(HEAD_ROOM))?;
     text.push_slice(b"RTSP/1.0 ")?;
     push_decimal(&mut text, u64::from(reply.code))?;
     text.push_slice(b" ")?;
     text.push_slice(reason(reply.code).as_bytes())?;
     text.push_slice(b"\r\n")?;
-    push_message(&mut text, reply.cseq, &reply.headers, reply.body.as_bytes())?;
+    push_message(&mut text, reply.cseq, &reply.headers, reply.body)?;
     Ok(text)
 }

@@ -32,7 +32,7 @@ pub fn write_answer(
 }
 
 /// The header with the session, where the answer is a success and a session is given.
-fn answer_headers(alloc: Global, code: u16, session: Option<&[u8]>) -> Result<Headers, Memory>
+fn answer_headers(alloc: Global, code: u16, session: Option<&[u8]>) -> Result<Headers<'_>, Memory>
     ensures { IfOk result (λ headers. headers ≡ answer_headers code (option_copied session.entry)) }
 {
     if code == 200 {
@@ -43,10 +43,10 @@ fn answer_headers(alloc: Global, code: u16, session: Option<&[u8]>) -> Result<He
 }
 
 /// The header with a session, where there is one (RFC 7826, 18.49).
-fn answer_session(alloc: Global, session: Option<&[u8]>) -> Result<Headers, Memory>
+fn answer_session(alloc: Global, session: Option<&[u8]>) -> Result<Headers<'_>, Memory>
     ensures { IfOk result (λ headers. headers ≡ answer_session (option_copied session.entry)) }
 {
     let mut headers = Headers::new(alloc);
-    headers.push_copy(alloc, b"Session", session)?;
+    headers.push_lent(b"Session", session)?;
     Ok(headers)
 }

@@ -1,9 +1,9 @@
--- What the value of a header that is read says, without where it lies in memory.
+-- What the value of a header says, without where it lies in memory.
 use Rattle.std.specs.Prelude.{ℕ, List}
-use Rattle.rtsp_head.specs.declared.head_field.ValuePlace.{ValuePlace}
-use Rattle.rtsp_head.specs.declared.head_field.ValuePlace.TheVariants.{Line, Lines}
+use Rattle.rtsp_head.specs.declared.field_value.ValuePlace.{ValuePlace}
+use Rattle.rtsp_head.specs.declared.field_value.ValuePlace.TheVariants.{Lent, Owned}
 
--- the bytes of a value, which stand in one line or were joined of several
+-- the bytes of a value
 abbrev pub value_seen : ValuePlace → List ℕ
-value_seen (Line bytes) = bytes.now
-value_seen (Lines text) = text
+value_seen (Lent bytes) = bytes.now
+value_seen (Owned text) = text

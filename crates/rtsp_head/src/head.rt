@@ -11,7 +11,8 @@ ghost use Rattle.rtsp_head.specs.Views.{start_seen};
 use crate::header_lines::Reading;
 use crate::line::next_line;
 use crate::start::start_line;
-use crate::{HeadFault, HeadFields, StartLine};
+use crate::{FieldValue, HeadFault, Headers, StartLine};
+use gate_bytes::Memory;
 use std::alloc::Global;
 use std::marker::Model;
 
@@ -20,7 +21,7 @@ use std::marker::Model;
 #[derive(Drop)]
 pub struct Head<'a> {
     start: StartLine<'a>,
-    headers: HeadFields<'a>,
+    headers: Headers<'a>,
 }
 
 impl<'a> Model for Head<'a> {
@@ -41,7 +42,7 @@ impl<'a> Head<'a> {
     }
 
     /// The headers, in their order.
-    pub fn headers(&self) -> &HeadFields<'a>
+    pub fn headers(&self) -> &Headers<'a>
         ensures { result.now ≡ self.now.headers }
     {
         &self.headers
@@ -63,6 +64,24 @@ impl<'a> Head<'a> {
     {
         if holds { self.field(name) } else { None }
     }
+
+    /// The same as a value that lives as long as the head's bytes: lent by them, and a copy where it goes
+    /// on over several lines.
+    pub fn value_where(
+        &self,
+        alloc: Global,
+        holds: bool,
+        name: &[u8],
+    ) -> Result<Option<FieldValue<'a>>, Memory>
+        ensures { IfOk result (λ value.
+            value ≡ said_where holds (field_of self.now.headers name.now)) }
+    {
+        if holds {
+            self.headers.value(alloc, name)
+        } else {
+            Ok(None)
+        }
+    }
 }
 
 /// The head that the bytes spell, or its first fault. The bytes are a head with its empty line; what
@@ -80,10 +99,10 @@ pub fn read_head(alloc: Global, bytes: &[u8]) -> Result<Head<'_>, HeadFault>
 }
 
 /// The headers of a head's further lines, or their first fault.
-fn read_headers(alloc: Global, bytes: &[u8]) -> Result<HeadFields<'_>, HeadFault>
+fn read_headers(alloc: Global, bytes: &[u8]) -> Result<Headers<'_>, HeadFault>
     ensures { UnlessMemory head_refusal result (headers_of header_limit (head_lines bytes.now)) }
 {
-    let mut reading = Reading::new(alloc)?;
+    let mut reading = Reading::new(alloc);
     let mut rest = bytes;
     while let Some((line, after)) = next_line(rest) {
         reading.take_line(alloc, line)?;

@@ -5,35 +5,31 @@ ghost use Rattle.rtsp_head.specs.Lines.{head_refusal};
 ghost use Rattle.rtsp_head.specs.Headers.{header_limit, continued, with_header, with_line, headers_in, no_headers};
 ghost use Rattle.rtsp_head.specs.Views.{so_far, IsClosed};
 
-use crate::HeadFault;
 use crate::further::{FurtherLine, further_line};
-use crate::head_field::{FieldValue, HeadField, HeadFields};
 use crate::headers::MOST_HEADERS;
 use crate::line::Line;
+use crate::{FieldValue, HeadFault, Header, Headers};
 use gate_bytes::Memory;
 use std::alloc::Global;
-
-/// How many headers are made room for at once (this project's own): more than most heads have.
-const USUAL_HEADERS: usize = 8;
 
 /// The headers of the lines so far. The next line may go on with the last one.
 #[derive(Drop)]
 pub(crate) struct Reading<'a> {
-    pub(crate) headers: HeadFields<'a>,
+    pub(crate) headers: Headers<'a>,
     /// Whether the value of the last one was joined of several lines, so that it may have blanks at its ends.
     pub(crate) folded: bool,
 }
 
 impl<'a> Reading<'a> {
     /// No header yet.
-    pub(crate) fn new(alloc: Global) -> Result<Reading<'a>, Memory>
-        ensures none { IfOk result (λ reading. so_far reading ≡ no_headers) }
-        ensures closed { IfOk result IsClosed }
+    pub(crate) fn new(alloc: Global) -> Reading<'a>
+        ensures none { so_far result ≡ no_headers }
+        ensures closed { IsClosed result }
     {
-        Ok(Reading {
-            headers: HeadFields::with_room(alloc, USUAL_HEADERS)?,
+        Reading {
+            headers: Headers::new(alloc),
             folded: false,
-        })
+        }
     }
 
     /// Reads one more line. After an error the headers are of no use.
@@ -64,7 +60,7 @@ impl<'a> Reading<'a> {
         let Some(field) = self.headers.pop() else {
             return Err(HeadFault::Colon);
         };
-        self.headers.push(HeadField {
+        self.headers.push(Header {
             name: field.name,
             value: field.value.with_more(alloc, text)?,
         })?;
@@ -89,7 +85,7 @@ impl<'a> Reading<'a> {
         if self.headers.len() >= MOST_HEADERS {
             return Err(HeadFault::Many);
         }
-        self.headers.push(HeadField {
+        self.headers.push(Header {
             name,
             value: FieldValue::new(value),
         })?;
@@ -111,7 +107,7 @@ impl<'a> Reading<'a> {
     }
 
     /// All headers.
-    pub(crate) fn finish(mut self, alloc: Global) -> Result<HeadFields<'a>, Memory>
+    pub(crate) fn finish(mut self, alloc: Global) -> Result<Headers<'a>, Memory>
         requires { IsClosed self }
         ensures { IfOk result (λ headers. headers ≡ headers_in (so_far self.entry)) }
     {

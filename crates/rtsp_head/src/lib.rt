@@ -4,9 +4,9 @@
 
 mod facts;
 mod fault;
+mod field_value;
 mod further;
 mod head;
-mod head_field;
 mod header;
 mod header_lines;
 mod headers;
@@ -18,8 +18,8 @@ mod tally;
 
 pub use facts::{Facts, LENGTH_DIGITS, Length, check_head, check_head_counted};
 pub use fault::HeadFault;
+pub use field_value::FieldValue;
 pub use head::{Head, read_head};
-pub use head_field::{FieldValue, HeadField, HeadFields};
 pub use header::Header;
 pub use headers::{Headers, MOST_HEADERS, said_where};
 pub use item::{BadKind, Extent, Item, ItemKind, MOST_BODY, MOST_HEAD, Span};

@@ -16,7 +16,7 @@ use gate_bytes::{Memory, Text, push_decimal};
 pub fn push_message(
     text: &mut Text,
     number: Option<u64>,
-    headers: &Headers,
+    headers: &Headers<'_>,
     body: &[u8],
 ) -> Result<(), Memory>
     ensures ok { OnOk result
@@ -40,7 +40,7 @@ pub fn push_message(
 fn push_parts(
     text: &mut Text,
     number: Option<u64>,
-    headers: &Headers,
+    headers: &Headers<'_>,
     body: &[u8],
 ) -> Result<(), Memory>
     ensures ok { OnOk result
@@ -60,7 +60,7 @@ fn push_parts(
 
 /// Appends the headers' lines.
 #[tactic(auto, using(gate_bytes::proofs::FrontLemmas::front_kept))]
-fn push_headers(text: &mut Text, headers: &[Header]) -> Result<(), Memory>
+fn push_headers(text: &mut Text, headers: &[Header<'_>]) -> Result<(), Memory>
     ensures ok { OnOk result
         (text.new ≡ text.old ++ flat_map (λ header. ended (header_text header)) headers.now) }
     ensures err { OnErr result (take (length text.old) text.new ≡ text.old) }
@@ -73,11 +73,11 @@ fn push_headers(text: &mut Text, headers: &[Header]) -> Result<(), Memory>
 
 /// Appends a header's line.
 #[tactic(auto, using(gate_bytes::proofs::FrontLemmas::front_kept))]
-fn push_header(text: &mut Text, header: &Header) -> Result<(), Memory>
+fn push_header(text: &mut Text, header: &Header<'_>) -> Result<(), Memory>
     ensures ok { OnOk result (text.new ≡ text.old ++ ended (header_text header.now)) }
     ensures err { OnErr result (take (length text.old) text.new ≡ text.old) }
 {
-    text.push_slice(header.name.as_bytes())?;
+    text.push_slice(header.name)?;
     text.push_slice(b": ")?;
     text.push_slice(header.value.as_bytes())?;
     text.push_slice(b"\r\n")

@@ -1,8 +1,7 @@
 //! Messages of cases.
 
 use crate::answer::keep;
-use crate::words::{Words, copy_of};
-use gate_bytes::{Text, split_once, trim, up_to};
+use gate_bytes::{split_once, trim, up_to};
 use rtsp_frame::{Framer, Item};
 use rtsp_head::Headers;
 use std::alloc::Global;
@@ -10,28 +9,23 @@ use test_text::CaseAnswer;
 
 /// What follows the number of a message.
 #[derive(Drop)]
-pub struct Content {
+pub struct Content<'a> {
     /// The headers.
-    pub headers: Headers,
+    pub headers: Headers<'a>,
     /// The body; it is empty where there is none.
-    pub body: Text,
+    pub body: &'a [u8],
 }
 
-/// The content that is left of a case: a line for each header, an empty line, and the body.
-pub fn content_of(words: Words<'_>, answer: &mut CaseAnswer) -> Content {
-    let all = words.all(answer);
-    let mut headers = Headers::new(words.alloc);
-    let body = push_headers(words.alloc, &mut headers, all.as_bytes(), answer);
-    Content {
-        headers,
-        body: copy_of(words.alloc, body, answer),
-    }
+/// The content that lines are: one for each header, an empty one, and the body.
+pub fn content_of<'a>(alloc: Global, lines: &'a [u8], answer: &mut CaseAnswer) -> Content<'a> {
+    let mut headers = Headers::new(alloc);
+    let body = push_headers(&mut headers, lines, answer);
+    Content { headers, body }
 }
 
 /// Appends the headers that lines are, up to one without a colon. What is left behind that one.
 fn push_headers<'a>(
-    alloc: Global,
-    headers: &mut Headers,
+    headers: &mut Headers<'a>,
     lines: &'a [u8],
     answer: &mut CaseAnswer,
 ) -> &'a [u8] {
@@ -44,7 +38,7 @@ fn push_headers<'a>(
         let Some((name, value)) = split_once(b':', line) else {
             break;
         };
-        let appended = headers.push_copy(alloc, name, Some(trim(up_to(b'\r', value))));
+        let appended = headers.push_lent(name, Some(trim(up_to(b'\r', value))));
         keep(answer, appended);
     }
     left

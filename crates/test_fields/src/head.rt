@@ -4,9 +4,7 @@ use crate::answer::{keep, push_bytes, push_named, push_part};
 use crate::content::content_of;
 use crate::words::Words;
 use gate_bytes::Text;
-use rtsp_head::{
-    Facts, Head, HeadFields, Headers, Length, StartLine, check_head, push_message, read_head,
-};
+use rtsp_head::{Facts, Head, Headers, Length, StartLine, check_head, push_message, read_head};
 use std::alloc::Global;
 use test_text::CaseAnswer;
 
@@ -51,21 +49,10 @@ fn tell_read(alloc: Global, bytes: &[u8], answer: &mut CaseAnswer) {
         Ok(head) => {
             push_counted(answer, &head);
             answer.push(b", written ");
-            let headers = copied(alloc, head.headers(), answer);
-            push_written(alloc, None, &headers, b"", answer);
+            push_written(alloc, None, head.headers(), b"", answer);
         }
         Err(fault) => answer.push_debug(alloc, &fault),
     }
-}
-
-/// The headers of a head, to be written.
-fn copied(alloc: Global, fields: &HeadFields<'_>, answer: &mut CaseAnswer) -> Headers {
-    let mut headers = Headers::new(alloc);
-    for field in fields.as_slice() {
-        let pushed = headers.push_copy(alloc, field.name, Some(field.value.as_bytes()));
-        keep(answer, pushed);
-    }
-    headers
 }
 
 /// Tells the first line of a head, and how many headers it has.
@@ -142,16 +129,16 @@ fn tell_counted(alloc: Global, bytes: &[u8], answer: &mut CaseAnswer) {
 /// What follows the first line of a message with this number and content.
 fn tell_message(mut words: Words<'_>, answer: &mut CaseAnswer) {
     let number = words.optional_number();
-    let content = content_of(words, answer);
-    let body = content.body.as_bytes();
-    push_written(words.alloc, number, &content.headers, body, answer);
+    let lines = words.all(answer);
+    let content = content_of(words.alloc, lines.as_bytes(), answer);
+    push_written(words.alloc, number, &content.headers, content.body, answer);
 }
 
 /// Tells how what follows a message's first line is written.
 fn push_written(
     alloc: Global,
     number: Option<u64>,
-    headers: &Headers,
+    headers: &Headers<'_>,
     body: &[u8],
     answer: &mut CaseAnswer,
 ) {

@@ -52,7 +52,8 @@ fn push_refusal(answer: &mut CaseAnswer, refusal: &Refusal) {
 pub fn tell_reply(mut words: Words<'_>, answer: &mut CaseAnswer) {
     let code = next_code(&mut words, answer);
     let cseq = words.optional_number();
-    let content = content_of(words, answer);
+    let lines = words.all(answer);
+    let content = content_of(words.alloc, lines.as_bytes(), answer);
     let reply = Reply1 {
         code,
         cseq,

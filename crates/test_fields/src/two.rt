@@ -45,9 +45,10 @@ pub fn tell_request(mut words: Words<'_>, answer: &mut CaseAnswer) {
     let method = words.next(answer);
     let uri = words.next(answer);
     let number = words.short(answer);
-    let content = content_of(words, answer);
+    let lines = words.all(answer);
+    let content = content_of(words.alloc, lines.as_bytes(), answer);
     let request = Request2 {
-        method,
+        method: method.as_bytes(),
         uri,
         headers: content.headers,
         body: content.body,

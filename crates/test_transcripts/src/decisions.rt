@@ -4,6 +4,7 @@ use crate::items::item_in;
 use crate::print::{tell, tell_written};
 use gate_bytes::{Memory, Text};
 use head_two::{Request2, write_request};
+use rtsp_frame::Item;
 use rtsp_transport::Pair;
 use rtsp_uri::Bases;
 use session_one::{MOST_TRACKS, State, Track};
@@ -36,7 +37,7 @@ fn view_in<'a>(
     bases: &'a Bases,
     tracks: &'a [Track],
     line: &'a [u8],
-) -> Option<(View<'a>, &'a [u8])> {
+) -> Option<(View<'a, 'a>, &'a [u8])> {
     let (state, line) = first_word(line);
     let (streams, line) = first_number(line)?;
     let (plays, line) = first_number(line)?;
@@ -60,18 +61,25 @@ fn view_in<'a>(
     Some((view, request))
 }
 
-/// What becomes of the request of a line.
-fn decided(
+/// A request, and the connection that it is judged by.
+#[derive(Drop)]
+struct Asking<'a> {
+    view: View<'a, 'a>,
+    item: Item,
+}
+
+/// The connection and the request of a line.
+fn asking_in<'a>(
     alloc: Global,
-    bases: &Bases,
-    tracks: &[Track],
-    line: &[u8],
-) -> Result<Decision, CaseFault> {
+    bases: &'a Bases,
+    tracks: &'a [Track],
+    line: &'a [u8],
+) -> Result<Asking<'a>, CaseFault> {
     let Some((view, request)) = view_in(bases, tracks, line) else {
         return Err(CaseFault::Unreadable);
     };
     let item = item_in(alloc, request)?;
-    Ok(decide(alloc, &view, &item)?)
+    Ok(Asking { view, item })
 }
 
 /// Tells what becomes of the request of a line, and the text that the player is told or that goes up.
@@ -82,7 +90,18 @@ pub fn tell_decision(
     line: &[u8],
     answer: &mut CaseAnswer,
 ) {
-    match decided(alloc, bases, tracks, line) {
+    match asking_in(alloc, bases, tracks, line) {
+        Ok(asking) => {
+            let decided = decide(alloc, &asking.view, &asking.item);
+            push_decided(alloc, decided, answer)
+        }
+        Err(fault) => answer.fail(fault),
+    }
+}
+
+/// Appends what becomes of a request, and the text that the player is told or that goes up.
+fn push_decided(alloc: Global, decided: Result<Decision<'_>, Memory>, answer: &mut CaseAnswer) {
+    match decided {
         Ok(Decision::Answer(text)) => tell(b"answer ", text.as_bytes(), answer),
         Ok(Decision::Forward(up, _asked)) => {
             tell_written(b"forward ", write_request(alloc, &up, NUMBER), answer)
@@ -91,12 +110,12 @@ pub fn tell_decision(
         Ok(Decision::Setup(up, _asked, _pair)) => {
             tell_written(b"setup ", written_setup(alloc, up), answer)
         }
-        Err(fault) => answer.fail(fault),
+        Err(Memory) => answer.fail(CaseFault::Memory),
     }
 }
 
 /// The text of a SETUP that goes up, on the channels 6 and 7.
-fn written_setup(alloc: Global, up: Request2) -> Result<Text, Memory> {
+fn written_setup(alloc: Global, up: Request2<'_>) -> Result<Text, Memory> {
     let up = with_transport(alloc, up, &Pair { rtp: 6, rtcp: 7 })?;
     write_request(alloc, &up, NUMBER)
 }
@@ -109,15 +128,18 @@ pub fn tell_kept(
     line: &[u8],
     answer: &mut CaseAnswer,
 ) {
-    match decided(alloc, bases, tracks, line) {
-        Ok(decision) => push_kept(&decision, answer),
+    match asking_in(alloc, bases, tracks, line) {
+        Ok(asking) => match decide(alloc, &asking.view, &asking.item) {
+            Ok(decision) => push_kept(&decision, answer),
+            Err(Memory) => answer.fail(CaseFault::Memory),
+        },
         Err(fault) => answer.fail(fault),
     }
 }
 
 /// Appends what is kept of a SETUP until its reply comes: its number, whether the session was named, its URI, and the channels
 /// that the player gets on its connection. Of a PLAY that waits it is the URI and the scale.
-fn push_kept(decision: &Decision, answer: &mut CaseAnswer) {
+fn push_kept(decision: &Decision<'_>, answer: &mut CaseAnswer) {
     match decision {
         Decision::Setup(_, asked, pair) => {
             answer.push(b"\n= setup ");

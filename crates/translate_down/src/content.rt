@@ -1,12 +1,13 @@
 //! The body of a reply, and what the reply tells of it.
 ghost use Rattle.std.specs.Prelude.{◌≡◌, IfOk, option_map};
+ghost use Rattle.std.specs.Option.{option_copied};
 ghost use Rattle.translate_down.specs.Settings.{setting_of};
 ghost use Rattle.translate_down.specs.Contents.{comes_with_description, comes_with_body, base_value, type_value, encoding_value, media_type, names_description, is_description, is_read, body_told};
 
 use crate::Context;
 use gate_bytes::{Memory, Text, eq_fold, trim, up_to};
 use head_two::Reply2;
-use rtsp_head::Head;
+use rtsp_head::{FieldValue, Head};
 use rtsp_small::Method;
 use rtsp_uri::{rewrite_sdp, swap_authority};
 use std::alloc::Global;
@@ -49,47 +50,40 @@ pub(crate) fn base(
 }
 
 /// The value of Content-Type, with a body.
-pub(crate) fn kind(
-    alloc: Global,
-    method: Method,
-    reply: &Reply2<'_>,
-) -> Result<Option<Text>, Memory>
-    ensures { IfOk result (λ value. value ≡ type_value method reply.now.head.headers reply.now.body) }
+pub(crate) fn kind<'a>(method: Method, reply: &'a Reply2<'_>) -> Option<&'a [u8]>
+    ensures { option_copied result ≡ type_value method reply.now.head.headers reply.now.body }
 {
     let comes = comes_with_body(method, reply.body);
-    Text::copied(alloc, reply.head.field_where(comes, b"Content-Type"))
+    reply.head.field_where(comes, b"Content-Type")
 }
 
 /// The value of Content-Encoding, with a body.
-pub(crate) fn encoding(
-    alloc: Global,
-    method: Method,
-    reply: &Reply2<'_>,
-) -> Result<Option<Text>, Memory>
-    ensures { IfOk result (λ value. value ≡ encoding_value method reply.now.head.headers reply.now.body) }
+pub(crate) fn encoding<'a>(method: Method, reply: &'a Reply2<'_>) -> Option<&'a [u8]>
+    ensures { option_copied result ≡ encoding_value method reply.now.head.headers reply.now.body }
 {
     let comes = comes_with_body(method, reply.body);
-    Text::copied(alloc, reply.head.field_where(comes, b"Content-Encoding"))
+    reply.head.field_where(comes, b"Content-Encoding")
 }
 
 /// The body that a player gets: a session description under the player's address, any other as it
 /// came, and none where none was asked for.
-pub(crate) fn body(
+pub(crate) fn body<'a>(
     alloc: Global,
     context: &Context<'_>,
     method: Method,
-    reply: &Reply2<'_>,
-) -> Result<Text, Memory>
+    reply: &Reply2<'a>,
+) -> Result<FieldValue<'a>, Memory>
     ensures { IfOk result (λ body.
         body ≡ body_told (setting_of context.now) method reply.now.head.headers reply.now.body) }
 {
     let body = reply.body;
     if !comes_with_body(method, body) {
-        Ok(Text::new(alloc))
+        Ok(FieldValue::new(b""))
     } else if is_read(method, &reply.head) {
-        rewrite_sdp(alloc, &context.bases.up, &context.bases.front, body)
+        let told = rewrite_sdp(alloc, &context.bases.up, &context.bases.front, body)?;
+        Ok(FieldValue::owned(told))
     } else {
-        Text::copy(alloc, body)
+        Ok(FieldValue::new(body))
     }
 }
 

@@ -1,5 +1,6 @@
 //! What a reply tells of playing.
 ghost use Rattle.std.specs.Prelude.{◌≡◌, IfOk};
+ghost use Rattle.std.specs.Option.{option_copied};
 ghost use Rattle.translate_down.specs.Settings.{setting_of};
 ghost use Rattle.translate_down.specs.Plays.{moves, plays, range_told, range_value, scale_value, info_value};
 
@@ -40,12 +41,12 @@ fn range_told(alloc: Global, value: &[u8]) -> Result<Option<Text>, Memory>
 }
 
 /// The value of Scale, with PLAY, where the server's can be read.
-pub(crate) fn scale(alloc: Global, method: Method, head: &Head<'_>) -> Result<Option<Text>, Memory>
-    ensures { IfOk result (λ value. value ≡ scale_value method head.now.headers) }
+pub(crate) fn scale<'a>(method: Method, head: &'a Head<'_>) -> Option<&'a [u8]>
+    ensures { option_copied result ≡ scale_value method head.now.headers }
 {
     match head.field_where(plays(method), b"Scale") {
-        Some(value) if is_scale(value) => Ok(Some(Text::copy(alloc, value)?)),
-        _ => Ok(None),
+        Some(value) if is_scale(value) => Some(value),
+        _ => None,
     }
 }
 

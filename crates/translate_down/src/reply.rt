@@ -1,5 +1,6 @@
 //! The server's replies as players get them.
 ghost use Rattle.std.specs.Prelude.{◌≡◌, IfOk, OnOk};
+ghost use Rattle.std.specs.Option.{option_copied};
 ghost use Rattle.rtsp_head.specs.Optional.{then_headers, field_headers};
 ghost use Rattle.head_one.specs.Replies.{reply_text};
 ghost use Rattle.translate_down.specs.Settings.{setting_of, CanBeTold};
@@ -46,22 +47,22 @@ fn refusal(alloc: Global, asked: &Asked, reply: &Reply2<'_>) -> Result<Text, Mem
     ensures { IfOk result (λ text. text ≡ reply_text (refusal_of asked.now (told_whole reply.now))) }
 {
     let mut headers = Headers::new(alloc);
-    headers.push_value(alloc, b"Unsupported", unsupported(alloc, reply)?)?;
+    headers.push_lent(b"Unsupported", unsupported(reply))?;
     let refusal = Reply1 {
         code: to_one(reply.code),
         cseq: Some(asked.cseq),
         headers,
-        body: Text::new(alloc),
+        body: b"",
     };
     write_reply(alloc, &refusal)
 }
 
 /// The value of Unsupported, with 551.
-fn unsupported(alloc: Global, reply: &Reply2<'_>) -> Result<Option<Text>, Memory>
-    ensures { IfOk result (λ value. value ≡ unsupported_value (told_whole reply.now)) }
+fn unsupported<'a>(reply: &'a Reply2<'_>) -> Option<&'a [u8]>
+    ensures { option_copied result ≡ unsupported_value (told_whole reply.now) }
 {
     let is_told = reply.code == 551;
-    Text::copied(alloc, reply.head.field_where(is_told, b"Unsupported"))
+    reply.head.field_where(is_told, b"Unsupported")
 }
 
 /// The text of a success.
@@ -75,22 +76,24 @@ fn success(
     ensures { IfOk result (λ text.
         text ≡ reply_text (success_of (setting_of context.now) asked.now (told_whole reply.now))) }
 {
+    let headers = success_headers(alloc, context, asked, reply)?;
+    let body = body(alloc, context, asked.method, reply)?;
     let success = Reply1 {
         code: 200,
         cseq: Some(asked.cseq),
-        headers: success_headers(alloc, context, asked, reply)?,
-        body: body(alloc, context, asked.method, reply)?,
+        headers,
+        body: body.as_bytes(),
     };
     write_reply(alloc, &success)
 }
 
 /// The headers of a success.
-fn success_headers(
+fn success_headers<'a>(
     alloc: Global,
     context: &Context<'_>,
     asked: &Asked,
-    reply: &Reply2<'_>,
-) -> Result<Headers, Memory>
+    reply: &'a Reply2<'_>,
+) -> Result<Headers<'a>, Memory>
     requires { CanBeTold (setting_of context.now) }
     ensures { IfOk result (λ headers.
         headers ≡ field_headers (success_fields (setting_of context.now) asked.now (told_whole reply.now))) }
@@ -98,7 +101,7 @@ fn success_headers(
     let mut headers = Headers::new(alloc);
     push_session(alloc, &mut headers, context, asked)?;
     push_play(alloc, &mut headers, context, asked.method, reply)?;
-    headers.push_value(alloc, b"Public", public(alloc, asked.method)?)?;
+    headers.push_text(b"Public", public(alloc, asked.method)?)?;
     push_content(alloc, &mut headers, context, asked.method, reply)?;
     Ok(headers)
 }
@@ -106,7 +109,7 @@ fn success_headers(
 /// Appends what is told of the session.
 fn push_session(
     alloc: Global,
-    headers: &mut Headers,
+    headers: &mut Headers<'_>,
     context: &Context<'_>,
     asked: &Asked,
 ) -> Result<(), Memory>
@@ -114,33 +117,25 @@ fn push_session(
     ensures { OnOk result
         (headers.new ≡ then_headers headers.old (session_fields (setting_of context.now) asked.now)) }
 {
-    headers.push_value(alloc, b"Session", session(alloc, context, asked)?)?;
-    headers.push_value(
-        alloc,
-        b"Transport",
-        transport(alloc, context, asked.method)?,
-    )
+    headers.push_text(b"Session", session(alloc, context, asked)?)?;
+    headers.push_text(b"Transport", transport(alloc, context, asked.method)?)
 }
 
 /// Appends what is told of playing.
-fn push_play(
+fn push_play<'a>(
     alloc: Global,
-    headers: &mut Headers,
+    headers: &mut Headers<'a>,
     context: &Context<'_>,
     method: Method,
-    reply: &Reply2<'_>,
+    reply: &'a Reply2<'_>,
 ) -> Result<(), Memory>
     ensures { OnOk result
         (headers.new
         ≡ then_headers headers.old (play_fields (setting_of context.now) method reply.now.head.headers)) }
 {
-    headers.push_value(alloc, b"Range", range(alloc, method, &reply.head)?)?;
-    headers.push_value(alloc, b"Scale", scale(alloc, method, &reply.head)?)?;
-    headers.push_value(
-        alloc,
-        b"RTP-Info",
-        info(alloc, context, method, &reply.head)?,
-    )
+    headers.push_text(b"Range", range(alloc, method, &reply.head)?)?;
+    headers.push_lent(b"Scale", scale(method, &reply.head))?;
+    headers.push_text(b"RTP-Info", info(alloc, context, method, &reply.head)?)
 }
 
 /// The value of Public, with OPTIONS.
@@ -157,19 +152,19 @@ fn public(alloc: Global, method: Method) -> Result<Option<Text>, Memory>
 }
 
 /// Appends what is told of the body.
-fn push_content(
+fn push_content<'a>(
     alloc: Global,
-    headers: &mut Headers,
+    headers: &mut Headers<'a>,
     context: &Context<'_>,
     method: Method,
-    reply: &Reply2<'_>,
+    reply: &'a Reply2<'_>,
 ) -> Result<(), Memory>
     ensures { OnOk result
         (headers.new
         ≡ then_headers headers.old
         (content_fields (setting_of context.now) method reply.now.head.headers reply.now.body)) }
 {
-    headers.push_value(alloc, b"Content-Base", base(alloc, context, method, reply)?)?;
-    headers.push_value(alloc, b"Content-Type", kind(alloc, method, reply)?)?;
-    headers.push_value(alloc, b"Content-Encoding", encoding(alloc, method, reply)?)
+    headers.push_text(b"Content-Base", base(alloc, context, method, reply)?)?;
+    headers.push_lent(b"Content-Type", kind(method, reply))?;
+    headers.push_lent(b"Content-Encoding", encoding(method, reply))
 }

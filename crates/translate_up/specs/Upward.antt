@@ -1,5 +1,5 @@
 -- Requests as they go up (RFC 7826, 13 and 18).
-use Rattle.std.specs.Prelude.{ℕ, Bool, ◌&&◌, not, ◌==◌, codes, List, [], ◌∷◌, length, Option, Some, None, unwrap_or, option_map, if◌then◌else◌}
+use Rattle.std.specs.Prelude.{ℕ, suc, Bool, ◌&&◌, not, ◌==◌, codes, List, [], ◌∷◌, length, Option, Some, None, unwrap_or, option_map, if◌then◌else◌}
 use Rattle.std.specs.List.{filter}
 use Rattle.std.specs.Str.{bytes_eq}
 use Rattle.gate_bytes.specs.Tokens.{equal_fold}
@@ -76,6 +76,11 @@ asked_of request said uri = record { method = request.method; cseq = request.cse
 -- the header with a pair of channels (RFC 7826, 18.54)
 abbrev pub transport_header : Pair → Header
 transport_header pair = record { name = codes "Transport"; value = grant_text (record { pair = pair; ssrc = None }) }
+
+-- the place of the formats of times, or else the end
+abbrev pub transport_place : List Header → ℕ
+transport_place [] = 0
+transport_place (header ∷ headers) = if bytes_eq header.name (codes "Accept-Ranges") then 0 else suc (transport_place headers)
 
 -- The channels stand before the formats of times (this project's own).
 abbrev pub headers_with_transport : Pair → List Header → List Header

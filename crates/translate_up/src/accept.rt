@@ -18,14 +18,14 @@ use session_one::{Play, State};
 use std::alloc::Global;
 
 /// What becomes of a request that no rule refuses and that is not for the gateway itself.
-pub(crate) fn serve(
+pub(crate) fn serve<'a>(
     alloc: Global,
-    view: &View<'_>,
-    request: &Request1<'_>,
+    view: &View<'a, '_>,
+    request: &Request1<'a>,
     said: &SaidFields<'_>,
     uri: Text,
     admission: Admission,
-) -> Result<Decision, Memory>
+) -> Result<Decision<'a>, Memory>
     requires { AdmitsWritable admission }
     ensures { IfOk result (λ decision.
         decision ≡ serve (given_of view.now) request.now (said_seen said.now) uri admission) }
@@ -42,14 +42,14 @@ pub(crate) fn serve(
 }
 
 /// A PLAY goes up, unless streams play already.
-fn play(
+fn play<'a>(
     alloc: Global,
-    view: &View<'_>,
-    request: &Request1<'_>,
+    view: &View<'a, '_>,
+    request: &Request1<'a>,
     said: &SaidFields<'_>,
     uri: Text,
     range: Option<Range>,
-) -> Result<Decision, Memory>
+) -> Result<Decision<'a>, Memory>
     requires { IfSome range (λ one. IsTrue (can_be_written one)) }
     ensures { IfOk result (λ decision.
         decision
@@ -62,14 +62,14 @@ fn play(
 }
 
 /// A request goes up with this range.
-fn forward(
+fn forward<'a>(
     alloc: Global,
-    view: &View<'_>,
-    request: &Request1<'_>,
+    view: &View<'a, '_>,
+    request: &Request1<'a>,
     said: &SaidFields<'_>,
     uri: Text,
     range: Option<Range>,
-) -> Result<Decision, Memory>
+) -> Result<Decision<'a>, Memory>
     requires { IfSome range (λ one. IsTrue (can_be_written one)) }
     ensures { IfOk result (λ decision.
         decision ≡ forward (given_of view.now) request.now (said_seen said.now) uri range) }
@@ -81,14 +81,14 @@ fn forward(
 
 /// A PLAY while streams play waits with its range, and is answered at once; without a range it changes
 /// nothing.
-fn play_on(
+fn play_on<'a>(
     alloc: Global,
-    view: &View<'_>,
-    request: &Request1<'_>,
+    view: &View<'a, '_>,
+    request: &Request1<'a>,
     said: &SaidFields<'_>,
     uri: Text,
     range: Option<Range>,
-) -> Result<Decision, Memory>
+) -> Result<Decision<'a>, Memory>
     requires { IfSome range (λ one. IsTrue (can_be_written one)) }
     ensures { IfOk result (λ decision.
         decision ≡ play_on (given_of view.now) request.now (said_seen said.now) uri range) }

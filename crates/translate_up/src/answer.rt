@@ -15,16 +15,16 @@ fn answer_with(
     alloc: Global,
     code: u16,
     cseq: Option<u64>,
-    headers: Headers,
+    headers: Headers<'_>,
 ) -> Result<Text, Memory>
     requires { has_reason code ≡ true }
-    ensures { IfOk result (λ text. text ≡ own_answer code cseq headers) }
+    ensures { IfOk result (λ text. text ≡ own_answer code cseq headers.entry) }
 {
     let reply = Reply1 {
         code,
         cseq,
         headers,
-        body: Text::new(alloc),
+        body: b"",
     };
     write_reply(alloc, &reply)
 }
@@ -43,7 +43,7 @@ pub(crate) fn refusal_text(alloc: Global, refusal: Refusal) -> Result<Text, Memo
     ensures { IfOk result (λ text. text ≡ refusal_text refusal) }
 {
     let mut headers = Headers::new(alloc);
-    headers.push_value(alloc, b"Unsupported", refusal.unsupported)?;
+    headers.push_text(b"Unsupported", refusal.unsupported)?;
     answer_with(alloc, refusal.code, refusal.cseq, headers)
 }
 
@@ -71,7 +71,7 @@ pub(crate) fn play_text(
     ensures { IfOk result (λ text. text ≡ play_text cseq (option_copied session.entry) range) }
 {
     let mut headers = Headers::new(alloc);
-    headers.push_copy(alloc, b"Session", session)?;
-    headers.push_value(alloc, b"Range", range)?;
+    headers.push_lent(b"Session", session)?;
+    headers.push_text(b"Range", range)?;
     answer_with(alloc, 200, Some(cseq), headers)
 }

@@ -20,18 +20,18 @@ use rtsp_transport::Pair;
 use session_one::{Asked, Play};
 use std::alloc::Global;
 
-/// What becomes of a request.
+/// What becomes of a request. What goes up is lent by the request and by the session's id.
 #[derive(Drop)]
-pub enum Decision {
+pub enum Decision<'a> {
     /// The gateway answers it with this text.
     Answer(Text),
     /// It goes up, and this is kept for the reply.
-    Forward(Request2, Asked),
+    Forward(Request2<'a>, Asked),
     /// It waits until what plays has ended, and is answered with this text at once.
     Queue(Play, Text),
     /// It goes up as a SETUP once [`crate::with_transport`] has put its channels to the server in;
     /// this is kept for the reply, and the player gets these channels on its own connection.
-    Setup(Request2, Asked, Pair),
+    Setup(Request2<'a>, Asked, Pair),
 }
 
 /// What becomes of a request of a player that has none open. The first rule that applies refuses it;
@@ -43,7 +43,11 @@ pub enum Decision {
 /// played together; 461 where no channels can be given to it; 457 where its range is of no use; 453
 /// where all channels to the server are held; 503 where its session has all its streams, or where as
 /// many PLAYs wait as may.
-pub fn decide(alloc: Global, view: &View<'_>, item: &Item) -> Result<Decision, Memory>
+pub fn decide<'a>(
+    alloc: Global,
+    view: &View<'a, '_>,
+    item: &'a Item,
+) -> Result<Decision<'a>, Memory>
     ensures { IfOk result (λ decision. decision ≡ decide (given_of view.now) (shape_of item.now)) }
 {
     match read_request(alloc, item) {
@@ -55,11 +59,11 @@ pub fn decide(alloc: Global, view: &View<'_>, item: &Item) -> Result<Decision, M
 
 /// What becomes of a request that its head does not refuse. No rule refuses one for the gateway itself,
 /// so its URI is not looked at.
-fn decide_request(
+fn decide_request<'a>(
     alloc: Global,
-    view: &View<'_>,
-    request: &Request1<'_>,
-) -> Result<Decision, Memory>
+    view: &View<'a, '_>,
+    request: &Request1<'a>,
+) -> Result<Decision<'a>, Memory>
     ensures { IfOk result (λ decision. decision ≡ decide_request (given_of view.now) request.now) }
 {
     let said = SaidFields::read(view.tracks, request);

@@ -69,7 +69,7 @@ fn read_range(value: Option<&[u8]>) -> Option<Result<Range, RangeFault>>
 }
 
 /// The session, where a request names it.
-pub(crate) fn session_said<'a>(view: &View<'a>, said: &SaidFields<'_>) -> Option<&'a [u8]>
+pub(crate) fn session_said<'a>(view: &View<'a, '_>, said: &SaidFields<'_>) -> Option<&'a [u8]>
     ensures { option_copied result ≡ session_said (given_of view.now) (said_seen said.now) }
 {
     said_where(said.is_named(), view.session)

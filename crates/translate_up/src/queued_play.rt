@@ -13,19 +13,27 @@ use session_one::Play;
 use std::alloc::Global;
 
 /// A PLAY that waited, as it goes up for a session, without its number (RFC 7826, 13.4).
-pub fn play_up(alloc: Global, session: Option<&[u8]>, play: &Play) -> Result<Request2, Memory>
+pub fn play_up<'a>(
+    alloc: Global,
+    session: Option<&'a [u8]>,
+    play: &'a Play,
+) -> Result<Request2<'a>, Memory>
     ensures { IfOk result (λ up. up ≡ play_up (option_copied session.entry) play.now) }
 {
     Ok(Request2 {
-        method: Text::copy(alloc, Method::Play.name())?,
+        method: Method::Play.name(),
         uri: Text::copy(alloc, play.uri.as_bytes())?,
         headers: play_headers(alloc, session, play)?,
-        body: Text::new(alloc),
+        body: b"",
     })
 }
 
 /// Its headers in their order.
-fn play_headers(alloc: Global, session: Option<&[u8]>, play: &Play) -> Result<Headers, Memory>
+fn play_headers<'a>(
+    alloc: Global,
+    session: Option<&'a [u8]>,
+    play: &'a Play,
+) -> Result<Headers<'a>, Memory>
     ensures { IfOk result (λ headers.
         headers ≡ field_headers (play_fields_up (option_copied session.entry) play.now)) }
 {
@@ -34,8 +42,8 @@ fn play_headers(alloc: Global, session: Option<&[u8]>, play: &Play) -> Result<He
         None => None,
     };
     let mut headers = Headers::new(alloc);
-    headers.push_copy(alloc, b"Session", session)?;
-    headers.push_value(alloc, b"Range", Some(write(alloc, &play.range)?))?;
-    headers.push_copy(alloc, b"Scale", scale)?;
+    headers.push_lent(b"Session", session)?;
+    headers.push_text(b"Range", Some(write(alloc, &play.range)?))?;
+    headers.push_lent(b"Scale", scale)?;
     Ok(headers)
 }

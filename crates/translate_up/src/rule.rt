@@ -29,7 +29,7 @@ pub(crate) enum Admission {
 /// What the rules let through of a request with this URI on its way up, or the code of the first rule
 /// that refuses it.
 pub(crate) fn check_rules(
-    view: &View<'_>,
+    view: &View<'_, '_>,
     method: Method,
     said: &SaidFields<'_>,
     uri: &[u8],
@@ -92,7 +92,7 @@ fn names_no_session(method: Method, session: Option<&[u8]>, field: Option<&[u8]>
 }
 
 /// Whether the table of states has no row for a request, or a stream would be set up again.
-fn is_out_of_turn(view: &View<'_>, method: Method, said: &SaidFields<'_>, uri: &[u8]) -> bool
+fn is_out_of_turn(view: &View<'_, '_>, method: Method, said: &SaidFields<'_>, uri: &[u8]) -> bool
     ensures { result ≡ is_out_of_turn (given_of view.now) method (said_seen said.now) uri.now }
 {
     !allowed(view.state, method) || sets_up_again(view, method, said, uri)
@@ -100,7 +100,7 @@ fn is_out_of_turn(view: &View<'_>, method: Method, said: &SaidFields<'_>, uri: &
 
 /// Whether a SETUP is for another session than the one that is there, or for a stream that was set
 /// up.
-fn sets_up_again(view: &View<'_>, method: Method, said: &SaidFields<'_>, uri: &[u8]) -> bool
+fn sets_up_again(view: &View<'_, '_>, method: Method, said: &SaidFields<'_>, uri: &[u8]) -> bool
     ensures { result ≡ sets_up_again (given_of view.now) method (said_seen said.now) uri.now }
 {
     let adds_session = view.session.is_some() && !said.is_named();
@@ -108,14 +108,14 @@ fn sets_up_again(view: &View<'_>, method: Method, said: &SaidFields<'_>, uri: &[
 }
 
 /// Whether one of several streams is named, which are played, paused and torn down together.
-fn names_one_of_many(view: &View<'_>, method: Method, uri: &[u8]) -> bool
+fn names_one_of_many(view: &View<'_, '_>, method: Method, uri: &[u8]) -> bool
     ensures { result ≡ names_one_of_many (given_of view.now) method uri.now }
 {
     needs_session(method) && (is_track(view.tracks, uri) && view.tracks.len() >= 2)
 }
 
 /// Whether a PLAY would wait for what plays.
-fn must_wait(view: &View<'_>, method: Method, said: &SaidFields<'_>) -> bool
+fn must_wait(view: &View<'_, '_>, method: Method, said: &SaidFields<'_>) -> bool
     ensures { result ≡ must_wait (given_of view.now) method (said_seen said.now) }
 {
     let plays = is_play(method) && view.state == State::Playing;
@@ -123,7 +123,7 @@ fn must_wait(view: &View<'_>, method: Method, said: &SaidFields<'_>) -> bool
 }
 
 /// Whether the session of a SETUP has all its streams, or as many PLAYs wait as may.
-fn finds_no_place(view: &View<'_>, method: Method, said: &SaidFields<'_>) -> bool
+fn finds_no_place(view: &View<'_, '_>, method: Method, said: &SaidFields<'_>) -> bool
     ensures { result ≡ finds_no_place (given_of view.now) method (said_seen said.now) }
 {
     let is_whole = is_setup(method) && view.tracks.len() >= MOST_TRACKS;

@@ -6,19 +6,18 @@ ghost use Rattle.rtsp_range.specs.Writable.{can_be_written};
 ghost use Rattle.rtsp_range.specs.RangeText.{range_text};
 ghost use Rattle.translate_up.specs.Views.{given_of};
 ghost use Rattle.translate_up.specs.SeenFields.{said_seen};
-ghost use Rattle.translate_up.specs.Fields.{is_play, scale_of};
+ghost use Rattle.rtsp_small.specs.Scales.{is_scale};
+ghost use Rattle.translate_up.specs.Fields.{is_play, passing, scale_of};
 ghost use Rattle.translate_up.specs.Upward.{uri_up, method_up, has_body_up, fields_up, request_up, asked_of};
 
-use crate::field::{
-    SaidFields, brings_body_up, is_describe, is_play, is_setup, scale_of, session_said,
-};
+use crate::field::{SaidFields, brings_body_up, is_describe, is_play, is_setup, session_said};
 use crate::view::View;
 use gate_bytes::{Memory, Text};
 use head_one::Request1;
 use head_two::Request2;
-use rtsp_head::{Headers, said_where};
+use rtsp_head::{FieldValue, Headers, said_where};
 use rtsp_range::{Range, write};
-use rtsp_small::Method;
+use rtsp_small::{Method, is_scale};
 use rtsp_uri::swap_authority;
 use session_one::Asked;
 use std::alloc::Global;
@@ -28,7 +27,7 @@ const UNITS: &[u8] = b"npt, smpte, smpte-30-drop, smpte-25, clock";
 
 /// The URI with the server's authority in the place of the gateway's. What is asked of the server
 /// itself is asked of what the connection is about, where that is known.
-pub(crate) fn uri_up(alloc: Global, view: &View<'_>, uri: &[u8]) -> Result<Text, Memory>
+pub(crate) fn uri_up(alloc: Global, view: &View<'_, '_>, uri: &[u8]) -> Result<Text, Memory>
     ensures { IfOk result (λ text. text ≡ uri_up (given_of view.now) uri.now) }
 {
     if uri == b"*".as_slice() {
@@ -40,23 +39,23 @@ pub(crate) fn uri_up(alloc: Global, view: &View<'_>, uri: &[u8]) -> Result<Text,
 
 /// A request as it goes up with this URI and this range, without its number; a SETUP lacks its channels
 /// too.
-pub(crate) fn request_up(
+pub(crate) fn request_up<'a>(
     alloc: Global,
-    view: &View<'_>,
-    request: &Request1<'_>,
+    view: &View<'a, '_>,
+    request: &Request1<'a>,
     said: &SaidFields<'_>,
     uri: Text,
     range: Option<Range>,
-) -> Result<Request2, Memory>
+) -> Result<Request2<'a>, Memory>
     requires { IfSome range (λ one. IsTrue (can_be_written one)) }
     ensures { IfOk result (λ up.
         up ≡ request_up (given_of view.now) request.now (said_seen said.now) uri range) }
 {
     Ok(Request2 {
-        method: Text::copy(alloc, method_up(request.method).name())?,
+        method: method_up(request.method).name(),
         uri,
         headers: headers_up(alloc, view, request, said, range)?,
-        body: body_up(alloc, request)?,
+        body: body_up(request),
     })
 }
 
@@ -96,24 +95,24 @@ fn has_body_up(request: &Request1<'_>) -> bool
 }
 
 /// The body that goes up.
-fn body_up(alloc: Global, request: &Request1<'_>) -> Result<Text, Memory>
-    ensures { IfOk result (λ body. body ≡ (if has_body_up request.now then request.now.body else [])) }
+fn body_up<'a>(request: &Request1<'a>) -> &'a [u8]
+    ensures { result.now ≡ (if has_body_up request.now then request.now.body else []) }
 {
     if has_body_up(request) {
-        Text::copy(alloc, request.body)
+        request.body
     } else {
-        Ok(Text::new(alloc))
+        b""
     }
 }
 
 /// The headers that go up, in their order, each where it is said.
-fn headers_up(
+fn headers_up<'a>(
     alloc: Global,
-    view: &View<'_>,
-    request: &Request1<'_>,
+    view: &View<'a, '_>,
+    request: &Request1<'a>,
     said: &SaidFields<'_>,
     range: Option<Range>,
-) -> Result<Headers, Memory>
+) -> Result<Headers<'a>, Memory>
     requires { IfSome range (λ one. IsTrue (can_be_written one)) }
     ensures { IfOk result (λ headers.
         headers ≡ field_headers (fields_up (given_of view.now) request.now (said_seen said.now) range)) }
@@ -122,28 +121,40 @@ fn headers_up(
     let method = request.method;
     let range = range_up(alloc, range)?;
     let has_body = has_body_up(request);
-    let accept = head.field_where(is_describe(method), b"Accept");
+    let accept = head.value_where(alloc, is_describe(method), b"Accept")?;
     let units = said_where(is_setup(method), Some(UNITS));
-    let scale = scale_up(request);
-    let kind = head.field_where(has_body, b"Content-Type");
-    let encoding = head.field_where(has_body, b"Content-Encoding");
+    let scale = scale_up(alloc, request)?;
+    let kind = head.value_where(alloc, has_body, b"Content-Type")?;
+    let encoding = head.value_where(alloc, has_body, b"Content-Encoding")?;
     let mut headers = Headers::new(alloc);
-    headers.push_copy(alloc, b"Session", session_said(view, said))?;
-    headers.push_copy(alloc, b"Accept", accept)?;
-    headers.push_copy(alloc, b"Accept-Ranges", units)?;
-    headers.push_value(alloc, b"Range", range)?;
-    headers.push_copy(alloc, b"Scale", scale)?;
-    headers.push_copy(alloc, b"Content-Type", kind)?;
-    headers.push_copy(alloc, b"Content-Encoding", encoding)?;
+    headers.push_lent(b"Session", session_said(view, said))?;
+    headers.push_value(b"Accept", accept)?;
+    headers.push_lent(b"Accept-Ranges", units)?;
+    headers.push_text(b"Range", range)?;
+    headers.push_value(b"Scale", scale)?;
+    headers.push_value(b"Content-Type", kind)?;
+    headers.push_value(b"Content-Encoding", encoding)?;
     Ok(headers)
 }
 
 /// The scale that goes up, with PLAY.
-fn scale_up<'a>(request: &'a Request1<'_>) -> Option<&'a [u8]>
-    ensures { option_copied result ≡ said_where (is_play request.now.method) (scale_of request.now) }
+fn scale_up<'a>(alloc: Global, request: &Request1<'a>) -> Result<Option<FieldValue<'a>>, Memory>
+    ensures { IfOk result (λ scale.
+        scale ≡ said_where (is_play request.now.method) (scale_of request.now)) }
 {
-    if is_play(request.method) {
-        scale_of(request)
+    let value = request
+        .head
+        .value_where(alloc, is_play(request.method), b"Scale")?;
+    Ok(in_grammar(value))
+}
+
+/// A value, where it is a scale in the grammar (RFC 2326, 12.34).
+fn in_grammar(value: Option<FieldValue<'_>>) -> Option<FieldValue<'_>>
+    ensures { result ≡ passing is_scale value.entry }
+{
+    let value = value?;
+    if is_scale(value.as_bytes()) {
+        Some(value)
     } else {
         None
     }

@@ -4,13 +4,14 @@ use rtsp_uri::Bases;
 use session_one::{State, Track};
 
 /// A player's connection as it stands when one of its requests is treated, and what else the request
-/// is judged by.
+/// is judged by. The session has a lifetime of its own: it is lent to what goes up, which outlives the
+/// view.
 #[derive(Clone, Copy)]
-pub struct View<'a> {
+pub struct View<'s, 'a> {
     /// The state of its session.
     pub state: State,
     /// The id of its session, where it has one.
-    pub session: Option<&'a [u8]>,
+    pub session: Option<&'s [u8]>,
     /// The streams of its session, in the order in which they were set up.
     pub tracks: &'a [Track],
     /// How many PLAYs wait.

@@ -1,5 +1,6 @@
-use Rattle.std.proofs.Common.{◌≡◌, ◌∙◌, ◌++◌, ℕ, List, Some, IfOk, subst, ap}
+use Rattle.std.proofs.Common.{◌≡◌, ◌∙◌, [], ◌++◌, ℕ, List, Some, IfOk, subst, ap}
 use Rattle.std.specs.Prelude.{codes}
+use Rattle.std.specs.Option.{option_copied}
 use Rattle.rtsp_head.specs.declared.header.Header.{Header}
 use Rattle.head_one.specs.declared.reply.Reply1.{Reply1}
 use Rattle.head_one.specs.Replies.{reply_text}
@@ -10,17 +11,16 @@ use Rattle.translate_down.specs.Replies.{unsupported_value, refusal_of, told_who
 use Rattle.translate_down.proofs.reply.refusal.Goals as goal
 
 -- a refusal by its parts
-abbrev refusal_with : ℕ → ℕ → List Header → List ℕ → Reply1
-refusal_with cseq code headers body = record { code = code; cseq = Some cseq; headers = headers; body = body }
+abbrev refusal_with : ℕ → ℕ → List Header → Reply1
+refusal_with cseq code headers = record { code = code; cseq = Some cseq; headers = headers; body = [] }
 
 pub returns : goal.returns
 returns c =
-    let told : c.push_value.new.self ≡ header_with (codes "Unsupported") (unsupported_value (told_whole c.args.reply.now)) =
-    c.in_ok-push_value.ensures.ok
-    ∙ ap (λ (hs : List Header). hs ++ header_with (codes "Unsupported") c.in_ok-unsupported.field-0) c.new-headers.ensures
-    ∙ ap (header_with (codes "Unsupported")) c.in_ok-unsupported.ensures in
-    let whole : refusal_with c.args.asked.now.cseq c.to_one.result c.push_value.new.self c.new.result ≡ refusal_of c.args.asked.now (told_whole c.args.reply.now) =
-    ap (λ (n : ℕ). refusal_with c.args.asked.now.cseq n c.push_value.new.self c.new.result) (c.to_one.ensures.one ∙ ap (λ (r : ReplyParts). code_one r.code) c.reply.view_is)
-    ∙ ap (λ (hs : List Header). refusal_with c.args.asked.now.cseq (code_one c.args.reply.now.code) hs c.new.result) told
-    ∙ ap (λ (b : List ℕ). refusal_with c.args.asked.now.cseq (code_one c.args.reply.now.code) (header_with (codes "Unsupported") (unsupported_value (told_whole c.args.reply.now))) b) c.new.ensures in
+    let told : c.push_lent.new.self ≡ header_with (codes "Unsupported") (unsupported_value (told_whole c.args.reply.now)) =
+    c.in_ok-push_lent.ensures.ok
+    ∙ ap (λ (hs : List Header). hs ++ header_with (codes "Unsupported") (option_copied c.unsupported.result)) c.new-headers.ensures
+    ∙ ap (header_with (codes "Unsupported")) c.unsupported.ensures in
+    let whole : refusal_with c.args.asked.now.cseq c.to_one.result c.push_lent.new.self ≡ refusal_of c.args.asked.now (told_whole c.args.reply.now) =
+    ap (λ (n : ℕ). refusal_with c.args.asked.now.cseq n c.push_lent.new.self) (c.to_one.ensures.one ∙ ap (λ (r : ReplyParts). code_one r.code) c.reply.view_is)
+    ∙ ap (λ (hs : List Header). refusal_with c.args.asked.now.cseq (code_one c.args.reply.now.code) hs) told in
     subst (λ (reply : Reply1). IfOk c.write_reply.result (λ text. text ≡ reply_text reply)) whole c.write_reply.ensures

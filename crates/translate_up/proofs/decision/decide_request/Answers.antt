@@ -24,8 +24,8 @@ returns-in-Ok c =
     (ap (λ m. is_for_gateway m (said_seen c.read-said.result)) (sym method) ∙ sym c.is_for_gateway.ensures ∙ c.if-is_for_gateway.false) serves)
     c.serve.ensures
 
-pub returns-in_ok-answer-in-Err : goal.returns-in_ok-answer-in-Err
-returns-in_ok-answer-in-Err c =
+pub returns : goal.returns
+returns c =
     let given = given_of c.args.view.now in
     let request = c.args.request.now in
     let uri : c.in_ok-uri.uri ≡ uri_up given request.uri = c.in_ok-uri.ensures ∙ ap (λ (r : ClientRequest). uri_up given r.uri) c.request.view_is in

@@ -1,7 +1,7 @@
 use Rattle.std.proofs.Common.{◌≡◌, length, sym, ◌∙◌, ap}
 use Rattle.gate_bytes.specs.Tokens.{trimmed}
 use Rattle.rtsp_head.proofs.TrimLemmas.{trimmed_same}
-use Rattle.rtsp_head.proofs.head_field.close.Goals as goal
+use Rattle.rtsp_head.proofs.field_value.close.Goals as goal
 
 pub returns-then-value-len : goal.returns-then-value-len
 returns-then-value-len c =
