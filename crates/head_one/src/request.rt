@@ -11,6 +11,7 @@ use crate::{Refusal, RequestFault};
 use gate_bytes::{Memory, Text};
 use rtsp_head::{Head, HeadFault, Item, StartLine, read_head};
 use rtsp_small::Method;
+use rtsp_uri::CutUri;
 use std::alloc::Global;
 use std::marker::Model;
 
@@ -21,7 +22,7 @@ pub struct Request1<'a> {
     /// The method.
     pub method: Method,
     /// The URI, or `*`.
-    pub uri: &'a [u8],
+    pub uri: CutUri<'a>,
     /// Its number.
     pub cseq: u64,
     /// The whole head.
@@ -37,7 +38,7 @@ impl<'a> Model for Request1<'a> {
 
     ghost view = { λ it. record {
       method = it.method;
-      uri = it.uri.now;
+      uri = it.uri;
       cseq = it.cseq;
       head = it.head;
       body = it.body.now;
@@ -64,7 +65,8 @@ pub fn read_request(alloc: Global, item: &Item) -> Result<Request1<'_>, RequestF
     else {
         return Err(RequestFault::Refused(no_request()));
     };
-    let parts = RequestParts::read(method, uri, version, &head);
+    let uri = CutUri::new(uri);
+    let parts = RequestParts::read(method, &uri, version, &head);
     let (method, cseq) = match check_parts(&parts) {
         Ok(known) => known,
         Err(code) => return Err(RequestFault::Refused(refusal(alloc, &parts, code)?)),

@@ -6,7 +6,7 @@ ghost use Rattle.head_one.specs.Views.{parts_seen};
 use gate_bytes::is_token;
 use rtsp_head::Head;
 use rtsp_small::{Method, read_cseq_one, read_method};
-use rtsp_uri::cut;
+use rtsp_uri::CutUri;
 
 /// The version that players speak.
 const VERSION: &[u8] = b"RTSP/1.0";
@@ -19,7 +19,7 @@ pub(crate) struct RequestParts<'a> {
     /// The method, where it is a known one.
     pub(crate) known: Option<Method>,
     /// The URI, as it was written.
-    pub(crate) uri: &'a [u8],
+    pub(crate) uri: &'a CutUri<'a>,
     /// The version.
     pub(crate) version: &'a [u8],
     /// The number, where it could be read.
@@ -32,7 +32,7 @@ impl<'a> RequestParts<'a> {
     /// The parts of a request line and the headers below it.
     pub(crate) fn read(
         method: &'a [u8],
-        uri: &'a [u8],
+        uri: &'a CutUri<'a>,
         version: &'a [u8],
         head: &'a Head<'_>,
     ) -> RequestParts<'a>
@@ -100,10 +100,10 @@ fn said(value: Option<&[u8]>) -> Option<&[u8]>
 }
 
 /// Whether a request names a URI, or `*` for the server itself.
-fn names_resource(uri: &[u8], method: Method) -> bool
+fn names_resource(uri: &CutUri<'_>, method: Method) -> bool
     ensures { result ≡ names_resource uri.now (Some method) }
 {
-    cut(uri).is_some() || (uri == b"*".as_slice() && may_ask_server(method))
+    uri.is_uri() || (uri.text() == b"*".as_slice() && may_ask_server(method))
 }
 
 /// Whether a method may be asked of the server itself (RFC 2326, 10.1, 10.8 and 10.9).

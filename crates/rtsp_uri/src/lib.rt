@@ -7,6 +7,7 @@
 #![tactic(auto)]
 
 mod base;
+mod cut_uri;
 mod description;
 mod grammar;
 mod laws;
@@ -14,11 +15,12 @@ mod swap;
 mod word;
 
 pub use base::{Base, Bases};
+pub use cut_uri::CutUri;
 pub use description::rewrite_sdp;
 pub use grammar::{LAST_PORT, PORT_DIGITS, UriPlaces, cut};
 pub use laws::{
     other_descriptions_stay, other_texts_stay, plain_words_are_accepted, swapped_uris_come_back,
     swapped_uris_have_the_authority, uris_are_spelled,
 };
-pub use swap::{DEFAULT_PORT, swap_authority};
+pub use swap::{DEFAULT_PORT, swap_authority, swap_in_uri};
 pub use word::{BaseFault, LONGEST_BASE, LONGEST_BASE_TEXT, read_base};

@@ -5,7 +5,8 @@ ghost use Rattle.rtsp_uri.specs.Swaps.{rest_behind, swapped, port_named, are_one
 ghost use Rattle.rtsp_uri.specs.Uris.{scheme};
 
 use crate::base::Base;
-use crate::grammar::{SCHEME, SCHEME_BYTES, cut};
+use crate::cut_uri::CutUri;
+use crate::grammar::{SCHEME, SCHEME_BYTES};
 use gate_bytes::{Memory, Text, after, before, eq_fold};
 use std::alloc::Global;
 
@@ -20,8 +21,15 @@ pub const DEFAULT_PORT: u16 = 554;
 pub fn swap_authority(alloc: Global, from: &Base, to: &Base, uri: &[u8]) -> Result<Text, Memory>
     ensures { IfOk result (λ text. text ≡ swapped from.now.text to.now.text uri.now) }
 {
+    swap_in_uri(alloc, from, to, &CutUri::new(uri))
+}
+
+/// The same of a text that was cut before.
+pub fn swap_in_uri(alloc: Global, from: &Base, to: &Base, uri: &CutUri<'_>) -> Result<Text, Memory>
+    ensures { IfOk result (λ text. text ≡ swapped from.now.text to.now.text uri.now) }
+{
     let Some(rest) = rest_behind(from, uri) else {
-        return Text::copy(alloc, uri);
+        return Text::copy(alloc, uri.text());
     };
     let room = SCHEME_BYTES
         .saturating_add(to.text.len())
@@ -34,13 +42,14 @@ pub fn swap_authority(alloc: Global, from: &Base, to: &Base, uri: &[u8]) -> Resu
 }
 
 /// What follows the authority of a URI, where that is the authority of the base.
-fn rest_behind<'a>(base: &Base, uri: &'a [u8]) -> Option<&'a [u8]>
+fn rest_behind<'a>(base: &Base, uri: &CutUri<'a>) -> Option<&'a [u8]>
     ensures { option_copied result ≡ rest_behind base.now.text uri.now }
 {
-    let places = cut(uri)?;
-    let host = after(before(uri, places.host_end), SCHEME_BYTES);
+    let places = uri.places()?;
+    let text = uri.text();
+    let host = after(before(text, places.host_end), SCHEME_BYTES);
     if is_authority(base, host, places.port) {
-        Some(after(uri, places.rest))
+        Some(after(text, places.rest))
     } else {
         None
     }

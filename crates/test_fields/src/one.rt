@@ -25,7 +25,7 @@ pub fn tell_request(words: Words<'_>, answer: &mut CaseAnswer) {
 fn push_request(alloc: Global, answer: &mut CaseAnswer, request: &Request1<'_>) {
     answer.push_debug(alloc, &request.method);
     answer.push(b" of ");
-    push_bytes(answer, request.uri);
+    push_bytes(answer, request.uri.text());
     push_named(answer, b" cseq ", Some(request.cseq));
     push_body(answer, &request.head, request.body);
 }

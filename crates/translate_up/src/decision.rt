@@ -70,7 +70,7 @@ fn decide_request<'a>(
     if is_for_gateway(request.method, &said) {
         return Ok(Decision::Answer(options_text(alloc, request.cseq)?));
     }
-    let uri = uri_up(alloc, view, request.uri)?;
+    let uri = uri_up(alloc, view, &request.uri)?;
     match check_rules(view, request.method, &said, uri.as_bytes()) {
         Ok(admission) => serve(alloc, view, request, &said, uri, admission),
         Err(code) => Ok(Decision::Answer(answer(alloc, code, Some(request.cseq))?)),

@@ -18,7 +18,7 @@ use head_two::Request2;
 use rtsp_head::{FieldValue, Headers, said_where};
 use rtsp_range::{Range, write};
 use rtsp_small::{Method, is_scale};
-use rtsp_uri::swap_authority;
+use rtsp_uri::{CutUri, swap_in_uri};
 use session_one::Asked;
 use std::alloc::Global;
 
@@ -27,13 +27,13 @@ const UNITS: &[u8] = b"npt, smpte, smpte-30-drop, smpte-25, clock";
 
 /// The URI with the server's authority in the place of the gateway's. What is asked of the server
 /// itself is asked of what the connection is about, where that is known.
-pub(crate) fn uri_up(alloc: Global, view: &View<'_, '_>, uri: &[u8]) -> Result<Text, Memory>
+pub(crate) fn uri_up(alloc: Global, view: &View<'_, '_>, uri: &CutUri<'_>) -> Result<Text, Memory>
     ensures { IfOk result (λ text. text ≡ uri_up (given_of view.now) uri.now) }
 {
-    if uri == b"*".as_slice() {
+    if uri.text() == b"*".as_slice() {
         Text::copy(alloc, view.control.unwrap_or(b"*"))
     } else {
-        swap_authority(alloc, &view.bases.front, &view.bases.up, uri)
+        swap_in_uri(alloc, &view.bases.front, &view.bases.up, uri)
     }
 }
 
