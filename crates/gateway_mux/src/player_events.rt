@@ -107,6 +107,7 @@ impl Connections {
     }
 
     /// What the turn of a connection does, which is kept at this seat.
+    #[inline(always)]
     pub fn plan_turn(
         &self,
         alloc: Global,

@@ -37,6 +37,7 @@ pub struct PlannedTurn {
 }
 
 /// Carries out what is planned for a connection. It takes no memory, and can't be refused.
+#[inline(always)]
 pub(crate) fn commit_turn(
     seats: &mut ConnectionTable,
     upstream: &mut UpstreamBooks,
