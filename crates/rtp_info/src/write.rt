@@ -7,13 +7,16 @@ use crate::{Info, InfoEntry};
 use gate_bytes::{Memory, Text, push_decimal};
 use std::alloc::Global;
 
+/// For how many bytes a text has room at once (this project's own): more than one stream mostly takes.
+const USUAL_FIELD: usize = 96;
+
 /// The text of an RTP-Info field (RFC 2326, 12.33): for each stream `url=`, and then `;seq=` and
 /// `;rtptime=` where they are known; a comma between two streams.
 pub fn write_one(alloc: Global, info: &Info) -> Result<Text, Memory>
     ensures { IfOk result (λ text. text ≡ info_text info.now) }
 {
     let entries = info.as_slice();
-    let mut text = Text::new(alloc);
+    let mut text = Text::with_room(alloc, USUAL_FIELD)?;
     push_entry(&mut text, &entries[0])?;
     push_further(&mut text, &entries[1..])?;
     Ok(text)

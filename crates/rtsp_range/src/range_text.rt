@@ -12,6 +12,9 @@ use crate::{Moment, NptTime, Range, Rate, Smpte};
 use gate_bytes::{Memory, Text, push_decimal};
 use std::alloc::Global;
 
+/// For how many bytes a text has room at once (this project's own): more than a range in seconds mostly takes.
+const USUAL_RANGE: usize = 48;
+
 /// The value of a Range header with this range, in the one form that both versions read. Where its
 /// fields are in range, and an npt range has a begin or an end, both readers read it back.
 pub fn write(alloc: Global, range: &Range) -> Result<Text, Memory>
@@ -19,7 +22,7 @@ pub fn write(alloc: Global, range: &Range) -> Result<Text, Memory>
     ensures read_one { IsTrue (can_be_written range.now) → IfOk result (λ text. Means One text range.now) }
     ensures read_two { IsTrue (can_be_written range.now) → IfOk result (λ text. Means Two text range.now) }
 {
-    let mut text = Text::new(alloc);
+    let mut text = Text::with_room(alloc, USUAL_RANGE)?;
     push_range(&mut text, range)?;
     Ok(text)
 }
