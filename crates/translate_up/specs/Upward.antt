@@ -1,5 +1,5 @@
 -- Requests as they go up (RFC 7826, 13 and 18).
-use Rattle.std.specs.Prelude.{ℕ, suc, Bool, ◌&&◌, not, ◌==◌, codes, List, [], ◌∷◌, length, Option, Some, None, unwrap_or, option_map, if◌then◌else◌}
+use Rattle.std.specs.Prelude.{ℕ, suc, Bool, ◌&&◌, not, ◌==◌, codes, List, [], ◌∷◌, ◌++◌, length, Option, Some, None, unwrap_or, option_map, if◌then◌else◌}
 use Rattle.std.specs.List.{filter}
 use Rattle.std.specs.Str.{bytes_eq}
 use Rattle.gate_bytes.specs.Tokens.{equal_fold}
@@ -47,18 +47,32 @@ units = codes "npt, smpte, smpte-30-drop, smpte-25, clock"
 abbrev pub has_body_up : Request1 → Bool
 has_body_up request = brings_body_up request.method && not (length request.body == 0)
 
--- The fields of a request that goes up, in their order, each where it is said; the range stands in the one form that both
--- versions read. Nothing else of a request goes up.
-abbrev pub fields_up : Given → Request1 → Said → Option Range → List Field
-fields_up given request said range =
+-- the fields of the session and of what is asked for
+abbrev pub asked_fields : Given → Request1 → Said → List Field
+asked_fields given request said =
     named (codes "Session") (session_said given said)
     ∷ named (codes "Accept") (said_where (is_describe request.method) (field request (codes "Accept")))
     ∷ named (codes "Accept-Ranges") (said_where (is_setup request.method) (Some units))
-    ∷ named (codes "Range") (option_map range_text range)
+    ∷ []
+
+-- the fields of what is to be played
+abbrev pub played_fields : Request1 → Option Range → List Field
+played_fields request range =
+    named (codes "Range") (option_map range_text range)
     ∷ named (codes "Scale") (said_where (is_play request.method) (scale_of request))
-    ∷ named (codes "Content-Type") (said_where (has_body_up request) (field request (codes "Content-Type")))
+    ∷ []
+
+-- the fields of the body
+abbrev pub body_fields : Request1 → List Field
+body_fields request =
+    named (codes "Content-Type") (said_where (has_body_up request) (field request (codes "Content-Type")))
     ∷ named (codes "Content-Encoding") (said_where (has_body_up request) (field request (codes "Content-Encoding")))
     ∷ []
+
+-- The fields of a request that goes up, in their order, each where it is said; the range stands in the one form that both
+-- versions read. Nothing else of a request goes up.
+abbrev pub fields_up : Given → Request1 → Said → Option Range → List Field
+fields_up given request said range = asked_fields given request said ++ (played_fields request range ++ body_fields request)
 
 -- a request as it goes up with its range, without its number, and a SETUP without its channels
 abbrev pub request_up : Given → Request1 → Said → List ℕ → Option Range → Request2

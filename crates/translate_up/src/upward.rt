@@ -1,14 +1,14 @@
 //! Requests as they go up.
-ghost use Rattle.std.specs.Prelude.{◌≡◌, [], if◌then◌else◌, IfOk, IfSome, IsTrue, option_map};
+ghost use Rattle.std.specs.Prelude.{◌≡◌, [], if◌then◌else◌, IfOk, OnOk, IfSome, IsTrue, option_map};
 ghost use Rattle.std.specs.Option.{option_copied};
-ghost use Rattle.rtsp_head.specs.Optional.{field_headers, said_where};
+ghost use Rattle.rtsp_head.specs.Optional.{field_headers, then_headers, said_where};
 ghost use Rattle.rtsp_range.specs.Writable.{can_be_written};
 ghost use Rattle.rtsp_range.specs.RangeText.{range_text};
 ghost use Rattle.translate_up.specs.Views.{given_of};
 ghost use Rattle.translate_up.specs.SeenFields.{said_seen};
 ghost use Rattle.rtsp_small.specs.Scales.{is_scale};
 ghost use Rattle.translate_up.specs.Fields.{is_play, passing, scale_of};
-ghost use Rattle.translate_up.specs.Upward.{uri_up, method_up, has_body_up, fields_up, request_up, asked_of};
+ghost use Rattle.translate_up.specs.Upward.{uri_up, method_up, has_body_up, asked_fields, played_fields, body_fields, fields_up, request_up, asked_of};
 
 use crate::field::{SaidFields, brings_body_up, is_describe, is_play, is_setup, session_said};
 use crate::view::View;
@@ -117,24 +117,63 @@ fn headers_up<'a>(
     ensures { IfOk result (λ headers.
         headers ≡ field_headers (fields_up (given_of view.now) request.now (said_seen said.now) range)) }
 {
-    let head = &request.head;
-    let method = request.method;
-    let range = range_up(alloc, range)?;
-    let has_body = has_body_up(request);
-    let accept = head.value_where(alloc, is_describe(method), b"Accept")?;
-    let units = said_where(is_setup(method), Some(UNITS));
-    let scale = scale_up(alloc, request)?;
-    let kind = head.value_where(alloc, has_body, b"Content-Type")?;
-    let encoding = head.value_where(alloc, has_body, b"Content-Encoding")?;
     let mut headers = Headers::new(alloc);
+    push_asked(alloc, &mut headers, view, request, said)?;
+    push_played(alloc, &mut headers, request, range)?;
+    push_content(alloc, &mut headers, request)?;
+    Ok(headers)
+}
+
+/// Appends the headers of the session and of what is asked for.
+fn push_asked<'a>(
+    alloc: Global,
+    headers: &mut Headers<'a>,
+    view: &View<'a, '_>,
+    request: &Request1<'a>,
+    said: &SaidFields<'_>,
+) -> Result<(), Memory>
+    ensures { OnOk result
+        (headers.new
+        ≡ then_headers headers.old (asked_fields (given_of view.now) request.now (said_seen said.now))) }
+{
+    let method = request.method;
+    let accept = request
+        .head
+        .value_where(alloc, is_describe(method), b"Accept")?;
+    let units = said_where(is_setup(method), Some(UNITS));
     headers.push_lent(b"Session", session_said(view, said))?;
     headers.push_value(b"Accept", accept)?;
-    headers.push_lent(b"Accept-Ranges", units)?;
-    headers.push_text(b"Range", range)?;
-    headers.push_value(b"Scale", scale)?;
+    headers.push_lent(b"Accept-Ranges", units)
+}
+
+/// Appends the headers of what is to be played.
+fn push_played<'a>(
+    alloc: Global,
+    headers: &mut Headers<'a>,
+    request: &Request1<'a>,
+    range: Option<Range>,
+) -> Result<(), Memory>
+    requires { IfSome range (λ one. IsTrue (can_be_written one)) }
+    ensures { OnOk result (headers.new ≡ then_headers headers.old (played_fields request.now range)) }
+{
+    headers.push_text(b"Range", range_up(alloc, range)?)?;
+    headers.push_value(b"Scale", scale_up(alloc, request)?)
+}
+
+/// Appends the headers of the body.
+fn push_content<'a>(
+    alloc: Global,
+    headers: &mut Headers<'a>,
+    request: &Request1<'a>,
+) -> Result<(), Memory>
+    ensures { OnOk result (headers.new ≡ then_headers headers.old (body_fields request.now)) }
+{
+    let has_body = has_body_up(request);
+    let head = &request.head;
+    let kind = head.value_where(alloc, has_body, b"Content-Type")?;
+    let encoding = head.value_where(alloc, has_body, b"Content-Encoding")?;
     headers.push_value(b"Content-Type", kind)?;
-    headers.push_value(b"Content-Encoding", encoding)?;
-    Ok(headers)
+    headers.push_value(b"Content-Encoding", encoding)
 }
 
 /// The scale that goes up, with PLAY.
