@@ -8,8 +8,8 @@ use Rattle.gate_bytes.specs.Places.{place_of}
 use Rattle.gate_bytes.proofs.PlaceLemmas.{place_within}
 use Rattle.rtsp_head.specs.Items.{head_len}
 use Rattle.rtsp_head.specs.Spellings.{empty_line, IsLine, AreLines, with_ends, EndsEmpty}
-use Rattle.rtsp_frame.specs.Lines.{is_empty_line}
-use Rattle.rtsp_frame.proofs.LineLemmas.{later, place_turn, head_ends, head_goes_on, head_needs_lf}
+use Rattle.rtsp_head.specs.Lines.{is_empty_line}
+use Rattle.rtsp_head.proofs.HeadEndLemmas.{later, place_turn, head_ends, head_goes_on, head_needs_lf}
 
 -- From lines to the length
 

@@ -14,3 +14,4 @@ pub mod EndLemmas
 pub mod ReachLemmas
 pub mod FrontLemmas
 pub mod RestLemmas
+pub mod WholeHeadLemmas

@@ -5,9 +5,9 @@ use Rattle.std.proofs.lemmas.List.{take_all, take-take, take-append-le, drop-app
 use Rattle.gate_bytes.specs.Ascii as ascii
 use Rattle.gate_bytes.specs.Places.{place_of}
 use Rattle.rtsp_head.specs.Items.{head_len}
-use Rattle.rtsp_frame.specs.Lines.{is_empty_line}
+use Rattle.rtsp_head.specs.Lines.{is_empty_line}
 use Rattle.rtsp_frame.specs.Fronts.{IsLineTo}
-use Rattle.rtsp_frame.proofs.LineLemmas.{later, later_zero, later_later, head_ends, head_goes_on, head_needs_lf}
+use Rattle.rtsp_head.proofs.HeadEndLemmas.{later, later_zero, later_later, place_in_front, head_ends, head_goes_on, head_needs_lf}
 
 -- Places of a byte in parts of a text
 
@@ -34,18 +34,6 @@ place_in_neither byte text zero none at = at
 place_in_neither byte [] (suc d) none at = refl
 place_in_neither byte (b ∷ text) (suc d) none at =
     nowhere_more (eqb b byte) (place_of byte (take d text)) (place_of byte text) (λ here. place_in_neither byte text d here at) none
-
-front_more : (t : Bool) (o p : Option ℕ) (k n : ℕ) → k < suc n → ((j : ℕ) → o ≡ Some j → j < n → p ≡ Some j) → cond t (Some 0) (option_map (λ j. j + 1) o) ≡ Some k → cond t (Some 0) (option_map (λ j. j + 1) p) ≡ Some k
-front_more true o p k n less f h = h
-front_more false None p k n less f h = cc
-front_more false (Some j) p k n less f h = let e : j + 1 ≡ k = cc in ap (option_map (λ j. j + 1)) (f j refl (omega arith)) ∙ ap (λ n. Some n) e
-
--- a place stays, whatever stands behind it
-pub place_in_front : (byte : ℕ) (text more : List ℕ) (k n : ℕ) → place_of byte text ≡ Some k → k < n → place_of byte (take n text ++ more) ≡ Some k
-place_in_front byte text more k zero at less = absurd (omega arith)
-place_in_front byte [] more k (suc n) at less = cc
-place_in_front byte (b ∷ text) more k (suc n) at less =
-    front_more (eqb b byte) (place_of byte text) (place_of byte (take n text ++ more)) k n less (λ j there below. place_in_front byte text more j n there below) at
 
 -- Lines of a head
 

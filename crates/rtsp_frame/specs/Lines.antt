@@ -1,8 +1,8 @@
--- Lines of a head.
-use Rattle.std.specs.Prelude.{ℕ, ◌==◌, Bool, true, false, List, [], ◌∷◌}
+-- The end of bytes that hold lines.
+use Rattle.std.specs.Prelude.{ℕ, ◌-◌, ◌==◌, ◌&&◌, ◌||◌, Bool, List, length, slice_index}
+use Rattle.gate_bytes.specs.Ascii.{lf, cr}
 
--- whether a line without its LF is empty: nothing, or the CR of its end
-abbrev pub is_empty_line : List ℕ → Bool
-is_empty_line [] = true
-is_empty_line (b ∷ []) = b == 13
-is_empty_line (b ∷ c ∷ line) = false
+-- whether an LF and an empty line stand at the end
+abbrev pub ends_empty : List ℕ → Bool
+ends_empty bytes =
+    slice_index bytes (length bytes - 1) == lf && (slice_index bytes (length bytes - 2) == lf || (slice_index bytes (length bytes - 2) == cr && slice_index bytes (length bytes - 3) == lf))

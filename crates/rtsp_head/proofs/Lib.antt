@@ -14,3 +14,5 @@ pub mod FieldLemmas
 pub mod SearchLemmas
 pub mod NameLemmas
 pub mod LastLemmas
+pub mod HeadEndLemmas
+pub mod PassLemmas

@@ -14,3 +14,4 @@ pub mod Views
 pub mod FieldViews
 pub mod HeadParts
 pub mod HeadText
+pub mod LineWalk

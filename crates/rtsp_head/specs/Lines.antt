@@ -1,5 +1,5 @@
 -- The lines of a head.
-use Rattle.std.specs.Prelude.{ℕ, Bool, ◌==◌, ◌||◌, List, [], ◌∷◌, Option, Some, None, Result, Ok, Err}
+use Rattle.std.specs.Prelude.{ℕ, Bool, true, false, ◌==◌, ◌||◌, List, [], ◌∷◌, Option, Some, None, Result, Ok, Err}
 use Rattle.std.specs.List.{list_any}
 use Rattle.std.specs.Str.Lines.{lines, strip_carriage_return}
 use Rattle.gate_bytes.specs.Ascii.{nul, lf, cr}
@@ -46,6 +46,12 @@ first_line bytes = line_apart bytes (cut_at lf bytes)
 abbrev pub lines_with : Option (List ℕ × List ℕ) → List (List ℕ)
 lines_with None = []
 lines_with (Some parts) = parts.0 ∷ head_lines parts.1
+
+-- whether a line without its LF is empty: nothing, or the CR of its end
+abbrev pub is_empty_line : List ℕ → Bool
+is_empty_line [] = true
+is_empty_line (b ∷ []) = b == cr
+is_empty_line (b ∷ c ∷ line) = false
 
 -- A line may hold no byte 0, and no CR but at its end (this project's own).
 abbrev pub has_control : List ℕ → Bool

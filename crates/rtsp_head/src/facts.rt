@@ -3,6 +3,7 @@ ghost use Rattle.std.specs.Prelude.{◌≡◌, ◌≢◌, ◌<◌, ◌≤◌, �
 ghost use Rattle.rtsp_head.specs.Lines.{result_map, head_lines, lines_with};
 ghost use Rattle.rtsp_head.specs.Headers.{header_limit, headers_of};
 ghost use Rattle.rtsp_head.specs.Heads.{facts_of, length_in_headers};
+ghost use Rattle.rtsp_head.specs.LineWalk.{IsPassed};
 
 use crate::HeadFault;
 use crate::line::{Line, next_line};
@@ -35,6 +36,15 @@ pub enum Length {
     Bad,
 }
 
+/// What a head says of its message, or its first fault, where what follows the head may stand behind it.
+#[derive(Clone, Copy, Debug, PartialEq, Eq)]
+pub struct CheckedFront<'a> {
+    /// What it says, or its first fault.
+    pub facts: Result<Facts, HeadFault>,
+    /// What is left of the bytes: from the empty line on, or behind the line with the fault.
+    pub rest: &'a [u8],
+}
+
 /// What a head says of its message, or its first fault, and never [`HeadFault::Memory`]. The bytes
 /// are a head with its empty line.
 pub fn check_head(bytes: &[u8]) -> Result<Facts, HeadFault>
@@ -61,29 +71,61 @@ pub fn check_head_counted<L: Ledger>(bytes: &[u8], steps: &mut Steps<L>) -> Resu
     ensures never { result ≢ Err HeadFault.Memory }
     ensures steps { steps.new ≤ steps.old + 4 * length bytes.now }
 {
-    let Some((line, rest)) = counted_line(bytes, steps) else {
-        return Err(HeadFault::Start);
-    };
-    let start = start_line(line)?;
-    let length = check_headers(rest, steps)?;
-    Ok(Facts {
-        request: start.is_request(),
-        length,
-    })
+    check_front_counted(bytes, steps).facts
 }
 
-/// What the headers say of the length of the body, or their first fault.
-fn check_headers<L: Ledger>(bytes: &[u8], steps: &mut Steps<L>) -> Result<Length, HeadFault>
-    ensures length { result ≡ result_map length_in_headers (headers_of header_limit (head_lines bytes.now)) }
-    ensures steps { steps.new ≤ steps.old + 4 * length bytes.now }
+/// What [`check_head`] answers of the bytes, and what it left of them: four steps for each byte that it walked, and a few
+/// for its look at the empty line.
+pub fn check_front_counted<'a, L: Ledger>(bytes: &'a [u8], steps: &mut Steps<L>) -> CheckedFront<'a>
+    ensures facts { result.facts ≡ facts_of bytes.now }
+    ensures never { result.facts ≢ Err HeadFault.Memory }
+    ensures passed { IsPassed bytes.now result.rest.now }
+    ensures steps { steps.new + 2 * length result.rest.now ≤ steps.old + 4 * length bytes.now }
+    ensures few { steps.new + 4 * length result.rest.now ≤ steps.old + 4 * length bytes.now + 4 }
+{
+    let Some((line, rest)) = counted_line(bytes, steps) else {
+        return CheckedFront {
+            facts: Err(HeadFault::Start),
+            rest: bytes,
+        };
+    };
+    match start_line(line) {
+        Ok(start) => {
+            let request = start.is_request();
+            let (length, rest) = check_headers(rest, steps);
+            CheckedFront {
+                facts: length.map(|length| Facts { request, length }),
+                rest,
+            }
+        }
+        Err(fault) => CheckedFront {
+            facts: Err(fault),
+            rest,
+        },
+    }
+}
+
+/// What the headers say of the length of the body, or their first fault; and what is left of the bytes behind the lines
+/// that were walked.
+fn check_headers<'a, L: Ledger>(
+    bytes: &'a [u8],
+    steps: &mut Steps<L>,
+) -> (Result<Length, HeadFault>, &'a [u8])
+    ensures length { result.0 ≡ result_map length_in_headers (headers_of header_limit (head_lines bytes.now)) }
+    ensures passed { IsPassed bytes.now result.1.now }
+    ensures steps { steps.new + 2 * length result.1.now ≤ steps.old + 4 * length bytes.now }
+    ensures few { steps.new + 4 * length result.1.now ≤ steps.old + 4 * length bytes.now + 4 }
 {
     let mut tally = Tally::new();
     let mut rest = bytes;
     while let Some((line, after)) = counted_line(rest, steps) {
-        tally = tally.with_line(line)?;
         rest = after;
+        match tally.with_line(line) {
+            Ok(more) => tally = more,
+            Err(fault) => return (Err(fault), rest),
+        }
     }
-    Ok(tally.length())
+    (Ok(tally.length()), rest)
 }
 
 /// The next line of a head without its end, and what follows it. Its steps are those of what is done with the line too:
@@ -96,7 +138,9 @@ fn counted_line<'a, L: Ledger>(
 ) -> Option<(Line<'a>, &'a [u8])>
     ensures line { head_lines bytes.now ≡ lines_with (option_map (λ parts. (parts.0, parts.1.now)) result) }
     ensures less { IfSome result (λ parts. length parts.1.now < length bytes.now) }
-    ensures none { IfNone result (steps.new ≤ steps.old + 4 * length bytes.now) }
+    ensures passed { IfSome result (λ parts. IsPassed bytes.now parts.1.now) }
+    ensures none { IfNone result (steps.new ≤ steps.old + 2 * length bytes.now) }
+    ensures few { IfNone result (steps.new ≤ steps.old + 4) }
     ensures some { IfSome result (λ parts.
         steps.new + 4 * length parts.1.now ≡ steps.old + 4 * length bytes.now) }
 {

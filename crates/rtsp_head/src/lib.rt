@@ -16,7 +16,9 @@ mod message;
 mod start;
 mod tally;
 
-pub use facts::{Facts, LENGTH_DIGITS, Length, check_head, check_head_counted};
+pub use facts::{
+    CheckedFront, Facts, LENGTH_DIGITS, Length, check_front_counted, check_head, check_head_counted,
+};
 pub use fault::HeadFault;
 pub use field_value::FieldValue;
 pub use head::{Head, read_head};

@@ -3,6 +3,7 @@ ghost use Rattle.std.specs.Prelude.{◌≡◌, ◌<◌, ◌==◌, ◌⊎◌, ◌
 ghost use Rattle.std.specs.Str.Lines.{strip_carriage_return};
 ghost use Rattle.gate_bytes.specs.Ascii.{lf, cr};
 ghost use Rattle.rtsp_head.specs.Lines.{first_line, head_lines, lines_with, has_control};
+ghost use Rattle.rtsp_head.specs.LineWalk.{IsPassed};
 
 use gate_bytes::{after, before, holds_either, split_once};
 use memchr::memchr3;
@@ -113,6 +114,7 @@ fn marked_line(bytes: &[u8]) -> (Line<'_>, &[u8])
 pub(crate) fn next_line(bytes: &[u8]) -> Option<(Line<'_>, &[u8])>
     ensures line { head_lines bytes.now ≡ lines_with (option_map (λ parts. (parts.0, parts.1.now)) result) }
     ensures less { IfSome result (λ parts. length parts.1.now < length bytes.now) }
+    ensures passed { IfSome result (λ parts. IsPassed bytes.now parts.1.now) }
 {
     let (line, rest) = first_line(bytes);
     if line.is_empty() {

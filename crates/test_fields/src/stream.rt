@@ -31,8 +31,8 @@ pub fn tell(framer: &mut Framer, name: &str, words: Words<'_>, answer: &mut Case
 
 /// The item that a piece is which is moved in, or the first that it gives.
 fn tell_taken(framer: &mut Framer, words: Words<'_>, answer: &mut CaseAnswer) {
-    let piece = words.all(answer);
-    match framer.take(words.alloc, piece) {
+    let mut piece = words.all(answer);
+    match framer.take(words.alloc, &mut piece) {
         Ok(item) => push_item(words.alloc, answer, &item),
         Err(_memory) => answer.fail(CaseFault::Memory),
     }

@@ -7,6 +7,7 @@ invariant-loop-end g l = record {
   reached : IsLineTo l.bytes l.begin l.from;
   further : l.fn.searched ≤ l.from;
   steps : l.steps + 2 * l.fn.searched ≤ l.fn.steps + 2 * l.from;
+  lines : 2 * l.steps + 2 * l.fn.searched + l.line ≤ 2 * l.fn.steps + 2 * l.from + l.begin;
 }
 
 abbrev pub decreases-loop-end : goal.decreases-loop-end

@@ -1,6 +1,6 @@
 use Rattle.std.proofs.Common.{◌≡◌, ◌≤◌, Some, Result, ℕ, List, length, take, sym, ap, ◌∙◌, subst, arith}
-use Rattle.std.proofs.lemmas.List.{length-take, length-take-le, take_all}
-use Rattle.rtsp_head.specs.Items.{head_len}
+use Rattle.std.proofs.lemmas.List.{length-take, take_all, take-take}
+use Rattle.rtsp_head.specs.Items.{begins_blank, head_len}
 use Rattle.rtsp_head.specs.Heads.{facts_of}
 use Rattle.rtsp_head.specs.declared.item.Span.{Span}
 use Rattle.rtsp_head.specs.declared.item.TheConstants.{MOST_HEAD}
@@ -9,35 +9,40 @@ use Rattle.rtsp_frame.specs.Fronts.{IsLineTo}
 use Rattle.rtsp_frame.specs.StreamFronts.{IsSpanFound, when_come, told_span, span_cost}
 use Rattle.rtsp_frame.proofs.ExtentLemmas.{head_within}
 use Rattle.rtsp_frame.proofs.ReachLemmas.{reached_front}
-use Rattle.rtsp_frame.proofs.FrontLemmas.{IsTold, found_head, found_line, found_longest, is_told, when_cost}
+use Rattle.rtsp_frame.proofs.FrontLemmas.{begins_full, IsTold, found_head, found_line, found_longest, is_told, when_cost}
+use Rattle.rtsp_frame.proofs.WholeHeadLemmas.{still_full}
 use Rattle.rtsp_frame.proofs.message.message_span.Goals as goal
 
-pub head_end-requires : goal.head_end-requires
-head_end-requires g c =
+pub find_head-requires-clause-begins : goal.find_head-requires-clause-begins
+find_head-requires-clause-begins g c =
+    ap begins_blank c.front.ensures ∙ still_full c.args.bytes.now MOST_HEAD (begins_full c.args.bytes.now c.requires.begins)
+
+pub find_head-requires-clause-reached : goal.find_head-requires-clause-reached
+find_head-requires-clause-reached g c =
     let short : c.args.searched ≤ MOST_HEAD = omega (arith, c.requires.short) in
     subst (λ (l : List ℕ). IsLineTo l c.args.line c.args.searched) (sym c.front.ensures)
     (reached_front c.args.bytes.now MOST_HEAD c.args.line c.args.searched short c.requires.reached)
 
-pub before-requires : goal.before-requires
-before-requires g c = (head_within c.args.bytes.now c.in-Ok.len (ap head_len (sym c.front.ensures) ∙ c.in-Ok.ensures.ok)).0
-
 pub judged_span-requires : goal.judged_span-requires
-judged_span-requires g c = (head_within c.args.bytes.now c.in-Ok.len (ap head_len (sym c.front.ensures) ∙ c.in-Ok.ensures.ok)).1
+judged_span-requires g c = (head_within c.args.bytes.now c.in-Ok.head.len (ap head_len (sym c.front.ensures) ∙ c.in-Ok.ensures.ok)).1
 
 pub returns-in-Ok-clause-found : goal.returns-in-Ok-clause-found
 returns-in-Ok-clause-found g c =
-    let at : head_len (take MOST_HEAD c.args.bytes.now) ≡ Some c.in-Ok.len = ap head_len (sym c.front.ensures) ∙ c.in-Ok.ensures.ok in
-    let told = c.judged_span.ensures ∙ ap (told_span c.in-Ok.len) (c.check_head_counted-facts.ensures.facts ∙ ap facts_of c.before-in-Ok.ensures) in
+    let len = c.in-Ok.head.len in
+    let at : head_len (take MOST_HEAD c.args.bytes.now) ≡ Some len = ap head_len (sym c.front.ensures) ∙ c.in-Ok.ensures.ok in
+    let same : take len c.front.result.now ≡ take len c.args.bytes.now = ap (take len) c.front.ensures ∙ take-take len MOST_HEAD c.args.bytes.now (head_within c.args.bytes.now len at).1 in
+    let told = c.judged_span.ensures ∙ ap (told_span len) (c.in-Ok.ensures.facts ∙ ap facts_of same) in
     subst (λ (r : Result Span ItemFront). IsSpanFound c.args.bytes.now r) (sym (c.when_come.ensures ∙ ap (when_come (length c.args.bytes.now)) told))
-    (found_head c.args.bytes.now c.in-Ok.len c.requires.begins at)
+    (found_head c.args.bytes.now len c.requires.begins at)
 
 pub returns-in-Ok-clause-steps : goal.returns-in-Ok-clause-steps
 returns-in-Ok-clause-steps g c =
-    let fits = (head_within c.args.bytes.now c.in-Ok.len (ap head_len (sym c.front.ensures) ∙ c.in-Ok.ensures.ok)).0 in
-    let told : IsTold c.in-Ok.len c.judged_span.result = subst (λ (s : Span). IsTold c.in-Ok.len s) (sym c.judged_span.ensures) (is_told c.in-Ok.len c.check_head_counted-facts.result) in
-    let cost = when_cost (length c.args.bytes.now) c.in-Ok.len c.judged_span.result told.head fits in
+    let len = c.in-Ok.head.len in
+    let fits = (head_within c.args.bytes.now len (ap head_len (sym c.front.ensures) ∙ c.in-Ok.ensures.ok)).0 in
+    let told : IsTold len c.judged_span.result = subst (λ (s : Span). IsTold len s) (sym c.judged_span.ensures) (is_told len c.in-Ok.head.facts) in
+    let cost = when_cost (length c.args.bytes.now) len c.judged_span.result told.head fits in
     let paid = ap (span_cost (length c.args.bytes.now)) c.when_come.ensures in
-    omega (arith, c.check_head_counted-facts.ensures.steps, c.in-Ok.ensures.cost, ap length c.before-in-Ok.ensures, length-take-le c.in-Ok.len c.args.bytes.now fits, cost, paid)
+    omega (arith, c.in-Ok.ensures.cost, cost, paid)
 
 pub returns-in-Err-clause-found : goal.returns-in-Err-clause-found
 returns-in-Err-clause-found g c =

@@ -1,5 +1,6 @@
 use Rattle.std.proofs.Common.{◌≡◌, ◌≤◌, ◌+◌, ◌*◌, length}
 use Rattle.rtsp_head.specs.Lines.{head_lines}
+use Rattle.rtsp_head.specs.LineWalk.{IsPassed}
 use Rattle.rtsp_head.specs.Tallies.{tally_lines, empty_tally}
 use Rattle.rtsp_head.proofs.facts.check_headers.Given as goal
 
@@ -7,6 +8,7 @@ use Rattle.rtsp_head.proofs.facts.check_headers.Given as goal
 abbrev pub invariant-loop-line : goal.invariant-loop-line
 invariant-loop-line g l = record {
   tally : tally_lines l.tally (head_lines l.rest) ≡ tally_lines empty_tally (head_lines l.bytes);
+  passed : IsPassed l.bytes l.rest;
   steps : l.steps + 4 * length l.rest ≤ l.fn.steps + 4 * length l.bytes;
 }
 

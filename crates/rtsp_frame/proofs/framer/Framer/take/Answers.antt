@@ -1,5 +1,4 @@
 use Rattle.std.proofs.Common.{ℕ, List, [], ◌∷◌, ◌++◌, not, sym, ap, ◌∙◌, subst}
-use Rattle.rtsp_head.specs.Items.{Shape}
 use Rattle.rtsp_frame.specs.CutItems.{left_if}
 use Rattle.rtsp_frame.specs.FramerState.{HeldBytes, Framed, IsAlone}
 use Rattle.rtsp_frame.proofs.FramerLemmas.{framed_whole}
