@@ -1,6 +1,7 @@
 //! Messages of cases.
 
 use crate::answer::keep;
+use crate::words::Words;
 use gate_bytes::{split_once, trim, up_to};
 use rtsp_frame::{Framer, Item};
 use rtsp_head::Headers;

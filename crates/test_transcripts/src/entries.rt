@@ -1,6 +1,7 @@
 //! The entries of a transcript.
 
 use crate::target::keep;
+use gate_bytes::Text;
 use gate_transcript::{
     BadEntry, Entry, EntryFault, EntryKind, EntryReader, LONGEST_BODY, end_reason_in, write_entry,
 };
@@ -36,7 +37,7 @@ fn tell_next(
     reader: &mut EntryReader,
     answer: &mut CaseAnswer,
 ) -> Result<bool, BadEntry> {
-    match reader.next(alloc) {
+    match reader.next(alloc, &mut Text::new(alloc)) {
         Ok(Some(entry)) => {
             push_entry_read(alloc, &entry, answer);
             Ok(true)

@@ -2,7 +2,7 @@
 
 use crate::entries::push_entry_read;
 use crate::replays::script;
-use gate_bytes::after;
+use gate_bytes::{Text, after};
 use gate_outside::MemorySink;
 use gate_transcript::{
     Entry, EntryReader, LONGEST_BODY, MAGIC_LENGTH, MemoryRecorder, Recorder, TranscriptRecorder,
@@ -19,7 +19,7 @@ fn noted<R: Recorder>(alloc: Global, recorder: &mut R, transcript: &[u8]) -> u64
     let mut reader = EntryReader::new(alloc);
     let _ = reader.feed(transcript);
     for _ in 0..transcript.len() {
-        let Ok(Some(entry)) = reader.next(alloc) else {
+        let Ok(Some(entry)) = reader.next(alloc, &mut Text::new(alloc)) else {
             break;
         };
         noted = noted.saturating_add(u64::from(is_noted(recorder, &entry)));
