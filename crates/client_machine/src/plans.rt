@@ -29,6 +29,7 @@ const LONGEST_REQUEST: usize = 0x7fff_ffff;
 /// - a URI of over [`LONGEST_URI`](client_slot::LONGEST_URI) bytes would go up or wait: a head and a
 ///   base have fewer together;
 /// - the two channels of a stream on its player's connection are one: none are given that are.
+#[inline(always)]
 pub fn plan(
     alloc: Global,
     bases: &Bases,

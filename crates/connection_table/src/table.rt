@@ -140,6 +140,7 @@ impl ConnectionTable {
 
     /// Carries out a plan for a connection, which is kept under this key, by the numbers of its open
     /// request and of the next one.
+    #[inline(always)]
     pub fn commit(
         &mut self,
         conn: u32,

@@ -74,6 +74,7 @@ impl UpstreamBooks {
     }
 
     /// Settles what the final reply to a request of a connection settles, where one came.
+    #[inline(always)]
     pub fn settle_where(&mut self, conn: u32, session: Option<&[u8]>, settled: Option<Settlement>)
         requires { IfSome settled
             (CanSettle (λ n. asker_of self.old.requests n) (λ p. held_at p self.old.channels)

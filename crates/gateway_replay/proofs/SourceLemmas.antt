@@ -27,7 +27,7 @@ use Rattle.gateway_replay.specs.Events.{events_of}
 use Rattle.gateway_replay.specs.Framers.{FramerFed}
 use Rattle.gateway_replay.specs.Streams.{framer_at}
 use Rattle.gateway_replay.specs.Stops.{status_of_stop, status_of_read}
-use Rattle.gateway_replay.specs.Replays.{limit, ends_by, cut_by_kind, cut_by_limit, ends_as, TakenFrom, ReplayedSoFar, IsInterrupted, ProcessedAll, Processed, IsAtEnd, EndsReplay, EndsBySourceFault, EndsWithoutMemory, ReplaySays, FaultRose, StopRose, IsReplaying, TakesWithin, TakesOne}
+use Rattle.gateway_replay.specs.Replays.{limit, ends_by, cut_by_kind, cut_by_limit, ends_as, TakenFrom, ReplayedSoFar, ProcessedAll, Processed, IsAtEnd, EndsReplay, EndsBySourceFault, ReplaySays, FaultRose, StopRose, IsReplaying, TakesWithin, TakesOne}
 use Rattle.gateway_replay.specs.CoreRecords.{Histories, Advances}
 use Rattle.gateway_replay.proofs.RunLemmas.{grows_nothing}
 use Rattle.gateway_replay.proofs.ReplayLemmas.{so_far_interrupted}

@@ -1,14 +1,12 @@
-use Rattle.std.proofs.Common.{◌≡◌, ◌≤◌, ◌++◌, ℕ, List, [], Option, Ok, Err, length, sym, ◌∙◌, ap, subst, arith}
-use Rattle.std.proofs.lemmas.List.{append-nil}
+use Rattle.std.proofs.Common.{◌≡◌, ◌++◌, ℕ, List, Option, sym, ◌∙◌, subst, arith}
 use Rattle.std.proofs.Math.Nat.{le_refl}
 use Rattle.gate_outside.specs.Contents.{ReadsOk}
 use Rattle.gateway_claim.specs.Cores.{IsCoreHistory}
 use Rattle.gate_transcript.specs.Transcript.{reading}
-use Rattle.gate_transcript.specs.Reads.{ReadsSo}
 use Rattle.run_status.specs.declared.status.Status.{Status}
 use Rattle.gateway_replay.specs.CoreRecords.{Watches}
 use Rattle.gateway_replay.proofs.WatchLemmas.{watch_sound}
-use Rattle.gateway_replay.specs.Replays.{Processed, ReplaySays, FaultRose, IsReplaying}
+use Rattle.gateway_replay.specs.Replays.{ReplaySays, FaultRose, IsReplaying}
 use Rattle.gateway_replay.proofs.SourceLemmas.{unread_says, unread_rose, broken_says, read_end, finish_says, finish_cause, so_far_fed, stop_says, stop_rose, too_long_says, going_start, going_on, piece_fits, taken_more, taken_piece, taken_past, no_piece}
 use Rattle.gateway_replay.proofs.whole_replay.replay.Goals as goal
 

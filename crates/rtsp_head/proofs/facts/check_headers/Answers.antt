@@ -1,7 +1,7 @@
 use Rattle.std.proofs.Common.{Ok, ◌∙◌, ap}
 use Rattle.rtsp_head.specs.Lines.{head_lines}
 use Rattle.rtsp_head.proofs.TallyLemmas.{ends_so, stops_so}
-use Rattle.rtsp_head.proofs.PassLemmas.{passed_none, passed_more}
+use Rattle.rtsp_head.proofs.PassLemmas.{passed_more}
 use Rattle.rtsp_head.proofs.facts.check_headers.Goals as goal
 
 pub returns-in-Err-clause-length : goal.returns-in-Err-clause-length

@@ -1,4 +1,4 @@
-use Rattle.std.proofs.Common.{ℕ, List, ◌++◌, subst}
+use Rattle.std.proofs.Common.{ℕ, List, subst}
 use Rattle.gate_transcript.specs.Steps.{PassesMagic}
 use Rattle.gate_transcript.proofs.ReaderLemmas.{front_fed}
 use Rattle.gate_transcript.proofs.reader.EntryReader.read.Goals as goal

@@ -1,4 +1,4 @@
-use Rattle.std.proofs.Common.{rules, ◌≡◌, ℕ, ◌+◌, ◌≤◌, ◌++◌, ◌∙◌, length, take, arith}
+use Rattle.std.proofs.Common.{rules, ◌≡◌, ℕ, ◌+◌, ◌≤◌, ◌∙◌, length, take}
 use Rattle.std.proofs.lemmas.List.{length-take-le}
 use Rattle.gate_transcript.proofs.UnreadLemmas.{read_joined, read_front}
 use Rattle.gate_transcript.proofs.unread.UnreadBytes.read.Goals as goal
