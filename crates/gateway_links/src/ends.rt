@@ -9,6 +9,7 @@ ghost use Rattle.gateway_links.specs.declared.turn.WriterTurn.TheVariants as tur
 use crate::{Gather, MOST_PARCELS, WriterTurn};
 use client_ports::{Parcel, Taker};
 use gate_outside::{Failed, Outlet, Sink, write_all};
+use std::mem;
 use std::sync::Wait;
 use text_pool::TextPool;
 
@@ -111,6 +112,19 @@ fn offer<O: Outlet>(outlet: &mut O, held: &mut Gather) -> Result<bool, Failed>
 }
 
 impl<O: Outlet> LinkEnd<O> {
+    /// Takes another buffer in place of its own, which is left there, where nothing is held in either.
+    pub fn exchange(&mut self, buffer: &mut Gather)
+        ensures outlet { self.new.outlet ≡ self.old.outlet }
+        ensures taker { self.new.taker ≡ self.old.taker }
+        ensures held { self.new.held ≡ self.old.held }
+        ensures failed { self.new.failed ≡ self.old.failed }
+        ensures buffer { buffer.new ≡ buffer.old }
+    {
+        if self.held.is_empty() && buffer.is_empty() {
+            mem::swap(&mut self.held, buffer);
+        }
+    }
+
     /// Writes what is held, however long that takes. No parcel is taken.
     pub fn finish(&mut self) -> WriterTurn
         ensures taker { self.new.taker ≡ self.old.taker }

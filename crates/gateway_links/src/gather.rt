@@ -51,7 +51,7 @@ impl Model for Gather {
 
 impl Gather {
     /// An empty buffer. Where memory is wanting it has no room.
-    pub(crate) fn new(alloc: Global) -> Gather
+    pub fn new(alloc: Global) -> Gather
         ensures { result ≡ [] }
     {
         let bytes = match Vec::with_capacity(alloc, BUFFER_SIZE) {
@@ -64,6 +64,11 @@ impl Gather {
             start: 0,
             spare: None,
         }
+    }
+
+    /// Whether it has room for all that is gathered at once.
+    pub(crate) fn has_room(&self) -> bool {
+        self.bytes.capacity() >= BUFFER_SIZE
     }
 
     /// The bytes in it.

@@ -8,7 +8,7 @@ use std::mem;
 pub enum WriterPlace<W> {
     /// There is none.
     Free,
-    /// It waits for the thread.
+    /// It waits for the thread, which has not had it yet, or left it since it has nothing to write.
     Waiting(W),
     /// The thread has it.
     Working,
@@ -36,7 +36,7 @@ pub struct WriterSlot<W> {
 
 impl<W: Drop> WriterSlot<W> {
     ghost use Rattle.gateway_links.specs.Slots.{Leaves, Finds, Returns, is_done};
-    ghost use Rattle.gateway_links.specs.declared.place.WriterPlace.TheVariants.{Free, Done};
+    ghost use Rattle.gateway_links.specs.declared.place.WriterPlace.TheVariants.{Free, Waiting, Done};
 
     /// A free place.
     pub fn new() -> WriterSlot<W>
@@ -88,6 +88,14 @@ impl<W: Drop> WriterSlot<W> {
         ensures closed { self.new.closed ≡ self.old.closed }
     {
         self.place = WriterPlace::Done(writer);
+    }
+
+    /// Leaves a writer that has nothing to write, so that its thread finds it again.
+    pub fn rest(&mut self, writer: W)
+        ensures place { self.new.place ≡ Waiting writer }
+        ensures closed { self.new.closed ≡ self.old.closed }
+    {
+        self.place = WriterPlace::Waiting(writer);
     }
 
     /// Whether a writer waits for its reader.

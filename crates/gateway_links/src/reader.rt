@@ -28,6 +28,8 @@ pub struct Reader<I: Inlet> {
     over: bool,
     /// Whether a message was put since that was asked last.
     said: bool,
+    /// Whether the last read filled its buffer.
+    filled: bool,
 }
 
 impl<I: Inlet> Reader<I> {
@@ -48,6 +50,7 @@ impl<I: Inlet> Reader<I> {
             waiting: None,
             over: false,
             said: false,
+            filled: false,
         }
     }
 
@@ -76,18 +79,27 @@ impl<I: Inlet> Reader<I> {
         if self.over {
             return Read::Memory;
         }
+        self.filled = false;
         match self.inlet.read(buffer) {
-            Ok(Got::Bytes(count)) => match self.framer.feed(alloc, before(buffer, count)) {
-                Ok(()) => Read::Came,
-                Err(Memory) => {
-                    self.over = true;
-                    Read::Memory
+            Ok(Got::Bytes(count)) => {
+                self.filled = count >= buffer.len();
+                match self.framer.feed(alloc, before(buffer, count)) {
+                    Ok(()) => Read::Came,
+                    Err(Memory) => {
+                        self.over = true;
+                        Read::Memory
+                    }
                 }
-            },
+            }
             Ok(Got::End) => Read::End,
             Ok(Got::NotYet) => Read::NotYet,
             Err(Failed) => Read::Failed,
         }
+    }
+
+    /// Whether more may be at hand: what came last filled the buffer into which it was read.
+    pub fn has_more(&self) -> bool {
+        self.filled
     }
 
     /// Takes texts that are done with, in whose memory those of the next items are made.

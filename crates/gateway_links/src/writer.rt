@@ -12,6 +12,23 @@ use std::alloc::Global;
 use std::sync::Wait;
 use text_pool::TextPool;
 
+/// So many turns that write something a writer is left to its thread once its outlet did not take all at once (this project's
+/// own): to offer more than it takes would hold up whoever serves others beside it.
+const TURNS_APART: u32 = 256;
+
+/// So many turns a writer has at most for others than its thread.
+const MOST_TURNS: u32 = 8;
+
+/// For how many turns a writer is left to its thread after such a turn, where it was for so many before, and where all that it
+/// held is written or not.
+fn apart_after(apart: u32, turn: WriterTurn, has_written_all: bool) -> u32 {
+    match turn {
+        WriterTurn::Wrote if has_written_all => apart.saturating_sub(1),
+        WriterTurn::Idle => apart,
+        WriterTurn::Wrote | WriterTurn::Stuck | WriterTurn::Failed => TURNS_APART,
+    }
+}
+
 /// What goes out by one link: the outlet, the end of the port whose parcels are written to it, and the bytes that were taken
 /// and are not written yet.
 ///
@@ -21,6 +38,8 @@ use text_pool::TextPool;
 pub struct Writer<O: Outlet> {
     conn: Option<u32>,
     ends: LinkEnd<O>,
+    /// For so many turns more that write something it is left to its thread, since its outlet did not take all at once.
+    apart: u32,
     ghost told: { HasTaken (O.written ends.outlet) (taken_of ends.taker) ends.failed ends.held },
     ghost cause: { ends.failed ≡ true → 0 < O.faults ends.outlet },
 }
@@ -50,6 +69,7 @@ impl<O: Outlet> Writer<O> {
                 patient: conn.is_some(),
                 failed: false,
             },
+            apart: 0,
         }
     }
 
@@ -72,7 +92,43 @@ impl<O: Outlet> Writer<O> {
         ensures empty { result ≡ turns.Idle → WasEmpty self.new.ends.taker }
         ensures over { self.old.ends.failed ≡ true → self.new.ends ≡ self.old.ends }
     {
-        self.ends.turn(rt, spent)
+        let turn = self.ends.turn(rt, spent);
+        self.apart = apart_after(self.apart, turn, self.ends.held.is_empty());
+        turn
+    }
+
+    /// Writes all that is there, by way of this buffer, where its outlet takes all at once, and has done so of late. Whether no
+    /// parcel was there then. Texts that are done with go to the pool.
+    pub fn write_at_once<R: Wait>(
+        &mut self,
+        rt: &R,
+        spent: &mut TextPool,
+        buffer: &mut Gather,
+    ) -> bool
+        ensures { result ≡ true → WasEmpty self.new.ends.taker }
+    {
+        self.ends.exchange(buffer);
+        let is_done = self.take_turns(rt, spent);
+        self.ends.exchange(buffer);
+        is_done
+    }
+
+    /// Has turns until nothing is left to be written, where its outlet takes all at once, and has done so of late. Whether no
+    /// parcel was there then.
+    fn take_turns<R: Wait>(&mut self, rt: &R, spent: &mut TextPool) -> bool
+        ensures { result ≡ true → WasEmpty self.new.ends.taker }
+    {
+        for _ in 0..MOST_TURNS {
+            if self.apart > 0 || !self.ends.held.has_room() {
+                return false;
+            }
+            match self.turn(rt, spent) {
+                WriterTurn::Wrote => {}
+                WriterTurn::Idle => return true,
+                WriterTurn::Stuck | WriterTurn::Failed => return false,
+            }
+        }
+        false
     }
 
     /// Writes what is held, however long that takes. Whether its outlet has failed, then or before.

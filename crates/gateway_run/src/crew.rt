@@ -44,6 +44,7 @@ where
     };
     let server = ServerPost {
         desk: &server_desk,
+        players: desks.as_slice(),
         buffer: server_buffer,
         upstream,
     };
@@ -61,7 +62,7 @@ fn work_beside<
 >(
     common: &Common<'_, M, R, W>,
     stations: StationPost<'_, D>,
-    server: ServerPost<'_, I, P>,
+    server: ServerPost<'_, I, P, D::Outward>,
 ) -> (UpBack<I, P>, Option<ThreadRefusal>)
 where
     M::Plan: Send,
@@ -70,6 +71,7 @@ where
         requires { IsSync W.row
             × IsSend I.row
             × IsSend P.row
+            × IsSend D.Outward.row
             × IsSend M.row
             × IsSend M.Plan.row
             × IsSend R.row }

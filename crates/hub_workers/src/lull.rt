@@ -19,7 +19,7 @@ pub struct Lull<'a> {
     bell: &'a Bell,
     seen: u64,
     seen_loud: u64,
-    /// How many parcels had been taken when it waited last.
+    /// How many parcels had been taken when its writer went on last.
     taken: u64,
     /// Whether its last pause was short.
     close: bool,
@@ -43,10 +43,14 @@ impl<'a> Lull<'a> {
         self.seen_loud = self.bell.loud_rings();
     }
 
+    /// Sees how many parcels have been taken once its writer goes on: others may have served it meanwhile.
+    pub fn go_on(&mut self, taken: u64) {
+        self.taken = taken;
+    }
+
     /// Waits until the bell rings, where so many parcels have been taken. After a rest it may end without a ring.
     pub fn wait<W: Wait + Clock>(&mut self, rt: &W, taken: u64) {
         let came = taken.saturating_sub(self.taken);
-        self.taken = taken;
         if self.close && came > 0 && came <= FEW_PARCELS {
             let most = Duration::from_millis(CLOSE_MILLIS);
             self.bell.rest_within(rt, self.seen_loud, most);

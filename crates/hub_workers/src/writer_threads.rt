@@ -10,6 +10,7 @@ use gateway_links::{Writer, WriterDesk, WriterTurn};
 use std::sync::Wait;
 use std::time::Clock;
 use text_pool::TextPool;
+use worker_signals::rest_for_ever;
 
 /// Writes for one link after another, as the desk hands them over, until the desk is closed.
 pub fn write_from<O: Outlet + Drop, M: Core, R: Recorder, W: Wait + Clock>(
@@ -57,13 +58,33 @@ fn write_out<O: Outlet + Drop, M: Core, R: Recorder, W: Wait + Clock>(
             WriterTurn::Idle => {
                 // Where the link is over, the port is looked at once more: what was put before that is written.
                 if !life.is_over(common, writer.conn()) {
-                    lull.wait(common.rt, writer.taken());
+                    writer = wait_apart(common, desk, writer, &mut lull);
                 }
             }
         }
     }
     writer.shut();
     writer
+}
+
+/// Leaves the writer at its desk, where others may serve it, until there is more to write, and takes it again.
+fn wait_apart<O: Outlet + Drop, M: Core, R: Recorder, W: Wait + Clock>(
+    common: &Common<'_, M, R, W>,
+    desk: &WriterDesk<O>,
+    writer: Writer<O>,
+    lull: &mut Lull<'_>,
+) -> Writer<O> {
+    let taken = writer.taken();
+    desk.rest(common.rt, writer);
+    lull.wait(common.rt, taken);
+    match desk.take(common.rt) {
+        Some(writer) => {
+            lull.go_on(writer.taken());
+            writer
+        }
+        // Nobody else takes it.
+        None => rest_for_ever(common.rt),
+    }
 }
 
 /// Tells what a turn shows of how a writer gets on: for the server how many parcels were taken, for a player whether its outlet

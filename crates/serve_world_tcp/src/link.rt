@@ -27,6 +27,10 @@ pub const OFFER_MILLISECONDS: u64 = 4;
 /// limit). A reader looks after its connection as often.
 pub const READ_MILLISECONDS: u64 = 100;
 
+/// How long a read waits behind one that filled its buffer, in milliseconds (this project's own limit): who reads may hold
+/// something back that is handed on once no more is at hand. The system may wait for a few more.
+const MORE_MILLISECONDS: u64 = 1;
+
 /// So many offers in turn of which the other side takes nothing are a fault.
 const MOST_STALLS: u64 = WRITE_SECONDS * 1_000 / OFFER_MILLISECONDS;
 
@@ -34,6 +38,10 @@ const MOST_STALLS: u64 = WRITE_SECONDS * 1_000 / OFFER_MILLISECONDS;
 #[derive(Drop)]
 pub struct TcpInlet {
     stream: Arc<TcpStream>,
+    /// Whether the last read filled its buffer.
+    filled: bool,
+    /// Whether a read waits for a short time only.
+    brief: bool,
     faults: u64,
     waits: u64,
     ends: u64,
@@ -55,6 +63,31 @@ impl TcpInlet {
     }
 }
 
+impl TcpInlet {
+    /// Has the next read wait for a short time only where the last one filled its buffer.
+    fn set_wait(&mut self)
+        ensures faults { self.new.faults ≡ self.old.faults }
+        ensures waits { self.new.waits ≡ self.old.waits }
+        ensures ends { self.new.ends ≡ self.old.ends }
+    {
+        if self.filled == self.brief {
+            return;
+        }
+        let millis = if self.filled {
+            MORE_MILLISECONDS
+        } else {
+            READ_MILLISECONDS
+        };
+        if self
+            .stream
+            .set_read_timeout(Some(Duration::from_millis(millis)))
+            .is_ok()
+        {
+            self.brief = self.filled;
+        }
+    }
+}
+
 impl Inlet for TcpInlet {
     ghost rest = { λ s. None };
 
@@ -65,13 +98,18 @@ impl Inlet for TcpInlet {
     ghost ends = { λ s. s.ends };
 
     fn read(&mut self, into: &mut [u8]) -> Result<Got, Failed> {
+        self.set_wait();
+        self.filled = false;
         let mut stream: &TcpStream = &self.stream;
         match stream.read(into) {
             Ok(0) => {
                 self.ends = self.ends.saturating_add(1);
                 Ok(Got::End)
             }
-            Ok(count) => Ok(Got::Bytes(count)),
+            Ok(count) => {
+                self.filled = count >= into.len();
+                Ok(Got::Bytes(count))
+            }
             Err(error) if is_not_yet(&error) => {
                 self.waits = self.waits.saturating_add(1);
                 Ok(Got::NotYet)
@@ -166,6 +204,8 @@ pub fn halves(alloc: Global, stream: TcpStream) -> io::Result<(TcpInlet, TcpOutl
     let theirs = Arc::try_clone(&ours)?;
     let inlet = TcpInlet {
         stream: ours,
+        filled: false,
+        brief: false,
         faults: 0,
         waits: 0,
         ends: 0,

@@ -5,6 +5,7 @@
 #![tactic(auto)]
 
 mod pace;
+mod serving;
 mod take;
 mod threads;
 mod upstream;

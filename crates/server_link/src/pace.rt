@@ -5,15 +5,21 @@
 //! it until all that it was handed has been written. So a player that takes nothing delays the others only once, and is then
 //! found too slow. One that goes on taking has its pauses back: a burst is no reason to close it. Only time counts in which its
 //! socket took nothing: a writer that does not come to write, since the machine is busy, is no fault of its player.
+//!
+//! What was put for a player is written by the server's reader itself, where the player's writer rests at its desk: so no other
+//! thread is woken, and what is written is still in this processor's cache. Frames wait for others behind them as long as more
+//! of the server is at hand, but no longer than a millisecond.
 
 use gateway_claim::Core;
 use gateway_hub::{Hub, OUTWARD_CAPACITY, Recorder};
+use gateway_links::Gather;
 use hub_workers::Common;
 use std::alloc::Global;
 use std::sync::Wait;
 use std::thread;
 use std::time::{Clock, Duration};
-use worker_signals::{Due, Ring};
+use text_pool::TextPool;
+use worker_signals::{Due, DuePlayer, PLACES, Ring, Stopwatch};
 
 /// With less room than this a port is nearly full. More is not put under one lock.
 const LEAST_ROOM: usize = 64;
@@ -23,6 +29,12 @@ const ENOUGH_ROOM: usize = OUTWARD_CAPACITY / 2;
 
 /// With so many parcels waiting at its port a writer is woken from its rest.
 const MANY_WAITING: usize = 32;
+
+/// With so many parcels waiting at its port, what a player is handed is written at once.
+const ENOUGH_WAITING: usize = 16;
+
+/// How long frames wait for others behind them at most, in milliseconds.
+const HELD_MILLIS: u64 = 1;
 
 /// How long one pause is, in microseconds.
 const PAUSE_MICROS: u64 = 250;
@@ -58,43 +70,68 @@ struct Handed {
     items: usize,
 }
 
-/// How long which players were waited for, for whom bytes were put last, whose port was found to have the least room since the
-/// last wait, whose bells are to ring, how many parcels had been put for the server, and whether a player was found too slow.
+/// How long which players were waited for, and what is to be done for those for whom something was put.
 #[derive(Drop)]
 pub struct Pace {
     spent: Vec<PausesHad>,
+    /// For whom bytes were put last.
     handed: Option<Handed>,
+    /// Whose port was found to have the least room since the last wait.
     least: Option<Room>,
+    /// For whom something was put that is not yet written.
     due: Due,
+    /// Since when something may be due.
+    held: Option<Stopwatch>,
+    /// How many parcels had been put for the server.
     asked: u64,
+    /// Whether the server's writer is to be woken.
+    asks: bool,
+    /// Whether a player was found too slow.
     closed: bool,
     /// Whether what is taken now are not frames alone.
     said: bool,
+    /// The texts of what was written.
+    texts: TextPool,
+    /// By way of which it is written.
+    buffer: Gather,
 }
 
 impl Pace {
-    /// Nobody was waited for. It takes no memory.
+    /// Nobody was waited for. Memory is taken for the buffer.
     pub fn new(alloc: Global) -> Pace {
         Pace {
             spent: Vec::new(alloc),
             handed: None,
             least: None,
             due: Due::new(),
+            held: None,
             asked: 0,
+            asks: false,
             closed: false,
             said: false,
+            texts: TextPool::new(alloc),
+            buffer: Gather::new(alloc),
         }
     }
 
-    /// Tells whether what is taken next has a message in it: then nobody rests longer for whom something is put. Where it is
-    /// frames alone, a writer that rests is not woken for a few of them.
+    /// The texts of what was written.
+    pub fn texts(&mut self) -> &mut TextPool {
+        &mut self.texts
+    }
+
+    /// Tells whether what is taken next has a message in it: then all that is put is written at once. Where it is frames alone,
+    /// few of them wait for others.
     pub fn tell_said(&mut self, said: bool) {
         self.said = said;
     }
 
     /// Notes for whom the hub put something as it took an item. Where that is another one than for the item before, the port of
     /// that one is looked at.
-    pub fn note<M: Core, R: Recorder, W: Wait>(&mut self, rt: &W, hub: &mut Hub<M, R>) {
+    pub fn note<M: Core, R: Recorder, W: Wait + Clock>(
+        &mut self,
+        common: &Common<'_, M, R, W>,
+        hub: &mut Hub<M, R>,
+    ) {
         if hub.has_closed() {
             self.closed = true;
         }
@@ -103,7 +140,7 @@ impl Pace {
         };
         let items = self.items_for(conn);
         if items == 0 {
-            self.look(rt, hub);
+            self.look(common, hub);
         }
         self.handed = Some(Handed {
             conn,
@@ -121,14 +158,17 @@ impl Pace {
 
     /// Looks how much room the port has into which something was put last. Where no more waits there than the last items have
     /// put, all before was taken, and its player has its pauses back.
-    pub fn look<M: Core, R: Recorder, W: Wait>(&mut self, rt: &W, hub: &mut Hub<M, R>) {
+    pub fn look<M: Core, R: Recorder, W: Wait + Clock>(
+        &mut self,
+        common: &Common<'_, M, R, W>,
+        hub: &mut Hub<M, R>,
+    ) {
         let Some(Handed { conn, items }) = self.handed.take() else {
             return;
         };
-        let parcels = hub.room(rt, conn);
+        let parcels = hub.room(common.rt, conn);
         let waiting = OUTWARD_CAPACITY.saturating_sub(parcels);
-        let ring = self.ring_for(waiting);
-        self.due.add(conn, ring);
+        self.add_due(common, conn, waiting);
         if waiting <= items {
             self.forget(conn);
         }
@@ -137,12 +177,24 @@ impl Pace {
         }
     }
 
-    /// How the writer is woken at whose port so many parcels wait.
-    fn ring_for(&self, waiting: usize) -> Ring {
-        if self.said || waiting >= MANY_WAITING {
-            Ring::Loud
-        } else {
-            Ring::Soft
+    /// A player is due, at whose port so many parcels wait. Where another one was at its place, that one's writer is woken.
+    fn add_due<M: Core, R: Recorder, W: Wait + Clock>(
+        &mut self,
+        common: &Common<'_, M, R, W>,
+        conn: u32,
+        waiting: usize,
+    ) {
+        let is_many = self.said || waiting >= MANY_WAITING;
+        let added = self.due.add(DuePlayer {
+            conn,
+            ring: if is_many { Ring::Loud } else { Ring::Soft },
+            is_ripe: self.said || waiting >= ENOUGH_WAITING,
+        });
+        if let Some(other) = added {
+            common.signals.ring(other.conn, other.ring);
+        }
+        if self.held.is_none() {
+            self.held = Some(Stopwatch::start(common.rt));
         }
     }
 
@@ -151,7 +203,7 @@ impl Pace {
         let asked = hub.asked();
         if asked != self.asked {
             self.asked = asked;
-            self.due.server = true;
+            self.asks = true;
         }
     }
 
@@ -163,22 +215,96 @@ impl Pace {
         }
     }
 
-    /// Wakes those for whom something was put.
-    pub fn wake<M: Core, R: Recorder, W: Wait>(&mut self, common: &Common<'_, M, R, W>) {
-        common.signals.ring_due(&mut self.due);
+    /// Has written what was put for players, where it is much for one of them or waited long enough.
+    pub fn hand_on<
+        F: Fn(u32, &mut TextPool, &mut Gather) -> bool,
+        M: Core,
+        R: Recorder,
+        W: Wait + Clock,
+    >(&mut self, common: &Common<'_, M, R, W>, serve: &F)
+        requires callable { F.IsAlwaysCallable serve.now }
+    {
+        let is_late = match self.held {
+            Some(held) => held.has_passed(common.rt, HELD_MILLIS),
+            None => false,
+        };
+        if self.said || is_late {
+            self.hand_all(common, serve);
+        } else {
+            self.serve_due(common, serve, true);
+        }
+    }
+
+    /// Has all written that was put for players.
+    pub fn hand_all<F: Fn(u32, &mut TextPool, &mut Gather) -> bool, M: Core, R: Recorder, W: Wait>(
+        &mut self,
+        common: &Common<'_, M, R, W>,
+        serve: &F,
+    )
+        requires callable { F.IsAlwaysCallable serve.now }
+    {
+        self.serve_due(common, serve, false);
+        self.held = None;
+    }
+
+    /// Serves those that are due, or only the ripe ones of them, and wakes the server's writer where something was put for it.
+    fn serve_due<F: Fn(u32, &mut TextPool, &mut Gather) -> bool, M: Core, R: Recorder, W: Wait>(
+        &mut self,
+        common: &Common<'_, M, R, W>,
+        serve: &F,
+        only_ripe: bool,
+    )
+        requires callable { F.IsAlwaysCallable serve.now }
+    {
+        if self.asks {
+            self.asks = false;
+            common.signals.ring_server();
+        }
+        for place in 0..PLACES {
+            if let Some(player) = self.due.take(place, only_ripe) {
+                self.serve(common, serve, player);
+            }
+        }
+    }
+
+    /// Has written what was put for a player. Its bell rings where its writer's thread has that to do, and for a message: then
+    /// its reader may wait for the reply.
+    fn serve<F: Fn(u32, &mut TextPool, &mut Gather) -> bool, M: Core, R: Recorder, W: Wait>(
+        &mut self,
+        common: &Common<'_, M, R, W>,
+        serve: &F,
+        player: DuePlayer,
+    )
+        requires callable { F.IsAlwaysCallable serve.now }
+    {
+        let is_done = serve(player.conn, &mut self.texts, &mut self.buffer);
+        if self.said || !is_done {
+            common.signals.ring(player.conn, player.ring);
+        }
     }
 
     /// Waits for the player whose port was found to have the least room, where it is nearly full and it may have pauses.
-    pub fn wait<M: Core, R: Recorder, W: Wait + Clock>(&mut self, common: &Common<'_, M, R, W>) {
-        let Some(room) = self.least.take() else {
+    pub fn wait<
+        F: Fn(u32, &mut TextPool, &mut Gather) -> bool,
+        M: Core,
+        R: Recorder,
+        W: Wait + Clock,
+    >(&mut self, common: &Common<'_, M, R, W>, serve: &F)
+        requires callable { F.IsAlwaysCallable serve.now }
+    {
+        let Some(Room { conn, parcels }) = self.least.take() else {
             return;
         };
-        if room.parcels >= LEAST_ROOM {
+        if parcels >= LEAST_ROOM {
             return;
         }
-        self.wake(common);
-        let pauses = pause(common, room, self.pauses_of(room.conn));
-        self.remember(room.conn, pauses);
+        self.hand_all(common, serve);
+        let room = Room {
+            conn,
+            parcels: common.room_of(conn),
+        };
+        let pauses = pause(common, room, self.pauses_of(conn));
+        self.remember(conn, pauses);
     }
 
     /// How many pauses a player has had.

@@ -4,14 +4,16 @@
 use crate::pace::Pace;
 use gateway_claim::Core;
 use gateway_hub::{Hub, HubFault, Recorder, StopWhy};
+use gateway_links::Gather;
 use hub_workers::Common;
 use std::sync::Wait;
 use std::time::Clock;
+use text_pool::TextPool;
 
 /// How many items are taken under one lock.
 const ITEMS_AT_ONCE: u32 = 16;
 
-/// How often items are taken under one lock before those are woken for whom something was put.
+/// How often items are taken under one lock before something of it is written.
 const LOCKS_A_ROUND: u32 = 12;
 
 /// How many items are put before they are taken: as many as a round takes, which the port has room for.
@@ -28,14 +30,18 @@ pub enum TakingEnd {
     Memory,
 }
 
-/// Takes all that is in line, and wakes those for whom something was put.
-pub fn take_all<M: Core, R: Recorder, W: Wait + Clock>(
-    common: &Common<'_, M, R, W>,
-    pace: &mut Pace,
-) -> TakingEnd {
+/// Takes all that is in line, and has it written as the pace says, at the desks of the players.
+pub fn take_all<
+    F: Fn(u32, &mut TextPool, &mut Gather) -> bool,
+    M: Core,
+    R: Recorder,
+    W: Wait + Clock,
+>(common: &Common<'_, M, R, W>, serve: &F, pace: &mut Pace) -> TakingEnd
+    requires callable { F.IsAlwaysCallable serve.now }
+{
     for _ in common.rt.forever() {
-        let heard = take_round(common, pace);
-        pace.wake(common);
+        let heard = take_round(common, serve, pace);
+        pace.hand_on(common, serve);
         if let Some(heard) = heard {
             return heard;
         }
@@ -43,24 +49,28 @@ pub fn take_all<M: Core, R: Recorder, W: Wait + Clock>(
     unreachable!()
 }
 
-/// Takes what is in line, as many items as are taken before anybody is woken. None where more may be in line.
-fn take_round<M: Core, R: Recorder, W: Wait + Clock>(
-    common: &Common<'_, M, R, W>,
-    pace: &mut Pace,
-) -> Option<TakingEnd> {
+/// Takes what is in line, as many items as are taken before something of it is written. None where more may be in line.
+fn take_round<
+    F: Fn(u32, &mut TextPool, &mut Gather) -> bool,
+    M: Core,
+    R: Recorder,
+    W: Wait + Clock,
+>(common: &Common<'_, M, R, W>, serve: &F, pace: &mut Pace) -> Option<TakingEnd>
+    requires callable { F.IsAlwaysCallable serve.now }
+{
     for _ in 0..LOCKS_A_ROUND {
         let heard = take_some(common, pace);
         pace.tell_over(common);
         if heard.is_some() {
             return heard;
         }
-        pace.wait(common);
+        pace.wait(common, serve);
     }
     None
 }
 
 /// Takes what is in line under one lock. None where more may be in line.
-fn take_some<M: Core, R: Recorder, W: Wait>(
+fn take_some<M: Core, R: Recorder, W: Wait + Clock>(
     common: &Common<'_, M, R, W>,
     pace: &mut Pace,
 ) -> Option<TakingEnd> {
@@ -71,9 +81,9 @@ fn take_some<M: Core, R: Recorder, W: Wait>(
         if heard.is_some() {
             break;
         }
-        pace.note(common.rt, &mut hub);
+        pace.note(common, &mut hub);
     }
-    pace.look(common.rt, &mut hub);
+    pace.look(common, &mut hub);
     pace.look_up(&hub);
     heard
 }

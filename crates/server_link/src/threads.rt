@@ -1,23 +1,28 @@
 //! The threads of the server's link.
+ghost use Rattle.std.specs.Prelude.{◌<◌, length};
 ghost use denote.Param.Send.{IsSend, IsSync};
 
+use crate::serving::serve_at;
 use crate::upstream::{UpBack, Upstream, run_upstream};
 use gate_outside::{Inlet, Outlet};
 use gateway_claim::Core;
 use gateway_hub::{Recorder, StopWhy};
-use gateway_links::{ReadBuffer, WriterDesk};
+use gateway_links::{Gather, ReadBuffer, WriterDesk};
 use hub_workers::{Common, write_from};
 use serve_world::{ThreadRefusal, start};
 use std::sync::Wait;
 use std::thread;
 use std::thread::Threads;
 use std::time::Clock;
+use text_pool::TextPool;
 
-/// What the threads of the server's link work on: their desk, their buffer, and the link.
+/// What the threads of the server's link work on: their desk, those of the players, their buffer, and the link.
 #[derive(Drop)]
-pub struct ServerPost<'a, I: Inlet + Drop, P: Outlet + Drop> {
+pub struct ServerPost<'a, I: Inlet + Drop, P: Outlet + Drop, Q: Outlet + Drop> {
     /// The desk.
     pub desk: &'a WriterDesk<P>,
+    /// The desks of the players.
+    pub players: &'a [WriterDesk<Q>],
     /// The buffer.
     pub buffer: ReadBuffer,
     /// The link.
@@ -29,10 +34,14 @@ pub struct ServerPost<'a, I: Inlet + Drop, P: Outlet + Drop> {
 pub fn work_server<
     I: Inlet + Drop,
     P: Outlet + Drop,
+    Q: Outlet + Drop,
     M: Core,
     R: Recorder,
     W: Threads + Wait + Clock + Sync,
->(common: &Common<'_, M, R, W>, post: ServerPost<'_, I, P>) -> (UpBack<I, P>, Option<ThreadRefusal>)
+>(
+    common: &Common<'_, M, R, W>,
+    post: ServerPost<'_, I, P, Q>,
+) -> (UpBack<I, P>, Option<ThreadRefusal>)
 where
     M::Plan: Send,
 {
@@ -43,12 +52,14 @@ where
             requires { IsSync W.row
                 × IsSend I.row
                 × IsSend P.row
+                × IsSend Q.row
                 × IsSend M.row
                 × IsSend M.Plan.row
                 × IsSend R.row }
         {
             let ServerPost {
                 desk,
+                players,
                 buffer,
                 upstream,
             } = post;
@@ -60,9 +71,33 @@ where
                 common.stop(StopWhy::Crew);
             }
             common.signals.meeting.arrive(common.rt);
-            let back = run_upstream(common, desk, upstream, bytes.as_mut_slice());
+            let back = hear_server(common, desk, players, upstream, bytes.as_mut_slice());
             desk.close(common.rt);
             (back, refused)
         },
     )
+}
+
+/// Serves the server's connection, and players at these desks.
+fn hear_server<
+    I: Inlet + Drop,
+    P: Outlet + Drop,
+    Q: Outlet + Drop,
+    M: Core,
+    R: Recorder,
+    W: Wait + Clock,
+>(
+    common: &Common<'_, M, R, W>,
+    desk: &WriterDesk<P>,
+    players: &[WriterDesk<Q>],
+    upstream: Upstream<I, P>,
+    buffer: &mut [u8],
+) -> UpBack<I, P>
+    requires { 0 < length buffer.old }
+{
+    let rt = common.rt;
+    let serve = |conn: u32, spent: &mut TextPool, buffer: &mut Gather| -> bool {
+        serve_at(rt, players, conn, spent, buffer)
+    };
+    run_upstream(common, desk, &serve, upstream, buffer)
 }

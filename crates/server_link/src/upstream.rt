@@ -15,11 +15,14 @@ use client_ports::{Putter, Taker};
 use gate_outside::{Inlet, Outlet};
 use gateway_claim::{Core, UpWhy};
 use gateway_hub::{Recorder, StopWhy};
-use gateway_links::{Put, ReadEnd, Reader, Writer, WriterDesk, collect, put_some, read_once};
+use gateway_links::{
+    Gather, Put, ReadEnd, Reader, Writer, WriterDesk, collect, put_some, read_once,
+};
 use hub_workers::Common;
 use run_report::UpRun;
 use std::sync::Wait;
 use std::time::Clock;
+use text_pool::TextPool;
 
 /// The server's link, and its ends of the hub's ports. It keeps that nothing was put, taken or written.
 #[derive(Drop)]
@@ -57,14 +60,24 @@ pub struct UpBack<I: Inlet, O: Outlet> {
 }
 
 /// Serves the server's connection until an ending is kept: reads what it says and has it taken, while the writer of this desk
-/// writes what it is handed. Nothing was read from the inlet or written to the outlet before.
-pub fn run_upstream<I: Inlet + Drop, O: Outlet + Drop, M: Core, R: Recorder, W: Wait + Clock>(
+/// writes what it is handed. What was put for players is written at their desks, where their writers rest. Nothing was read
+/// from the inlet or written to the outlet before.
+pub fn run_upstream<
+    I: Inlet + Drop,
+    O: Outlet + Drop,
+    F: Fn(u32, &mut TextPool, &mut Gather) -> bool,
+    M: Core,
+    R: Recorder,
+    W: Wait + Clock,
+>(
     common: &Common<'_, M, R, W>,
     desk: &WriterDesk<O>,
+    serve: &F,
     upstream: Upstream<I, O>,
     buffer: &mut [u8],
 ) -> UpBack<I, O>
-    requires { 0 < length buffer.old }
+    requires callable { F.IsAlwaysCallable serve.now }
+    requires room { 0 < length buffer.old }
     ensures put { BeginsGiven (I.rest upstream.inlet) (I.rest result.inlet) (put_of result.inward) }
     ensures read { result.run.read_failed ≡ true → Rose (I.faults upstream.inlet) (I.faults result.inlet) }
     ensures end { result.run.ended ≡ true → Rose (I.ends upstream.inlet) (I.ends result.inlet) }
@@ -81,7 +94,7 @@ pub fn run_upstream<I: Inlet + Drop, O: Outlet + Drop, M: Core, R: Recorder, W: 
     } = upstream;
     let mut reader = Reader::new(common.alloc, inlet, inward);
     let writer = Writer::new(common.alloc, None, outlet, outward);
-    let (end, writer) = hear_link(common, desk, &mut reader, writer, buffer);
+    let (end, writer) = hear_link(common, desk, serve, &mut reader, writer, buffer);
     let (inlet, inward) = reader.into_ends();
     let (outlet, outward, failed) = writer.into_ends();
     let run = run_of(end, failed);
@@ -108,14 +121,23 @@ fn run_of(end: ReadEnd, write_failed: bool) -> UpRun
 }
 
 /// Hands the writer to its thread, reads the server's link to its end, and waits until the writer comes back.
-fn hear_link<I: Inlet + Drop, O: Outlet + Drop, M: Core, R: Recorder, W: Wait + Clock>(
+fn hear_link<
+    I: Inlet + Drop,
+    O: Outlet + Drop,
+    F: Fn(u32, &mut TextPool, &mut Gather) -> bool,
+    M: Core,
+    R: Recorder,
+    W: Wait + Clock,
+>(
     common: &Common<'_, M, R, W>,
     desk: &WriterDesk<O>,
+    serve: &F,
     reader: &mut Reader<I>,
     writer: Writer<O>,
     buffer: &mut [u8],
 ) -> (ReadEnd, Writer<O>)
-    requires { 0 < length buffer.old }
+    requires callable { F.IsAlwaysCallable serve.now }
+    requires room { 0 < length buffer.old }
     ensures front { (first : Option (List ℕ)) → ReadsFront I.rest first reader.old
         → ReadsFront I.rest first reader.new }
     ensures end { result.0 ≡ ends.Ended → Rose (I.ends reader.old.inlet) (I.ends reader.new.inlet) }
@@ -130,7 +152,7 @@ fn hear_link<I: Inlet + Drop, O: Outlet + Drop, M: Core, R: Recorder, W: Wait + 
         // Nobody writes.
         Err(writer) => return (ReadEnd::Over, writer),
     }
-    let end = hear_on(common, desk, reader, buffer);
+    let end = hear_on(common, desk, serve, reader, buffer);
     tell_end(common, end);
     (end, collect(common.rt, desk, reader))
 }
@@ -147,13 +169,22 @@ fn tell_end<M: Core, R: Recorder, W: Wait>(common: &Common<'_, M, R, W>, end: Re
 
 /// Reads what the server says, with texts that are done with to hold it, and has it taken, until its link ends or an ending is
 /// kept.
-fn hear_on<I: Inlet + Drop, O: Outlet + Drop, M: Core, R: Recorder, W: Wait + Clock>(
+fn hear_on<
+    I: Inlet + Drop,
+    O: Outlet + Drop,
+    F: Fn(u32, &mut TextPool, &mut Gather) -> bool,
+    M: Core,
+    R: Recorder,
+    W: Wait + Clock,
+>(
     common: &Common<'_, M, R, W>,
     desk: &WriterDesk<O>,
+    serve: &F,
     reader: &mut Reader<I>,
     buffer: &mut [u8],
 ) -> ReadEnd
-    requires { 0 < length buffer.old }
+    requires callable { F.IsAlwaysCallable serve.now }
+    requires room { 0 < length buffer.old }
     ensures faults { I.faults reader.old.inlet ≤ I.faults reader.new.inlet }
     ensures ends { I.ends reader.old.inlet ≤ I.ends reader.new.inlet }
     ensures front { (first : Option (List ℕ)) → ReadsFront I.rest first reader.old
@@ -167,25 +198,32 @@ fn hear_on<I: Inlet + Drop, O: Outlet + Drop, M: Core, R: Recorder, W: Wait + Cl
 {
     let mut pace = Pace::new(common.alloc);
     for _ in common.rt.forever() {
-        match put_all(common, &mut pace, reader) {
+        match put_all(common, serve, &mut pace, reader) {
             TakingEnd::Empty => {}
             TakingEnd::Kept => return ReadEnd::Over,
             TakingEnd::Memory => return ReadEnd::Memory,
         }
+        if !reader.has_more() {
+            pace.hand_all(common, serve);
+        }
+        common.spent.lock(common.rt).keep_all(pace.texts());
         reader.refill(&mut common.spent.lock(common.rt));
         if let Some(end) = read_once(common.rt, common.alloc, desk, reader, buffer) {
-            return end_after_rest(common, &mut pace, end);
+            return end_after_rest(common, serve, &mut pace, end);
         }
     }
     unreachable!()
 }
 
 /// Puts all that came of the server, and takes it.
-fn put_all<I: Inlet + Drop, M: Core, R: Recorder, W: Wait + Clock>(
-    common: &Common<'_, M, R, W>,
-    pace: &mut Pace,
-    reader: &mut Reader<I>,
-) -> TakingEnd
+fn put_all<
+    I: Inlet + Drop,
+    F: Fn(u32, &mut TextPool, &mut Gather) -> bool,
+    M: Core,
+    R: Recorder,
+    W: Wait + Clock,
+>(common: &Common<'_, M, R, W>, serve: &F, pace: &mut Pace, reader: &mut Reader<I>) -> TakingEnd
+    requires callable { F.IsAlwaysCallable serve.now }
     ensures inlet { reader.new.inlet ≡ reader.old.inlet }
     ensures reads { (first : Option (List ℕ)) → ReadsItems I.rest first reader.old
         → ReadsItems I.rest first reader.new }
@@ -199,7 +237,7 @@ fn put_all<I: Inlet + Drop, M: Core, R: Recorder, W: Wait + Clock>(
     for _ in common.rt.forever() {
         let put = put_some(common.rt, reader, ITEMS_A_ROUND, false);
         pace.tell_said(reader.has_said());
-        let heard = take_all(common, pace);
+        let heard = take_all(common, serve, pace);
         if put == Put::All || !matches!(heard, TakingEnd::Empty) {
             return heard;
         }
@@ -208,15 +246,17 @@ fn put_all<I: Inlet + Drop, M: Core, R: Recorder, W: Wait + Clock>(
 }
 
 /// Has all taken that was put, before it is told why the link is read no more.
-fn end_after_rest<M: Core, R: Recorder, W: Wait + Clock>(
-    common: &Common<'_, M, R, W>,
-    pace: &mut Pace,
-    end: ReadEnd,
-) -> ReadEnd
+fn end_after_rest<
+    F: Fn(u32, &mut TextPool, &mut Gather) -> bool,
+    M: Core,
+    R: Recorder,
+    W: Wait + Clock,
+>(common: &Common<'_, M, R, W>, serve: &F, pace: &mut Pace, end: ReadEnd) -> ReadEnd
+    requires callable { F.IsAlwaysCallable serve.now }
     ensures end { result ≡ ends.Ended → end ≡ ends.Ended }
     ensures failed { result ≡ ends.Failed → end ≡ ends.Failed }
 {
-    match take_all(common, pace) {
+    match take_all(common, serve, pace) {
         TakingEnd::Memory => ReadEnd::Memory,
         TakingEnd::Empty | TakingEnd::Kept => end,
     }

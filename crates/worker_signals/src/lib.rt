@@ -4,6 +4,7 @@
 //! Nothing is promised of when a worker wakes. What a worker does is proved without that.
 #![tactic(auto)]
 
+mod due;
 mod flow;
 mod meeting;
 mod rest;
@@ -11,9 +12,10 @@ mod signals;
 mod stopwatch;
 mod turnstile;
 
-pub use flow::Flow;
+pub use due::{Due, DuePlayer};
+pub use flow::{Flow, PLACES};
 pub use meeting::Meeting;
 pub use rest::rest_for_ever;
-pub use signals::{Due, Ring, Signals};
+pub use signals::{Ring, Signals};
 pub use stopwatch::Stopwatch;
 pub use turnstile::Turnstile;

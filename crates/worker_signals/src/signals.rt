@@ -1,5 +1,4 @@
 //! What workers tell each other.
-ghost use Rattle.std.specs.Prelude.{◌≡◌, false};
 
 use crate::flow::{Flow, PLACES};
 use crate::meeting::Meeting;
@@ -48,19 +47,18 @@ impl Signals {
         }
     }
 
-    /// Rings those that are due, which are due no longer.
-    pub fn ring_due(&self, due: &mut Due) {
-        if due.server {
-            self.server.ring();
+    /// Rings that of the server's connection.
+    pub fn ring_server(&self) {
+        self.server.ring();
+    }
+
+    /// Rings that of a connection.
+    pub fn ring(&self, conn: u32, ring: Ring) {
+        let bell = &self.players[conn as usize % PLACES];
+        match ring {
+            Ring::Loud => bell.ring(),
+            Ring::Soft => bell.ring_softly(),
         }
-        for place in 0..PLACES {
-            match due.players[place] {
-                Some(Ring::Loud) => self.players[place].ring(),
-                Some(Ring::Soft) => self.players[place].ring_softly(),
-                None => {}
-            }
-        }
-        *due = Due::new();
     }
 
     /// How often a link may have come to be over. It is counted before all bells ring for it.
@@ -87,32 +85,9 @@ pub enum Ring {
     Soft,
 }
 
-/// Which bells are to ring, and how those of players are.
-#[derive(Clone, Copy)]
-pub struct Due {
-    /// Whether that of the server's connection is.
-    pub server: bool,
-    players: [Option<Ring>; PLACES],
-}
-
-impl Due {
-    /// None of them.
-    pub fn new() -> Due
-        ensures { result.server ≡ false }
-    {
-        Due {
-            server: false,
-            players: [None; PLACES],
-        }
-    }
-
-    /// That of the connection with this number too, at least so loud.
-    pub fn add(&mut self, conn: u32, ring: Ring)
-        ensures { self.new.server ≡ self.old.server }
-    {
-        let due = &mut self.players[conn as usize % PLACES];
-        if *due != Some(Ring::Loud) {
-            *due = Some(ring);
-        }
+impl Ring {
+    /// The louder one of both.
+    pub fn or(self, other: Ring) -> Ring {
+        if self == Ring::Loud { self } else { other }
     }
 }

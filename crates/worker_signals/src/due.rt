@@ -1,0 +1,61 @@
+//! For whom something was put that is not yet written.
+
+use crate::flow::PLACES;
+use crate::signals::Ring;
+
+/// A player for whom something was put that is not yet written.
+#[derive(Clone, Copy, Debug, PartialEq, Eq)]
+pub struct DuePlayer {
+    /// The number of its connection.
+    pub conn: u32,
+    /// How its writer is to be woken.
+    pub ring: Ring,
+    /// Whether so much waits that it is written at once.
+    pub is_ripe: bool,
+}
+
+/// The players for whom something was put that is not yet written: one for each place, at which another may be.
+#[derive(Clone, Copy)]
+pub struct Due {
+    players: [Option<DuePlayer>; PLACES],
+}
+
+impl Due {
+    /// None of them.
+    pub fn new() -> Due {
+        Due {
+            players: [None; PLACES],
+        }
+    }
+
+    /// This player too. Where another one is due at its place, that one is answered, and is due no longer.
+    pub fn add(&mut self, player: DuePlayer) -> Option<DuePlayer> {
+        let place = &mut self.players[player.conn as usize % PLACES];
+        let Some(before) = *place else {
+            *place = Some(player);
+            return None;
+        };
+        if before.conn != player.conn {
+            *place = Some(player);
+            return Some(before);
+        }
+        *place = Some(DuePlayer {
+            conn: player.conn,
+            ring: before.ring.or(player.ring),
+            is_ripe: before.is_ripe || player.is_ripe,
+        });
+        None
+    }
+
+    /// The player that is due at this place, who is due no longer; where only ripe ones are asked for, only if it is ripe.
+    pub fn take(&mut self, place: usize, only_ripe: bool) -> Option<DuePlayer> {
+        let found = self.players.get_mut(place)?;
+        match *found {
+            Some(player) if player.is_ripe || !only_ripe => {
+                *found = None;
+                Some(player)
+            }
+            _ => None,
+        }
+    }
+}
