@@ -6,7 +6,7 @@ use crate::links::{number_in, put};
 use client_ports::{Parcel, Putter, port};
 use gate_bytes::Memory;
 use gate_outside::{MemoryOutlet, Outlet, Script};
-use gateway_links::{Writer, WriterDesk};
+use gateway_links::{Gather, Writer, WriterDesk};
 use std::alloc::Global;
 use std::sync::Wait;
 use std::{mem, str};
@@ -75,6 +75,7 @@ impl WriterPlay {
         match str::from_utf8(word).unwrap_or("") {
             "put" => put_parcel(rt, alloc, &mut self.ends.putter, more, answer),
             "turn" => turn(rt, alloc, &mut self.ends, answer),
+            "write-at-once" => write_at_once(rt, alloc, &mut self.ends, answer),
             "failed" => answer.push_debug(alloc, &self.ends.writer.has_failed()),
             "shut" => self.ends.writer.shut(),
             "end" => self.end(alloc, draft.take_script(alloc), answer),
@@ -112,6 +113,13 @@ fn put_parcel<W: Wait>(
 fn turn<W: Wait>(rt: &W, alloc: Global, ends: &mut WriterEnds, answer: &mut CaseAnswer) {
     let turn = ends.writer.turn(rt, &mut ends.spent);
     answer.push_debug(alloc, &turn);
+}
+
+/// Has a writer write all at once, and tells what it answers.
+fn write_at_once<W: Wait>(rt: &W, alloc: Global, ends: &mut WriterEnds, answer: &mut CaseAnswer) {
+    let mut buffer = Gather::new(alloc);
+    let is_done = ends.writer.write_at_once(rt, &mut ends.spent, &mut buffer);
+    answer.push_debug(alloc, &is_done);
 }
 
 /// Ends a writer, and tells of its outlet.
@@ -171,6 +179,8 @@ impl DeskPlay {
             "hand" => hand(rt, alloc, &self.desk, more, answer),
             "take" => self.take(rt, alloc, answer),
             "give-back" => give_back(rt, &self.desk, self.taken.take(), answer),
+            "rest" => rest(rt, &self.desk, self.taken.take(), answer),
+            "serve" => serve(rt, alloc, &self.desk, more, answer),
             "is-back" => answer.push_debug(alloc, &self.desk.is_back(rt)),
             "collect" => answer.push_debug(alloc, &self.desk.collect(rt).conn()),
             "close" => self.desk.close(rt),
@@ -218,6 +228,42 @@ fn give_back<W: Wait>(
         Some(writer) => desk.give_back(rt, Box::into_inner(writer)),
         None => answer.unreadable(),
     }
+}
+
+/// Leaves a writer at a desk.
+fn rest<W: Wait>(
+    rt: &W,
+    desk: &WriterDesk<MemoryOutlet>,
+    writer: Option<Box<Writer<MemoryOutlet>>>,
+    answer: &mut CaseAnswer,
+) {
+    match writer {
+        Some(writer) => desk.rest(rt, Box::into_inner(writer)),
+        None => answer.unreadable(),
+    }
+}
+
+/// Has the writer at a desk serve the connection with the number of a line, and tells whether the desk is for that, and what
+/// came.
+fn serve<W: Wait>(
+    rt: &W,
+    alloc: Global,
+    desk: &WriterDesk<MemoryOutlet>,
+    more: &[u8],
+    answer: &mut CaseAnswer,
+) {
+    let Ok(number) = number_in(more) else {
+        answer.unreadable();
+        return;
+    };
+    let mut spent = TextPool::new(alloc);
+    let mut buffer = Gather::new(alloc);
+    answer.push_debug(alloc, &desk.is_for(short(number)));
+    answer.push(b" ");
+    answer.push_debug(
+        alloc,
+        &desk.serve(rt, short(number), &mut spent, &mut buffer),
+    );
 }
 
 /// The writer of a connection with the number of a line.
