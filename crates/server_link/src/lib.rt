@@ -5,7 +5,7 @@
 #![tactic(auto)]
 
 mod pace;
-mod serving;
+mod player_desks;
 mod take;
 mod threads;
 mod upstream;

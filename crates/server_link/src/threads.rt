@@ -2,7 +2,7 @@
 ghost use Rattle.std.specs.Prelude.{◌<◌, length};
 ghost use denote.Param.Send.{IsSend, IsSync};
 
-use crate::serving::serve_at;
+use crate::player_desks::serve_at;
 use crate::upstream::{UpBack, Upstream, run_upstream};
 use gate_outside::{Inlet, Outlet};
 use gateway_claim::Core;
