@@ -1,11 +1,14 @@
 -- What is known of what is held, once more has come.
-use Rattle.std.proofs.Common.{◌≡◌, ℕ, ◌+◌, ◌-◌, ◌*◌, ◌<◌, ◌≤◌, ◌&&◌, ◌||◌, Bool, true, false, cond, eqb, ltb, List, [], ◌∷◌, ◌++◌, length, take, drop, get_or, Option, Some, None, Result, Ok, Err, refl, sym, ap, ◌∙◌, subst, arith, append_assoc, take-append-drop}
+use Rattle.std.proofs.Common.{◌≡◌, ℕ, zero, suc, ◌+◌, ◌-◌, ◌*◌, ◌<◌, ◌≤◌, ◌&&◌, ◌||◌, Bool, true, false, cond, eqb, ltb, List, [], ◌∷◌, ◌++◌, length, take, drop, get_or, Option, Some, None, Result, Ok, Err, refl, sym, ap, ◌∙◌, subst, arith, append_assoc, take-append-drop}
 use Rattle.std.specs.Option.{option_map}
 use Rattle.std.specs.Result.{IfOk}
-use Rattle.std.proofs.lemmas.List.{length-take-le, append-nil}
+use Rattle.std.proofs.lemmas.List.{length-append, length-take-le, append-nil, drop_at, take_all, take-take}
 use Rattle.std.proofs.lemmas.Bool.{ltb-true, eqb-true, ne_eqb}
 use Rattle.gate_bytes.specs.Ascii as ascii
-use Rattle.rtsp_head.specs.Items.{begins_with_lf, begins_blank, head_len, when_whole, span_of, first_extent}
+use Rattle.gate_bytes.specs.Places.{place_of}
+use Rattle.rtsp_head.specs.Items.{begins_with_lf, begins_blank, head_len, when_whole, span_of, first_extent, cut_with, cut}
+use Rattle.rtsp_head.specs.declared.item.Extent.{Extent}
+use Rattle.rtsp_head.specs.declared.item.TheConstants.{MOST_HEAD}
 use Rattle.rtsp_head.specs.declared.item.Span.{Span}
 use Rattle.rtsp_frame.specs.declared.item_front.ItemFront.{ItemFront}
 use Rattle.rtsp_frame.specs.declared.item_front.ItemFront.TheVariants.{Nothing, Frame, Line, End}
@@ -13,8 +16,9 @@ use Rattle.rtsp_frame.specs.Fronts.{if_endless, unfinished_head, OpensMessage, I
 use Rattle.rtsp_frame.specs.StreamFronts.{IsSpanFound, IsStreamFront, at_once, when_come, span_cost, owed}
 use Rattle.rtsp_frame.proofs.LineLemmas.{blank_ends}
 use Rattle.rtsp_frame.proofs.ExtentLemmas.{extent_at, span_is}
-use Rattle.rtsp_frame.proofs.ReachLemmas.{reached_more, line_endless}
-use Rattle.rtsp_frame.proofs.FrontLemmas.{at_front, begins_more, dollar_done, held_fits}
+use Rattle.rtsp_frame.proofs.ReachLemmas.{reached_more, line_last, line_endless}
+use Rattle.rtsp_frame.proofs.FrontLemmas.{at_front, begins_full, begins_more, dollar_done, found_line, held_fits}
+use Rattle.rtsp_frame.proofs.CutLemmas.{cut_step}
 
 -- A message begins where no empty line and no frame does, and no CR stands alone.
 
@@ -108,3 +112,47 @@ front_unfinished bytes Nothing h = h.all
 front_unfinished bytes Frame h = dollar_done bytes h.begins
 front_unfinished bytes (Line line) h = line_unfinished bytes line h
 front_unfinished bytes (End span) h = ap unfinished_head (sym (append-nil bytes)) ∙ h.done []
+
+-- Pieces of a head
+
+none_step : (t : Bool) (o p : Option ℕ) (j : ℕ) → (o ≡ Some j → p ≡ None) → cond t (Some 0) (option_map (λ n. n + 1) o) ≡ Some (suc j) → cond t (Some 0) (option_map (λ n. n + 1) p) ≡ None
+none_step true o p j f h = grind arith
+none_step false None p j f h = cc
+none_step false (Some m) p j f h = let same : m ≡ j = grind arith in ap (option_map (λ n. n + 1)) (f (ap (λ n. Some n) same))
+
+-- a byte stands nowhere before its first place
+pub none_before : (byte : ℕ) (text : List ℕ) (k : ℕ) → place_of byte text ≡ Some k → place_of byte (take k text) ≡ None
+none_before byte text zero at = refl
+none_before byte [] (suc k) at = cc
+none_before byte (b ∷ text) (suc k) at = none_step (eqb b byte) (place_of byte text) (place_of byte (take k text)) k (none_before byte text k) at
+
+-- the last line of a head goes on in a piece, as far as no line ends there
+pub line_clear : (bytes piece : List ℕ) (line clear : ℕ) → clear ≤ length piece → IsLineTo bytes line (length bytes) → place_of ascii.lf (take clear piece) ≡ None → IsLineTo (bytes ++ piece) line (length bytes + clear)
+line_clear bytes piece line clear within h none =
+    let part : List ℕ = take clear piece in
+    let long : length (bytes ++ part) ≡ length bytes + clear = length-append bytes part ∙ ap (λ (n : ℕ). length bytes + n) (length-take-le clear piece within) in
+    let nothing : place_of ascii.lf (drop (length bytes) (bytes ++ part)) ≡ None = ap (place_of ascii.lf) (drop_at bytes part (length bytes) refl) ∙ none in
+    subst (λ (l : List ℕ). IsLineTo l line (length bytes + clear)) (append_assoc bytes part (drop clear piece) ∙ ap (λ (l : List ℕ). bytes ++ l) (take-append-drop clear piece))
+    (reached_more (bytes ++ part) (drop clear piece) line (length bytes + clear)
+    (subst (λ (n : ℕ). IsLineTo (bytes ++ part) line n) long (line_last (bytes ++ part) line (length bytes) (reached_more bytes part line (length bytes) h) nothing)))
+
+-- nothing is cut from a head that goes on
+pub none_cut : (bytes : List ℕ) (line : ℕ) → IsHeadFront bytes line → cut bytes ≡ record { items = []; rest = Some bytes }
+none_cut bytes line h =
+    let full = begins_full bytes h.begins in
+    cut_step bytes
+    ∙ ap (λ (o : Option Extent). cut_with o bytes cut) (at_front bytes full ∙ ap (option_map (extent_at 0)) (found_line bytes line h.begins h.short h.reached).0)
+    ∙ ap (λ (n : ℕ). record { items = []; rest = Some (drop n bytes) }) (blank_ends bytes full)
+
+-- a head with a piece in which no line ends
+pub head_clear : (bytes piece : List ℕ) (line : ℕ) → IsHeadFront bytes line → place_of ascii.lf (take (length piece) piece) ≡ None → length (bytes ++ piece) < MOST_HEAD → IsHeadFront (bytes ++ piece) line
+head_clear bytes piece line h none short = record {
+  begins = begins_more bytes piece h.begins;
+  reached = subst (λ (n : ℕ). IsLineTo (bytes ++ piece) line n) (sym (length-append bytes piece)) (line_clear bytes piece line (length piece) (omega arith) h.reached none);
+  short = short;
+}
+
+-- what was looked at is all of the piece
+pub clear_all : (piece : List ℕ) (room clear : ℕ) → length piece ≤ clear → place_of ascii.lf (take clear (take room piece)) ≡ None → clear ≤ room → place_of ascii.lf (take (length piece) piece) ≡ None
+clear_all piece room clear whole none fits =
+    ap (place_of ascii.lf) (take_all (length piece) piece (omega arith) ∙ sym (take_all clear piece whole) ∙ sym (take-take clear room piece fits)) ∙ none

@@ -7,6 +7,7 @@ ghost use Rattle.rtsp_frame.specs.Fronts.{IsKnownFront, IsItemFront, head_held};
 ghost use Rattle.rtsp_frame.specs.StreamFronts.{IsStreamFront, owed};
 
 use crate::extent::{front_with, stream_front};
+use crate::held_head::feed_head;
 use crate::item_front::{ItemFront, Leftover, StreamFront};
 use gate_bytes::{Memory, Steps, after, before};
 use rtsp_head::{Extent, Item, Span};
@@ -46,6 +47,7 @@ pub fn feed<L: Ledger>(
         return feed_fresh(alloc, queue, rest, front, piece, steps);
     }
     match *front {
+        ItemFront::Line(line) => feed_head(alloc, queue, rest, front, line, piece, steps),
         ItemFront::End(span) if span.len - rest.len() <= piece.len() => {
             feed_end(alloc, queue, rest, front, span, piece, steps)
         }
@@ -159,7 +161,8 @@ fn end_item<L: Ledger>(
     Ok(true)
 }
 
-/// The same where something was held: the piece joins it in place.
+/// The same where something else was held: the piece joins it in place.
+#[inline(never)]
 fn feed_more<L: Ledger>(
     alloc: Global,
     queue: &mut Queue,
@@ -179,16 +182,41 @@ fn feed_more<L: Ledger>(
 {
     let held = rest.len();
     rest.extend_from_slice(piece)?;
-    let first = match front_with(rest.as_slice(), *front, held, steps) {
-        StreamFront::Begun {
-            skipped: 0,
-            front: more,
-        } => {
-            *front = more;
-            return Ok(true);
-        }
-        found => found,
-    };
+    let first = front_with(rest.as_slice(), *front, held, steps);
+    feed_found(alloc, queue, rest, front, held, first, steps)
+}
+
+/// Cuts these bytes, of which so many were held before and this stands first, and keeps what is left of them. Where memory
+/// is wanting, those are left that were held.
+#[inline(always)]
+pub fn feed_found<L: Ledger>(
+    alloc: Global,
+    queue: &mut Queue,
+    rest: &mut Vec<u8>,
+    front: &mut ItemFront,
+    held: usize,
+    first: StreamFront,
+    steps: &mut Steps<L>,
+) -> Result<bool, Memory>
+    requires first { IsStreamFront rest.old.items first }
+    requires within { held ≤ length rest.old.items }
+    requires known { IsKnownFront (take held rest.old.items) front.old }
+    ensures ok { IfOk result (λ goes_on.
+        Fed queue.old.waiting.items queue.new.waiting.items [] rest.new.items rest.old.items goes_on) }
+    ensures err { OnErr result (
+        Same queue.old.waiting.items queue.new.waiting.items (take held rest.old.items) rest.new.items) }
+    ensures known { IsKnownFront rest.new.items front.new }
+    ensures steps { IfOk result (λ goes_on. steps.new + 4 * head_held front.new (length rest.new.items)
+        ≤ steps.old + owed first (length rest.old.items)) }
+{
+    if let StreamFront::Begun {
+        skipped: 0,
+        front: more,
+    } = first
+    {
+        *front = more;
+        return Ok(true);
+    }
     match cut(alloc, queue, rest.as_slice(), first, steps) {
         Ok(Some(left)) => {
             drop_front(rest, left.used);

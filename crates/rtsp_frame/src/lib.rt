@@ -8,6 +8,7 @@
 mod cut_items;
 mod extent;
 mod framer;
+mod held_head;
 mod item_front;
 mod law;
 mod message;
