@@ -57,6 +57,10 @@ abbrev pub names_description : Option (List ℕ) → Bool
 names_description None = false
 names_description (Some value) = equal_fold (media_type value) (codes "application/sdp")
 
+-- whether a Content-Type and a Content-Encoding are those of a session description
+abbrev pub tell_description : Option (List ℕ) → Option (List ℕ) → Bool
+tell_description kind encoding = names_description kind && is_none encoding
+
 -- A body is read as a session description where its type says so, and no encoding is named, not even an empty one.
 abbrev pub is_description : List Header → Bool
 is_description fields = names_description (field_of fields (codes "Content-Type")) && is_none (field_of fields (codes "Content-Encoding"))

@@ -2,12 +2,12 @@
 ghost use Rattle.std.specs.Prelude.{◌≡◌, IfOk, option_map};
 ghost use Rattle.std.specs.Option.{option_copied};
 ghost use Rattle.translate_down.specs.Settings.{setting_of};
-ghost use Rattle.translate_down.specs.Contents.{comes_with_description, comes_with_body, base_value, type_value, encoding_value, media_type, names_description, is_description, is_read, body_told};
+ghost use Rattle.translate_down.specs.Contents.{comes_with_description, comes_with_body, base_value, type_value, encoding_value, media_type, names_description, tell_description, body_told};
 
 use crate::Context;
 use gate_bytes::{Memory, Text, eq_fold, trim, up_to};
 use head_two::Reply2;
-use rtsp_head::{FieldValue, Head};
+use rtsp_head::FieldValue;
 use rtsp_small::Method;
 use rtsp_uri::{rewrite_sdp, swap_authority};
 use std::alloc::Global;
@@ -49,56 +49,61 @@ pub(crate) fn base(
     }
 }
 
-/// The value of Content-Type, with a body.
-pub(crate) fn kind<'a>(method: Method, reply: &'a Reply2<'_>) -> Option<&'a [u8]>
-    ensures { option_copied result ≡ type_value method reply.now.head.headers reply.now.body }
-{
-    let comes = comes_with_body(method, reply.body);
-    reply.head.field_where(comes, b"Content-Type")
+/// What a reply tells of the body that comes with it, each looked up once.
+#[derive(Clone, Copy)]
+pub(crate) struct BodyFields<'a> {
+    /// The value of Content-Type.
+    pub(crate) kind: Option<&'a [u8]>,
+    /// The value of Content-Encoding.
+    pub(crate) encoding: Option<&'a [u8]>,
 }
 
-/// The value of Content-Encoding, with a body.
-pub(crate) fn encoding<'a>(method: Method, reply: &'a Reply2<'_>) -> Option<&'a [u8]>
-    ensures { option_copied result ≡ encoding_value method reply.now.head.headers reply.now.body }
-{
-    let comes = comes_with_body(method, reply.body);
-    reply.head.field_where(comes, b"Content-Encoding")
+impl<'a> BodyFields<'a> {
+    /// The fields of a reply.
+    pub(crate) fn read(method: Method, reply: &'a Reply2<'_>) -> BodyFields<'a>
+        ensures kind { option_copied result.kind ≡ type_value method reply.now.head.headers reply.now.body }
+        ensures encoding { option_copied result.encoding
+            ≡ encoding_value method reply.now.head.headers reply.now.body }
+    {
+        let comes = comes_with_body(method, reply.body);
+        BodyFields {
+            kind: reply.head.field_where(comes, b"Content-Type"),
+            encoding: reply.head.field_where(comes, b"Content-Encoding"),
+        }
+    }
+
+    /// Whether they are those of a session description without an encoding.
+    fn are_description(self) -> bool
+        ensures { result ≡ tell_description (option_copied self.entry.kind) (option_copied self.entry.encoding) }
+    {
+        names_description(self.kind) && self.encoding.is_none()
+    }
 }
 
 /// The body that a player gets: a session description under the player's address, any other as it
-/// came, and none where none was asked for.
+/// came, and none where none was asked for. These are its fields.
 pub(crate) fn body<'a>(
     alloc: Global,
     context: &Context<'_>,
     method: Method,
     reply: &Reply2<'a>,
+    fields: BodyFields<'_>,
 ) -> Result<FieldValue<'a>, Memory>
+    requires kind { option_copied fields.kind ≡ type_value method reply.now.head.headers reply.now.body }
+    requires encoding { option_copied fields.encoding
+        ≡ encoding_value method reply.now.head.headers reply.now.body }
     ensures { IfOk result (λ body.
         body ≡ body_told (setting_of context.now) method reply.now.head.headers reply.now.body) }
 {
     let body = reply.body;
     if !comes_with_body(method, body) {
         Ok(FieldValue::new(b""))
-    } else if is_read(method, &reply.head) {
+    } else if method == Method::Describe && fields.are_description() {
         let told = rewrite_sdp(alloc, &context.bases.up, &context.bases.front, body)?;
         Ok(FieldValue::owned(told))
     } else {
         Ok(FieldValue::new(body))
     }
-}
-
-/// Whether the body that comes with a reply is a session description.
-fn is_read(method: Method, head: &Head<'_>) -> bool
-    ensures { result ≡ is_read method head.now.headers }
-{
-    method == Method::Describe && is_description(head)
-}
-
-/// Whether a head is that of a session description without an encoding.
-fn is_description(head: &Head<'_>) -> bool
-    ensures { result ≡ is_description head.now.headers }
-{
-    names_description(head.field(b"Content-Type")) && head.field(b"Content-Encoding").is_none()
 }
 
 /// Whether a Content-Type is that of session descriptions.

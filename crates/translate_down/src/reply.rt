@@ -3,11 +3,12 @@ ghost use Rattle.std.specs.Prelude.{◌≡◌, IfOk, OnOk};
 ghost use Rattle.std.specs.Option.{option_copied};
 ghost use Rattle.rtsp_head.specs.Optional.{then_headers, field_headers};
 ghost use Rattle.head_one.specs.Replies.{reply_text};
+ghost use Rattle.translate_down.specs.Contents.{type_value, encoding_value};
 ghost use Rattle.translate_down.specs.Settings.{setting_of, CanBeTold};
 ghost use Rattle.translate_down.specs.Replies.{unsupported_value, refusal_of, public_value, session_fields, play_fields, content_fields, success_fields, success_of, reply_text_of, told_whole, told_by};
 
 use crate::Context;
-use crate::content::{base, body, encoding, kind};
+use crate::content::{BodyFields, base, body};
 use crate::play::{info, range, scale};
 use crate::session::{session, transport};
 use gate_bytes::{Memory, Text};
@@ -76,8 +77,9 @@ fn success(
     ensures { IfOk result (λ text.
         text ≡ reply_text (success_of (setting_of context.now) asked.now (told_whole reply.now))) }
 {
-    let headers = success_headers(alloc, context, asked, reply)?;
-    let body = body(alloc, context, asked.method, reply)?;
+    let fields = BodyFields::read(asked.method, reply);
+    let headers = success_headers(alloc, context, asked, reply, fields)?;
+    let body = body(alloc, context, asked.method, reply, fields)?;
     let success = Reply1 {
         code: 200,
         cseq: Some(asked.cseq),
@@ -93,8 +95,13 @@ fn success_headers<'a>(
     context: &Context<'_>,
     asked: &Asked,
     reply: &'a Reply2<'_>,
+    fields: BodyFields<'a>,
 ) -> Result<Headers<'a>, Memory>
-    requires { CanBeTold (setting_of context.now) }
+    requires told { CanBeTold (setting_of context.now) }
+    requires kind { option_copied fields.kind
+        ≡ type_value asked.now.method reply.now.head.headers reply.now.body }
+    requires encoding { option_copied fields.encoding
+        ≡ encoding_value asked.now.method reply.now.head.headers reply.now.body }
     ensures { IfOk result (λ headers.
         headers ≡ field_headers (success_fields (setting_of context.now) asked.now (told_whole reply.now))) }
 {
@@ -102,7 +109,7 @@ fn success_headers<'a>(
     push_session(alloc, &mut headers, context, asked)?;
     push_play(alloc, &mut headers, context, asked.method, reply)?;
     headers.push_text(b"Public", public(alloc, asked.method)?)?;
-    push_content(alloc, &mut headers, context, asked.method, reply)?;
+    push_content(alloc, &mut headers, context, asked.method, reply, fields)?;
     Ok(headers)
 }
 
@@ -158,13 +165,17 @@ fn push_content<'a>(
     context: &Context<'_>,
     method: Method,
     reply: &'a Reply2<'_>,
+    fields: BodyFields<'a>,
 ) -> Result<(), Memory>
+    requires kind { option_copied fields.kind ≡ type_value method reply.now.head.headers reply.now.body }
+    requires encoding { option_copied fields.encoding
+        ≡ encoding_value method reply.now.head.headers reply.now.body }
     ensures { OnOk result
         (headers.new
         ≡ then_headers headers.old
         (content_fields (setting_of context.now) method reply.now.head.headers reply.now.body)) }
 {
     headers.push_text(b"Content-Base", base(alloc, context, method, reply)?)?;
-    headers.push_lent(b"Content-Type", kind(method, reply))?;
-    headers.push_lent(b"Content-Encoding", encoding(method, reply))
+    headers.push_lent(b"Content-Type", fields.kind)?;
+    headers.push_lent(b"Content-Encoding", fields.encoding)
 }
