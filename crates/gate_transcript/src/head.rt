@@ -31,7 +31,6 @@ pub struct EntryHead {
 }
 
 /// The head of the entry that stands first, nothing where no byte is there, or the fault of the entry.
-#[inline(always)]
 pub fn first_head(entered: &EnteredNumbers, bytes: &[u8]) -> Result<Option<EntryHead>, BadEntryKind>
     ensures { result ≡ first_head (has entered.now) bytes.now }
 {

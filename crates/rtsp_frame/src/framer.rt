@@ -67,6 +67,7 @@ impl Framer {
 
     /// Takes the next piece of the stream. Where memory is wanting it was not taken, and nothing
     /// changes.
+    #[inline(always)]
     pub fn feed(&mut self, alloc: Global, piece: &[u8]) -> Result<(), Memory>
         ensures ok { OnOk result ((stream : List ℕ) (given : List Shape) →
             Framed self.old stream given → Framed self.new (stream ++ piece.now) given) }
