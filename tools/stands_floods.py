@@ -20,7 +20,7 @@ ENDS = ("Ended", "ReadFault", "WriteFault")
 BURST, BATCH = 8_000_000, 64
 BURST_COUNT = BURST // FRAME_SIZE // BATCH * BATCH
 TICK_SECONDS, TICKS, TICKS_BEFORE = 0.002, 600, 50
-QUIET_GAP = 0.02
+QUIET_GAP = 0.12
 # What fills all that may wait for a player but some of its port, whatever the system holds for a socket (up to 3.5 MB), and the
 # burst after it, to a player that reads at a rate.
 FILLING_FRAME, FILLING_COUNT, FILLING_SECONDS = 60_000, 300, 0.5
