@@ -6,7 +6,7 @@ ghost use Rattle.gate_bytes.specs.Tokens.{is_token, is_blank, without_front, wit
 pub fn eq_fold(a: &[u8], b: &[u8]) -> bool
     ensures { result ≡ equal_fold a.now b.now }
 {
-    a.eq_ignore_ascii_case(b)
+    a.len() == b.len() && (a == b || a.eq_ignore_ascii_case(b))
 }
 
 /// Whether a text is a token: one or more letters, digits or bytes of ``!#$%&'*+-.^_`|~``

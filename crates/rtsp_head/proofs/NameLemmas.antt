@@ -1,9 +1,9 @@
 -- A name that stands first in a line, and the bytes of a name.
-use Rattle.std.proofs.Common.{◌≡◌, ℕ, suc, ◌<◌, ◌≤◌, ◌==◌, ◌||◌, ◌&&◌, Bool, true, false, cond, not, codes, List, [], ◌∷◌, ◌++◌, length, take, drop, Some, Ok, Err, refl, sym, ◌∙◌, ap, arith, take-append-drop}
+use Rattle.std.proofs.Common.{◌≡◌, ℕ, suc, ◌<◌, ◌≤◌, ◌==◌, ◌||◌, ◌&&◌, Bool, true, false, cond, not, codes, List, [], ◌∷◌, ◌++◌, length, take, drop, slice_index, ◌+◌, ◌-◌, Some, Ok, Err, refl, sym, ◌∙◌, ap, arith, take-append-drop}
 use Rattle.std.specs.Char.{is_ascii_alphanumeric}
 use Rattle.std.specs.List.{list_all, list_any}
 use Rattle.std.proofs.lemmas.Bool.{and_parts}
-use Rattle.std.proofs.lemmas.List.{length-take-le}
+use Rattle.std.proofs.lemmas.List.{length-take-le, length-drop, take_all}
 use Rattle.gate_bytes.specs.Ascii.{colon}
 use Rattle.gate_bytes.specs.Places.{cut_at}
 use Rattle.gate_bytes.specs.Tokens.{is_token, is_token_byte, is_token_mark, trimmed}
@@ -53,6 +53,32 @@ run_more b line n false e h = refl
 run_all : (line : List ℕ) → list_all is_token_byte (take (token_len line) line) ≡ true
 run_all [] = refl
 run_all (b ∷ line) = run_more b line (token_len line) (is_token_byte b) refl (run_all line)
+
+-- one byte of a token more
+one_token : (b : ℕ) (line : List ℕ) → is_token_byte b ≡ true → token_len (b ∷ line) ≡ suc (token_len line)
+one_token b line h = ap (λ t. cond t (suc (token_len line)) 0) h
+
+-- four of them
+pub four_tokens : (line : List ℕ) → 4 ≤ length line → (is_token_byte (slice_index line 0) && is_token_byte (slice_index line 1) && is_token_byte (slice_index line 2) && is_token_byte (slice_index line 3)) ≡ true
+    → token_len line ≡ 4 + token_len (drop 4 line)
+four_tokens [] few all = absurd (omega (arith, few))
+four_tokens (a ∷ []) few all = absurd (omega (arith, few))
+four_tokens (a ∷ b ∷ []) few all = absurd (omega (arith, few))
+four_tokens (a ∷ b ∷ c ∷ []) few all = absurd (omega (arith, few))
+four_tokens (a ∷ b ∷ c ∷ d ∷ line) few all =
+    let last = and_parts (is_token_byte a && is_token_byte b && is_token_byte c) (is_token_byte d) all in
+    let third = and_parts (is_token_byte a && is_token_byte b) (is_token_byte c) last.0 in
+    let pair = and_parts (is_token_byte a) (is_token_byte b) third.0 in
+    let run : token_len (a ∷ b ∷ c ∷ d ∷ line) ≡ suc (suc (suc (suc (token_len line)))) =
+    one_token a (b ∷ c ∷ d ∷ line) pair.0
+    ∙ ap suc (one_token b (c ∷ d ∷ line) pair.1)
+    ∙ ap (λ n. suc (suc n)) (one_token c (d ∷ line) third.1)
+    ∙ ap (λ n. suc (suc (suc n))) (one_token d line last.1) in
+    omega (arith, run)
+
+-- what is left of a text behind four bytes
+pub four_less : (line : List ℕ) → take (length line - 4) (drop 4 line) ≡ drop 4 line
+four_less line = take_all (length line - 4) (drop 4 line) (omega (arith, length-drop 4 line))
 
 -- no byte of a token is a colon
 no_colon : (text : List ℕ) → list_all is_token_byte text ≡ true → list_all (λ b. not (b == colon)) text ≡ true

@@ -1,19 +1,17 @@
 -- One search finds where a line ends, and that no control byte stands before its end.
-use Rattle.std.proofs.Common.{◌≡◌, ℕ, zero, suc, ◌-◌, ◌<◌, ◌&&◌, ◌==◌, Bool, true, false, not, cond, List, [], ◌∷◌, ◌++◌, length, take, drop, get_or, Option, None, Some, refl, sym, ◌∙◌, ap, append_assoc, arith, ◌⊎◌, inl, inr}
+use Rattle.std.proofs.Common.{◌≡◌, ℕ, zero, suc, ◌+◌, ◌-◌, ◌<◌, ◌&&◌, ◌==◌, Bool, true, false, not, cond, List, [], ◌∷◌, ◌++◌, length, take, drop, get_or, min, Option, None, Some, IfSome, is_some, refl, sym, ◌∙◌, ap, append_assoc, arith, ◌⊎◌, inl, inr}
 use Rattle.std.specs.Str.Lines.{strip_carriage_return}
 use Rattle.std.proofs.lemmas.Bool.{and_parts}
-use Rattle.std.proofs.lemmas.List.{take-append-drop}
+use Rattle.std.specs.Option.{option_map}
+use Rattle.std.proofs.lemmas.List.{take-append-drop, length-take, take-take}
+use Rattle.std.proofs.lemmas.List.Folds.{list_all-append}
 use Rattle.gate_bytes.specs.Ascii.{nul, lf, cr}
 use Rattle.gate_bytes.proofs.SeamLemmas.{lacks, lacks_append, cut_at_seam, cut_nowhere}
 use Rattle.memchr.specs.Find.{IsFirstByte, is_byte3}
 use Rattle.rtsp_head.specs.Lines.{first_line, line_apart}
 use Rattle.rtsp_head.specs.HeadText.{is_line_text}
+use Rattle.rtsp_head.specs.LineWalk.{before_place}
 use Rattle.rtsp_head.proofs.CutLemmas.{stripped}
-
--- what stands before a place: all of the text, where there is no such place
-abbrev pub before_place : Option ℕ → List ℕ → List ℕ
-before_place None text = text
-before_place (Some k) text = take k text
 
 before_with : (b : ℕ) (text : List ℕ) (t : Bool) → is_byte3 lf cr nul b ≡ t → (r : Option ℕ) → IsFirstByte (is_byte3 lf cr nul) (b ∷ text) r
     → ((s : Option ℕ) → IsFirstByte (is_byte3 lf cr nul) text s → is_line_text (before_place s text) ≡ true) → is_line_text (before_place r (b ∷ text)) ≡ true
@@ -37,6 +35,37 @@ pub passed_over : (text : List ℕ) (r : Option ℕ) → IsFirstByte (is_byte3 l
 passed_over [] None h = refl
 passed_over [] (Some k) h = absurd (omega (arith, h.0.high))
 passed_over (b ∷ text) r h = before_with b text (is_byte3 lf cr nul b) refl r h (passed_over text)
+
+-- what a search of the front found is so of the text
+pub found_near : (text front : List ℕ) (n : ℕ) (r : Option ℕ) → front ≡ take n text → is_some r ≡ true → is_line_text (before_place r front) ≡ true → IfSome r (λ at. at < length front)
+    → (is_line_text (before_place r text) ≡ true) × IfSome r (λ at. at < length text)
+found_near text front n None is some clear within = absurd (cc some)
+found_near text front n (Some k) is some clear within =
+    let short : length front ≡ min n (length text) = ap length is ∙ length-take n text in
+    let same : take k front ≡ take k text = ap (take k) is ∙ take-take k n text (omega (arith, short, within)) in
+    (ap is_line_text (sym same) ∙ clear, omega (arith, short, within))
+
+take_none : (n : ℕ) → ◌≡◌ {A = List ℕ} (take n []) []
+take_none zero = refl
+take_none (suc n) = refl
+
+far_apart : (text : List ℕ) (n k : ℕ) → take (n + k) text ≡ take n text ++ take k (drop n text)
+far_apart text zero k = ap (λ m. take m text) (omega arith)
+far_apart [] (suc n) k = take_none (suc n + k) ∙ sym (take_none k)
+far_apart (b ∷ text) (suc n) k =
+    let sum : suc n + k ≡ suc (n + k) = omega arith in
+    ap (λ m. take m (b ∷ text)) sum ∙ ap (λ (l : List ℕ). b ∷ l) (far_apart text n k)
+
+-- what a search of the rest found behind a front without a stop is so of the text
+pub found_far : (text front rest : List ℕ) (n : ℕ) (near far : Option ℕ) → n < length text → front ≡ take n text → rest ≡ drop n text → is_some near ≡ false → is_line_text (before_place near front) ≡ true → is_line_text (before_place far rest) ≡ true
+    → is_line_text (before_place (option_map (λ k. n + k) far) text) ≡ true
+found_far text front rest n (Some k) far long is then some clear later = absurd (cc some)
+found_far text front rest n None None long is then some clear later =
+    ap is_line_text (sym (take-append-drop n text) ∙ ap (λ (l : List ℕ). l ++ drop n text) (sym is) ∙ ap (λ (l : List ℕ). front ++ l) (sym then))
+    ∙ list_all-append _ front rest ∙ ap (λ t. t && is_line_text rest) clear ∙ later
+found_far text front rest n None (Some k) long is then some clear later =
+    ap is_line_text (far_apart text n k ∙ ap (λ (l : List ℕ). l ++ take k (drop n text)) (sym is) ∙ ap (λ (l : List ℕ). front ++ take k l) (sym then))
+    ∙ list_all-append _ front (take k rest) ∙ ap (λ t. t && is_line_text (take k rest)) clear ∙ later
 
 -- a text that fits into a line holds no LF
 line_lacks : (text : List ℕ) → is_line_text text ≡ true → lacks lf text ≡ true

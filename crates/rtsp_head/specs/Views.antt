@@ -1,5 +1,6 @@
 -- What the private types of this crate say, without where it lies in memory.
 use Rattle.std.specs.Prelude.{◌≡◌, false}
+use Rattle.gate_bytes.specs.Tokens.{trimmed}
 use Rattle.rtsp_head.specs.HeadParts.{Start, Request, Status}
 use Rattle.rtsp_head.specs.declared.start.StartLine.{StartLine}
 use Rattle.rtsp_head.specs.declared.start.StartLine.TheVariants as start_lines
@@ -14,10 +15,10 @@ abbrev pub start_seen : StartLine → Start
 start_seen (start_lines.Request method uri version) = Request method.now uri.now version.now
 start_seen (start_lines.Status version code reason) = Status version.now code reason.now
 
--- what a further line says whose parts are borrowed
+-- what a further line says whose parts are borrowed, with blanks round its text or value
 abbrev pub further_seen : FurtherLine → Further
-further_seen (further_lines.More text) = More text.now
-further_seen (further_lines.Begins name value) = Begins (record { name = name.now; value = value.now })
+further_seen (further_lines.More text) = More (trimmed text.now)
+further_seen (further_lines.Begins name value) = Begins (record { name = name.now; value = trimmed value.now })
 
 -- the headers that were read so far
 abbrev pub so_far : Reading → SoFar

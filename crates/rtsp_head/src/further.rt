@@ -1,5 +1,5 @@
 //! The lines of a head after the first.
-ghost use Rattle.std.specs.Prelude.{◌≡◌, ◌<◌, ◌≤◌, ◌∷◌, length, drop, Ok, IfSome};
+ghost use Rattle.std.specs.Prelude.{◌≡◌, ◌<◌, ◌≤◌, ◌∷◌, ◌&&◌, length, drop, Ok, IfSome};
 ghost use Rattle.gate_bytes.specs.Ascii.{colon};
 ghost use Rattle.gate_bytes.specs.Tokens.{is_token_byte};
 ghost use Rattle.rtsp_head.specs.Lines.{result_map};
@@ -9,9 +9,10 @@ ghost use Rattle.rtsp_head.specs.Views.{further_seen};
 
 use crate::HeadFault;
 use crate::line::Line;
-use gate_bytes::{after, before, is_token, split_once, trim};
+use gate_bytes::{after, before, is_token, split_once};
 
-/// What a line after the first one says, with its parts where they stand in it.
+/// What a line after the first one says, with its parts where they stand in it. Contracts see its text or value without
+/// the blanks round it: who needs that trims it.
 #[derive(Clone, Copy)]
 pub(crate) enum FurtherLine<'a> {
     /// More text of the header above.
@@ -31,7 +32,7 @@ pub(crate) fn further_line(line: Line<'_>) -> Result<FurtherLine<'_>, HeadFault>
     }
     let line = line.text();
     if goes_on(line) {
-        return Ok(FurtherLine::More(trim(line)));
+        return Ok(FurtherLine::More(line));
     }
     let len = token_len(line);
     match behind_colon(after(line, len)) {
@@ -40,9 +41,27 @@ pub(crate) fn further_line(line: Line<'_>) -> Result<FurtherLine<'_>, HeadFault>
     }
 }
 
-/// How many bytes of a token stand first.
+/// How many bytes of a token stand first. Four at a time are looked at while all of them may stand in one.
 #[inline(always)]
 fn token_len(line: &[u8]) -> usize
+    ensures count { result ≡ token_len line.now }
+    ensures within { result ≤ length line.now }
+{
+    let mut count = 0;
+    let mut left = line;
+    while let [one, two, three, four, more @ ..] = left {
+        if !are_token_bytes(*one, *two, *three, *four) {
+            break;
+        }
+        count += 4;
+        left = more;
+    }
+    count + token_run(left)
+}
+
+/// The same, byte by byte.
+#[inline(always)]
+fn token_run(line: &[u8]) -> usize
     ensures count { result ≡ token_len line.now }
     ensures within { result ≤ length line.now }
 {
@@ -56,6 +75,14 @@ fn token_len(line: &[u8]) -> usize
         left = more;
     }
     count
+}
+
+/// Whether each of four bytes may stand in a token.
+#[inline(always)]
+fn are_token_bytes(one: u8, two: u8, three: u8, four: u8) -> bool
+    ensures { result ≡ (is_token_byte one && is_token_byte two && is_token_byte three && is_token_byte four) }
+{
+    is_token_byte(one) && is_token_byte(two) && is_token_byte(three) && is_token_byte(four)
 }
 
 /// Whether a byte may stand in a token. HTTP has the same tokens.
@@ -89,7 +116,7 @@ fn named_header<'a>(line: &'a [u8], len: usize, value: &'a [u8]) -> FurtherLine<
 {
     FurtherLine::Begins {
         name: before(line, len),
-        value: trim(value),
+        value,
     }
 }
 
@@ -105,10 +132,7 @@ fn header_line(line: &[u8]) -> Result<FurtherLine<'_>, HeadFault>
     if !is_token(name) {
         return Err(HeadFault::Name);
     }
-    Ok(FurtherLine::Begins {
-        name,
-        value: trim(rest),
-    })
+    Ok(FurtherLine::Begins { name, value: rest })
 }
 
 /// Whether a line goes on with the header above.

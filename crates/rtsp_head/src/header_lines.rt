@@ -9,7 +9,7 @@ use crate::further::{FurtherLine, further_line};
 use crate::headers::MOST_HEADERS;
 use crate::line::Line;
 use crate::{FieldValue, HeadFault, Header, Headers};
-use gate_bytes::Memory;
+use gate_bytes::{Memory, trim};
 use std::alloc::Global;
 
 /// The headers of the lines so far. The next line may go on with the last one.
@@ -43,8 +43,8 @@ impl<'a> Reading<'a> {
             with_line header_limit (so_far self.old) line.entry ≡ Err refused)) }
     {
         match further_line(line)? {
-            FurtherLine::More(text) => self.go_on(alloc, text),
-            FurtherLine::Begins { name, value } => self.begin(alloc, name, value),
+            FurtherLine::More(text) => self.go_on(alloc, trim(text)),
+            FurtherLine::Begins { name, value } => self.begin(alloc, name, trim(value)),
         }
     }
 
@@ -85,7 +85,7 @@ impl<'a> Reading<'a> {
         if self.headers.len() >= MOST_HEADERS {
             return Err(HeadFault::Many);
         }
-        self.headers.push(Header {
+        self.headers.push_read(Header {
             name,
             value: FieldValue::new(value),
         })?;

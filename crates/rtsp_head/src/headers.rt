@@ -61,6 +61,15 @@ impl<'a> Headers<'a> {
         ensures ok { OnOk result (self.new ≡ self.old ++ header.entry ∷ []) }
         ensures err { OnErr result (self.new ≡ self.old) }
     {
+        self.push_read(header)
+    }
+
+    /// The same where a head is read, which does nothing more often.
+    #[inline(always)]
+    pub(crate) fn push_read(&mut self, header: Header<'a>) -> Result<(), Memory>
+        ensures ok { OnOk result (self.new ≡ self.old ++ header.entry ∷ []) }
+        ensures err { OnErr result (self.new ≡ self.old) }
+    {
         if self.items.is_empty() {
             self.items.reserve(FIRST_ROOM)?;
         }

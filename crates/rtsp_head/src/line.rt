@@ -1,13 +1,17 @@
 //! The lines of a head, and the parts of a line.
-ghost use Rattle.std.specs.Prelude.{◌≡◌, ◌<◌, ◌==◌, ◌⊎◌, ◌∷◌, false, length, IfSome, option_map};
+ghost use Rattle.std.specs.Prelude.{◌≡◌, ◌<◌, ◌==◌, ◌⊎◌, ◌∷◌, true, false, length, IfSome, option_map};
 ghost use Rattle.std.specs.Str.Lines.{strip_carriage_return};
 ghost use Rattle.gate_bytes.specs.Ascii.{lf, cr};
 ghost use Rattle.rtsp_head.specs.Lines.{first_line, head_lines, lines_with, has_control};
-ghost use Rattle.rtsp_head.specs.LineWalk.{IsPassed};
+ghost use Rattle.rtsp_head.specs.HeadText.{is_line_text};
+ghost use Rattle.rtsp_head.specs.LineWalk.{IsPassed, before_place};
 
 use gate_bytes::{after, before, holds_either, split_once};
 use memchr::memchr3;
 use std::marker::Model;
+
+/// How many bytes are searched first for the end of a line.
+const SHORT_LINE: usize = 63;
 
 /// A line of a head, without its end. Contracts see its bytes.
 #[derive(Drop)]
@@ -66,13 +70,42 @@ fn without_return(line: &[u8]) -> &[u8]
 fn first_line(bytes: &[u8]) -> (Line<'_>, &[u8])
     ensures { (result.0, result.1.now) ≡ first_line bytes.now }
 {
-    let Some(at) = memchr3(b'\n', b'\r', 0, bytes) else {
+    let Some(at) = first_stop(bytes) else {
         return (clean(bytes), after(bytes, bytes.len()));
     };
     match after_end(after(bytes, at)) {
         Some(rest) => (clean(before(bytes, at)), rest),
         None => marked_line(bytes),
     }
+}
+
+/// The first place of a byte that a line without control bytes does not hold: an end of a line, or a control byte. Most
+/// lines are short, so few bytes are searched first, which costs a search less than many.
+#[inline(always)]
+fn first_stop(bytes: &[u8]) -> Option<usize>
+    ensures clear { is_line_text (before_place result bytes.now) ≡ true }
+    ensures within { IfSome result (λ at. at < length bytes.now) }
+{
+    if bytes.len() <= SHORT_LINE {
+        return stop_in(bytes);
+    }
+    let near = stop_in(before(bytes, SHORT_LINE));
+    if near.is_some() {
+        return near;
+    }
+    match stop_in(after(bytes, SHORT_LINE)) {
+        Some(far) => Some(SHORT_LINE + far),
+        None => None,
+    }
+}
+
+/// The same by one search.
+#[inline(always)]
+fn stop_in(bytes: &[u8]) -> Option<usize>
+    ensures clear { is_line_text (before_place result bytes.now) ≡ true }
+    ensures within { IfSome result (λ at. at < length bytes.now) }
+{
+    memchr3(b'\n', b'\r', 0, bytes)
 }
 
 /// What follows an end of a line that stands first.

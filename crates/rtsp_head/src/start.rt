@@ -63,7 +63,10 @@ pub(crate) fn start_line(line: Line<'_>) -> Result<StartLine<'_>, HeadFault>
     } else {
         request_line(line)
     };
-    found.ok_or(HeadFault::Start)
+    match found {
+        Some(start) => Ok(start),
+        None => Err(HeadFault::Start),
+    }
 }
 
 /// Three parts with one space between them, of which the third begins with `RTSP/`

@@ -1,12 +1,14 @@
 //! The length of a body by the headers, line by line, without memory.
-ghost use Rattle.std.specs.Prelude.{◌≡◌, None, Ok, Err};
+ghost use Rattle.std.specs.Prelude.{◌≡◌, None, Some, Ok, Err, codes};
+ghost use Rattle.std.specs.Option.{option_or};
+ghost use Rattle.gate_bytes.specs.Tokens.{equal_fold, trimmed};
 ghost use Rattle.rtsp_head.specs.Tallies.{empty_tally, part_of, joined, last_part, last_of, tally_more, tally_header, tally_line, tally_length};
 
 use crate::further::{FurtherLine, further_line};
 use crate::headers::MOST_HEADERS;
 use crate::line::Line;
 use crate::{HeadFault, LENGTH_DIGITS, Length};
-use gate_bytes::{eq_fold, read_decimal};
+use gate_bytes::{eq_fold, read_decimal, trim};
 
 /// What a text says, where it may be a part of a length's text.
 #[derive(Clone, Copy)]
@@ -39,6 +41,33 @@ pub(crate) struct Tally {
     pub(crate) last: Last,
 }
 
+/// The name of the header with a body's length (RFC 2326, 12.14).
+const LENGTH_NAME: &[u8] = b"Content-Length";
+
+/// Whether a name is that of the header with a body's length.
+#[inline(always)]
+fn names_length(name: &[u8]) -> bool
+    ensures { result ≡ equal_fold name.now (codes "Content-Length") }
+{
+    name.len() == LENGTH_NAME.len() && is_length_name(name)
+}
+
+/// The same of a name that is as long. It is called apart, so that other headers cost nothing of it.
+#[inline(never)]
+fn is_length_name(name: &[u8]) -> bool
+    ensures { result ≡ equal_fold name.now (codes "Content-Length") }
+{
+    eq_fold(name, LENGTH_NAME)
+}
+
+/// What two headers of this name say: the first of them counts. It is called apart, since few heads have it.
+#[inline(never)]
+fn first_part(found: Option<LengthPart>, part: LengthPart) -> Option<LengthPart>
+    ensures { result ≡ option_or found (Some part) }
+{
+    found.or(Some(part))
+}
+
 impl LengthPart {
     /// What a text says.
     fn of(text: &[u8]) -> LengthPart
@@ -66,12 +95,12 @@ impl LengthPart {
 }
 
 impl Last {
-    /// A header as the last one.
+    /// A header as the last one. Its value may have blanks round it, which are looked at where it counts alone.
     fn of(name: &[u8], value: &[u8]) -> Last
-        ensures { result ≡ last_of name.now value.now }
+        ensures { result ≡ last_of name.now (trimmed value.now) }
     {
-        if eq_fold(name, b"Content-Length") {
-            Last::Length(LengthPart::of(value))
+        if names_length(name) {
+            Last::Length(LengthPart::of(trim(value)))
         } else {
             Last::Other
         }
@@ -105,7 +134,7 @@ impl Tally {
         ensures { result ≡ tally_line self line.entry }
     {
         match further_line(line)? {
-            FurtherLine::More(text) => self.with_more(LengthPart::of(text)),
+            FurtherLine::More(text) => self.with_more(LengthPart::of(trim(text))),
             FurtherLine::Begins { name, value } => self.with_header(name, value),
         }
     }
@@ -124,25 +153,36 @@ impl Tally {
         }
     }
 
-    /// The same with one more header.
+    /// The same with one more header, whose value may have blanks round it.
     fn with_header(self, name: &[u8], value: &[u8]) -> Result<Tally, HeadFault>
-        ensures { result ≡ tally_header self (record { name = name.now; value = value.now }) }
+        ensures { result ≡ tally_header self (record { name = name.now; value = trimmed value.now }) }
     {
         if self.count >= MOST_HEADERS {
             return Err(HeadFault::Many);
         }
         Ok(Tally {
             count: self.count + 1,
-            found: self.found.or(self.last.part()),
+            found: self.found_above(),
             last: Last::of(name, value),
         })
+    }
+
+    /// What the first Content-Length says, with the last header.
+    #[inline(always)]
+    fn found_above(self) -> Option<LengthPart>
+        ensures { result ≡ option_or self.found (last_part self.last) }
+    {
+        match self.last {
+            Last::Length(part) => first_part(self.found, part),
+            Last::Missing | Last::Other => self.found,
+        }
     }
 
     /// The length that the headers give.
     pub(crate) fn length(self) -> Length
         ensures { result ≡ tally_length self }
     {
-        match self.found.or(self.last.part()) {
+        match self.found_above() {
             None => Length::Absent,
             Some(LengthPart::Number(number)) => Length::Bytes(number),
             Some(LengthPart::Blank | LengthPart::Other) => Length::Bad,

@@ -5,9 +5,9 @@ use Rattle.rtsp_head.proofs.header_lines.Reading.begin.Goals as goal
 
 pub returns-clause-ok : goal.returns-clause-ok
 returns-clause-ok c =
-    begun (so_far c.args.self.now) c.close_last.new.self.headers c.push.new.self c.args.name.now c.args.value.now c.new.result
-    c.in_ok-close_last.ensures.headers (omega arith) c.in_ok-push.ensures.ok c.new.ensures
+    begun (so_far c.args.self.now) c.close_last.new.self.headers c.push_read.new.self c.args.name.now c.args.value.now c.new.result
+    c.in_ok-close_last.ensures.headers (omega arith) c.in_ok-push_read.ensures.ok c.new.ensures
 
 pub returns-clause-closed : goal.returns-clause-closed
 returns-clause-closed c = λ unfolded.
-    tidy_last c.close_last.new.self.headers c.push.new.self c.args.name.now c.args.value.now c.new.result c.in_ok-push.ensures.ok c.new.ensures c.requires.tidy
+    tidy_last c.close_last.new.self.headers c.push_read.new.self c.args.name.now c.args.value.now c.new.result c.in_ok-push_read.ensures.ok c.new.ensures c.requires.tidy
