@@ -1,10 +1,10 @@
 -- What a framer owes to a stream, when a piece comes.
-use Rattle.std.proofs.Common.{◌≡◌, ℕ, not, List, [], ◌∷◌, ◌++◌, Option, Some, None, sym, ap, ◌∙◌, append_assoc}
+use Rattle.std.proofs.Common.{◌≡◌, ℕ, Bool, true, false, not, List, [], ◌∷◌, ◌++◌, Option, Some, None, sym, ap, ◌∙◌, append_assoc}
 use Rattle.std.proofs.lemmas.List.{append-nil}
 use Rattle.rtsp_head.specs.Items.{Shape, Cut, is_bad, cut}
 use Rattle.rtsp_head.specs.declared.item.Span.{Span}
-use Rattle.rtsp_frame.specs.CutItems.{left_if}
-use Rattle.rtsp_frame.specs.FramerState.{HeldBytes, Framed, IsAlone}
+use Rattle.rtsp_frame.specs.CutItems.{Fed, IsHeldOn, left_if}
+use Rattle.rtsp_frame.specs.FramerState.{HeldBytes, Framed, IsAlone, HoldsPiece}
 use Rattle.rtsp_frame.proofs.CutLemmas.{joined_rest, cut_append}
 use Rattle.rtsp_frame.proofs.CutStepLemmas.{whole_cut}
 
@@ -47,3 +47,20 @@ framed_whole old new stream piece span given alone waiting rest h =
       items = ap (λ (l : List Shape). (given ++ shape ∷ []) ++ l) waiting ∙ append-nil (given ++ shape ∷ []) ∙ more.items;
       rest = rest ∙ more.rest;
     }
+
+-- a piece that was put behind what is held, where no item waits
+held_on : (old new : HeldBytes) (piece rest left : List ℕ) → old.waiting ≡ [] → old.rest ≡ Some rest → new.waiting ≡ [] → new.rest ≡ Some left → Fed [] [] rest left piece true → HoldsPiece old new piece true
+held_on old new piece rest left idle some waiting kept fed stream given h =
+    let none : (cut (rest ++ piece)).items ≡ [] = sym fed.items in
+    let more : Framed new (stream ++ piece) given =
+    framed_more old new stream piece rest given some
+    (waiting ∙ sym none ∙ ap (λ (l : List Shape). l ++ (cut (rest ++ piece)).items) (sym idle)) (kept ∙ fed.rest) h in
+    (more, sym (append-nil given) ∙ ap (λ (l : List Shape). given ++ l) (sym waiting) ∙ more.items)
+
+-- the same, or nothing changed
+pub holds_piece : (held : Bool) (old new : HeldBytes) (piece rest left : List ℕ) → old ≡ record { waiting = []; rest = Some rest } → new ≡ record { waiting = []; rest = Some left } → IsHeldOn rest left piece held → HoldsPiece old new piece held
+holds_piece true old new piece rest left before now h =
+    held_on old new piece rest left (ap (λ (held : HeldBytes). held.waiting) before) (ap (λ (held : HeldBytes). held.rest) before)
+    (ap (λ (held : HeldBytes). held.waiting) now) (ap (λ (held : HeldBytes). held.rest) now) h
+holds_piece false old new piece rest left before now h =
+    now ∙ ap (λ (l : List ℕ). let held : HeldBytes = record { waiting = []; rest = Some l } in held) h ∙ sym before

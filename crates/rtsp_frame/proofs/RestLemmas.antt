@@ -1,5 +1,5 @@
 -- What is known of what is held, once more has come.
-use Rattle.std.proofs.Common.{◌≡◌, ℕ, zero, suc, ◌+◌, ◌-◌, ◌*◌, ◌<◌, ◌≤◌, ◌&&◌, ◌||◌, Bool, true, false, cond, eqb, ltb, List, [], ◌∷◌, ◌++◌, length, take, drop, get_or, Option, Some, None, Result, Ok, Err, refl, sym, ap, ◌∙◌, subst, arith, append_assoc, take-append-drop}
+use Rattle.std.proofs.Common.{◌≡◌, ℕ, zero, suc, ◌+◌, ◌-◌, ◌*◌, ◌<◌, ◌≤◌, ◌&&◌, ◌||◌, Bool, true, false, cond, eqb, ltb, List, [], ◌∷◌, ◌++◌, length, take, drop, get_or, Option, Some, None, is_some, Result, Ok, Err, refl, sym, ap, ◌∙◌, subst, arith, append_assoc, take-append-drop}
 use Rattle.std.specs.Option.{option_map}
 use Rattle.std.specs.Result.{IfOk}
 use Rattle.std.proofs.lemmas.List.{length-append, length-take-le, append-nil, drop_at, take_all, take-take}
@@ -143,6 +143,11 @@ none_cut bytes line h =
     cut_step bytes
     ∙ ap (λ (o : Option Extent). cut_with o bytes cut) (at_front bytes full ∙ ap (option_map (extent_at 0)) (found_line bytes line h.begins h.short h.reached).0)
     ∙ ap (λ (n : ℕ). record { items = []; rest = Some (drop n bytes) }) (blank_ends bytes full)
+
+-- where there is no place, none was found
+pub none_found : (r : Option ℕ) → is_some r ≡ false → r ≡ None
+none_found None h = refl
+none_found (Some at) h = absurd (cc h)
 
 -- a head with a piece in which no line ends
 pub head_clear : (bytes piece : List ℕ) (line : ℕ) → IsHeadFront bytes line → place_of ascii.lf (take (length piece) piece) ≡ None → length (bytes ++ piece) < MOST_HEAD → IsHeadFront (bytes ++ piece) line

@@ -1,5 +1,5 @@
 -- How bytes are cut into items that join a queue.
-use Rattle.std.specs.Prelude.{◌≡◌, ℕ, ◌≤◌, ◌-◌, ◌*◌, Bool, List, ◌++◌, length, take, drop, Option, Some, None, IfSome, if◌then◌else◌}
+use Rattle.std.specs.Prelude.{◌≡◌, ℕ, ◌≤◌, ◌-◌, ◌*◌, Bool, true, false, List, [], ◌++◌, length, take, drop, Option, Some, None, IfSome, if◌then◌else◌}
 use Rattle.std.specs.Option.{option_map}
 use Rattle.rtsp_head.specs.Items.{first_extent, cut}
 use Rattle.rtsp_head.specs.Shapes.{shapes}
@@ -25,6 +25,11 @@ left_if open_still rest = if open_still then Some rest else None
 pub record Fed (old new : List Item) (held left piece : List ℕ) (goes_on : Bool) : Type 0 where
   pub items : shapes new ≡ shapes old ++ (cut (held ++ piece)).items
   pub rest : left_if goes_on left ≡ (cut (held ++ piece)).rest
+
+-- The piece was put behind what was held, and no item is whole; or nothing was.
+abbrev pub IsHeldOn : List ℕ → List ℕ → List ℕ → Bool → Type 0
+IsHeldOn held left piece true = Fed [] [] held left piece true
+IsHeldOn held left piece false = left ≡ held
 
 -- nothing changed
 abbrev pub Same : List Item → List Item → List ℕ → List ℕ → Type 0

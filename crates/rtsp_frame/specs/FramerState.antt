@@ -1,5 +1,5 @@
 -- What a framer holds, and what it owes to a stream.
-use Rattle.std.specs.Prelude.{◌≡◌, ℕ, List, [], ◌∷◌, ◌++◌, Option, Some, None}
+use Rattle.std.specs.Prelude.{◌≡◌, ℕ, Bool, true, false, List, [], ◌∷◌, ◌++◌, Option, Some, None}
 use Rattle.rtsp_head.specs.Items.{Shape, cut, items_of}
 use Rattle.rtsp_head.specs.Shapes.{shape_of}
 use Rattle.rtsp_head.specs.declared.item.Item.{Item}
@@ -20,6 +20,11 @@ pub record Framed (held : HeldBytes) (stream : List ℕ) (given : List Shape) : 
 abbrev pub GivesNext : HeldBytes → List ℕ → List Shape → Option Item → Type 0
 GivesNext held stream given None = Framed held stream given × (given ≡ items_of stream)
 GivesNext held stream given (Some item) = Framed held stream (given ++ shape_of item ∷ [])
+
+-- The piece was taken, and all items of the stream were given; or nothing changed.
+abbrev pub HoldsPiece : HeldBytes → HeldBytes → List ℕ → Bool → Type 0
+HoldsPiece old new piece true = (stream : List ℕ) (given : List Shape) → Framed old stream given → GivesNext new (stream ++ piece) given None
+HoldsPiece old new piece false = new ≡ old
 
 -- Nothing is held, and the piece is one whole item.
 pub record IsAlone (held : HeldBytes) (piece : List ℕ) (span : Span) : Type 0 where

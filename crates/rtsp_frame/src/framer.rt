@@ -2,13 +2,13 @@
 ghost use Rattle.std.specs.Prelude.{◌≡◌, ◌≤◌, ℕ, ◌+◌, ◌*◌, List, [], ◌∷◌, ◌++◌, length, IfSome, IfNone, IfOk, OnOk, OnErr};
 ghost use Rattle.rtsp_head.specs.Items.{Shape, items_of};
 ghost use Rattle.rtsp_head.specs.Shapes.{shape_of};
-ghost use Rattle.rtsp_frame.specs.FramerState.{Framed, IsAlone, GivesNext};
+ghost use Rattle.rtsp_frame.specs.FramerState.{Framed, IsAlone, GivesNext, HoldsPiece};
 ghost use Rattle.rtsp_frame.specs.Fronts.{unfinished_of};
 
-use crate::cut_items;
 use crate::cut_items::Queue;
 use crate::item_front::ItemFront;
 use crate::rest::Rest;
+use crate::{cut_items, held_head};
 use gate_bytes::{Memory, Steps, Text};
 use rtsp_head::{Item, Span};
 use std::alloc::Global;
@@ -155,6 +155,22 @@ impl Framer {
             bytes: mem::replace(piece, Text::new(alloc)),
             head: span.head,
         }))
+    }
+
+    /// Takes the next piece of the stream where it only goes on with a head that is held: no line ends in it, and no item
+    /// waits. Whether it was taken; else, and where memory is wanting, nothing changes.
+    #[inline(always)]
+    pub fn hold(&mut self, piece: &[u8]) -> Result<bool, Memory>
+        ensures ok { IfOk result (HoldsPiece self.old self.new piece.now) }
+        ensures err { OnErr result (self.new ≡ self.old) }
+    {
+        if !self.queue.waiting.is_empty() {
+            return Ok(false);
+        }
+        let Some(rest) = &mut self.rest else {
+            return Ok(false);
+        };
+        held_head::hold(&mut rest.bytes, rest.front, piece)
     }
 
     /// The item that a piece is, where it is one whole item, nothing of the stream is held before it,

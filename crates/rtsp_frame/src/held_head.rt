@@ -2,13 +2,13 @@
 ghost use Rattle.std.specs.Prelude.{◌≡◌, ◌+◌, ◌-◌, ◌*◌, ◌<◌, ◌≤◌, None, length, take, IfOk, OnErr};
 ghost use Rattle.gate_bytes.specs.Ascii.{lf};
 ghost use Rattle.gate_bytes.specs.Places.{place_of};
-ghost use Rattle.rtsp_frame.specs.CutItems.{Fed, Same};
+ghost use Rattle.rtsp_frame.specs.CutItems.{Fed, IsHeldOn, Same};
 ghost use Rattle.rtsp_frame.specs.Fronts.{IsKnownFront, IsHeadFront, head_held};
 
 use crate::cut_items::{Queue, feed_found};
 use crate::item_front::{ItemFront, StreamFront};
 use crate::message::message_span;
-use gate_bytes::{Memory, Steps, before, seek};
+use gate_bytes::{Memory, Steps, before, find, seek};
 use rtsp_head::MOST_HEAD;
 use std::alloc::Global;
 use std::sync::ledger::Ledger;
@@ -38,6 +38,25 @@ pub fn feed_head<L: Ledger>(
     let clear = clear_run(before(piece, room), steps);
     if clear < piece.len() {
         return feed_line(alloc, queue, rest, front, line, clear, piece, steps);
+    }
+    rest.extend_from_slice(piece)?;
+    Ok(true)
+}
+
+/// Puts a piece behind the front of an item that was held, where that is a head that goes on behind the piece, since no line
+/// ends in it. Whether it did: else, and where memory is wanting, nothing changes.
+#[inline(always)]
+pub fn hold(rest: &mut Vec<u8>, front: ItemFront, piece: &[u8]) -> Result<bool, Memory>
+    requires { IsKnownFront rest.old.items front }
+    ensures ok { IfOk result (λ held. IsHeldOn rest.old.items rest.new.items piece.now held) }
+    ensures err { OnErr result (rest.new.items ≡ rest.old.items) }
+    ensures known { IsKnownFront rest.new.items front }
+{
+    let ItemFront::Line(_) = front else {
+        return Ok(false);
+    };
+    if rest.len() + piece.len() >= MOST_HEAD || find(b'\n', piece).is_some() {
+        return Ok(false);
     }
     rest.extend_from_slice(piece)?;
     Ok(true)
