@@ -98,7 +98,9 @@ impl<I: Inlet> Reader<I> {
     }
 
     /// Whether more may be at hand: what came last filled the buffer into which it was read.
-    pub fn has_more(&self) -> bool {
+    pub fn has_more(&self) -> bool
+        ensures { result ≡ self.now.filled }
+    {
         self.filled
     }
 

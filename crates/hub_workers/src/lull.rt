@@ -1,4 +1,5 @@
 //! How a writer waits where nothing is left for it to write.
+ghost use Rattle.std.specs.Prelude.{◌≡◌};
 
 use client_ports::Bell;
 use std::sync::Wait;
@@ -44,7 +45,9 @@ impl<'a> Lull<'a> {
     }
 
     /// Sees how many parcels have been taken once its writer goes on: others may have served it meanwhile.
-    pub fn go_on(&mut self, taken: u64) {
+    pub fn go_on(&mut self, taken: u64)
+        ensures { self.new ≡ record self.old { taken = taken } }
+    {
         self.taken = taken;
     }
 

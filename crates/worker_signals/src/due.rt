@@ -1,4 +1,6 @@
 //! For whom something was put that is not yet written.
+ghost use Rattle.std.specs.Prelude.{◌≡◌, ◌%◌, ℕ, None, Some, slice_set};
+ghost use Rattle.worker_signals.specs.DuePlayers.{due_player_at, due_with, pushed_out, taken_if, left_after};
 
 use crate::flow::PLACES;
 use crate::signals::Ring;
@@ -22,14 +24,21 @@ pub struct Due {
 
 impl Due {
     /// None of them.
-    pub fn new() -> Due {
+    pub fn new() -> Due
+        ensures { (place : ℕ) → due_player_at place result.players ≡ None }
+    {
         Due {
             players: [None; PLACES],
         }
     }
 
     /// This player too. Where another one is due at its place, that one is answered, and is due no longer.
-    pub fn add(&mut self, player: DuePlayer) -> Option<DuePlayer> {
+    pub fn add(&mut self, player: DuePlayer) -> Option<DuePlayer>
+        ensures out { result ≡ pushed_out player (due_player_at (player.conn % PLACES) self.old.players) }
+        ensures due { self.new.players
+            ≡ slice_set self.old.players (player.conn % PLACES)
+            (Some (due_with player (due_player_at (player.conn % PLACES) self.old.players))) }
+    {
         let place = &mut self.players[player.conn as usize % PLACES];
         let Some(before) = *place else {
             *place = Some(player);
@@ -48,14 +57,18 @@ impl Due {
     }
 
     /// The player that is due at this place, who is due no longer; where only ripe ones are asked for, only if it is ripe.
-    pub fn take(&mut self, place: usize, only_ripe: bool) -> Option<DuePlayer> {
-        let found = self.players.get_mut(place)?;
-        match *found {
-            Some(player) if player.is_ripe || !only_ripe => {
-                *found = None;
-                Some(player)
-            }
-            _ => None,
+    pub fn take(&mut self, place: usize, only_ripe: bool) -> Option<DuePlayer>
+        ensures taken { result ≡ taken_if only_ripe (due_player_at place self.old.players) }
+        ensures left { self.new.players ≡ left_after result place self.old.players }
+    {
+        if place >= PLACES {
+            return None;
         }
+        let player = self.players[place]?;
+        if only_ripe && !player.is_ripe {
+            return None;
+        }
+        self.players[place] = None;
+        Some(player)
     }
 }

@@ -1,4 +1,6 @@
 //! What workers tell each other.
+ghost use Rattle.std.specs.Prelude.{◌≡◌};
+ghost use Rattle.worker_signals.specs.DuePlayers.{louder};
 
 use crate::flow::{Flow, PLACES};
 use crate::meeting::Meeting;
@@ -87,7 +89,9 @@ pub enum Ring {
 
 impl Ring {
     /// The louder one of both.
-    pub fn or(self, other: Ring) -> Ring {
+    pub fn or(self, other: Ring) -> Ring
+        ensures { result ≡ louder self other }
+    {
         if self == Ring::Loud { self } else { other }
     }
 }
