@@ -1,5 +1,5 @@
 -- Lemmas on the bits of the pairs that are free.
-use Rattle.std.proofs.Common.{◌≡◌, ◌≢◌, ◌∙◌, ℕ, suc, zero, ◌+◌, ◌-◌, ◌*◌, ◌%◌, ◌^◌, ◌<◌, ◌≤◌, ◌==◌, Bool, true, false, List, [], ◌∷◌, length, map, Option, Some, None, is_some, if◌then◌else◌, refl, sym, ap, arith, bit_and, bit_or, count_by, count_ones, set, get_or-set_same, get_or-set_other}
+use Rattle.std.proofs.Common.{◌≡◌, ◌≢◌, ◌∙◌, ℕ, suc, zero, ◌+◌, ◌-◌, ◌*◌, ◌%◌, ◌^◌, ◌<◌, ◌≤◌, ◌==◌, ◌||◌, Bool, true, false, List, [], ◌∷◌, length, map, Option, Some, None, is_some, if◌then◌else◌, refl, sym, ap, arith, bit_and, bit_or, count_by, count_ones, set, get_or-set_same, get_or-set_other}
 use Rattle.std.specs.Int.{w128, bit_at, bit_not, trailing_zeros}
 use Rattle.std.proofs.lemmas.Bool.{eqb-true, eqb-false}
 use Rattle.std.proofs.lemmas.List.{get_or-map, length-map}
@@ -112,3 +112,11 @@ pub bits-freed : (bits : ℕ) (table : List (Option Held)) (pair : ℕ) → IsTa
     → HasBitWhere (bit_or bits (1 * 2 ^ pair % 2 ^ 128)) (λ p. is_free (kept (Pair pair) (held_at p table)))
 bits-freed bits table pair is low has =
     bits-set bits pair _ _ low has (ap is_free (kept-Pair_same table pair is)) (λ p apart. ap is_free (kept-Pair_other table pair p is apart))
+
+-- a pair is put into a set
+pub bit-put : (bits pair p : ℕ) → pair < PAIRS → p < PAIRS → (bit_at (bit_or bits (1 * 2 ^ pair % 2 ^ 128)) p == 1) ≡ (p == pair || (bit_at bits p == 1))
+bit-put bits pair p low within = by (p == pair) refl
+  where
+    by : (same : Bool) → (p == pair) ≡ same → (bit_at (bit_or bits (1 * 2 ^ pair % 2 ^ 128)) p == 1) ≡ (same || (bit_at bits p == 1))
+    by true e = let equal : p ≡ pair = eqb-true p pair e in ap (λ n. n == 1) (ap (bit_at (bit_or bits (1 * 2 ^ pair % 2 ^ 128))) equal ∙ bit_at_set_same w128 bits pair low)
+    by false e = ap (λ n. n == 1) (bit_at_set_other w128 bits pair low p (eqb-false p pair e))

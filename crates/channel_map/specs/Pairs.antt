@@ -3,6 +3,7 @@
 use Rattle.std.specs.Prelude.{◌≡◌, ℕ, suc, zero, ◌+◌, ◌==◌, ◌&&◌, not, Bool, true, false, List, Option, Some, None, is_some, slice_index_or, length, count_by, if◌then◌else◌}
 use Rattle.std.specs.Option.{option_and_then, option_map}
 use Rattle.channel_map.specs.declared.map.TheConstants.{PAIRS}
+use Rattle.channel_map.specs.PairSets.{is_in_set}
 use Rattle.channel_map.specs.declared.map.Held.{Held}
 use Rattle.channel_map.specs.declared.map.Freed.{Freed}
 use Rattle.channel_map.specs.declared.map.Freed.TheVariants.{Nothing, Pair, Granted}
@@ -37,11 +38,11 @@ first_free (suc more) at free = if free at then Some at else first_free more (at
 unfoldable pub lowest_free : (ℕ → Bool) → Option ℕ
 lowest_free free = first_free PAIRS 0 free
 
--- whether a pair that is held is freed: nothing is; one pair is; what was granted to a connection is
+-- whether a pair that is held is freed: nothing is; one pair is; the granted ones of a set are
 abbrev pub frees : Freed → Held → Bool
 frees Nothing held = false
 frees (Pair pair) held = held.pair == pair
-frees (Granted conn) held = held.granted && (held.conn == conn)
+frees (Granted pairs) held = held.granted && is_in_set pairs held.pair
 
 -- who holds a pair once that is freed
 abbrev pub kept : Freed → Option Held → Option Held

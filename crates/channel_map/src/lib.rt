@@ -5,5 +5,7 @@
 #![tactic(auto)]
 
 mod map;
+mod pair_set;
 
 pub use map::{ChannelMap, Freed, Held, PAIRS};
+pub use pair_set::PairSet;

@@ -3,6 +3,7 @@ ghost use Rattle.channel_map.specs.Pairs.{held_at, is_free, kept, first_free, lo
 ghost use Rattle.channel_map.specs.Bits.{HasBitWhere};
 ghost use Rattle.std.specs.Prelude.{Bool, length, ◌<◌, ◌≡◌, ◌==◌, ◌/◌, ◌↔◌, ℕ, false, true, None, Some, IsSome, IsNone, IfSome, IfNone, if◌then◌else◌};
 
+use crate::pair_set::PairSet;
 use std::marker::Model;
 
 /// How many pairs of channels there are. A channel is one byte (RFC 7826, 14), and a pair has two.
@@ -26,8 +27,8 @@ pub enum Freed {
     Nothing,
     /// A pair whose SETUP was refused.
     Pair(u8),
-    /// All pairs that were granted to a connection, with whose session they go.
-    Granted(u32),
+    /// The granted ones of these pairs, which are those of a session's streams.
+    Granted(PairSet),
 }
 
 impl Freed {
@@ -40,7 +41,7 @@ impl Freed {
         match self {
             Freed::Nothing => false,
             Freed::Pair(pair) => held.pair == pair,
-            Freed::Granted(conn) => held.granted && held.conn == conn,
+            Freed::Granted(pairs) => held.granted && pairs.contains(held.pair),
         }
     }
 
