@@ -1,4 +1,4 @@
-//! The session that a player has with the gateway: its parts, and the table of its states (RFC 2326,
+//! A session that a player has with the gateway: its parts, and the table of its states (RFC 2326,
 //! A.2).
 //!
 //! The table takes no memory.
@@ -7,5 +7,5 @@
 mod parts;
 mod table;
 
-pub use parts::{Asked, MOST_TRACKS, Play, Track};
+pub use parts::{Asked, MOST_SESSIONS, MOST_TRACKS, Play, Track};
 pub use table::{State, after, allowed, is_success};

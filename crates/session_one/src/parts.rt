@@ -10,6 +10,9 @@ use std::alloc::Global;
 /// The most streams of a session (this project's own).
 pub const MOST_TRACKS: usize = 8;
 
+/// The most sessions of a connection (this project's own).
+pub const MOST_SESSIONS: usize = 4;
+
 /// A stream that a player has set up.
 #[derive(Drop)]
 pub struct Track {
@@ -43,6 +46,8 @@ pub struct Play {
     pub range: Range,
     /// The scale, where the player asks for one.
     pub scale: Option<Text>,
+    /// The place of its session, from 0 on. One that waits has one.
+    pub place: Option<u8>,
 }
 
 /// What the gateway keeps of a player's request until the server's reply comes.
@@ -52,8 +57,10 @@ pub struct Asked {
     pub method: Method,
     /// Its number.
     pub cseq: u64,
-    /// Whether it named its session.
+    /// Whether it named a session.
     pub named: bool,
     /// The URI that was sent up.
     pub uri: Text,
+    /// The place of the session that it named, from 0 on.
+    pub place: Option<u8>,
 }

@@ -14,7 +14,7 @@ pub enum Names {
 }
 
 impl Names {
-    ghost use Rattle.session_two.specs.Ends.{names_in};
+    ghost use Rattle.session_two.specs.Ends.{names_in, end_counts};
 
     /// What a field Request-Status names, where there is one.
     pub fn read(value: Option<&[u8]>) -> Names
@@ -26,6 +26,17 @@ impl Names {
         match read_request_status(value) {
             Some(number) => Names::This(number),
             None => Names::Unsaid,
+        }
+    }
+
+    /// Whether an end of stream that names this counts, where the PLAY with this number runs.
+    pub fn ends(self, running: Option<u32>) -> bool
+        ensures { result ≡ end_counts running self }
+    {
+        match (running, self) {
+            (None, _) => false,
+            (Some(_), Names::Unsaid) => true,
+            (Some(number), Names::This(named)) => named == number,
         }
     }
 }

@@ -49,11 +49,7 @@ impl Running {
         ensures counts { result ≡ end_counts self.old names }
         ensures running { self.new ≡ after_end self.old names }
     {
-        let counts = match (self.number, names) {
-            (None, _) => false,
-            (Some(_), Names::Unsaid) => true,
-            (Some(number), Names::This(named)) => named == number,
-        };
+        let counts = names.ends(self.number);
         if counts {
             self.number = None;
         }
