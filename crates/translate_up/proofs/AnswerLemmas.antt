@@ -38,13 +38,14 @@ use Rattle.translate_up.specs.declared.decision.Decision.{Decision}
 use Rattle.translate_up.specs.declared.decision.Decision.TheVariants.{Answer}
 use Rattle.translate_up.specs.declared.rule.Admission.{Admission}
 use Rattle.translate_up.specs.declared.rule.Admission.TheVariants.{SetUp, Played, Other}
-use Rattle.translate_up.specs.Views.{Given}
+use Rattle.translate_up.specs.Views.{Given, Judged}
 use Rattle.translate_up.specs.Fields.{Said, said_of, is_named}
 use Rattle.translate_up.specs.Upward.{uri_up, session_said}
 use Rattle.translate_up.specs.Rules.{session_rules, with_channels, with_range, admission, unless_code, rules_checked}
 use Rattle.translate_up.specs.Answers.{own_answer, refusal_text, options_text, play_text}
-use Rattle.translate_up.specs.Decisions.{play_on, play_in, serve, is_for_gateway, by_rules, decide_request, decide_read, decide}
-use Rattle.translate_up.specs.Sound.{IsFit}
+use Rattle.translate_up.specs.Decisions.{play_on, play_in, serve, is_for_gateway, by_rules, decide_request, decide_read, judged_of, decide}
+use Rattle.translate_up.proofs.JudgedLemmas.{judged_fit}
+use Rattle.translate_up.specs.Sound.{AreFit, IsFit}
 use Rattle.translate_up.specs.OneReply.{IsOneReply, AnswersOneReply}
 use Rattle.translate_up.proofs.ReadLemmas.{Read, cseq_small, request_read}
 use Rattle.translate_up.proofs.ReasonLemmas.{first_reason, refusal_reason}
@@ -99,38 +100,38 @@ either : (test : Bool) (one other : Decision) → AnswersOneReply one → Answer
 either true one other a b = a
 either false one other a b = b
 
-play_on_one : (given : Given) (request : Request1) (said : Said) (uri : List ℕ) (range : Option Range) → IsFit given → Read request → IsWritable range → AnswersOneReply (play_on given request said uri range)
-play_on_one given request said uri None fit read can =
-    play_one request.cseq (session_said given said) None read.cseq (where_value (is_named said) given.session (session_value given.session fit.session)) tt
-play_on_one given request said uri (Some range) fit read can =
-    play_one request.cseq (session_said given said) (Some (range_text range)) read.cseq (where_value (is_named said) given.session (session_value given.session fit.session)) (range_value (Some range) can)
+play_on_one : (judged : Judged) (request : Request1) (said : Said) (uri : List ℕ) (range : Option Range) → IsFit judged → Read request → IsWritable range → AnswersOneReply (play_on judged request said uri range)
+play_on_one judged request said uri None fit read can =
+    play_one request.cseq (session_said judged said) None read.cseq (where_value (is_named said) judged.session (session_value judged.session fit.session)) tt
+play_on_one judged request said uri (Some range) fit read can =
+    play_one request.cseq (session_said judged said) (Some (range_text range)) read.cseq (where_value (is_named said) judged.session (session_value judged.session fit.session)) (range_value (Some range) can)
 
-play_in_one : (state : State) (given : Given) (request : Request1) (said : Said) (uri : List ℕ) (range : Option Range) → IsFit given → Read request → IsWritable range →
-    AnswersOneReply (play_in state given request said uri range)
-play_in_one Init given request said uri range fit read can = tt
-play_in_one Ready given request said uri range fit read can = tt
-play_in_one Playing given request said uri range fit read can = play_on_one given request said uri range fit read can
+play_in_one : (state : State) (judged : Judged) (request : Request1) (said : Said) (uri : List ℕ) (range : Option Range) → IsFit judged → Read request → IsWritable range →
+    AnswersOneReply (play_in state judged request said uri range)
+play_in_one Init judged request said uri range fit read can = tt
+play_in_one Ready judged request said uri range fit read can = tt
+play_in_one Playing judged request said uri range fit read can = play_on_one judged request said uri range fit read can
 
-serve_one : (given : Given) (request : Request1) (said : Said) (uri : List ℕ) (admitted : Admission) → IsFit given → Read request → IsSoundAdmission admitted →
-    AnswersOneReply (serve given request said uri admitted)
-serve_one given request said uri (SetUp pair) fit read sound = tt
-serve_one given request said uri (Played range) fit read sound = play_in_one given.state given request said uri range fit read sound
-serve_one given request said uri Other fit read sound = tt
+serve_one : (judged : Judged) (request : Request1) (said : Said) (uri : List ℕ) (admitted : Admission) → IsFit judged → Read request → IsSoundAdmission admitted →
+    AnswersOneReply (serve judged request said uri admitted)
+serve_one judged request said uri (SetUp pair) fit read sound = tt
+serve_one judged request said uri (Played range) fit read sound = play_in_one judged.state judged request said uri range fit read sound
+serve_one judged request said uri Other fit read sound = tt
 
-by_rules_one : (given : Given) (request : Request1) (said : Said) (uri : List ℕ) (checked : Result Admission ℕ) → IsFit given → Read request → AdmitsSound checked →
-    ((code : ℕ) → checked ≡ Err code → has_reason code ≡ true) → AnswersOneReply (by_rules given request said uri checked)
-by_rules_one given request said uri (Err code) fit read sound known = code_one code request.cseq (known code refl) read.cseq
-by_rules_one given request said uri (Ok admitted) fit read sound known =
-    either (is_for_gateway request.method said) (Answer (options_text request.cseq)) (serve given request said uri admitted)
-    (options_one request.cseq read.cseq) (serve_one given request said uri admitted fit read sound)
+by_rules_one : (judged : Judged) (request : Request1) (said : Said) (uri : List ℕ) (checked : Result Admission ℕ) → IsFit judged → Read request → AdmitsSound checked →
+    ((code : ℕ) → checked ≡ Err code → has_reason code ≡ true) → AnswersOneReply (by_rules judged request said uri checked)
+by_rules_one judged request said uri (Err code) fit read sound known = code_one code request.cseq (known code refl) read.cseq
+by_rules_one judged request said uri (Ok admitted) fit read sound known =
+    either (is_for_gateway request.method said) (Answer (options_text request.cseq)) (serve judged request said uri admitted)
+    (options_one request.cseq read.cseq) (serve_one judged request said uri admitted fit read sound)
 
-request_one : (given : Given) (request : Request1) → IsFit given → Read request → AnswersOneReply (decide_request given request)
-request_one given request fit read =
-    let said = said_of given.tracks request in
-    let uri = uri_up given request.uri in
-    let rules = session_rules given request.method said uri in
-    by_rules_one given request said uri (rules_checked given request.method said uri) fit read
-    (unless_sound (first_code rules) (admission request.method said) (admission_sound request.method said (said_sound given.tracks request)))
+request_one : (judged : Judged) (request : Request1) → IsFit judged → Read request → AnswersOneReply (decide_request judged request)
+request_one judged request fit read =
+    let said = said_of judged.all request in
+    let uri = uri_up judged request.uri in
+    let rules = session_rules judged request.method said uri in
+    by_rules_one judged request said uri (rules_checked judged request.method said uri) fit read
+    (unless_sound (first_code rules) (admission request.method said) (admission_sound request.method said (said_sound judged.all request)))
     (λ code e. rules_reason (first_code rules) (admission request.method said) code (λ one found. first_reason rules one refl found) (admission_reason request.method said) e)
 
 -- What a head tells of its refusal can be written.
@@ -184,13 +185,13 @@ refusal_one : (refused : Refusal) → has_reason refused.code ≡ true → IsTol
 refusal_one refused known told =
     answer_one refused.code refused.cseq (named (codes "Unsupported") refused.unsupported ∷ []) known told.cseq (omega arith) refl refl (told.unsupported, tt)
 
-read_answers : (given : Given) (found : Result Request1 Refusal) → IsFit given → ((request : Request1) → found ≡ Ok request → Read request) →
-    ((refused : Refusal) → found ≡ Err refused → (has_reason refused.code ≡ true) × IsToldRefusal refused) → AnswersOneReply (decide_read given found)
-read_answers given (Ok request) fit known told = request_one given request fit (known request refl)
-read_answers given (Err refused) fit known told = let both = told refused refl in refusal_one refused both.0 both.1
+read_answers : (judged : Judged) (found : Result Request1 Refusal) → IsFit judged → ((request : Request1) → found ≡ Ok request → Read request) →
+    ((refused : Refusal) → found ≡ Err refused → (has_reason refused.code ≡ true) × IsToldRefusal refused) → AnswersOneReply (decide_read judged found)
+read_answers judged (Ok request) fit known told = request_one judged request fit (known request refl)
+read_answers judged (Err refused) fit known told = let both = told refused refl in refusal_one refused both.0 both.1
 
 -- What the gateway answers by itself is one reply.
-pub decide_answers : (given : Given) (shape : Shape) → IsFit given → length shape.bytes < 2 ^ 64 → AnswersOneReply (decide given shape)
+pub decide_answers : (given : Given) (shape : Shape) → AreFit given → length shape.bytes < 2 ^ 64 → AnswersOneReply (decide given shape)
 decide_answers given shape fit short =
-    read_answers given (request_of_item shape) fit (λ request e. request_read shape request short e)
+    read_answers (judged_of given shape) (request_of_item shape) (judged_fit given (request_of_item shape) fit) (λ request e. request_read shape request short e)
     (λ refused e. (refusal_reason shape refused e, of_told (head_of (take shape.head shape.bytes)) (drop shape.head shape.bytes) refused (read_sound (take shape.head shape.bytes)) e))

@@ -30,14 +30,15 @@ use Rattle.translate_up.specs.declared.decision.Decision.{Decision}
 use Rattle.translate_up.specs.declared.decision.Decision.TheVariants.{Answer}
 use Rattle.translate_up.specs.declared.rule.Admission.{Admission}
 use Rattle.translate_up.specs.declared.rule.Admission.TheVariants.{SetUp, Played, Other}
-use Rattle.translate_up.specs.Views.{Given}
+use Rattle.translate_up.specs.Views.{Given, Judged}
 use Rattle.translate_up.specs.Fields.{field, Said, said_of, is_setup, is_play, is_pause}
 use Rattle.translate_up.specs.Channels.{is_taken, free_pair, pair_for, client_pair}
 use Rattle.translate_up.specs.Rules.{session_rules, with_channels, with_range, admission, unless_code, rules_checked}
 use Rattle.translate_up.specs.Upward.{uri_up}
 use Rattle.translate_up.specs.Answers.{options_text}
-use Rattle.translate_up.specs.Decisions.{play_on, play_in, serve, is_for_gateway, by_rules, decide_request, decide_read, decide}
-use Rattle.translate_up.specs.Sound.{is_target, IsFit, SendsSound}
+use Rattle.translate_up.specs.Decisions.{play_on, play_in, serve, is_for_gateway, by_rules, decide_request, decide_read, judged_of, decide}
+use Rattle.translate_up.proofs.JudgedLemmas.{judged_fit}
+use Rattle.translate_up.specs.Sound.{is_target, AreFit, IsFit, SendsSound}
 use Rattle.translate_up.proofs.ReadLemmas.{Read, request_read}
 use Rattle.translate_up.proofs.SoundLemmas.{IsWritable, up_sound, setup_sound, scale_value}
 use Rattle.translate_up.proofs.TargetLemmas.{uri_target}
@@ -132,41 +133,41 @@ either : (first : Bool) (one other : Decision) → SendsSound one → SendsSound
 either true one other a b = a
 either false one other a b = b
 
-play_on_sound : (given : Given) (request : Request1) (said : Said) (uri : List ℕ) (range : Option Range) → Read request → is_target uri ≡ true → IsWritable range →
-    SendsSound (play_on given request said uri range)
-play_on_sound given request said uri None read target can = tt
-play_on_sound given request said uri (Some range) read target can = record { uri = target; range = can; scale = scale_value request read }
+play_on_sound : (judged : Judged) (request : Request1) (said : Said) (uri : List ℕ) (range : Option Range) → Read request → is_target uri ≡ true → IsWritable range →
+    SendsSound (play_on judged request said uri range)
+play_on_sound judged request said uri None read target can = tt
+play_on_sound judged request said uri (Some range) read target can = record { uri = target; range = can; scale = scale_value request read }
 
-play_sound : (state : State) (given : Given) (request : Request1) (said : Said) (uri : List ℕ) (range : Option Range) → IsFit given → Read request → is_target uri ≡ true → IsWritable range →
-    SendsSound (play_in state given request said uri range)
-play_sound Init given request said uri range fit read target can = (up_sound given request said uri range fit read target can, target)
-play_sound Ready given request said uri range fit read target can = (up_sound given request said uri range fit read target can, target)
-play_sound Playing given request said uri range fit read target can = play_on_sound given request said uri range read target can
+play_sound : (state : State) (judged : Judged) (request : Request1) (said : Said) (uri : List ℕ) (range : Option Range) → IsFit judged → Read request → is_target uri ≡ true → IsWritable range →
+    SendsSound (play_in state judged request said uri range)
+play_sound Init judged request said uri range fit read target can = (up_sound judged request said uri range fit read target can, target)
+play_sound Ready judged request said uri range fit read target can = (up_sound judged request said uri range fit read target can, target)
+play_sound Playing judged request said uri range fit read target can = play_on_sound judged request said uri range read target can
 
-serve_sound : (given : Given) (request : Request1) (said : Said) (uri : List ℕ) (admitted : Admission) → IsFit given → Read request → is_target uri ≡ true → IsSoundAdmission admitted →
-    SendsSound (serve given request said uri admitted)
-serve_sound given request said uri (SetUp pair) fit read target sound = (setup_sound given request said uri fit read target, target, sound)
-serve_sound given request said uri (Played range) fit read target sound = play_sound given.state given request said uri range fit read target sound
-serve_sound given request said uri Other fit read target sound = (up_sound given request said uri None fit read target tt, target)
+serve_sound : (judged : Judged) (request : Request1) (said : Said) (uri : List ℕ) (admitted : Admission) → IsFit judged → Read request → is_target uri ≡ true → IsSoundAdmission admitted →
+    SendsSound (serve judged request said uri admitted)
+serve_sound judged request said uri (SetUp pair) fit read target sound = (setup_sound judged request said uri fit read target, target, sound)
+serve_sound judged request said uri (Played range) fit read target sound = play_sound judged.state judged request said uri range fit read target sound
+serve_sound judged request said uri Other fit read target sound = (up_sound judged request said uri None fit read target tt, target)
 
-rules_sound : (given : Given) (request : Request1) (said : Said) (uri : List ℕ) (admitted : Result Admission ℕ) → IsFit given → Read request → is_target uri ≡ true → AdmitsSound admitted →
-    SendsSound (by_rules given request said uri admitted)
-rules_sound given request said uri (Err code) fit read target sound = tt
-rules_sound given request said uri (Ok admitted) fit read target sound =
-    either (is_for_gateway request.method said) (Answer (options_text request.cseq)) (serve given request said uri admitted) tt
-    (serve_sound given request said uri admitted fit read target sound)
+rules_sound : (judged : Judged) (request : Request1) (said : Said) (uri : List ℕ) (admitted : Result Admission ℕ) → IsFit judged → Read request → is_target uri ≡ true → AdmitsSound admitted →
+    SendsSound (by_rules judged request said uri admitted)
+rules_sound judged request said uri (Err code) fit read target sound = tt
+rules_sound judged request said uri (Ok admitted) fit read target sound =
+    either (is_for_gateway request.method said) (Answer (options_text request.cseq)) (serve judged request said uri admitted) tt
+    (serve_sound judged request said uri admitted fit read target sound)
 
-request_sound : (given : Given) (request : Request1) → IsFit given → Read request → SendsSound (decide_request given request)
-request_sound given request fit read =
-    let said = said_of given.tracks request in
-    let uri = uri_up given request.uri in
-    rules_sound given request said uri (rules_checked given request.method said uri) fit read (uri_target given request.uri fit read.uri)
-    (unless_sound (first_code (session_rules given request.method said uri)) (admission request.method said) (admission_sound request.method said (said_sound given.tracks request)))
+request_sound : (judged : Judged) (request : Request1) → IsFit judged → Read request → SendsSound (decide_request judged request)
+request_sound judged request fit read =
+    let said = said_of judged.all request in
+    let uri = uri_up judged request.uri in
+    rules_sound judged request said uri (rules_checked judged request.method said uri) fit read (uri_target judged request.uri fit read.uri)
+    (unless_sound (first_code (session_rules judged request.method said uri)) (admission request.method said) (admission_sound request.method said (said_sound judged.all request)))
 
-read_sound : (given : Given) (found : Result Request1 Refusal) → IsFit given → ((request : Request1) → found ≡ Ok request → Read request) → SendsSound (decide_read given found)
-read_sound given (Ok request) fit known = request_sound given request fit (known request refl)
-read_sound given (Err refusal) fit known = tt
+read_sound : (judged : Judged) (found : Result Request1 Refusal) → IsFit judged → ((request : Request1) → found ≡ Ok request → Read request) → SendsSound (decide_read judged found)
+read_sound judged (Ok request) fit known = request_sound judged request fit (known request refl)
+read_sound judged (Err refusal) fit known = tt
 
 -- What a decision sends up can be written and read back.
-pub decide_sound : (given : Given) (shape : Shape) → IsFit given → length shape.bytes < 2 ^ 64 → SendsSound (decide given shape)
-decide_sound given shape fit short = read_sound given (request_of_item shape) fit (λ request e. request_read shape request short e)
+pub decide_sound : (given : Given) (shape : Shape) → AreFit given → length shape.bytes < 2 ^ 64 → SendsSound (decide given shape)
+decide_sound given shape fit short = read_sound (judged_of given shape) (request_of_item shape) (judged_fit given (request_of_item shape) fit) (λ request e. request_read shape request short e)

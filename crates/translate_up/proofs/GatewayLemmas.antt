@@ -15,7 +15,7 @@ use Rattle.session_one.specs.Table.{same_method, is_allowed}
 use Rattle.translate_up.specs.declared.decision.Decision.{Decision}
 use Rattle.translate_up.specs.declared.decision.Decision.TheVariants.{Answer}
 use Rattle.translate_up.specs.declared.rule.Admission.TheVariants.{Other}
-use Rattle.translate_up.specs.Views.{Given}
+use Rattle.translate_up.specs.Views.{Judged}
 use Rattle.translate_up.specs.Fields.{Said, said_of, is_named}
 use Rattle.translate_up.specs.Upward.{uri_up}
 use Rattle.translate_up.specs.Rules.{names_no_session, is_out_of_turn, has_bad_range, session_rules, admission, unless_code}
@@ -62,24 +62,24 @@ no_range (Some (Ok range)) = refl
 no_range (Some (Err fault)) = refl
 
 -- No rule applies to OPTIONS without a session.
-options_rules : (given : Given) (said : Said) (uri : List ℕ) → not (is_named said) ≡ true →
-    list_all (λ (one : Rule). not one.applies) (session_rules given Options said uri) ≡ true
-options_rules given said uri own =
-    ap (λ t. not t && (not (is_out_of_turn given Options said uri) && (true && (true && (not (has_bad_range Options said.range) && (true && (true && true))))))) (no_session_named given.session said.session own)
-    ∙ ap (λ t. not (not t || false) && (true && (true && (not (has_bad_range Options said.range) && (true && (true && true)))))) (always_allowed given.state)
+options_rules : (judged : Judged) (said : Said) (uri : List ℕ) → not (is_named said) ≡ true →
+    list_all (λ (one : Rule). not one.applies) (session_rules judged Options said uri) ≡ true
+options_rules judged said uri own =
+    ap (λ t. not t && (not (is_out_of_turn judged Options said uri) && (true && (true && (not (has_bad_range Options said.range) && (true && (true && true))))))) (no_session_named judged.session said.session own)
+    ∙ ap (λ t. not (not t || false) && (true && (true && (not (has_bad_range Options said.range) && (true && (true && true)))))) (always_allowed judged.state)
     ∙ ap (λ t. not t && (true && (true && true))) (no_range said.range)
 
-own_by : (method : Method) (given : Given) (request : Request1) (said : Said) (uri : List ℕ) → is_for_gateway method said ≡ true → method ≡ Options →
-    by_rules given request said uri (unless_code (first_code (session_rules given method said uri)) (admission method said)) ≡ by_rules given request said uri (Ok Other)
-own_by method given request said uri own options =
+own_by : (method : Method) (judged : Judged) (request : Request1) (said : Said) (uri : List ℕ) → is_for_gateway method said ≡ true → method ≡ Options →
+    by_rules judged request said uri (unless_code (first_code (session_rules judged method said uri)) (admission method said)) ≡ by_rules judged request said uri (Ok Other)
+own_by method judged request said uri own options =
     let parts = and_parts (same_method method Options) (not (is_named said)) own in
-    ap (λ m. by_rules given request said uri (unless_code (first_code (session_rules given m said uri)) (admission m said))) options
-    ∙ ap (λ code. by_rules given request said uri (unless_code code (Ok Other))) (none_applies (session_rules given Options said uri) (options_rules given said uri parts.1))
+    ap (λ m. by_rules judged request said uri (unless_code (first_code (session_rules judged m said uri)) (admission m said))) options
+    ∙ ap (λ code. by_rules judged request said uri (unless_code code (Ok Other))) (none_applies (session_rules judged Options said uri) (options_rules judged said uri parts.1))
 
-pub own_answered : (given : Given) (request : Request1) → is_for_gateway request.method (said_of given.tracks request) ≡ true → decide_request given request ≡ Answer (options_text request.cseq)
-own_answered given request own =
-    let said = said_of given.tracks request in
-    let uri = uri_up given request.uri in
+pub own_answered : (judged : Judged) (request : Request1) → is_for_gateway request.method (said_of judged.all request) ≡ true → decide_request judged request ≡ Answer (options_text request.cseq)
+own_answered judged request own =
+    let said = said_of judged.all request in
+    let uri = uri_up judged request.uri in
     let parts = and_parts (same_method request.method Options) (not (is_named said)) own in
-    own_by request.method given request said uri own (is_options request.method parts.0)
-    ∙ first_of (is_for_gateway request.method said) (Answer (options_text request.cseq)) (serve given request said uri Other) own
+    own_by request.method judged request said uri own (is_options request.method parts.0)
+    ∙ first_of (is_for_gateway request.method said) (Answer (options_text request.cseq)) (serve judged request said uri Other) own

@@ -11,7 +11,7 @@ use Rattle.head_one.specs.declared.request.Request1.{Request1}
 use Rattle.rtsp_range.specs.declared.range.Range.{Range}
 use Rattle.rtsp_head.specs.Optional.{field_headers}
 use Rattle.rtsp_head.proofs.FieldLemmas.{names_hold}
-use Rattle.translate_up.specs.Views.{Given}
+use Rattle.translate_up.specs.Views.{Judged}
 use Rattle.translate_up.specs.Fields.{Said}
 use Rattle.translate_up.specs.Upward.{fields_up, request_up, transport_header, headers_with_transport, with_transport, is_other, without_transport}
 
@@ -31,8 +31,8 @@ left_out pair (header ∷ headers) = here (bytes_eq header.name (codes "Accept-R
     here true rest = refl
     here false rest = ap (λ hs. cond (is_other header) (header ∷ hs) hs) rest
 
-pub transport_left_out : (given : Given) (request : Request1) (said : Said) (uri : List ℕ) (range : Option Range) (pair : Pair) →
-    without_transport (with_transport pair (request_up given request said uri range)).headers ≡ (request_up given request said uri range).headers
-transport_left_out given request said uri range pair =
-    let headers = field_headers (fields_up given request said range) in
-    left_out pair headers ∙ all_kept is_other headers (names_hold is_other (λ name. not (equal_fold name (codes "Transport"))) (λ header other. other) (fields_up given request said range) refl)
+pub transport_left_out : (judged : Judged) (request : Request1) (said : Said) (uri : List ℕ) (range : Option Range) (pair : Pair) →
+    without_transport (with_transport pair (request_up judged request said uri range)).headers ≡ (request_up judged request said uri range).headers
+transport_left_out judged request said uri range pair =
+    let headers = field_headers (fields_up judged request said range) in
+    left_out pair headers ∙ all_kept is_other headers (names_hold is_other (λ name. not (equal_fold name (codes "Transport"))) (λ header other. other) (fields_up judged request said range) refl)

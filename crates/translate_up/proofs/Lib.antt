@@ -2,11 +2,13 @@ pub mod ChannelLemmas
 pub mod DecideLemmas
 pub mod DecisionLemmas
 pub mod FreeLemmas
+pub mod JudgedLemmas
 pub mod LeftOutLemmas
 pub mod RangeLemmas
 pub mod ReadLemmas
 pub mod ReasonLemmas
 pub mod SoundLemmas
+pub mod ShownLemmas
 pub mod TargetLemmas
 pub mod TransportLemmas
 pub mod VisibleLemmas
@@ -17,5 +19,8 @@ pub mod AnswerLemmas
 pub mod RuleLemmas
 pub mod PairLemmas
 pub mod PlaceLemmas
+pub mod NamedLemmas
 pub mod ByteLemmas
 pub mod StateLemmas
+pub mod UnrefusedLemmas
+pub mod SessionNameLemmas

@@ -22,7 +22,7 @@ use Rattle.session_one.specs.declared.table.State.TheVariants.{Init, Ready, Play
 use Rattle.session_one.specs.Table.{is_allowed}
 use Rattle.play_queue.specs.declared.queue.TheConstants.{MOST_PLAYS}
 use Rattle.translate_up.specs.Channels.{share, is_taken, pair_at, free_from, free_pair, pair_for, client_pair}
-use Rattle.translate_up.specs.Views.{Given, with_pair, with_pairs}
+use Rattle.translate_up.specs.Views.{Given, Judged, with_pair, with_pairs, judged_with_pairs}
 use Rattle.translate_up.specs.Fields.{field, Said, said_of, is_setup, is_play, is_pause, is_named, needs_session, is_track}
 use Rattle.translate_up.specs.Rules.{names_no_session, has_no_channels, has_bad_range, finds_none_free, must_wait, admission, unless_code, rules_checked}
 use Rattle.translate_up.specs.Answers.{options_text}
@@ -31,7 +31,8 @@ use Rattle.translate_up.specs.declared.rule.Admission.{Admission}
 use Rattle.translate_up.specs.declared.rule.Admission.TheVariants.{SetUp, Played, Other}
 use Rattle.translate_up.specs.declared.decision.Decision.{Decision}
 use Rattle.translate_up.specs.declared.decision.Decision.TheVariants.{Answer}
-use Rattle.translate_up.specs.Decisions.{play_on, play_in, serve, is_for_gateway, by_rules, decide_request, decide_read, decide}
+use Rattle.translate_up.specs.Decisions.{play_on, play_in, serve, is_for_gateway, by_rules, decide_request, decide_read, judged_of, decide}
+use Rattle.translate_up.proofs.JudgedLemmas.{judged_under}
 
 taken_under : (pairs : ℕ → ℕ) (tracks : List Track) (pair : Pair) → is_taken (map (with_pair pairs) tracks) pair ≡ is_taken tracks pair
 taken_under pairs [] pair = refl
@@ -76,52 +77,54 @@ count_under pairs [] = refl
 count_under pairs (track ∷ tracks) = ap suc (count_under pairs tracks)
 
 -- the rules, by whether the URI is that of a stream, and by the number of streams
-abbrev rules_of : Given → Method → Said → Bool → ℕ → List Rule
-rules_of given method said on streams =
-    rule (names_no_session method given.session said.session) 454
-    ∷ rule (not (is_allowed given.state method) || (is_setup method && ((is_some given.session && not (is_named said)) || on))) 455
+abbrev rules_of : Judged → Method → Said → Bool → ℕ → List Rule
+rules_of judged method said on streams =
+    rule (names_no_session method judged.session said.session) 454
+    ∷ rule (not (is_allowed judged.state method) || (is_setup method && ((not judged.has_room && not (is_named said)) || on))) 455
     ∷ rule (needs_session method && (on && nat_le 2 streams)) 460
     ∷ rule (has_no_channels method said) 461
     ∷ rule (has_bad_range method said.range) 457
-    ∷ rule (finds_none_free given method) 453
-    ∷ rule ((is_setup method && nat_le MOST_TRACKS streams) || (must_wait given method said && nat_le MOST_PLAYS given.queued)) 503
+    ∷ rule (finds_none_free judged method) 453
+    ∷ rule ((is_setup method && nat_le MOST_TRACKS streams) || (must_wait judged method said && nat_le MOST_PLAYS judged.queued)) 503
     ∷ []
 
-rules_under : (pairs : ℕ → ℕ) (given : Given) (method : Method) (said : Said) (uri : List ℕ) → rules_checked (with_pairs pairs given) method said uri ≡ rules_checked given method said uri
-rules_under pairs given method said uri =
-    ap (λ on. unless_code (first_code (rules_of given method said on (length (map (with_pair pairs) given.tracks)))) (admission method said)) (on_track_under pairs given.tracks uri)
-    ∙ ap (λ streams. unless_code (first_code (rules_of given method said (is_track given.tracks uri) streams)) (admission method said)) (count_under pairs given.tracks)
+rules_under : (pairs : ℕ → ℕ) (judged : Judged) (method : Method) (said : Said) (uri : List ℕ) → rules_checked (judged_with_pairs pairs judged) method said uri ≡ rules_checked judged method said uri
+rules_under pairs judged method said uri =
+    ap (λ on. unless_code (first_code (rules_of judged method said on (length (map (with_pair pairs) judged.tracks)))) (admission method said)) (on_track_under pairs judged.tracks uri)
+    ∙ ap (λ streams. unless_code (first_code (rules_of judged method said (is_track judged.tracks uri) streams)) (admission method said)) (count_under pairs judged.tracks)
 
-play_on_under : (pairs : ℕ → ℕ) (given : Given) (request : Request1) (said : Said) (uri : List ℕ) (range : Option Range) → play_on (with_pairs pairs given) request said uri range ≡ play_on given request said uri range
-play_on_under pairs given request said uri None = refl
-play_on_under pairs given request said uri (Some range) = refl
+play_on_under : (pairs : ℕ → ℕ) (judged : Judged) (request : Request1) (said : Said) (uri : List ℕ) (range : Option Range) → play_on (judged_with_pairs pairs judged) request said uri range ≡ play_on judged request said uri range
+play_on_under pairs judged request said uri None = refl
+play_on_under pairs judged request said uri (Some range) = refl
 
-play_in_under : (pairs : ℕ → ℕ) (state : State) (given : Given) (request : Request1) (said : Said) (uri : List ℕ) (range : Option Range)
-    → play_in state (with_pairs pairs given) request said uri range ≡ play_in state given request said uri range
-play_in_under pairs Init given request said uri range = refl
-play_in_under pairs Ready given request said uri range = refl
-play_in_under pairs Playing given request said uri range = play_on_under pairs given request said uri range
+play_in_under : (pairs : ℕ → ℕ) (state : State) (judged : Judged) (request : Request1) (said : Said) (uri : List ℕ) (range : Option Range)
+    → play_in state (judged_with_pairs pairs judged) request said uri range ≡ play_in state judged request said uri range
+play_in_under pairs Init judged request said uri range = refl
+play_in_under pairs Ready judged request said uri range = refl
+play_in_under pairs Playing judged request said uri range = play_on_under pairs judged request said uri range
 
-serve_under : (pairs : ℕ → ℕ) (given : Given) (request : Request1) (said : Said) (uri : List ℕ) (admitted : Admission) → serve (with_pairs pairs given) request said uri admitted ≡ serve given request said uri admitted
-serve_under pairs given request said uri (SetUp pair) = refl
-serve_under pairs given request said uri (Played range) = play_in_under pairs given.state given request said uri range
-serve_under pairs given request said uri Other = refl
+serve_under : (pairs : ℕ → ℕ) (judged : Judged) (request : Request1) (said : Said) (uri : List ℕ) (admitted : Admission) → serve (judged_with_pairs pairs judged) request said uri admitted ≡ serve judged request said uri admitted
+serve_under pairs judged request said uri (SetUp pair) = refl
+serve_under pairs judged request said uri (Played range) = play_in_under pairs judged.state judged request said uri range
+serve_under pairs judged request said uri Other = refl
 
-by_rules_under : (pairs : ℕ → ℕ) (given : Given) (request : Request1) (said : Said) (uri : List ℕ) (admitted : Result Admission ℕ)
-    → by_rules (with_pairs pairs given) request said uri admitted ≡ by_rules given request said uri admitted
-by_rules_under pairs given request said uri (Err code) = refl
-by_rules_under pairs given request said uri (Ok admitted) =
-    ap (λ (served : Decision). cond (is_for_gateway request.method said) (Answer (options_text request.cseq)) served) (serve_under pairs given request said uri admitted)
+by_rules_under : (pairs : ℕ → ℕ) (judged : Judged) (request : Request1) (said : Said) (uri : List ℕ) (admitted : Result Admission ℕ)
+    → by_rules (judged_with_pairs pairs judged) request said uri admitted ≡ by_rules judged request said uri admitted
+by_rules_under pairs judged request said uri (Err code) = refl
+by_rules_under pairs judged request said uri (Ok admitted) =
+    ap (λ (served : Decision). cond (is_for_gateway request.method said) (Answer (options_text request.cseq)) served) (serve_under pairs judged request said uri admitted)
 
-request_under : (pairs : ℕ → ℕ) (given : Given) (request : Request1) → decide_request (with_pairs pairs given) request ≡ decide_request given request
-request_under pairs given request =
-    ap (λ said. by_rules (with_pairs pairs given) request said (uri_up given request.uri) (rules_checked (with_pairs pairs given) request.method said (uri_up given request.uri))) (said_under pairs given.tracks request)
-    ∙ by_rules_under pairs given request (said_of given.tracks request) (uri_up given request.uri) (rules_checked (with_pairs pairs given) request.method (said_of given.tracks request) (uri_up given request.uri))
-    ∙ ap (by_rules given request (said_of given.tracks request) (uri_up given request.uri)) (rules_under pairs given request.method (said_of given.tracks request) (uri_up given request.uri))
+request_under : (pairs : ℕ → ℕ) (judged : Judged) (request : Request1) → decide_request (judged_with_pairs pairs judged) request ≡ decide_request judged request
+request_under pairs judged request =
+    ap (λ said. by_rules (judged_with_pairs pairs judged) request said (uri_up judged request.uri) (rules_checked (judged_with_pairs pairs judged) request.method said (uri_up judged request.uri))) (said_under pairs judged.all request)
+    ∙ by_rules_under pairs judged request (said_of judged.all request) (uri_up judged request.uri) (rules_checked (judged_with_pairs pairs judged) request.method (said_of judged.all request) (uri_up judged request.uri))
+    ∙ ap (by_rules judged request (said_of judged.all request) (uri_up judged request.uri)) (rules_under pairs judged request.method (said_of judged.all request) (uri_up judged request.uri))
 
-read_under : (pairs : ℕ → ℕ) (given : Given) (read : Result Request1 Refusal) → decide_read (with_pairs pairs given) read ≡ decide_read given read
-read_under pairs given (Ok request) = request_under pairs given request
-read_under pairs given (Err refusal) = refl
+read_under : (pairs : ℕ → ℕ) (judged : Judged) (read : Result Request1 Refusal) → decide_read (judged_with_pairs pairs judged) read ≡ decide_read judged read
+read_under pairs judged (Ok request) = request_under pairs judged request
+read_under pairs judged (Err refusal) = refl
 
 pub decide_under : (pairs : ℕ → ℕ) (given : Given) (shape : Shape) → decide (with_pairs pairs given) shape ≡ decide given shape
-decide_under pairs given shape = read_under pairs given (request_of_item shape)
+decide_under pairs given shape =
+    ap (λ judged. decide_read judged (request_of_item shape)) (judged_under pairs given (request_of_item shape))
+    ∙ read_under pairs (judged_of given shape) (request_of_item shape)

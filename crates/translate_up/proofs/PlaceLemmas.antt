@@ -28,20 +28,20 @@ use Rattle.translate_up.specs.declared.decision.Decision.TheVariants as decision
 use Rattle.translate_up.specs.declared.rule.Admission.{Admission}
 use Rattle.translate_up.specs.declared.rule.Admission.TheVariants.{SetUp, Played, Other}
 use Rattle.translate_up.specs.Channels.{is_taken, free_pair, pair_for, client_pair}
-use Rattle.translate_up.specs.Views.{Given}
+use Rattle.translate_up.specs.Views.{Given, Judged}
 use Rattle.translate_up.specs.Fields.{field, Said, said_of, is_setup}
 use Rattle.translate_up.specs.Rules.{names_no_session, is_out_of_turn, names_one_of_many, has_no_channels, has_bad_range, finds_none_free, must_wait, finds_no_place, session_rules, with_channels, with_range, admission, unless_code, rules_checked}
 use Rattle.translate_up.specs.Upward.{uri_up}
 use Rattle.translate_up.specs.Answers.{options_text}
-use Rattle.translate_up.specs.Decisions.{play_on, play_in, serve, is_for_gateway, by_rules, decide_request, decide_read, decide}
+use Rattle.translate_up.specs.Decisions.{play_on, play_in, serve, is_for_gateway, by_rules, decide_request, decide_read, judged_of, decide}
 use Rattle.translate_up.proofs.FreeLemmas.{lowest_found}
 use Rattle.translate_up.proofs.RuleLemmas.{unrefused}
 
-abbrev pub HasPlace : Given → Decision → Type 0
-HasPlace given (decisions.Answer text) = Unit {0}
-HasPlace given (decisions.Queue play text) = given.queued < MOST_PLAYS
-HasPlace given (decisions.Forward request asked) = Unit {0}
-HasPlace given (decisions.Setup request asked channels) = (length given.tracks < MOST_TRACKS) × (is_taken given.tracks channels ≡ false)
+abbrev pub HasPlace : Judged → Decision → Type 0
+HasPlace judged (decisions.Answer text) = Unit {0}
+HasPlace judged (decisions.Queue play text) = judged.queued < MOST_PLAYS
+HasPlace judged (decisions.Forward request asked) = Unit {0}
+HasPlace judged (decisions.Setup request asked channels) = (length judged.tracks < MOST_TRACKS) × (length judged.all ≤ 63 → is_taken judged.all channels ≡ false)
 
 -- The channels that a player gets are not taken.
 wanted_free : (tracks : List Track) (wanted : Result Wanted TransportFault) (pair : Pair) → length tracks ≤ 63 → pair_for tracks wanted ≡ Some pair → is_taken tracks pair ≡ false
@@ -65,24 +65,24 @@ said_free tracks request pair few e = by (is_setup request.method) e
     by false h = cc
 
 -- Where no rule applies, the last one doesn't.
-finds_place : (given : Given) (method : Method) (said : Said) (uri : List ℕ) → first_code (session_rules given method said uri) ≡ None → finds_no_place given method said ≡ false
-finds_place given method said uri h =
-    let last = rule (finds_no_place given method said) 503 ∷ [] in
-    let places = rule (finds_none_free given method) 453 ∷ last in
+finds_place : (judged : Judged) (method : Method) (said : Said) (uri : List ℕ) → first_code (session_rules judged method said uri) ≡ None → finds_no_place judged method said ≡ false
+finds_place judged method said uri h =
+    let last = rule (finds_no_place judged method said) 503 ∷ [] in
+    let places = rule (finds_none_free judged method) 453 ∷ last in
     let ranges = rule (has_bad_range method said.range) 457 ∷ places in
     let channels = rule (has_no_channels method said) 461 ∷ ranges in
-    let many = rule (names_one_of_many given method uri) 460 ∷ channels in
-    let turns = rule (is_out_of_turn given method said uri) 455 ∷ many in
-    let session = unrefused (names_no_session method given.session said.session) 454 turns h in
-    let turn = unrefused (is_out_of_turn given method said uri) 455 many session.1 in
-    let one = unrefused (names_one_of_many given method uri) 460 channels turn.1 in
+    let many = rule (names_one_of_many judged method uri) 460 ∷ channels in
+    let turns = rule (is_out_of_turn judged method said uri) 455 ∷ many in
+    let session = unrefused (names_no_session method judged.session said.session) 454 turns h in
+    let turn = unrefused (is_out_of_turn judged method said uri) 455 many session.1 in
+    let one = unrefused (names_one_of_many judged method uri) 460 channels turn.1 in
     let channel = unrefused (has_no_channels method said) 461 ranges one.1 in
     let bad = unrefused (has_bad_range method said.range) 457 places channel.1 in
-    let free = unrefused (finds_none_free given method) 453 last bad.1 in
-    (unrefused (finds_no_place given method said) 503 [] free.1).0
+    let free = unrefused (finds_none_free judged method) 453 last bad.1 in
+    (unrefused (finds_no_place judged method said) 503 [] free.1).0
 
 -- What is let through is for its method, with what the request says.
-abbrev IsAdmitted : Method → Said → Admission → Type 0
+abbrev pub IsAdmitted : Method → Said → Admission → Type 0
 IsAdmitted method said (SetUp pair) = (method ≡ Setup) × (said.channels ≡ Some pair)
 IsAdmitted method said (Played range) = (method ≡ Play) × (is_some range ≡ true → is_some said.range ≡ true)
 IsAdmitted method said Other = Unit {0}
@@ -100,7 +100,7 @@ range_admitted said (Some (Err fault)) admitted is e = cc
 other_admitted : (method : Method) (said : Said) (admitted : Admission) → ◌≡◌ {A = Result Admission ℕ} (Ok Other) (Ok admitted) → IsAdmitted method said admitted
 other_admitted method said admitted e = let same : Other ≡ admitted = cc in subst (λ (one : Admission). IsAdmitted method said one) same tt
 
-admitted_as : (method : Method) (said : Said) (admitted : Admission) → admission method said ≡ Ok admitted → IsAdmitted method said admitted
+pub admitted_as : (method : Method) (said : Said) (admitted : Admission) → admission method said ≡ Ok admitted → IsAdmitted method said admitted
 admitted_as Options said admitted e = other_admitted Options said admitted e
 admitted_as Describe said admitted e = other_admitted Describe said admitted e
 admitted_as Setup said admitted e = channels_admitted said said.channels admitted refl e
@@ -111,7 +111,7 @@ admitted_as GetParameter said admitted e = other_admitted GetParameter said admi
 admitted_as SetParameter said admitted e = other_admitted SetParameter said admitted e
 
 -- no rule applies, and it is let through
-checked_as : (code : Option ℕ) (result : Result Admission ℕ) (admitted : Admission) → unless_code code result ≡ Ok admitted → (code ≡ None) × (result ≡ Ok admitted)
+pub checked_as : (code : Option ℕ) (result : Result Admission ℕ) (admitted : Admission) → unless_code code result ≡ Ok admitted → (code ≡ None) × (result ≡ Ok admitted)
 checked_as None result admitted e = (refl, e)
 checked_as (Some code) result admitted e = cc
 
@@ -120,58 +120,58 @@ either_false : (a b : Bool) → (a || b) ≡ false → (a ≡ false) × (b ≡ f
 either_false true b e = cc
 either_false false b e = (refl, e)
 
-setup_place : (given : Given) (said : Said) → finds_no_place given Setup said ≡ false → length given.tracks < MOST_TRACKS
-setup_place given said none = leb-false MOST_TRACKS (length given.tracks) (either_false (nat_le MOST_TRACKS (length given.tracks)) (must_wait given Setup said && nat_le MOST_PLAYS given.queued) none).0
+setup_place : (judged : Judged) (said : Said) → finds_no_place judged Setup said ≡ false → length judged.tracks < MOST_TRACKS
+setup_place judged said none = leb-false MOST_TRACKS (length judged.tracks) (either_false (nat_le MOST_TRACKS (length judged.tracks)) (must_wait judged Setup said && nat_le MOST_PLAYS judged.queued) none).0
 
-play_place : (given : Given) (said : Said) → finds_no_place given Play said ≡ false → given.state ≡ Playing → is_some said.range ≡ true → given.queued < MOST_PLAYS
-play_place given said none playing some = leb-false MOST_PLAYS given.queued (by given.state (is_some said.range) playing some none)
+play_place : (judged : Judged) (said : Said) → finds_no_place judged Play said ≡ false → judged.state ≡ Playing → is_some said.range ≡ true → judged.queued < MOST_PLAYS
+play_place judged said none playing some = leb-false MOST_PLAYS judged.queued (by judged.state (is_some said.range) playing some none)
   where
-    by : (state : State) (range : Bool) → state ≡ Playing → range ≡ true → (false || ((same_state state Playing && range) && nat_le MOST_PLAYS given.queued)) ≡ false → nat_le MOST_PLAYS given.queued ≡ false
+    by : (state : State) (range : Bool) → state ≡ Playing → range ≡ true → (false || ((same_state state Playing && range) && nat_le MOST_PLAYS judged.queued)) ≡ false → nat_le MOST_PLAYS judged.queued ≡ false
     by Init range e r h = cc
     by Ready range e r h = cc
     by Playing true e r h = h
     by Playing false e r h = cc
 
-play_on_place : (given : Given) (request : Request1) (said : Said) (uri : List ℕ) (range : Option Range) → (is_some range ≡ true → given.queued < MOST_PLAYS) → HasPlace given (play_on given request said uri range)
-play_on_place given request said uri None few = tt
-play_on_place given request said uri (Some range) few = few refl
+play_on_place : (judged : Judged) (request : Request1) (said : Said) (uri : List ℕ) (range : Option Range) → (is_some range ≡ true → judged.queued < MOST_PLAYS) → HasPlace judged (play_on judged request said uri range)
+play_on_place judged request said uri None few = tt
+play_on_place judged request said uri (Some range) few = few refl
 
-play_in_place : (state : State) (given : Given) (request : Request1) (said : Said) (uri : List ℕ) (range : Option Range) → (state ≡ Playing → is_some range ≡ true → given.queued < MOST_PLAYS)
-    → HasPlace given (play_in state given request said uri range)
-play_in_place Init given request said uri range few = tt
-play_in_place Ready given request said uri range few = tt
-play_in_place Playing given request said uri range few = play_on_place given request said uri range (few refl)
+play_in_place : (state : State) (judged : Judged) (request : Request1) (said : Said) (uri : List ℕ) (range : Option Range) → (state ≡ Playing → is_some range ≡ true → judged.queued < MOST_PLAYS)
+    → HasPlace judged (play_in state judged request said uri range)
+play_in_place Init judged request said uri range few = tt
+play_in_place Ready judged request said uri range few = tt
+play_in_place Playing judged request said uri range few = play_on_place judged request said uri range (few refl)
 
-serve_place : (given : Given) (request : Request1) (said : Said) (uri : List ℕ) (admitted : Admission) → said ≡ said_of given.tracks request → finds_no_place given request.method said ≡ false → IsAdmitted request.method said admitted
-    → HasPlace given (serve given request said uri admitted)
-serve_place given request said uri (SetUp pair) is none meant =
-    let few : length given.tracks < MOST_TRACKS = setup_place given said (ap (λ method. finds_no_place given method said) (sym meant.0) ∙ none) in
-    (few, said_free given.tracks request pair (omega (arith, few)) (ap (λ (one : Said). one.channels) (sym is) ∙ meant.1))
-serve_place given request said uri (Played range) is none meant =
-    play_in_place given.state given request said uri range (λ playing some. play_place given said (ap (λ method. finds_no_place given method said) (sym meant.0) ∙ none) playing (meant.1 some))
-serve_place given request said uri Other is none meant = tt
+serve_place : (judged : Judged) (request : Request1) (said : Said) (uri : List ℕ) (admitted : Admission) → said ≡ said_of judged.all request → finds_no_place judged request.method said ≡ false → IsAdmitted request.method said admitted
+    → HasPlace judged (serve judged request said uri admitted)
+serve_place judged request said uri (SetUp pair) is none meant =
+    let few : length judged.tracks < MOST_TRACKS = setup_place judged said (ap (λ method. finds_no_place judged method said) (sym meant.0) ∙ none) in
+    (few, λ all. said_free judged.all request pair all (ap (λ (one : Said). one.channels) (sym is) ∙ meant.1))
+serve_place judged request said uri (Played range) is none meant =
+    play_in_place judged.state judged request said uri range (λ playing some. play_place judged said (ap (λ method. finds_no_place judged method said) (sym meant.0) ∙ none) playing (meant.1 some))
+serve_place judged request said uri Other is none meant = tt
 
-either_place : (own : Bool) (given : Given) (text : List ℕ) (served : Decision) → HasPlace given served → HasPlace given (cond own (decisions.Answer text) served)
-either_place true given text served place = tt
-either_place false given text served place = place
+either_place : (own : Bool) (judged : Judged) (text : List ℕ) (served : Decision) → HasPlace judged served → HasPlace judged (cond own (decisions.Answer text) served)
+either_place true judged text served place = tt
+either_place false judged text served place = place
 
-by_rules_place : (given : Given) (request : Request1) (said : Said) (uri : List ℕ) (checked : Result Admission ℕ) → said ≡ said_of given.tracks request → rules_checked given request.method said uri ≡ checked
-    → HasPlace given (by_rules given request said uri checked)
-by_rules_place given request said uri (Err code) is e = tt
-by_rules_place given request said uri (Ok admitted) is e =
-    let parts = checked_as (first_code (session_rules given request.method said uri)) (admission request.method said) admitted e in
-    either_place (is_for_gateway request.method said) given (options_text request.cseq) (serve given request said uri admitted)
-    (serve_place given request said uri admitted is (finds_place given request.method said uri parts.0) (admitted_as request.method said admitted parts.1))
+by_rules_place : (judged : Judged) (request : Request1) (said : Said) (uri : List ℕ) (checked : Result Admission ℕ) → said ≡ said_of judged.all request → rules_checked judged request.method said uri ≡ checked
+    → HasPlace judged (by_rules judged request said uri checked)
+by_rules_place judged request said uri (Err code) is e = tt
+by_rules_place judged request said uri (Ok admitted) is e =
+    let parts = checked_as (first_code (session_rules judged request.method said uri)) (admission request.method said) admitted e in
+    either_place (is_for_gateway request.method said) judged (options_text request.cseq) (serve judged request said uri admitted)
+    (serve_place judged request said uri admitted is (finds_place judged request.method said uri parts.0) (admitted_as request.method said admitted parts.1))
 
-request_place : (given : Given) (request : Request1) → HasPlace given (decide_request given request)
-request_place given request =
-    let said = said_of given.tracks request in
-    let uri = uri_up given request.uri in
-    by_rules_place given request said uri (rules_checked given request.method said uri) refl refl
+request_place : (judged : Judged) (request : Request1) → HasPlace judged (decide_request judged request)
+request_place judged request =
+    let said = said_of judged.all request in
+    let uri = uri_up judged request.uri in
+    by_rules_place judged request said uri (rules_checked judged request.method said uri) refl refl
 
-read_place : (given : Given) (read : Result Request1 Refusal) → HasPlace given (decide_read given read)
-read_place given (Ok request) = request_place given request
-read_place given (Err refusal) = tt
+read_place : (judged : Judged) (read : Result Request1 Refusal) → HasPlace judged (decide_read judged read)
+read_place judged (Ok request) = request_place judged request
+read_place judged (Err refusal) = tt
 
-pub decide_place : (given : Given) (shape : Shape) → HasPlace given (decide given shape)
-decide_place given shape = read_place given (request_of_item shape)
+pub decide_place : (given : Given) (shape : Shape) → HasPlace (judged_of given shape) (decide given shape)
+decide_place given shape = read_place (judged_of given shape) (request_of_item shape)

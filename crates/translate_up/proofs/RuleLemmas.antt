@@ -8,7 +8,7 @@ use Rattle.rtsp_range.specs.declared.range.Range.{Range}
 use Rattle.rtsp_range.specs.declared.fault.RangeFault.{RangeFault}
 use Rattle.head_one.specs.Refusals.{Rule, rule, first_code}
 use Rattle.translate_up.specs.declared.rule.Admission.{Admission}
-use Rattle.translate_up.specs.Views.{Given}
+use Rattle.translate_up.specs.Views.{Judged}
 use Rattle.translate_up.specs.Fields.{Said}
 use Rattle.translate_up.specs.Rules.{names_no_session, is_out_of_turn, names_one_of_many, has_no_channels, has_bad_range, finds_none_free, finds_no_place, session_rules, with_channels, with_range, admission, unless_code, rules_checked}
 
@@ -37,16 +37,16 @@ let_through Teardown said channels range = refl
 let_through GetParameter said channels range = refl
 let_through SetParameter said channels range = refl
 
-admitted : (given : Given) (method : Method) (said : Said) (uri : List ℕ) → first_code (session_rules given method said uri) ≡ None → is_ok (admission method said) ≡ true
-admitted given method said uri h =
-    let places = rule (finds_none_free given method) 453 ∷ rule (finds_no_place given method said) 503 ∷ [] in
+admitted : (judged : Judged) (method : Method) (said : Said) (uri : List ℕ) → first_code (session_rules judged method said uri) ≡ None → is_ok (admission method said) ≡ true
+admitted judged method said uri h =
+    let places = rule (finds_none_free judged method) 453 ∷ rule (finds_no_place judged method said) 503 ∷ [] in
     let ranges = rule (has_bad_range method said.range) 457 ∷ places in
     let channels = rule (has_no_channels method said) 461 ∷ ranges in
-    let many = rule (names_one_of_many given method uri) 460 ∷ channels in
-    let turns = rule (is_out_of_turn given method said uri) 455 ∷ many in
-    let session = unrefused (names_no_session method given.session said.session) 454 turns h in
-    let turn = unrefused (is_out_of_turn given method said uri) 455 many session.1 in
-    let one = unrefused (names_one_of_many given method uri) 460 channels turn.1 in
+    let many = rule (names_one_of_many judged method uri) 460 ∷ channels in
+    let turns = rule (is_out_of_turn judged method said uri) 455 ∷ many in
+    let session = unrefused (names_no_session method judged.session said.session) 454 turns h in
+    let turn = unrefused (is_out_of_turn judged method said uri) 455 many session.1 in
+    let one = unrefused (names_one_of_many judged method uri) 460 channels turn.1 in
     let channel = unrefused (has_no_channels method said) 461 ranges one.1 in
     let bad = unrefused (has_bad_range method said.range) 457 places channel.1 in
     let_through method said channel.0 bad.0
@@ -59,7 +59,7 @@ by_rule None (Ok one) code through refused = cc
 by_rule None (Err one) code through refused = never code (through refl)
 by_rule (Some one) result code through refused = cc
 
-pub refused_by_rule : (given : Given) (method : Method) (said : Said) (uri : List ℕ) (code : ℕ) →
-    rules_checked given method said uri ≡ Err code → first_code (session_rules given method said uri) ≡ Some code
-refused_by_rule given method said uri code refused =
-    by_rule (first_code (session_rules given method said uri)) (admission method said) code (admitted given method said uri) refused
+pub refused_by_rule : (judged : Judged) (method : Method) (said : Said) (uri : List ℕ) (code : ℕ) →
+    rules_checked judged method said uri ≡ Err code → first_code (session_rules judged method said uri) ≡ Some code
+refused_by_rule judged method said uri code refused =
+    by_rule (first_code (session_rules judged method said uri)) (admission method said) code (admitted judged method said uri) refused

@@ -22,7 +22,7 @@ use Rattle.rtsp_range.specs.Writable.{can_be_written}
 use Rattle.rtsp_transport.specs.declared.channels.Pair.{Pair}
 use Rattle.head_one.specs.declared.request.Request1.{Request1}
 use Rattle.head_two.specs.Messages.{version_two}
-use Rattle.translate_up.specs.Views.{Given}
+use Rattle.translate_up.specs.Views.{Judged}
 use Rattle.rtsp_head.specs.Optional.{said_where, field_headers}
 use Rattle.rtsp_head.specs.Spellings.{begins_frame}
 use Rattle.rtsp_head.proofs.FieldLemmas.{EachField, HasValue, fields_sound, names_hold, fields_few}
@@ -63,9 +63,9 @@ range_value (Some range) can = visible_value (range_text range) (range_visible r
 pub scale_value : (request : Request1) → Read request → AreValues (scale_of request)
 scale_value request read = passing_value is_scale (field request (codes "Scale")) (field_value request (codes "Scale") read)
 
-fields_values : (given : Given) (request : Request1) (said : Said) (range : Option Range) → IsFit given → Read request → IsWritable range → EachField HasValue (fields_up given request said range)
-fields_values given request said range fit read can = (
-  where_value (is_named said) given.session (session_value given.session fit.session),
+fields_values : (judged : Judged) (request : Request1) (said : Said) (range : Option Range) → IsFit judged → Read request → IsWritable range → EachField HasValue (fields_up judged request said range)
+fields_values judged request said range fit read can = (
+  where_value (is_named said) judged.session (session_value judged.session fit.session),
   (
     where_value (is_describe request.method) (field request (codes "Accept")) (field_value request (codes "Accept") read),
     (
@@ -84,23 +84,23 @@ fields_values given request said range fit read can = (
   ),
 )
 
-headers_sound : (given : Given) (request : Request1) (said : Said) (range : Option Range) → IsFit given → Read request → IsWritable range →
-    list_all is_header (field_headers (fields_up given request said range)) ≡ true
-headers_sound given request said range fit read can = fields_sound (fields_up given request said range) refl (fields_values given request said range fit read can)
+headers_sound : (judged : Judged) (request : Request1) (said : Said) (range : Option Range) → IsFit judged → Read request → IsWritable range →
+    list_all is_header (field_headers (fields_up judged request said range)) ≡ true
+headers_sound judged request said range fit read can = fields_sound (fields_up judged request said range) refl (fields_values judged request said range fit read can)
 
 -- a name that a message doesn't have by itself
 abbrev is_own : List ℕ → Bool
 is_own name = not (equal_fold name (codes "CSeq") || equal_fold name (codes "Content-Length"))
 
-headers_own : (given : Given) (request : Request1) (said : Said) (range : Option Range) →
-    list_all (λ header. not (is_added header)) (field_headers (fields_up given request said range)) ≡ true
-headers_own given request said range = names_hold (λ header. not (is_added header)) is_own (λ header own. own) (fields_up given request said range) refl
+headers_own : (judged : Judged) (request : Request1) (said : Said) (range : Option Range) →
+    list_all (λ header. not (is_added header)) (field_headers (fields_up judged request said range)) ≡ true
+headers_own judged request said range = names_hold (λ header. not (is_added header)) is_own (λ header own. own) (fields_up judged request said range) refl
 
-headers_few : (given : Given) (request : Request1) (said : Said) (range : Option Range) → length (field_headers (fields_up given request said range)) ≤ 7
-headers_few given request said range = fields_few (fields_up given request said range)
+headers_few : (judged : Judged) (request : Request1) (said : Said) (range : Option Range) → length (field_headers (fields_up judged request said range)) ≤ 7
+headers_few judged request said range = fields_few (fields_up judged request said range)
 
 -- a first line with one of the methods
-start_sound : (method : Method) (uri : List ℕ) → is_target uri ≡ true → is_start (Request (method_name method) uri version_two) ≡ true
+pub start_sound : (method : Method) (uri : List ℕ) → is_target uri ≡ true → is_start (Request (method_name method) uri version_two) ≡ true
 start_sound method uri h = by_name method (and_parts (is_part uri) (is_line_text uri) h).0 (and_parts (is_part uri) (is_line_text uri) h).1
   where
     known : is_part uri ≡ true → is_line_text uri ≡ true → ((is_part uri && true) && (is_line_text uri && true)) ≡ true
@@ -132,15 +132,15 @@ method_no_frame GetParameter = refl
 method_no_frame SetParameter = refl
 
 -- A request that goes up can be written and read back.
-pub up_sound : (given : Given) (request : Request1) (said : Said) (uri : List ℕ) (range : Option Range) → IsFit given → Read request → is_target uri ≡ true → IsWritable range →
-    IsSound (request_up given request said uri range)
-up_sound given request said uri range fit read target can number short = record {
+pub up_sound : (judged : Judged) (request : Request1) (said : Said) (uri : List ℕ) (range : Option Range) → IsFit judged → Read request → is_target uri ≡ true → IsWritable range →
+    IsSound (request_up judged request said uri range)
+up_sound judged request said uri range fit read target can number short = record {
   short = short;
   no_frame = method_no_frame (method_up request.method);
   held = body_short (has_body_up request) request.body read.body;
-  writable = message_sound (Request (method_name (method_up request.method)) uri version_two) (Some number) (field_headers (fields_up given request said range)) (cond (has_body_up request) request.body [])
-      (start_sound (method_up request.method) uri target) (omega arith) (body_short (has_body_up request) request.body read.body) (omega (arith, headers_few given request said range)) (headers_sound given request said range fit read can);
-  own = headers_own given request said range;
+  writable = message_sound (Request (method_name (method_up request.method)) uri version_two) (Some number) (field_headers (fields_up judged request said range)) (cond (has_body_up request) request.body [])
+      (start_sound (method_up request.method) uri target) (omega arith) (body_short (has_body_up request) request.body read.body) (omega (arith, headers_few judged request said range)) (headers_sound judged request said range fit read can);
+  own = headers_own judged request said range;
 }
 
 transported_all : (p : Header → Bool) (pair : Pair) (headers : List Header) → p (transport_header pair) ≡ true → list_all p headers ≡ true → list_all p (headers_with_transport pair headers) ≡ true
@@ -167,15 +167,15 @@ transport_sound : (pair : Pair) → pair.rtp < 256 → pair.rtcp < 256 → is_he
 transport_sound pair rtp rtcp = visible_value (transport_header pair).value (grant_visible pair rtp rtcp)
 
 -- So can a SETUP with its channels.
-pub setup_sound : (given : Given) (request : Request1) (said : Said) (uri : List ℕ) → IsFit given → Read request → is_target uri ≡ true → IsSoundSetup (request_up given request said uri None)
-setup_sound given request said uri fit read target pair rtp rtcp number short =
-    let headers = field_headers (fields_up given request said None) in
+pub setup_sound : (judged : Judged) (request : Request1) (said : Said) (uri : List ℕ) → IsFit judged → Read request → is_target uri ≡ true → IsSoundSetup (request_up judged request said uri None)
+setup_sound judged request said uri fit read target pair rtp rtcp number short =
+    let headers = field_headers (fields_up judged request said None) in
     record {
       short = short;
       no_frame = method_no_frame (method_up request.method);
       held = body_short (has_body_up request) request.body read.body;
       writable = message_sound (Request (method_name (method_up request.method)) uri version_two) (Some number) (headers_with_transport pair headers) (cond (has_body_up request) request.body [])
-          (start_sound (method_up request.method) uri target) (omega arith) (body_short (has_body_up request) request.body read.body) (omega (arith, headers_few given request said None, transported_few pair headers))
-          (transported_all is_header pair headers (transport_sound pair rtp rtcp) (headers_sound given request said None fit read tt));
-      own = transported_all (λ header. not (is_added header)) pair headers refl (headers_own given request said None);
+          (start_sound (method_up request.method) uri target) (omega arith) (body_short (has_body_up request) request.body read.body) (omega (arith, headers_few judged request said None, transported_few pair headers))
+          (transported_all is_header pair headers (transport_sound pair rtp rtcp) (headers_sound judged request said None fit read tt));
+      own = transported_all (λ header. not (is_added header)) pair headers refl (headers_own judged request said None);
     }

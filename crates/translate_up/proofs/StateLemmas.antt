@@ -45,12 +45,12 @@ use Rattle.translate_up.specs.declared.decision.Decision.{Decision}
 use Rattle.translate_up.specs.declared.decision.Decision.TheVariants.{Answer, Forward, Queue, Setup}
 use Rattle.translate_up.specs.declared.rule.Admission.{Admission}
 use Rattle.translate_up.specs.declared.rule.Admission.TheVariants.{SetUp, Played, Other}
-use Rattle.translate_up.specs.Views.{Given}
+use Rattle.translate_up.specs.Views.{Given, Judged}
 use Rattle.translate_up.specs.Fields.{field, Said, said_of, is_setup, is_named}
 use Rattle.translate_up.specs.Upward.{uri_up, session_said}
 use Rattle.translate_up.specs.Rules.{sets_up_again, names_no_session, is_out_of_turn, session_rules, with_channels, with_range, admission, unless_code, rules_checked}
 use Rattle.translate_up.specs.Answers.{own_answer, refusal_text, options_text}
-use Rattle.translate_up.specs.Decisions.{play_on, play_in, serve, is_for_gateway, by_rules, decide_read, decide}
+use Rattle.translate_up.specs.Decisions.{play_on, play_in, serve, is_for_gateway, by_rules, decide_read, judged_of, decide}
 use Rattle.translate_up.proofs.ReadLemmas.{Read, cseq_small, request_read}
 use Rattle.translate_up.proofs.SoundLemmas.{AreValues, IsWritable, where_value, session_value, range_value}
 use Rattle.translate_up.proofs.DecideLemmas.{IsSoundAdmission, AdmitsSound, said_sound, admission_sound, unless_sound}
@@ -283,47 +283,47 @@ record IsChecked (state : State) (method : Method) (checked : Result Admission �
   pub sound : AdmitsSound checked
   pub bytes : IfOk checked IsAdmissionOfBytes
 
-rules_on : (given : Given) (request : Request1) (uri : List ℕ) → IsChecked given.state request.method (rules_checked given request.method (said_of given.tracks request) uri)
-rules_on given request uri =
-    let said = said_of given.tracks request in
-    let rules = session_rules given request.method said uri in
+rules_on : (judged : Judged) (request : Request1) (uri : List ℕ) → IsChecked judged.state request.method (rules_checked judged request.method (said_of judged.all request) uri)
+rules_on judged request uri =
+    let said = said_of judged.all request in
+    let rules = session_rules judged request.method said uri in
     let admitted = admission request.method said in
     record {
       refused = λ code e. rules_refuse (first_code rules) admitted code (λ one found. first_refuses rules one refl found) (admission_refuses request.method said) e;
-      allowed = λ one e. in_turn (is_allowed given.state request.method) (sets_up_again given request.method said uri)
-          (second_none (names_no_session request.method given.session said.session) (is_out_of_turn given request.method said uri) _ admitted one e);
+      allowed = λ one e. in_turn (is_allowed judged.state request.method) (sets_up_again judged request.method said uri)
+          (second_none (names_no_session request.method judged.session said.session) (is_out_of_turn judged request.method said uri) _ admitted one e);
       plays = λ range e. admission_plays request.method said range (admitted_is (first_code rules) admitted (Played range) e);
-      sound = unless_sound (first_code rules) admitted (admission_sound request.method said (said_sound given.tracks request));
-      bytes = unless_bytes (first_code rules) admitted (admission_bytes request.method said (said_bytes (is_setup request.method) given.tracks (field request (codes "Transport"))));
+      sound = unless_sound (first_code rules) admitted (admission_sound request.method said (said_sound judged.all request));
+      bytes = unless_bytes (first_code rules) admitted (admission_bytes request.method said (said_bytes (is_setup request.method) judged.all (field request (codes "Transport"))));
     }
 
 -- What becomes of a request that is let through.
 play_leads : (method : Method) → method ≡ methods.Play → led_by Playing (Some method) 200 ≡ Some Playing
 play_leads method e = subst (λ (m : Method). led_by Playing (Some m) 200 ≡ Some Playing) (sym e) refl
 
-play_on_decided : (given : Given) (request : Request1) (said : Said) (uri : List ℕ) (range : Option Range) → IsValidId given.session → Read request → IsWritable range → request.method ≡ methods.Play
-    → IsDecided Playing (Ok request) (play_on given request said uri range)
-play_on_decided given request said uri None valid read can plays =
-    answer_made Playing (Ok request) 200 (Some request.cseq) (named (codes "Session") (session_said given said) ∷ named (codes "Range") None ∷ []) refl read.cseq (omega arith) refl refl
-    (where_value (is_named said) given.session (session_value given.session valid), (tt, tt)) refl (play_leads request.method plays)
-play_on_decided given request said uri (Some range) valid read can plays = (
-  answer_made Playing (Ok request) 200 (Some request.cseq) (named (codes "Session") (session_said given said) ∷ named (codes "Range") (Some (range_text range)) ∷ []) refl read.cseq (omega arith) refl refl
-      (where_value (is_named said) given.session (session_value given.session valid), (range_value (Some range) can, tt)) refl (play_leads request.method plays),
+play_on_decided : (judged : Judged) (request : Request1) (said : Said) (uri : List ℕ) (range : Option Range) → IsValidId judged.session → Read request → IsWritable range → request.method ≡ methods.Play
+    → IsDecided Playing (Ok request) (play_on judged request said uri range)
+play_on_decided judged request said uri None valid read can plays =
+    answer_made Playing (Ok request) 200 (Some request.cseq) (named (codes "Session") (session_said judged said) ∷ named (codes "Range") None ∷ []) refl read.cseq (omega arith) refl refl
+    (where_value (is_named said) judged.session (session_value judged.session valid), (tt, tt)) refl (play_leads request.method plays)
+play_on_decided judged request said uri (Some range) valid read can plays = (
+  answer_made Playing (Ok request) 200 (Some request.cseq) (named (codes "Session") (session_said judged said) ∷ named (codes "Range") (Some (range_text range)) ∷ []) refl read.cseq (omega arith) refl refl
+      (where_value (is_named said) judged.session (session_value judged.session valid), (range_value (Some range) can, tt)) refl (play_leads request.method plays),
   refl,
 )
 
-play_in_decided : (state : State) (given : Given) (request : Request1) (said : Said) (uri : List ℕ) (range : Option Range) → IsValidId given.session → Read request → IsWritable range → is_allowed state request.method ≡ true
-    → request.method ≡ methods.Play → IsDecided state (Ok request) (play_in state given request said uri range)
-play_in_decided Init given request said uri range valid read can allowed plays = record { request = request; found_is = refl; method = refl; cseq = refl; short = read.cseq; allowed = allowed }
-play_in_decided Ready given request said uri range valid read can allowed plays = record { request = request; found_is = refl; method = refl; cseq = refl; short = read.cseq; allowed = allowed }
-play_in_decided Playing given request said uri range valid read can allowed plays = play_on_decided given request said uri range valid read can plays
+play_in_decided : (state : State) (judged : Judged) (request : Request1) (said : Said) (uri : List ℕ) (range : Option Range) → IsValidId judged.session → Read request → IsWritable range → is_allowed state request.method ≡ true
+    → request.method ≡ methods.Play → IsDecided state (Ok request) (play_in state judged request said uri range)
+play_in_decided Init judged request said uri range valid read can allowed plays = record { request = request; found_is = refl; method = refl; cseq = refl; short = read.cseq; allowed = allowed }
+play_in_decided Ready judged request said uri range valid read can allowed plays = record { request = request; found_is = refl; method = refl; cseq = refl; short = read.cseq; allowed = allowed }
+play_in_decided Playing judged request said uri range valid read can allowed plays = play_on_decided judged request said uri range valid read can plays
 
-serve_decided : (given : Given) (request : Request1) (said : Said) (uri : List ℕ) (admitted : Admission) → IsValidId given.session → Read request → is_allowed given.state request.method ≡ true
-    → ((range : Option Range) → admitted ≡ Played range → request.method ≡ methods.Play) → IsSoundAdmission admitted → IsAdmissionOfBytes admitted → IsDecided given.state (Ok request) (serve given request said uri admitted)
-serve_decided given request said uri (SetUp pair) valid read allowed plays sound bytes =
+serve_decided : (judged : Judged) (request : Request1) (said : Said) (uri : List ℕ) (admitted : Admission) → IsValidId judged.session → Read request → is_allowed judged.state request.method ≡ true
+    → ((range : Option Range) → admitted ≡ Played range → request.method ≡ methods.Play) → IsSoundAdmission admitted → IsAdmissionOfBytes admitted → IsDecided judged.state (Ok request) (serve judged request said uri admitted)
+serve_decided judged request said uri (SetUp pair) valid read allowed plays sound bytes =
     (record { request = request; found_is = refl; method = refl; cseq = refl; short = read.cseq; allowed = allowed }, (sound, bytes))
-serve_decided given request said uri (Played range) valid read allowed plays sound bytes = play_in_decided given.state given request said uri range valid read sound allowed (plays range refl)
-serve_decided given request said uri Other valid read allowed plays sound bytes = record { request = request; found_is = refl; method = refl; cseq = refl; short = read.cseq; allowed = allowed }
+serve_decided judged request said uri (Played range) valid read allowed plays sound bytes = play_in_decided judged.state judged request said uri range valid read sound allowed (plays range refl)
+serve_decided judged request said uri Other valid read allowed plays sound bytes = record { request = request; found_is = refl; method = refl; cseq = refl; short = read.cseq; allowed = allowed }
 
 -- OPTIONS leaves every state.
 options_by : (state : State) → led_by state (Some methods.Options) 200 ≡ Some state
@@ -341,29 +341,29 @@ options_leads state methods.Teardown e = cc
 options_leads state methods.GetParameter e = cc
 options_leads state methods.SetParameter e = cc
 
-rules_decided : (given : Given) (request : Request1) (said : Said) (uri : List ℕ) (checked : Result Admission ℕ) → IsValidId given.session → Read request → IsChecked given.state request.method checked
-    → IsDecided given.state (Ok request) (by_rules given request said uri checked)
-rules_decided given request said uri (Err code) valid read all =
-    answer_made given.state (Ok request) code (Some request.cseq) [] (reason_known code (all.refused code refl)) read.cseq (omega arith) refl refl tt refl
-    (refused_leads given.state (Some request.method) code (all.refused code refl))
-rules_decided given request said uri (Ok admitted) valid read all = by (is_for_gateway request.method said) refl
+rules_decided : (judged : Judged) (request : Request1) (said : Said) (uri : List ℕ) (checked : Result Admission ℕ) → IsValidId judged.session → Read request → IsChecked judged.state request.method checked
+    → IsDecided judged.state (Ok request) (by_rules judged request said uri checked)
+rules_decided judged request said uri (Err code) valid read all =
+    answer_made judged.state (Ok request) code (Some request.cseq) [] (reason_known code (all.refused code refl)) read.cseq (omega arith) refl refl tt refl
+    (refused_leads judged.state (Some request.method) code (all.refused code refl))
+rules_decided judged request said uri (Ok admitted) valid read all = by (is_for_gateway request.method said) refl
   where
-    by : (own : Bool) → is_for_gateway request.method said ≡ own → IsDecided given.state (Ok request) (cond own (Answer (options_text request.cseq)) (serve given request said uri admitted))
+    by : (own : Bool) → is_for_gateway request.method said ≡ own → IsDecided judged.state (Ok request) (cond own (Answer (options_text request.cseq)) (serve judged request said uri admitted))
     by true e =
-        answer_made given.state (Ok request) 200 (Some request.cseq) (named (codes "Public") (Some methods_text) ∷ []) refl read.cseq (omega arith) refl refl (refl, tt) refl
-        (options_leads given.state request.method (and_parts (same_method request.method methods.Options) (not (is_named said)) e).0)
+        answer_made judged.state (Ok request) 200 (Some request.cseq) (named (codes "Public") (Some methods_text) ∷ []) refl read.cseq (omega arith) refl refl (refl, tt) refl
+        (options_leads judged.state request.method (and_parts (same_method request.method methods.Options) (not (is_named said)) e).0)
     by false e =
-        serve_decided given request said uri admitted valid read (all.allowed admitted refl) (λ range same. all.plays range (ap (λ (one : Admission). Ok one) same)) all.sound all.bytes
+        serve_decided judged request said uri admitted valid read (all.allowed admitted refl) (λ range same. all.plays range (ap (λ (one : Admission). Ok one) same)) all.sound all.bytes
 
-read_decided : (given : Given) (found : Result Request1 Refusal) → IsValidId given.session → ((request : Request1) → found ≡ Ok request → Read request) → ((refused : Refusal) → found ≡ Err refused → IsToldRefusal refused)
-    → IsDecided given.state found (decide_read given found)
-read_decided given (Ok request) valid known told =
-    rules_decided given request (said_of given.tracks request) (uri_up given request.uri) (rules_checked given request.method (said_of given.tracks request) (uri_up given request.uri)) valid (known request refl)
-    (rules_on given request (uri_up given request.uri))
-read_decided given (Err refused) valid known told = refusal_decided given.state refused (told refused refl)
+read_decided : (judged : Judged) (found : Result Request1 Refusal) → IsValidId judged.session → ((request : Request1) → found ≡ Ok request → Read request) → ((refused : Refusal) → found ≡ Err refused → IsToldRefusal refused)
+    → IsDecided judged.state found (decide_read judged found)
+read_decided judged (Ok request) valid known told =
+    rules_decided judged request (said_of judged.all request) (uri_up judged request.uri) (rules_checked judged request.method (said_of judged.all request) (uri_up judged request.uri)) valid (known request refl)
+    (rules_on judged request (uri_up judged request.uri))
+read_decided judged (Err refused) valid known told = refusal_decided judged.state refused (told refused refl)
 
 -- What is decided on a request that memory can hold.
-pub decided : (given : Given) (shape : Shape) → IsValidId given.session → length shape.bytes < 2 ^ 64 → IsDecided given.state (request_of_item shape) (decide given shape)
+pub decided : (given : Given) (shape : Shape) → IsValidId (judged_of given shape).session → length shape.bytes < 2 ^ 64 → IsDecided (judged_of given shape).state (request_of_item shape) (decide given shape)
 decided given shape valid short =
-    read_decided given (request_of_item shape) valid (λ request e. request_read shape request short e)
+    read_decided (judged_of given shape) (request_of_item shape) valid (λ request e. request_read shape request short e)
     (λ refused e. of_told (head_of (take shape.head shape.bytes)) (drop shape.head shape.bytes) refused (read_sound (take shape.head shape.bytes)) e)

@@ -13,7 +13,7 @@ use Rattle.rtsp_uri.specs.BaseTexts.{ends_at, is_base_text}
 use Rattle.rtsp_uri.specs.Swaps.{has_authority, with_rest, swapped}
 use Rattle.rtsp_uri.proofs.CutLemmas.{cut_is_spelled}
 use Rattle.rtsp_uri.proofs.GrammarLemmas.{same_length, port_digits}
-use Rattle.translate_up.specs.Views.{Given}
+use Rattle.translate_up.specs.Views.{Judged}
 use Rattle.translate_up.specs.Upward.{uri_up}
 use Rattle.translate_up.specs.Sound.{is_target, IsFit}
 use Rattle.translate_up.proofs.VisibleLemmas.{is_visible, all_weaker, all_dropped, all_joined, visible_line, visible_part, digits_visible}
@@ -99,7 +99,7 @@ either_target true control uri c u = star_target control c
 either_target false control uri c u = u
 
 -- A URI that goes up fits into a request line.
-pub uri_target : (given : Given) (uri : List ℕ) → IsFit given → is_target uri ≡ true → is_target (uri_up given uri) ≡ true
-uri_target given uri fit target =
-    either_target (bytes_eq uri (codes "*")) given.control (swapped given.front given.up uri) fit.control
-    (swapped_target given.front given.up uri (base_visible given.up fit.up) target)
+pub uri_target : (judged : Judged) (uri : List ℕ) → IsFit judged → is_target uri ≡ true → is_target (uri_up judged uri) ≡ true
+uri_target judged uri fit target =
+    either_target (bytes_eq uri (codes "*")) judged.control (swapped judged.front judged.up uri) fit.control
+    (swapped_target judged.front judged.up uri (base_visible judged.up fit.up) target)

@@ -6,7 +6,6 @@ use Rattle.rtsp_head.specs.Headers.{field_of}
 use Rattle.rtsp_head.specs.Optional.{said_where}
 use Rattle.rtsp_small.specs.declared.method.Method.{Method}
 use Rattle.rtsp_small.specs.declared.method.Method.TheVariants.{Options, Describe, Setup, Play, Pause, Teardown, GetParameter, SetParameter}
-use Rattle.rtsp_small.specs.Sessions.{session_of}
 use Rattle.rtsp_small.specs.Scales.{is_scale}
 use Rattle.head_one.specs.declared.request.Request1.{Request1}
 use Rattle.session_one.specs.declared.parts.Track.{Track}
@@ -56,16 +55,6 @@ said_of tracks request = record {
 -- whether a request names a session
 abbrev pub is_named : Said → Bool
 is_named said = is_some said.session
-
--- the id in a Session field
-abbrev pub id_of : List ℕ → Option (List ℕ)
-id_of value = option_map (λ session. session.id) (session_of value)
-
--- both are there, and they are one
-abbrev pub are_same : Option (List ℕ) → Option (List ℕ) → Bool
-are_same None other = false
-are_same (Some one) None = false
-are_same (Some one) (Some other) = bytes_eq one other
 
 -- whether a method is for a session that is there (RFC 2326, 10.5 to 10.7)
 abbrev pub needs_session : Method → Bool

@@ -4,11 +4,14 @@ pub mod SeenFields
 pub mod Channels
 pub mod Decisions
 pub mod Fields
+pub mod Ids
 pub mod Leads
 pub mod OneReply
+pub mod Placed
 pub mod QueuedPlay
 pub mod Rules
 pub mod Setups
 pub mod Sound
+pub mod Subjects
 pub mod Upward
 pub mod Views

@@ -7,31 +7,32 @@ use Rattle.rtsp_range.specs.declared.fault.RangeFault.{RangeFault}
 use Rattle.head_one.specs.Refusals.{Rule, rule, first_code}
 use Rattle.session_one.specs.declared.table.State.TheVariants.{Playing}
 use Rattle.session_one.specs.Table.{is_allowed, same_state}
-use Rattle.translate_up.specs.Views.{Given}
+use Rattle.translate_up.specs.Views.{Judged}
 use Rattle.rtsp_transport.specs.declared.channels.Pair.{Pair}
 use Rattle.session_one.specs.declared.parts.TheConstants.{MOST_TRACKS}
 use Rattle.play_queue.specs.declared.queue.TheConstants.{MOST_PLAYS}
 use Rattle.translate_up.specs.declared.rule.Admission.{Admission}
 use Rattle.translate_up.specs.declared.rule.Admission.TheVariants.{SetUp, Played, Other}
 use Rattle.rtsp_small.specs.declared.method.Method.TheVariants.{Options, Describe, Setup, Play, Pause, Teardown, GetParameter, SetParameter}
-use Rattle.translate_up.specs.Fields.{Said, is_setup, is_play, is_pause, is_named, id_of, are_same, needs_session, is_track}
+use Rattle.translate_up.specs.Fields.{Said, is_setup, is_play, is_pause, is_named, needs_session, is_track}
+use Rattle.translate_up.specs.Ids.{id_of, are_same}
 
--- The Session field is not that of the player's session, or is missing where there must be one.
+-- The Session field names no session of the player's, or is missing where there must be one.
 abbrev pub names_no_session : Method → Option (List ℕ) → Option (List ℕ) → Bool
 names_no_session method session None = needs_session method
 names_no_session method session (Some value) = not (are_same session (id_of value))
 
--- A player has one session, and sets up each stream once.
-abbrev pub sets_up_again : Given → Method → Said → List ℕ → Bool
-sets_up_again given method said uri = is_setup method && ((is_some given.session && not (is_named said)) || is_track given.tracks uri)
+-- There is no place for one session more, or the session has the stream.
+abbrev pub sets_up_again : Judged → Method → Said → List ℕ → Bool
+sets_up_again judged method said uri = is_setup method && ((not judged.has_room && not (is_named said)) || is_track judged.tracks uri)
 
 -- The method has no row in the table of states, or a stream would be set up again.
-abbrev pub is_out_of_turn : Given → Method → Said → List ℕ → Bool
-is_out_of_turn given method said uri = not (is_allowed given.state method) || sets_up_again given method said uri
+abbrev pub is_out_of_turn : Judged → Method → Said → List ℕ → Bool
+is_out_of_turn judged method said uri = not (is_allowed judged.state method) || sets_up_again judged method said uri
 
 -- One of several streams is named, which are played, paused and torn down together.
-abbrev pub names_one_of_many : Given → Method → List ℕ → Bool
-names_one_of_many given method uri = needs_session method && (is_track given.tracks uri && nat_le 2 (length given.tracks))
+abbrev pub names_one_of_many : Judged → Method → List ℕ → Bool
+names_one_of_many judged method uri = needs_session method && (is_track judged.tracks uri && nat_le 2 (length judged.tracks))
 
 -- No pair of channels can be given to the stream.
 abbrev pub has_no_channels : Method → Said → Bool
@@ -44,28 +45,28 @@ has_bad_range method (Some (Ok range)) = is_pause method
 has_bad_range method (Some (Err fault)) = is_play method || is_pause method
 
 -- All pairs of channels to the server are held.
-abbrev pub finds_none_free : Given → Method → Bool
-finds_none_free given method = is_setup method && given.full
+abbrev pub finds_none_free : Judged → Method → Bool
+finds_none_free judged method = is_setup method && judged.full
 
 -- whether a PLAY would wait for what plays
-abbrev pub must_wait : Given → Method → Said → Bool
-must_wait given method said = (is_play method && same_state given.state Playing) && is_some said.range
+abbrev pub must_wait : Judged → Method → Said → Bool
+must_wait judged method said = (is_play method && same_state judged.state Playing) && is_some said.range
 
 -- The session has all its streams, or as many PLAYs wait as may.
-abbrev pub finds_no_place : Given → Method → Said → Bool
-finds_no_place given method said =
-    (is_setup method && nat_le MOST_TRACKS (length given.tracks)) || (must_wait given method said && nat_le MOST_PLAYS given.queued)
+abbrev pub finds_no_place : Judged → Method → Said → Bool
+finds_no_place judged method said =
+    (is_setup method && nat_le MOST_TRACKS (length judged.tracks)) || (must_wait judged method said && nat_le MOST_PLAYS judged.queued)
 
 -- the rules in their order
-abbrev pub session_rules : Given → Method → Said → List ℕ → List Rule
-session_rules given method said uri =
-    rule (names_no_session method given.session said.session) 454
-    ∷ rule (is_out_of_turn given method said uri) 455
-    ∷ rule (names_one_of_many given method uri) 460
+abbrev pub session_rules : Judged → Method → Said → List ℕ → List Rule
+session_rules judged method said uri =
+    rule (names_no_session method judged.session said.session) 454
+    ∷ rule (is_out_of_turn judged method said uri) 455
+    ∷ rule (names_one_of_many judged method uri) 460
     ∷ rule (has_no_channels method said) 461
     ∷ rule (has_bad_range method said.range) 457
-    ∷ rule (finds_none_free given method) 453
-    ∷ rule (finds_no_place given method said) 503
+    ∷ rule (finds_none_free judged method) 453
+    ∷ rule (finds_no_place judged method said) 503
     ∷ []
 
 -- A SETUP is let through with its channels. Where there are none, a rule applies.
@@ -96,5 +97,5 @@ unless_code None admitted = admitted
 unless_code (Some code) admitted = Err code
 
 -- what the rules let through, or the code of the first one that applies
-abbrev pub rules_checked : Given → Method → Said → List ℕ → Result Admission ℕ
-rules_checked given method said uri = unless_code (first_code (session_rules given method said uri)) (admission method said)
+abbrev pub rules_checked : Judged → Method → Said → List ℕ → Result Admission ℕ
+rules_checked judged method said uri = unless_code (first_code (session_rules judged method said uri)) (admission method said)

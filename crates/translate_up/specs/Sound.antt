@@ -1,5 +1,5 @@
 -- What goes up can be written under every number, and read back (RFC 7826, 7 and 20.2).
-use Rattle.std.specs.Prelude.{◌≡◌, ℕ, ◌<◌, ◌^◌, Bool, true, ◌&&◌, List, IfSome, IsTrue}
+use Rattle.std.specs.Prelude.{◌≡◌, ℕ, ◌<◌, ◌^◌, Bool, true, ◌&&◌, List, [], ◌∷◌, IfSome, IsTrue}
 use Rattle.rtsp_head.specs.HeadText.{is_part, is_line_text, is_value}
 use Rattle.rtsp_small.specs.Sessions.{is_session_id}
 use Rattle.rtsp_small.specs.declared.cseq.TheConstants.{CSEQ_TWO_DIGITS}
@@ -12,19 +12,35 @@ use Rattle.head_two.specs.Requests.{IsRequest}
 use Rattle.session_one.specs.declared.parts.Play.{Play}
 use Rattle.translate_up.specs.declared.decision.Decision.{Decision}
 use Rattle.translate_up.specs.declared.decision.Decision.TheVariants.{Answer, Forward, Queue, Setup}
-use Rattle.translate_up.specs.Views.{Given}
+use Rattle.translate_up.specs.Views.{SeenSession, Given, Judged}
 use Rattle.translate_up.specs.Upward.{with_transport}
 
 -- a URI that fits into a request line
 abbrev pub is_target : List ℕ → Bool
 is_target uri = is_part uri && is_line_text uri
 
--- What is known of a connection: the server's address is one, the session's id is in the grammar, and the URI that
--- stands for all fits into a request line.
-pub record IsFit (given : Given) : Type 0 where
+-- What is known of a session: its id is in the grammar, and the URI of what it is about fits into a request line.
+pub record IsFitSession (session : SeenSession) : Type 0 where
+  pub id : IfSome session.id (λ id. is_session_id id ≡ true)
+  pub control : IfSome session.control (λ uri. is_target uri ≡ true)
+
+-- so for each
+abbrev pub AreFitSessions : List SeenSession → Type 0
+AreFitSessions [] = Unit {0}
+AreFitSessions (session ∷ more) = IsFitSession session × AreFitSessions more
+
+-- Each session of a connection is fit; the server's address is one; and the URI that was described fits into a request
+-- line.
+pub record AreFit (given : Given) : Type 0 where
   pub up : is_base_text given.up ≡ true
-  pub session : IfSome given.session (λ id. is_session_id id ≡ true)
-  pub control : IfSome given.control (λ uri. is_target uri ≡ true)
+  pub sessions : AreFitSessions given.sessions
+  pub described : IfSome given.described (λ uri. is_target uri ≡ true)
+
+-- the same of the session that a request is for
+pub record IsFit (judged : Judged) : Type 0 where
+  pub up : is_base_text judged.up ≡ true
+  pub session : IfSome judged.session (λ id. is_session_id id ≡ true)
+  pub control : IfSome judged.control (λ uri. is_target uri ≡ true)
 
 -- a request that can be written under every number, and read back
 abbrev pub IsSound : Request2 → Type 0

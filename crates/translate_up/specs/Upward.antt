@@ -16,13 +16,13 @@ use Rattle.rtsp_uri.specs.Swaps.{swapped}
 use Rattle.head_one.specs.declared.request.Request1.{Request1}
 use Rattle.head_two.specs.declared.request.Request2.{Request2}
 use Rattle.session_one.specs.declared.parts.Asked.{Asked}
-use Rattle.translate_up.specs.Views.{Given}
+use Rattle.translate_up.specs.Views.{Judged}
 use Rattle.translate_up.specs.Fields.{field, Said, is_describe, is_setup, is_play, is_named, brings_body_up, scale_of}
 
 -- The URI with the server's authority in the place of the gateway's. What is asked of the server itself is asked of what
--- the connection is about, where that is known (this project's own).
-abbrev pub uri_up : Given → List ℕ → List ℕ
-uri_up given uri = if bytes_eq uri (codes "*") then unwrap_or given.control (codes "*") else swapped given.front given.up uri
+-- the session is about, or else of what was described, where one of them is known (this project's own).
+abbrev pub uri_up : Judged → List ℕ → List ℕ
+uri_up judged uri = if bytes_eq uri (codes "*") then unwrap_or judged.control (codes "*") else swapped judged.front judged.up uri
 
 -- OPTIONS for a session goes up as a SET_PARAMETER that sets nothing, which keeps the session alive (this project's own).
 abbrev pub method_up : Method → Method
@@ -36,8 +36,8 @@ method_up GetParameter = GetParameter
 method_up SetParameter = SetParameter
 
 -- the session, where the request names it (RFC 7826, 18.49): its id alone
-abbrev pub session_said : Given → Said → Option (List ℕ)
-session_said given said = said_where (is_named said) given.session
+abbrev pub session_said : Judged → Said → Option (List ℕ)
+session_said judged said = said_where (is_named said) judged.session
 
 -- the formats of times that players read (RFC 7826, 18.5)
 abbrev pub units : List ℕ
@@ -48,9 +48,9 @@ abbrev pub has_body_up : Request1 → Bool
 has_body_up request = brings_body_up request.method && not (length request.body == 0)
 
 -- the fields of the session and of what is asked for
-abbrev pub asked_fields : Given → Request1 → Said → List Field
-asked_fields given request said =
-    named (codes "Session") (session_said given said)
+abbrev pub asked_fields : Judged → Request1 → Said → List Field
+asked_fields judged request said =
+    named (codes "Session") (session_said judged said)
     ∷ named (codes "Accept") (said_where (is_describe request.method) (field request (codes "Accept")))
     ∷ named (codes "Accept-Ranges") (said_where (is_setup request.method) (Some units))
     ∷ []
@@ -71,21 +71,21 @@ body_fields request =
 
 -- The fields of a request that goes up, in their order, each where it is said; the range stands in the one form that both
 -- versions read. Nothing else of a request goes up.
-abbrev pub fields_up : Given → Request1 → Said → Option Range → List Field
-fields_up given request said range = asked_fields given request said ++ (played_fields request range ++ body_fields request)
+abbrev pub fields_up : Judged → Request1 → Said → Option Range → List Field
+fields_up judged request said range = asked_fields judged request said ++ (played_fields request range ++ body_fields request)
 
 -- a request as it goes up with its range, without its number, and a SETUP without its channels
-abbrev pub request_up : Given → Request1 → Said → List ℕ → Option Range → Request2
-request_up given request said uri range = record {
+abbrev pub request_up : Judged → Request1 → Said → List ℕ → Option Range → Request2
+request_up judged request said uri range = record {
   method = method_name (method_up request.method);
   uri = uri;
-  headers = field_headers (fields_up given request said range);
+  headers = field_headers (fields_up judged request said range);
   body = if has_body_up request then request.body else [];
 }
 
 -- what is kept of a request that goes up
-abbrev pub asked_of : Request1 → Said → List ℕ → Asked
-asked_of request said uri = record { method = request.method; cseq = request.cseq; named = is_named said; uri = uri }
+abbrev pub asked_of : Judged → Request1 → Said → List ℕ → Asked
+asked_of judged request said uri = record { method = request.method; cseq = request.cseq; named = is_named said; uri = uri; place = judged.place }
 
 -- the header with a pair of channels (RFC 7826, 18.54)
 abbrev pub transport_header : Pair → Header

@@ -1,7 +1,7 @@
 //! Requests that no rule refuses: they wait, or go up.
 ghost use Rattle.std.specs.Prelude.{◌≡◌, IsTrue, IfOk, IfSome, Some};
 ghost use Rattle.rtsp_range.specs.Writable.{can_be_written};
-ghost use Rattle.translate_up.specs.Views.{given_of};
+ghost use Rattle.translate_up.specs.Subjects.{judged_seen};
 ghost use Rattle.translate_up.specs.SeenFields.{said_seen, AdmitsWritable};
 ghost use Rattle.translate_up.specs.Decisions.{serve, forward, play_in, play_on};
 
@@ -9,8 +9,8 @@ use crate::answer::play_text;
 use crate::decision::Decision;
 use crate::field::{SaidFields, scale_of, session_said};
 use crate::rule::Admission;
+use crate::subject::Subject;
 use crate::upward::{asked_of, request_up};
-use crate::view::View;
 use gate_bytes::{Memory, Text};
 use head_one::Request1;
 use rtsp_range::{Range, write};
@@ -20,7 +20,7 @@ use std::alloc::Global;
 /// What becomes of a request that no rule refuses and that is not for the gateway itself.
 pub(crate) fn serve<'a>(
     alloc: Global,
-    view: &View<'a, '_>,
+    subject: &Subject<'_, 'a, '_>,
     request: &Request1<'a>,
     said: &SaidFields<'_>,
     uri: Text,
@@ -28,23 +28,23 @@ pub(crate) fn serve<'a>(
 ) -> Result<Decision<'a>, Memory>
     requires { AdmitsWritable admission }
     ensures { IfOk result (λ decision.
-        decision ≡ serve (given_of view.now) request.now (said_seen said.now) uri admission) }
+        decision ≡ serve (judged_seen subject.now) request.now (said_seen said.now) uri admission) }
 {
     match admission {
         Admission::SetUp(pair) => {
-            let asked = asked_of(alloc, request, said, uri.as_bytes())?;
-            let up = request_up(alloc, view, request, said, uri, None)?;
+            let asked = asked_of(alloc, subject, request, said, uri.as_bytes())?;
+            let up = request_up(alloc, subject, request, said, uri, None)?;
             Ok(Decision::Setup(up, asked, pair))
         }
-        Admission::Played(range) => play(alloc, view, request, said, uri, range),
-        Admission::Other => forward(alloc, view, request, said, uri, None),
+        Admission::Played(range) => play(alloc, subject, request, said, uri, range),
+        Admission::Other => forward(alloc, subject, request, said, uri, None),
     }
 }
 
 /// A PLAY goes up, unless streams play already.
 fn play<'a>(
     alloc: Global,
-    view: &View<'a, '_>,
+    subject: &Subject<'_, 'a, '_>,
     request: &Request1<'a>,
     said: &SaidFields<'_>,
     uri: Text,
@@ -53,18 +53,18 @@ fn play<'a>(
     requires { IfSome range (λ one. IsTrue (can_be_written one)) }
     ensures { IfOk result (λ decision.
         decision
-        ≡ play_in (given_of view.now).state (given_of view.now) request.now (said_seen said.now) uri range) }
+        ≡ play_in (judged_seen subject.now).state (judged_seen subject.now) request.now (said_seen said.now) uri range) }
 {
-    match view.state {
-        State::Playing => play_on(alloc, view, request, said, uri, range),
-        State::Init | State::Ready => forward(alloc, view, request, said, uri, range),
+    match subject.state {
+        State::Playing => play_on(alloc, subject, request, said, uri, range),
+        State::Init | State::Ready => forward(alloc, subject, request, said, uri, range),
     }
 }
 
 /// A request goes up with this range.
 fn forward<'a>(
     alloc: Global,
-    view: &View<'a, '_>,
+    subject: &Subject<'_, 'a, '_>,
     request: &Request1<'a>,
     said: &SaidFields<'_>,
     uri: Text,
@@ -72,10 +72,10 @@ fn forward<'a>(
 ) -> Result<Decision<'a>, Memory>
     requires { IfSome range (λ one. IsTrue (can_be_written one)) }
     ensures { IfOk result (λ decision.
-        decision ≡ forward (given_of view.now) request.now (said_seen said.now) uri range) }
+        decision ≡ forward (judged_seen subject.now) request.now (said_seen said.now) uri range) }
 {
-    let asked = asked_of(alloc, request, said, uri.as_bytes())?;
-    let up = request_up(alloc, view, request, said, uri, range)?;
+    let asked = asked_of(alloc, subject, request, said, uri.as_bytes())?;
+    let up = request_up(alloc, subject, request, said, uri, range)?;
     Ok(Decision::Forward(up, asked))
 }
 
@@ -83,7 +83,7 @@ fn forward<'a>(
 /// nothing.
 fn play_on<'a>(
     alloc: Global,
-    view: &View<'a, '_>,
+    subject: &Subject<'_, 'a, '_>,
     request: &Request1<'a>,
     said: &SaidFields<'_>,
     uri: Text,
@@ -91,9 +91,9 @@ fn play_on<'a>(
 ) -> Result<Decision<'a>, Memory>
     requires { IfSome range (λ one. IsTrue (can_be_written one)) }
     ensures { IfOk result (λ decision.
-        decision ≡ play_on (given_of view.now) request.now (said_seen said.now) uri range) }
+        decision ≡ play_on (judged_seen subject.now) request.now (said_seen said.now) uri range) }
 {
-    let session = session_said(view, said);
+    let session = session_said(subject, said);
     let Some(range) = range else {
         let text = play_text(alloc, request.cseq, session, None)?;
         return Ok(Decision::Answer(text));
@@ -101,5 +101,11 @@ fn play_on<'a>(
     let written = write(alloc, &range)?;
     let text = play_text(alloc, request.cseq, session, Some(written))?;
     let scale = Text::copied(alloc, scale_of(request))?;
-    Ok(Decision::Queue(Play { uri, range, scale }, text))
+    let play = Play {
+        uri,
+        range,
+        scale,
+        place: subject.place,
+    };
+    Ok(Decision::Queue(play, text))
 }

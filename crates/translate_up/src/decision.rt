@@ -1,7 +1,8 @@
 //! The decision on a request: what it may be, and how it is come to.
-ghost use Rattle.std.specs.Prelude.{◌≡◌, IfOk};
+ghost use Rattle.std.specs.Prelude.{◌≡◌, codes, IfOk};
 ghost use Rattle.rtsp_head.specs.Shapes.{shape_of};
-ghost use Rattle.translate_up.specs.Views.{given_of};
+ghost use Rattle.translate_up.specs.Views.{given_of, judged_by};
+ghost use Rattle.translate_up.specs.Fields.{field};
 ghost use Rattle.translate_up.specs.SeenFields.{said_seen};
 ghost use Rattle.translate_up.specs.Decisions.{decide, decide_request, is_for_gateway};
 
@@ -9,6 +10,7 @@ use crate::accept::serve;
 use crate::answer::{answer, options_text, refusal_text};
 use crate::field::SaidFields;
 use crate::rule::check_rules;
+use crate::subject::Subject;
 use crate::upward::uri_up;
 use crate::view::View;
 use gate_bytes::{Memory, Text};
@@ -37,10 +39,10 @@ pub enum Decision<'a> {
 /// What becomes of a request of a player that has none open. The first rule that applies refuses it;
 /// what none refuses is answered, waits, or goes up.
 ///
-/// The rules on its head come first. Then a request is refused with 454 where it names another
-/// session than its own, or none where it needs one; 455 where the table of states has no row for
-/// it, or where a stream would be set up again; 460 where it names one of several streams that are
-/// played together; 461 where no channels can be given to it; 457 where its range is of no use; 453
+/// The rules on its head come first. Then a request is refused with 454 where it names a session that
+/// its player does not have, or none where it needs one; 455 where the table of states has no row for
+/// it, where its player has as many sessions as may be, or where a stream would be set up again; 460
+/// where it names one of several streams that are played together; 461 where no channels can be given to it; 457 where its range is of no use; 453
 /// where all channels to the server are held; 503 where its session has all its streams, or where as
 /// many PLAYs wait as may.
 pub fn decide<'a>(
@@ -64,15 +66,18 @@ fn decide_request<'a>(
     view: &View<'a, '_>,
     request: &Request1<'a>,
 ) -> Result<Decision<'a>, Memory>
-    ensures { IfOk result (λ decision. decision ≡ decide_request (given_of view.now) request.now) }
+    ensures { IfOk result (λ decision.
+        decision
+        ≡ decide_request (judged_by (given_of view.now) (field request.now (codes "Session"))) request.now) }
 {
-    let said = SaidFields::read(view.tracks, request);
+    let said = SaidFields::read(view.sessions, request);
+    let subject = Subject::named(view, said.session);
     if is_for_gateway(request.method, &said) {
         return Ok(Decision::Answer(options_text(alloc, request.cseq)?));
     }
-    let uri = uri_up(alloc, view, &request.uri)?;
-    match check_rules(view, request.method, &said, uri.as_bytes()) {
-        Ok(admission) => serve(alloc, view, request, &said, uri, admission),
+    let uri = uri_up(alloc, &subject, &request.uri)?;
+    match check_rules(&subject, request.method, &said, uri.as_bytes()) {
+        Ok(admission) => serve(alloc, &subject, request, &said, uri, admission),
         Err(code) => Ok(Decision::Answer(answer(alloc, code, Some(request.cseq))?)),
     }
 }

@@ -2,8 +2,10 @@
 ghost use Rattle.std.specs.Prelude.{◌≡◌, IfSome, IfOk, IsTrue};
 ghost use Rattle.std.specs.Option.{option_copied};
 ghost use Rattle.translate_up.specs.SeenFields.{said_seen, HasWritableRange};
-ghost use Rattle.translate_up.specs.Views.{given_of};
-ghost use Rattle.translate_up.specs.Fields.{said_of, is_describe, is_setup, is_play, is_named, id_of, are_same, needs_session, brings_body_up, is_track, scale_of};
+ghost use Rattle.translate_up.specs.Views.{tracks_shown};
+ghost use Rattle.translate_up.specs.Subjects.{judged_seen};
+ghost use Rattle.translate_up.specs.Fields.{said_of, is_describe, is_setup, is_play, is_named, needs_session, brings_body_up, is_track, scale_of};
+ghost use Rattle.translate_up.specs.Ids.{id_of, are_same};
 ghost use Rattle.translate_up.specs.Upward.{session_said};
 ghost use Rattle.rtsp_range.specs.Writable.{can_be_written};
 ghost use Rattle.rtsp_range.specs.Meaning.{One, meaning};
@@ -12,7 +14,8 @@ ghost use Rattle.rtsp_range.specs.declared.fault.RangeFault.{RangeFault};
 ghost use Rattle.std.specs.Prelude.{option_map};
 
 use crate::channels::client_pair;
-use crate::view::View;
+use crate::subject::Subject;
+use crate::view::SessionView;
 use head_one::Request1;
 use rtsp_head::said_where;
 use rtsp_range::{Range, RangeFault, read_one};
@@ -32,13 +35,16 @@ pub(crate) struct SaidFields<'a> {
 }
 
 impl<'a> SaidFields<'a> {
-    /// What a request says on a connection with these streams.
-    pub(crate) fn read(tracks: &[Track], request: &'a Request1<'_>) -> SaidFields<'a>
-        ensures said { said_seen result ≡ said_of tracks.now request.now }
+    /// What a request says on a connection with these sessions.
+    pub(crate) fn read(
+        sessions: &[Option<SessionView<'_, '_>>],
+        request: &'a Request1<'_>,
+    ) -> SaidFields<'a>
+        ensures said { said_seen result ≡ said_of (tracks_shown sessions.now) request.now }
         ensures range { HasWritableRange result }
     {
         let channels = match request.method {
-            Method::Setup => client_pair(tracks, request.head.field(b"Transport")),
+            Method::Setup => client_pair(sessions, request.head.field(b"Transport")),
             _ => None,
         };
         let range = match request.method {
@@ -69,10 +75,13 @@ fn read_range(value: Option<&[u8]>) -> Option<Result<Range, RangeFault>>
 }
 
 /// The session, where a request names it.
-pub(crate) fn session_said<'a>(view: &View<'a, '_>, said: &SaidFields<'_>) -> Option<&'a [u8]>
-    ensures { option_copied result ≡ session_said (given_of view.now) (said_seen said.now) }
+pub(crate) fn session_said<'s>(
+    subject: &Subject<'_, 's, '_>,
+    said: &SaidFields<'_>,
+) -> Option<&'s [u8]>
+    ensures { option_copied result ≡ session_said (judged_seen subject.now) (said_seen said.now) }
 {
-    said_where(said.is_named(), view.session)
+    said_where(said.is_named(), subject.session)
 }
 
 /// Whether the id in a Session field is that of a session.

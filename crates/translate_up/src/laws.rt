@@ -7,49 +7,57 @@ ghost use Rattle.head_one.specs.declared.request.Request1.{Request1};
 ghost use Rattle.head_one.specs.Refusals.{first_code};
 ghost use Rattle.session_one.specs.declared.parts.Track.{Track};
 ghost use Rattle.translate_up.specs.Channels.{free_pair, IsLowestFree};
-ghost use Rattle.translate_up.specs.Views.{Given, with_pairs};
+ghost use Rattle.translate_up.specs.Views.{Given, Judged, with_pairs};
 ghost use Rattle.translate_up.specs.Upward.{request_up, with_transport, without_transport};
 ghost use Rattle.translate_up.specs.Decisions.{decide};
 ghost use Rattle.translate_up.specs.Fields.{Said};
 ghost use Rattle.rtsp_range.specs.declared.range.Range.{Range};
 ghost use Rattle.translate_up.specs.Rules.{session_rules, rules_checked};
 ghost use Rattle.translate_up.specs.OneReply.{AnswersOneReply};
-ghost use Rattle.translate_up.specs.Sound.{IsFit, SendsSound};
+ghost use Rattle.translate_up.specs.Placed.{IsDecidedIn};
+ghost use Rattle.translate_up.specs.Sound.{AreFit, SendsSound};
 
 /// What goes up, at once or later, can be written under every number and read back, and the channels
-/// that a player gets differ: where the server's address is one, the session's id is in the grammar,
-/// and the URI that stands for all fits into a request line.
+/// that a player gets differ: where the server's address is one, ids of sessions are in the grammar,
+/// and the URIs that stand for what they are about, and for what was described, fit into a request
+/// line.
 pub fn what_goes_up_can_be_written()
-    ensures { (given : Given) (shape : Shape) → IsFit given → length shape.bytes < 2 ^ 64
+    ensures { (given : Given) (shape : Shape) → AreFit given → length shape.bytes < 2 ^ 64
         → SendsSound (decide given shape) }
 {}
 
 /// A player that asks for no channels gets the lowest even one that is free with the next one. The
-/// 8 streams that a session may have leave one free.
+/// 32 streams that four sessions may have leave one free.
 pub fn the_lowest_free_channels_are_given()
     ensures { (tracks : List Track) → length tracks ≤ 63 → IsLowestFree tracks (free_pair tracks) }
 {}
 
 /// Without its channels to the server, a SETUP is what was decided.
 pub fn the_channels_are_all_that_is_put_in()
-    ensures { (given : Given) (request : Request1) (said : Said) (uri : List ℕ) (range : Option Range)
+    ensures { (judged : Judged) (request : Request1) (said : Said) (uri : List ℕ) (range : Option Range)
         (pair : Pair)
-        → without_transport (with_transport pair (request_up given request said uri range)).headers
-        ≡ (request_up given request said uri range).headers }
+        → without_transport (with_transport pair (request_up judged request said uri range)).headers
+        ≡ (request_up judged request said uri range).headers }
 {}
 
 /// Every refusal of a request that its head does not refuse is by the first rule of the list that
 /// applies: what no rule refuses is let through.
 pub fn every_refusal_is_by_a_rule()
-    ensures { (given : Given) (method : Method) (said : Said) (uri : List ℕ) (code : ℕ)
-        → rules_checked given method said uri ≡ Err code
-        → first_code (session_rules given method said uri) ≡ Some code }
+    ensures { (judged : Judged) (method : Method) (said : Said) (uri : List ℕ) (code : ℕ)
+        → rules_checked judged method said uri ≡ Err code
+        → first_code (session_rules judged method said uri) ≡ Some code }
+{}
+
+/// What no rule refuses has its place: a request names a session that its player has, or none; a PLAY
+/// waits where its session has room for it, and so does the stream of a SETUP.
+pub fn what_no_rule_refuses_has_its_place()
+    ensures { (given : Given) (shape : Shape) → IsDecidedIn given.sessions (decide given shape) }
 {}
 
 /// What the gateway answers by itself, a refusal among it, is one reply, and is read back as that
 /// reply whatever follows it.
 pub fn what_is_answered_is_one_reply()
-    ensures { (given : Given) (shape : Shape) → IsFit given → length shape.bytes < 2 ^ 64
+    ensures { (given : Given) (shape : Shape) → AreFit given → length shape.bytes < 2 ^ 64
         → AnswersOneReply (decide given shape) }
 {}
 

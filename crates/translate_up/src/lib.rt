@@ -10,6 +10,7 @@ mod field;
 mod laws;
 mod queued_play;
 mod rule;
+mod subject;
 mod transport;
 mod upward;
 mod view;
@@ -18,8 +19,8 @@ pub use decision::{Decision, decide};
 pub use laws::{
     every_refusal_is_by_a_rule, the_channels_are_all_that_is_put_in,
     the_lowest_free_channels_are_given, the_numbers_of_pairs_make_no_difference,
-    what_goes_up_can_be_written, what_is_answered_is_one_reply,
+    what_goes_up_can_be_written, what_is_answered_is_one_reply, what_no_rule_refuses_has_its_place,
 };
 pub use queued_play::play_up;
 pub use transport::with_transport;
-pub use view::View;
+pub use view::{SessionView, View};

@@ -2,13 +2,13 @@
 ghost use Rattle.std.specs.Prelude.{◌≡◌, true, IfOk, IfErr};
 ghost use Rattle.std.specs.Option.{option_copied};
 ghost use Rattle.rtsp_status.specs.Reasons.{has_reason};
-ghost use Rattle.translate_up.specs.Views.{given_of};
+ghost use Rattle.translate_up.specs.Subjects.{judged_seen};
 ghost use Rattle.translate_up.specs.SeenFields.{said_seen, HasWritableRange, AdmitsWritable};
 ghost use Rattle.translate_up.specs.Rules.{rules_checked, names_no_session, sets_up_again, is_out_of_turn, names_one_of_many, must_wait, finds_no_place};
 ghost use Rattle.translate_up.specs.Admissions.{channels_and_range};
 
 use crate::field::{SaidFields, is_of_session, is_play, is_setup, is_track, needs_session};
-use crate::view::View;
+use crate::subject::Subject;
 use play_queue::MOST_PLAYS;
 use rtsp_range::Range;
 use rtsp_small::Method;
@@ -29,30 +29,30 @@ pub(crate) enum Admission {
 /// What the rules let through of a request with this URI on its way up, or the code of the first rule
 /// that refuses it.
 pub(crate) fn check_rules(
-    view: &View<'_, '_>,
+    subject: &Subject<'_, '_, '_>,
     method: Method,
     said: &SaidFields<'_>,
     uri: &[u8],
 ) -> Result<Admission, u16>
     requires { HasWritableRange said.now }
-    ensures checked { result ≡ rules_checked (given_of view.now) method (said_seen said.now) uri.now }
+    ensures checked { result ≡ rules_checked (judged_seen subject.now) method (said_seen said.now) uri.now }
     ensures reason { IfErr result (λ code. has_reason code ≡ true) }
     ensures range { IfOk result AdmitsWritable }
 {
-    if names_no_session(method, view.session, said.session) {
+    if names_no_session(method, subject.session, said.session) {
         return Err(454);
     }
-    if is_out_of_turn(view, method, said, uri) {
+    if is_out_of_turn(subject, method, said, uri) {
         return Err(455);
     }
-    if names_one_of_many(view, method, uri) {
+    if names_one_of_many(subject, method, uri) {
         return Err(460);
     }
     let admission = admit(method, said)?;
-    if is_setup(method) && view.full {
+    if is_setup(method) && subject.view.full {
         return Err(453);
     }
-    if finds_no_place(view, method, said) {
+    if finds_no_place(subject, method, said) {
         return Err(503);
     }
     Ok(admission)
@@ -80,8 +80,7 @@ fn admit(method: Method, said: &SaidFields<'_>) -> Result<Admission, u16>
     }
 }
 
-/// Whether a Session field is not that of the player's session, or is missing where there must be
-/// one.
+/// Whether a Session field names no session of the player's, or is missing where there must be one.
 fn names_no_session(method: Method, session: Option<&[u8]>, field: Option<&[u8]>) -> bool
     ensures { result ≡ names_no_session method (option_copied session.entry) (option_copied field.entry) }
 {
@@ -92,40 +91,49 @@ fn names_no_session(method: Method, session: Option<&[u8]>, field: Option<&[u8]>
 }
 
 /// Whether the table of states has no row for a request, or a stream would be set up again.
-fn is_out_of_turn(view: &View<'_, '_>, method: Method, said: &SaidFields<'_>, uri: &[u8]) -> bool
-    ensures { result ≡ is_out_of_turn (given_of view.now) method (said_seen said.now) uri.now }
+fn is_out_of_turn(
+    subject: &Subject<'_, '_, '_>,
+    method: Method,
+    said: &SaidFields<'_>,
+    uri: &[u8],
+) -> bool
+    ensures { result ≡ is_out_of_turn (judged_seen subject.now) method (said_seen said.now) uri.now }
 {
-    !allowed(view.state, method) || sets_up_again(view, method, said, uri)
+    !allowed(subject.state, method) || sets_up_again(subject, method, said, uri)
 }
 
-/// Whether a SETUP is for another session than the one that is there, or for a stream that was set
-/// up.
-fn sets_up_again(view: &View<'_, '_>, method: Method, said: &SaidFields<'_>, uri: &[u8]) -> bool
-    ensures { result ≡ sets_up_again (given_of view.now) method (said_seen said.now) uri.now }
+/// Whether there is no place for the session that a SETUP would make, or its session has the stream.
+fn sets_up_again(
+    subject: &Subject<'_, '_, '_>,
+    method: Method,
+    said: &SaidFields<'_>,
+    uri: &[u8],
+) -> bool
+    ensures { result ≡ sets_up_again (judged_seen subject.now) method (said_seen said.now) uri.now }
 {
-    let adds_session = view.session.is_some() && !said.is_named();
-    is_setup(method) && (adds_session || is_track(view.tracks, uri))
+    let finds_no_room = !said.is_named() && !subject.has_room();
+    is_setup(method) && (finds_no_room || is_track(subject.tracks, uri))
 }
 
 /// Whether one of several streams is named, which are played, paused and torn down together.
-fn names_one_of_many(view: &View<'_, '_>, method: Method, uri: &[u8]) -> bool
-    ensures { result ≡ names_one_of_many (given_of view.now) method uri.now }
+fn names_one_of_many(subject: &Subject<'_, '_, '_>, method: Method, uri: &[u8]) -> bool
+    ensures { result ≡ names_one_of_many (judged_seen subject.now) method uri.now }
 {
-    needs_session(method) && (is_track(view.tracks, uri) && view.tracks.len() >= 2)
+    needs_session(method) && (is_track(subject.tracks, uri) && subject.tracks.len() >= 2)
 }
 
 /// Whether a PLAY would wait for what plays.
-fn must_wait(view: &View<'_, '_>, method: Method, said: &SaidFields<'_>) -> bool
-    ensures { result ≡ must_wait (given_of view.now) method (said_seen said.now) }
+fn must_wait(subject: &Subject<'_, '_, '_>, method: Method, said: &SaidFields<'_>) -> bool
+    ensures { result ≡ must_wait (judged_seen subject.now) method (said_seen said.now) }
 {
-    let plays = is_play(method) && view.state == State::Playing;
+    let plays = is_play(method) && subject.state == State::Playing;
     plays && said.range.is_some()
 }
 
 /// Whether the session of a SETUP has all its streams, or as many PLAYs wait as may.
-fn finds_no_place(view: &View<'_, '_>, method: Method, said: &SaidFields<'_>) -> bool
-    ensures { result ≡ finds_no_place (given_of view.now) method (said_seen said.now) }
+fn finds_no_place(subject: &Subject<'_, '_, '_>, method: Method, said: &SaidFields<'_>) -> bool
+    ensures { result ≡ finds_no_place (judged_seen subject.now) method (said_seen said.now) }
 {
-    let is_whole = is_setup(method) && view.tracks.len() >= MOST_TRACKS;
-    is_whole || (must_wait(view, method, said) && view.queued >= MOST_PLAYS)
+    let is_whole = is_setup(method) && subject.tracks.len() >= MOST_TRACKS;
+    is_whole || (must_wait(subject, method, said) && subject.queued >= MOST_PLAYS)
 }

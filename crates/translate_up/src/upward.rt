@@ -4,14 +4,14 @@ ghost use Rattle.std.specs.Option.{option_copied};
 ghost use Rattle.rtsp_head.specs.Optional.{field_headers, then_headers, said_where};
 ghost use Rattle.rtsp_range.specs.Writable.{can_be_written};
 ghost use Rattle.rtsp_range.specs.RangeText.{range_text};
-ghost use Rattle.translate_up.specs.Views.{given_of};
+ghost use Rattle.translate_up.specs.Subjects.{judged_seen};
 ghost use Rattle.translate_up.specs.SeenFields.{said_seen};
 ghost use Rattle.rtsp_small.specs.Scales.{is_scale};
 ghost use Rattle.translate_up.specs.Fields.{is_play, passing, scale_of};
 ghost use Rattle.translate_up.specs.Upward.{uri_up, method_up, has_body_up, asked_fields, played_fields, body_fields, fields_up, request_up, asked_of};
 
 use crate::field::{SaidFields, brings_body_up, is_describe, is_play, is_setup, session_said};
-use crate::view::View;
+use crate::subject::Subject;
 use gate_bytes::{Memory, Text};
 use head_one::Request1;
 use head_two::Request2;
@@ -26,14 +26,24 @@ use std::alloc::Global;
 const UNITS: &[u8] = b"npt, smpte, smpte-30-drop, smpte-25, clock";
 
 /// The URI with the server's authority in the place of the gateway's. What is asked of the server
-/// itself is asked of what the connection is about, where that is known.
-pub(crate) fn uri_up(alloc: Global, view: &View<'_, '_>, uri: &CutUri<'_>) -> Result<Text, Memory>
-    ensures { IfOk result (λ text. text ≡ uri_up (given_of view.now) uri.now) }
+/// itself is asked of what the session is about, or else of what was described, where one of them is
+/// known.
+pub(crate) fn uri_up(
+    alloc: Global,
+    subject: &Subject<'_, '_, '_>,
+    uri: &CutUri<'_>,
+) -> Result<Text, Memory>
+    ensures { IfOk result (λ text. text ≡ uri_up (judged_seen subject.now) uri.now) }
 {
     if uri.text() == b"*".as_slice() {
-        Text::copy(alloc, view.control.unwrap_or(b"*"))
+        Text::copy(alloc, subject.control.unwrap_or(b"*"))
     } else {
-        swap_in_uri(alloc, &view.bases.front, &view.bases.up, uri)
+        swap_in_uri(
+            alloc,
+            &subject.view.bases.front,
+            &subject.view.bases.up,
+            uri,
+        )
     }
 }
 
@@ -41,7 +51,7 @@ pub(crate) fn uri_up(alloc: Global, view: &View<'_, '_>, uri: &CutUri<'_>) -> Re
 /// too.
 pub(crate) fn request_up<'a>(
     alloc: Global,
-    view: &View<'a, '_>,
+    subject: &Subject<'_, 'a, '_>,
     request: &Request1<'a>,
     said: &SaidFields<'_>,
     uri: Text,
@@ -49,12 +59,12 @@ pub(crate) fn request_up<'a>(
 ) -> Result<Request2<'a>, Memory>
     requires { IfSome range (λ one. IsTrue (can_be_written one)) }
     ensures { IfOk result (λ up.
-        up ≡ request_up (given_of view.now) request.now (said_seen said.now) uri range) }
+        up ≡ request_up (judged_seen subject.now) request.now (said_seen said.now) uri range) }
 {
     Ok(Request2 {
         method: method_up(request.method).name(),
         uri,
-        headers: headers_up(alloc, view, request, said, range)?,
+        headers: headers_up(alloc, subject, request, said, range)?,
         body: body_up(request),
     })
 }
@@ -62,17 +72,19 @@ pub(crate) fn request_up<'a>(
 /// What is kept of a request that goes up with this URI.
 pub(crate) fn asked_of(
     alloc: Global,
+    subject: &Subject<'_, '_, '_>,
     request: &Request1<'_>,
     said: &SaidFields<'_>,
     uri: &[u8],
 ) -> Result<Asked, Memory>
-    ensures { IfOk result (λ asked. asked ≡ asked_of request.now (said_seen said.now) uri.now) }
+    ensures { IfOk result (λ asked. asked ≡ asked_of (judged_seen subject.now) request.now (said_seen said.now) uri.now) }
 {
     Ok(Asked {
         method: request.method,
         cseq: request.cseq,
         named: said.is_named(),
         uri: Text::copy(alloc, uri)?,
+        place: subject.place,
     })
 }
 
@@ -108,17 +120,17 @@ fn body_up<'a>(request: &Request1<'a>) -> &'a [u8]
 /// The headers that go up, in their order, each where it is said.
 fn headers_up<'a>(
     alloc: Global,
-    view: &View<'a, '_>,
+    subject: &Subject<'_, 'a, '_>,
     request: &Request1<'a>,
     said: &SaidFields<'_>,
     range: Option<Range>,
 ) -> Result<Headers<'a>, Memory>
     requires { IfSome range (λ one. IsTrue (can_be_written one)) }
     ensures { IfOk result (λ headers.
-        headers ≡ field_headers (fields_up (given_of view.now) request.now (said_seen said.now) range)) }
+        headers ≡ field_headers (fields_up (judged_seen subject.now) request.now (said_seen said.now) range)) }
 {
     let mut headers = Headers::new(alloc);
-    push_asked(alloc, &mut headers, view, request, said)?;
+    push_asked(alloc, &mut headers, subject, request, said)?;
     push_played(alloc, &mut headers, request, range)?;
     push_content(alloc, &mut headers, request)?;
     Ok(headers)
@@ -128,20 +140,20 @@ fn headers_up<'a>(
 fn push_asked<'a>(
     alloc: Global,
     headers: &mut Headers<'a>,
-    view: &View<'a, '_>,
+    subject: &Subject<'_, 'a, '_>,
     request: &Request1<'a>,
     said: &SaidFields<'_>,
 ) -> Result<(), Memory>
     ensures { OnOk result
         (headers.new
-        ≡ then_headers headers.old (asked_fields (given_of view.now) request.now (said_seen said.now))) }
+        ≡ then_headers headers.old (asked_fields (judged_seen subject.now) request.now (said_seen said.now))) }
 {
     let method = request.method;
     let accept = request
         .head
         .value_where(alloc, is_describe(method), b"Accept")?;
     let units = said_where(is_setup(method), Some(UNITS));
-    headers.push_lent(b"Session", session_said(view, said))?;
+    headers.push_lent(b"Session", session_said(subject, said))?;
     headers.push_value(b"Accept", accept)?;
     headers.push_lent(b"Accept-Ranges", units)
 }
