@@ -1,2 +1,7 @@
+pub mod BoundLemmas
+pub mod PlaceLemmas
+pub mod QuietLemmas
 pub mod RenumberLemmas
+pub mod RoomLemmas
 pub mod TeardownLemmas
+pub mod TidyLemmas

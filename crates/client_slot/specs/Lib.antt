@@ -1,9 +1,14 @@
 pub mod Bounds
+pub mod Brought
 pub mod Client
 pub mod ClosingRequest
 pub mod Changes
+pub mod Made
+pub mod Places
 pub mod Purposes
 pub mod Renumber
 pub mod Session
 pub mod SessionChanges
+pub mod SessionTurns
+pub mod ShortUris
 pub mod Teardown

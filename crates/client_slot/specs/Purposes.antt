@@ -11,10 +11,10 @@ use Rattle.client_slot.specs.declared.purpose.Settled.TheVariants as settled
 abbrev pub purpose_seen : Pending → Purpose
 purpose_seen (lent.Client asked track) = purposes.Client asked.now (option_map (λ one. one.now) track)
 purpose_seen (lent.Released play) = purposes.Released play.now
-purpose_seen lent.Closing = purposes.Closing
+purpose_seen (lent.Closing place) = purposes.Closing place
 
 -- what is told of a purpose once it is settled
 abbrev pub settled_as : Purpose → Settled
 settled_as (purposes.Client asked track) = settled.Client asked.method
 settled_as (purposes.Released play) = settled.Released
-settled_as purposes.Closing = settled.Closing
+settled_as (purposes.Closing place) = settled.Closing

@@ -18,7 +18,7 @@ track_under pairs track = record track { pair = pairs track.pair }
 abbrev pub purpose_under : (ℕ → ℕ) → Purpose → Purpose
 purpose_under pairs (purposes.Client asked track) = purposes.Client asked (option_map (track_under pairs) track)
 purpose_under pairs (purposes.Released play) = purposes.Released play
-purpose_under pairs purposes.Closing = purposes.Closing
+purpose_under pairs (purposes.Closing place) = purposes.Closing place
 
 -- A stream has a pair, and what plays has a number.
 abbrev pub session_under : (ℕ → ℕ) → (ℕ → ℕ) → PlayerSession → PlayerSession
@@ -27,7 +27,7 @@ session_under numbers pairs session = record session { tracks = map (track_under
 -- a connection in another numbering
 abbrev pub client_under : (ℕ → ℕ) → (ℕ → ℕ) → Client → Client
 client_under numbers pairs client = record client {
-  session = session_under numbers pairs client.session;
+  sessions = map (session_under numbers pairs) client.sessions;
   pending = option_map (purpose_under pairs) client.pending;
 }
 

@@ -6,6 +6,7 @@ ghost use Rattle.session_one.specs.declared.parts.Play.{Play};
 ghost use Rattle.session_one.specs.declared.parts.Track.{Track};
 ghost use Rattle.session_two.specs.declared.names.Names.{Names};
 ghost use Rattle.client_slot.specs.Client.{Client};
+ghost use Rattle.client_slot.specs.Places.{session_where};
 ghost use Rattle.client_slot.specs.Changes.{after_waiting, after_next, after_asking, after_queueing, after_release, after_reply, after_note, after_close, after_closing};
 ghost use Rattle.client_slot.specs.ClosingRequest.{closing_text};
 ghost use Rattle.client_slot.specs.Renumber.{track_under, client_under, names_under, AreToldApart};
@@ -30,10 +31,10 @@ pub fn changes_keep_any_numbering()
     ensures reply { (numbers pairs : ℕ → ℕ) (number code : ℕ) (id : Option (List ℕ)) (client : Client)
         → client_under numbers pairs (after_reply number code id client)
         ≡ after_reply (numbers number) code id (client_under numbers pairs client) }
-    ensures note { (numbers pairs : ℕ → ℕ) (names : Names) (client : Client)
-        → AreToldApart numbers client.session.running names
-        → client_under numbers pairs (after_note names client)
-        ≡ after_note (names_under numbers names) (client_under numbers pairs client) }
+    ensures note { (numbers pairs : ℕ → ℕ) (place : Option ℕ) (names : Names)
+        (client : Client) → AreToldApart numbers (session_where place client.sessions).running names
+        → client_under numbers pairs (after_note place names client)
+        ≡ after_note place (names_under numbers names) (client_under numbers pairs client) }
     ensures close { (numbers pairs : ℕ → ℕ) (client : Client)
         → client_under numbers pairs (after_close client) ≡ after_close (client_under numbers pairs client) }
     ensures closing { (numbers pairs : ℕ → ℕ) (client : Client)

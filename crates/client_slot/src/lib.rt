@@ -1,4 +1,4 @@
-//! What is kept of one player's connection: its session, the request of it that is open at the
+//! What is kept of one player's connection: its sessions, the request of it that is open at the
 //! server, and the requests that wait.
 //!
 //! Each call makes exactly one named change of that record, as `specs/` has them. Numbers of
@@ -7,16 +7,23 @@
 //! [`Waiting::new`].
 #![tactic(auto)]
 
+mod at_place;
+mod brought;
 mod closing_room;
 mod law;
 mod limits;
+mod made;
 mod purpose;
 mod session;
+mod session_turn;
+mod settling;
 mod slot;
 mod waiting_request;
 
 pub use law::changes_keep_any_numbering;
 pub use limits::{CLOSING_ROOM, LONGEST_URI, MOST_WAITING};
+pub use made::MadeSession;
 pub use purpose::{Pending, Settled};
+pub use session_turn::{Part, SessionTurn};
 pub use slot::Slot;
 pub use waiting_request::Waiting;

@@ -1,6 +1,6 @@
 //! The session of one connection.
 ghost use Rattle.rtsp_small.specs.declared.session.TheConstants.{LONGEST_SESSION_ID};
-ghost use Rattle.std.specs.Prelude.{◌≡◌, ◌≤◌, true, length, codes, slice_get, option_map, unwrap_or, IfOk, IfSome};
+ghost use Rattle.std.specs.Prelude.{◌≡◌, ◌≤◌, true, length, codes, slice_get, option_map, unwrap_or, is_some, IfOk, IfSome};
 ghost use Rattle.rtsp_small.specs.Sessions.{is_session_id};
 ghost use Rattle.head_two.specs.Requests.{request_text};
 ghost use Rattle.client_slot.specs.declared.limits.TheConstants.{LONGEST_URI, CLOSING_ROOM};
@@ -42,7 +42,8 @@ impl Model for Session {
 
 impl Session {
     ghost use Rattle.client_slot.specs.Session.{new_session};
-    ghost use Rattle.client_slot.specs.ClosingRequest.{closing_request};
+    ghost use Rattle.client_slot.specs.ClosingRequest.{session_closing};
+    ghost use Rattle.client_slot.specs.Places.{is_session, has_due};
 
     /// Nothing is set up, and room is made for all that may be.
     pub fn new(alloc: Global) -> Result<Session, Memory>
@@ -75,6 +76,30 @@ impl Session {
             Some(id) => Some(id.as_bytes()),
             None => None,
         }
+    }
+
+    /// Whether the server made it.
+    pub fn is_set_up(&self) -> bool
+        ensures { result ≡ is_some self.now.id }
+    {
+        self.id.is_some()
+    }
+
+    /// Whether it has this id.
+    pub fn has_id(&self, id: &[u8]) -> bool
+        ensures { result ≡ is_session id.now self.now.id }
+    {
+        match &self.id {
+            Some(own) => own.as_bytes() == id,
+            None => false,
+        }
+    }
+
+    /// Whether a PLAY waits, and none runs.
+    pub fn has_due(&self) -> bool
+        ensures { result ≡ has_due self.now }
+    {
+        self.running.current().is_none() && !self.queue.is_empty()
     }
 
     /// The URI that stands for what it is about.
@@ -121,8 +146,7 @@ impl Session {
 
     /// The text of the TEARDOWN with this number, where it has an id.
     pub fn teardown_text(&self, room: ClosingRoom, number: u32) -> Option<Text>
-        ensures text { result
-            ≡ option_map (λ id. request_text number (closing_request self.now.control id)) self.now.id }
+        ensures text { result ≡ session_closing number self.now }
         ensures short { IfSome result (λ text. length text ≤ CLOSING_ROOM) }
     {
         let id = self.id()?;

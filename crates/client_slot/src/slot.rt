@@ -1,17 +1,20 @@
 //! One connection: what is kept of it, and what can be asked about that.
-ghost use Rattle.std.specs.Prelude.{◌≡◌, true, length, slice_get, option_map, is_some, IfOk, IfSome};
+ghost use Rattle.std.specs.Prelude.{◌≡◌, ◌<◌, ◌≤◌, true, length, slice_get, option_map, is_some, IfOk, IsSome, IfSome};
 ghost use Rattle.rtsp_head.specs.Shapes.{shape_of};
 ghost use Rattle.rtsp_small.specs.Sessions.{is_session_id};
+ghost use Rattle.client_slot.specs.declared.limits.TheConstants.{LONGEST_URI};
+ghost use Rattle.session_one.specs.declared.parts.TheConstants.{MOST_SESSIONS};
 ghost use Rattle.client_slot.specs.Purposes.{purpose_seen};
 
 mod changes;
+pub(crate) mod places;
 
 use crate::closing_room::ClosingRoom;
 use crate::purpose::{Pending, Purpose};
 use crate::session::Session;
-use gate_bytes::Memory;
+use gate_bytes::{Memory, Text};
 use rtsp_head::Item;
-use session_one::{Play, State, Track};
+use session_one::{MOST_SESSIONS, Play, State, Track};
 use std::alloc::Global;
 use std::collections::LinkedList;
 use std::marker::Model;
@@ -20,10 +23,11 @@ use std::marker::Model;
 #[derive(Drop)]
 pub struct Slot {
     alive: bool,
-    session: Session,
+    sessions: Vec<Session>,
+    described: Option<Text>,
     pending: Option<Purpose>,
     waiting: LinkedList<Item>,
-    room: Option<ClosingRoom>,
+    rooms: Vec<Option<ClosingRoom>>,
 }
 
 impl Model for Slot {
@@ -31,90 +35,108 @@ impl Model for Slot {
 
     ghost Value = { Client };
 
-    ghost use Rattle.std.specs.Prelude.{is_some};
     ghost use Rattle.rtsp_head.specs.Shapes.{shapes};
-    ghost use Rattle.client_slot.specs.Bounds.{IsRoomy};
+    ghost use Rattle.client_slot.specs.Bounds.{IsSlot, rooms_left};
 
-    ghost view = { λ s. record { alive = s.alive; session = s.session; pending = s.pending; waiting = shapes s.waiting } };
+    ghost view = { λ s. record { alive = s.alive; sessions = s.sessions.items; described = s.described; pending = s.pending; waiting = shapes s.waiting } };
 
-    ghost invariant = { λ s. IsRoomy (record { alive = s.alive; session = s.session; pending = s.pending; waiting = shapes s.waiting }) (is_some s.room) };
+    ghost invariant = { λ s. IsSlot (record { alive = s.alive; sessions = s.sessions.items; described = s.described; pending = s.pending; waiting = shapes s.waiting }) (rooms_left s.rooms.items) };
 }
 
 impl Slot {
     ghost use Rattle.client_slot.specs.Client.{new_client};
-    ghost use Rattle.client_slot.specs.Changes.{due_play};
+    ghost use Rattle.client_slot.specs.Places.{session_at, queued_at, place_with};
+    ghost use Rattle.client_slot.specs.Changes.{due_place};
+    ghost use Rattle.client_slot.specs.Bounds.{AreTidy, IsPlacedIn};
 
-    /// A connection that entered, with room for eight streams, eight PLAYs and a closing TEARDOWN.
+    /// A connection that entered, with room for four sessions, each with eight streams, eight PLAYs and
+    /// a closing TEARDOWN.
     pub fn new(alloc: Global) -> Result<Slot, Memory>
         ensures { IfOk result (λ slot. slot ≡ new_client) }
     {
+        let mut sessions = Vec::with_capacity(alloc, MOST_SESSIONS)?;
+        let mut rooms = Vec::with_capacity(alloc, MOST_SESSIONS)?;
+        for _place in 0..MOST_SESSIONS {
+            sessions.push(Session::new(alloc)?)?;
+            rooms.push(Some(ClosingRoom::new(alloc)?))?;
+        }
         Ok(Slot {
             alive: true,
-            session: Session::new(alloc)?,
+            sessions,
+            described: None,
             pending: None,
             waiting: LinkedList::new(alloc),
-            room: Some(ClosingRoom::new(alloc)?),
+            rooms,
         })
     }
 
-    /// The state of its session.
-    pub fn state(&self) -> State
-        ensures { result ≡ self.now.session.state }
+    /// The state of the session at a place; Init, where the place is empty.
+    pub fn state(&self, place: u8) -> State
+        requires { place < MOST_SESSIONS }
+        ensures { result ≡ (session_at place self.now.sessions).state }
     {
-        self.session.state()
+        self.at(place).state()
     }
 
-    /// The id of its session, where it has one.
-    pub fn session(&self) -> Option<&[u8]>
-        ensures id { option_map (λ id. id.now) result ≡ self.now.session.id }
+    /// The id of the session at a place.
+    pub fn session(&self, place: u8) -> Option<&[u8]>
+        requires { place < MOST_SESSIONS }
+        ensures id { option_map (λ id. id.now) result ≡ (session_at place self.now.sessions).id }
         ensures valid { IfSome result (λ id. is_session_id id.now ≡ true) }
     {
-        self.session.id()
+        self.at(place).id()
     }
 
-    /// The streams that are set up.
-    pub fn tracks(&self) -> &[Track]
-        ensures { result.now ≡ self.now.session.tracks }
+    /// The streams of the session at a place.
+    pub fn tracks(&self, place: u8) -> &[Track]
+        requires { place < MOST_SESSIONS }
+        ensures { result.now ≡ (session_at place self.now.sessions).tracks }
     {
-        self.session.tracks()
+        self.at(place).tracks()
     }
 
-    /// How many PLAYs wait.
-    pub fn queued(&self) -> usize
-        ensures { result ≡ length self.now.session.queue }
+    /// How many PLAYs of the session at a place wait.
+    pub fn queued(&self, place: u8) -> usize
+        requires { place < MOST_SESSIONS }
+        ensures { result ≡ length (session_at place self.now.sessions).queue }
     {
-        self.session.queued()
+        self.at(place).queued()
     }
 
-    /// The first PLAY that waits.
-    pub fn first_queued(&self) -> Option<&Play>
-        ensures { option_map (λ play. play.now) result ≡ slice_get self.now.session.queue 0 }
+    /// The first PLAY of the session at a place that waits.
+    pub fn first_queued(&self, place: u8) -> Option<&Play>
+        requires { place < MOST_SESSIONS }
+        ensures { option_map (λ play. play.now) result ≡ queued_at place self.now.sessions }
     {
-        self.session.first_queued()
+        self.at(place).first_queued()
     }
 
-    /// The PLAY that is to go up now: the first that waits, where none runs and no request is open.
-    pub fn due(&self) -> Option<&Play>
-        ensures { option_map (λ play. play.now) result ≡ due_play self.now }
+    /// The number of the PLAY that runs in the session at a place.
+    pub fn running(&self, place: u8) -> Option<u32>
+        requires { place < MOST_SESSIONS }
+        ensures { result ≡ (session_at place self.now.sessions).running }
     {
-        if self.pending.is_some() || self.session.running().is_some() {
-            return None;
+        self.at(place).running()
+    }
+
+    /// The URI that stands for what the session at a place is about, as it was sent up.
+    pub fn control(&self, place: u8) -> Option<&[u8]>
+        requires { place < MOST_SESSIONS }
+        ensures uri { option_map (λ uri. uri.now) result ≡ (session_at place self.now.sessions).control }
+        ensures there { is_some (session_at place self.now.sessions).id ≡ true → IsSome result }
+    {
+        self.sessions[usize::from(place)].control()
+    }
+
+    /// The URI that was described last, as it was sent up.
+    pub fn described(&self) -> Option<&[u8]>
+        ensures uri { option_map (λ uri. uri.now) result ≡ self.now.described }
+        ensures short { IfSome result (λ uri. length uri.now ≤ LONGEST_URI) }
+    {
+        match &self.described {
+            Some(uri) => Some(uri.as_bytes()),
+            None => None,
         }
-        self.session.first_queued()
-    }
-
-    /// The number of the PLAY that runs.
-    pub fn running(&self) -> Option<u32>
-        ensures { result ≡ self.now.session.running }
-    {
-        self.session.running()
-    }
-
-    /// The URI that stands for what its session is about, as it was sent up.
-    pub fn control(&self) -> Option<&[u8]>
-        ensures { option_map (λ uri. uri.now) result ≡ self.now.session.control }
-    {
-        self.session.control()
     }
 
     /// Whether a request of it is open at the server.
@@ -124,6 +146,16 @@ impl Slot {
         self.pending.is_some()
     }
 
+    /// What holds of every connection: it has four places, a place without a session is an empty one, and
+    /// the open request has its place. The call does nothing.
+    pub fn keeps(&self)
+        ensures places { length self.now.sessions ≡ MOST_SESSIONS }
+        ensures tidy { AreTidy self.now.sessions }
+        ensures placed { IfSome self.now.pending (IsPlacedIn self.now.sessions) }
+    {
+        let _ = &self.sessions;
+    }
+
     /// Whether it was not closed.
     pub fn alive(&self) -> bool
         ensures { result ≡ self.now.alive }
@@ -131,14 +163,14 @@ impl Slot {
         self.alive
     }
 
-    /// How many requests wait.
+    /// How many requests wait. A hub leaves none here: it takes none while one is open.
     pub fn waiting(&self) -> usize
         ensures { result ≡ length self.now.waiting }
     {
         self.waiting.len()
     }
 
-    /// The request that waits at a place, the oldest at 0.
+    /// The request that waits at a place in their row, the oldest at 0.
     pub fn waiting_at(&self, at: usize) -> Option<&Item>
         ensures { option_map (λ item. shape_of item.now) result ≡ slice_get self.now.waiting at }
     {
@@ -153,5 +185,13 @@ impl Slot {
             Some(purpose) => Some(purpose.seen()),
             None => None,
         }
+    }
+
+    /// The session at a place.
+    fn at(&self, place: u8) -> &Session
+        requires { place < MOST_SESSIONS }
+        ensures { result.now ≡ session_at place self.now.sessions }
+    {
+        &self.sessions[usize::from(place)]
     }
 }

@@ -1,130 +1,72 @@
 //! What changes a session.
-ghost use Rattle.std.specs.Prelude.{◌≡◌, ◌≤◌, ◌<◌, length, drop, slice_get, true, IfSome, IsSome};
+ghost use Rattle.std.specs.Prelude.{◌≡◌, ◌≤◌, ◌<◌, length, slice_get, true, Some, IfSome, IsSome};
 ghost use Rattle.client_slot.specs.declared.limits.TheConstants.{LONGEST_URI};
 ghost use Rattle.session_one.specs.declared.parts.TheConstants.{MOST_TRACKS};
 ghost use Rattle.play_queue.specs.declared.queue.TheConstants.{MOST_PLAYS};
 ghost use Rattle.rtsp_small.specs.Sessions.{is_session_id};
 ghost use Rattle.session_two.specs.Ends.{end_counts};
+ghost use Rattle.client_slot.specs.SessionTurns.{part_then};
 
 use super::Session;
+use crate::brought::BroughtParts;
+use crate::session_turn::{Part, SessionTurn};
 use gate_bytes::Text;
-use rtsp_small::Method;
-use session_one::{Asked, Play, State, Track, after, is_success};
+use session_one::{Play, State, Track};
 use session_two::Names;
 
 impl Session {
-    ghost use Rattle.client_slot.specs.SessionChanges.{when_set_up, when_played, when_paused, when_torn_down, when_described, when_granted, when_answered, when_released, when_left, when_ended, when_queued, when_unqueued};
+    ghost use Rattle.client_slot.specs.Brought.{brought_seen};
+    ghost use Rattle.client_slot.specs.SessionTurns.{tracks_then, turned};
+    ghost use Rattle.client_slot.specs.SessionChanges.{when_ended, when_next, when_queued, when_unqueued};
 
-    /// A SETUP was granted.
-    fn set_up(&mut self, uri: Text, track: Option<Track>, id: Option<Text>)
-        requires uri { length uri ≤ LONGEST_URI }
-        requires room { IsSome track → length self.old.tracks < MOST_TRACKS }
-        requires id { IfSome id (λ id. is_session_id id ≡ true) }
-        ensures { self.new ≡ when_set_up uri track id self.old }
+    /// A request for it has its final reply.
+    pub fn turn(&mut self, turn: SessionTurn, brought: BroughtParts)
+        requires uri { IfSome brought.control (λ uri. length uri ≤ LONGEST_URI) }
+        requires id { IfSome brought.id (λ id. is_session_id id ≡ true) }
+        requires room { IsSome brought.track → length self.old.tracks < MOST_TRACKS }
+        ensures { self.new ≡ turned turn (brought_seen brought) self.old }
     {
-        if let Some(track) = track {
-            self.tracks.push_reserved(track);
-        }
-        if id.is_some() {
-            self.id = id;
-        }
-        if self.control.is_none() {
-            self.control = Some(uri);
-        }
-    }
-
-    /// A PLAY was granted.
-    fn play(&mut self, number: u32, uri: Text)
-        requires { length uri ≤ LONGEST_URI }
-        ensures { self.new ≡ when_played number uri self.old }
-    {
-        self.control = Some(uri);
-        self.running.started(number);
-    }
-
-    /// A PAUSE was granted.
-    fn pause(&mut self)
-        ensures { self.new ≡ when_paused self.old }
-    {
-        self.running.stop();
-        self.unqueue();
-    }
-
-    /// A TEARDOWN was granted.
-    fn tear_down(&mut self)
-        ensures { self.new ≡ when_torn_down self.old }
-    {
-        self.leave();
-        self.pause();
-    }
-
-    /// A DESCRIBE was granted.
-    fn describe(&mut self, uri: Text)
-        requires { length uri ≤ LONGEST_URI }
-        ensures { self.new ≡ when_described uri self.old }
-    {
-        if self.id.is_none() {
-            self.control = Some(uri);
+        let BroughtParts {
+            number,
+            control,
+            id,
+            track,
+        } = brought;
+        self.state = turn.state;
+        turn_part(&mut self.id, turn.id, id);
+        turn_part(&mut self.control, turn.control, control);
+        self.turn_tracks(turn.tracks, track);
+        self.turn_running(turn.running, number);
+        if turn.queue == Part::Loses {
+            self.queue.clear();
         }
     }
 
-    /// A player's request was granted.
-    fn grant(&mut self, number: u32, asked: Asked, track: Option<Track>, id: Option<Text>)
-        requires uri { length asked.uri ≤ LONGEST_URI }
-        requires room { IsSome track → length self.old.tracks < MOST_TRACKS }
-        requires id { IfSome id (λ id. is_session_id id ≡ true) }
-        ensures { self.new ≡ when_granted asked.method number asked.uri track id self.old }
+    /// What becomes of its streams.
+    fn turn_tracks(&mut self, part: Part, track: Option<Track>)
+        requires { IsSome track → length self.old.tracks < MOST_TRACKS }
+        ensures { self.new ≡ record self.old { tracks = tracks_then part self.old.tracks track } }
     {
-        match asked.method {
-            Method::Setup => self.set_up(asked.uri, track, id),
-            Method::Play => self.play(number, asked.uri),
-            Method::Pause => self.pause(),
-            Method::Teardown => self.tear_down(),
-            Method::Describe => self.describe(asked.uri),
-            Method::Options | Method::GetParameter | Method::SetParameter => {}
+        match part {
+            Part::Keeps => {}
+            Part::Takes => {
+                if let Some(track) = track {
+                    self.tracks.push_reserved(track);
+                }
+            }
+            Part::Loses => self.tracks.clear(),
         }
     }
 
-    /// A player's request has its final reply.
-    pub fn answer(
-        &mut self,
-        number: u32,
-        code: u16,
-        asked: Asked,
-        track: Option<Track>,
-        id: Option<Text>,
-    )
-        requires uri { length asked.uri ≤ LONGEST_URI }
-        requires room { IsSome track → length self.old.tracks < MOST_TRACKS }
-        requires id { IfSome id (λ id. is_session_id id ≡ true) }
-        ensures { self.new ≡ when_answered number code id asked track self.old }
+    /// What becomes of the PLAY that runs.
+    fn turn_running(&mut self, part: Part, number: u32)
+        ensures { self.new ≡ record self.old { running = part_then part self.old.running (Some number) } }
     {
-        if is_success(code) {
-            self.state = after(self.state, asked.method, code);
-            self.grant(number, asked, track, id);
+        match part {
+            Part::Keeps => {}
+            Part::Takes => self.running.started(number),
+            Part::Loses => self.running.stop(),
         }
-    }
-
-    /// A PLAY that waited has its final reply.
-    pub fn released(&mut self, number: u32, code: u16, play: Play)
-        requires { length play.uri ≤ LONGEST_URI }
-        ensures { self.new ≡ when_released number code play.uri self.old }
-    {
-        if is_success(code) {
-            self.play(number, play.uri);
-        } else {
-            self.state = State::Ready;
-            self.pause();
-        }
-    }
-
-    /// The TEARDOWN of a connection that closed has its final reply.
-    pub fn leave(&mut self)
-        ensures { self.new ≡ when_left self.old }
-    {
-        self.id = None;
-        self.control = None;
-        self.tracks.clear();
     }
 
     /// The end of what plays was told: whether it counts.
@@ -152,7 +94,7 @@ impl Session {
     pub fn next(&mut self) -> Option<Play>
         ensures first { result ≡ slice_get self.old.queue 0 }
         ensures uri { IfSome result (λ play. length play.uri ≤ LONGEST_URI) }
-        ensures rest { self.new ≡ record self.old { queue = drop 1 self.old.queue } }
+        ensures rest { self.new ≡ when_next self.old }
     {
         self.queue.next()
     }
@@ -162,5 +104,16 @@ impl Session {
         ensures { self.new ≡ when_unqueued self.old }
     {
         self.queue.clear();
+    }
+}
+
+/// What becomes of a text.
+fn turn_part(text: &mut Option<Text>, part: Part, new: Option<Text>)
+    ensures { text.new ≡ part_then part text.old new }
+{
+    match part {
+        Part::Keeps => {}
+        Part::Takes => *text = new,
+        Part::Loses => *text = None,
     }
 }

@@ -1,15 +1,19 @@
 //! What changes a connection.
-ghost use Rattle.std.specs.Prelude.{◌≡◌, ◌≤◌, ◌<◌, true, None, length, slice_get, option_map, IsSome, IfSome};
+ghost use Rattle.std.specs.Prelude.{◌≡◌, ◌≤◌, ◌<◌, true, None, length, false, is_some, slice_get, slice_set, slice_index_or, option_map, IsSome, IfSome};
+ghost use Rattle.client_slot.specs.Bounds.{rooms_left};
 ghost use Rattle.rtsp_head.specs.Shapes.{shape_of};
-ghost use Rattle.rtsp_small.specs.Sessions.{is_session_id};
 ghost use Rattle.session_two.specs.Ends.{end_counts};
 ghost use Rattle.play_queue.specs.declared.queue.TheConstants.{MOST_PLAYS};
 ghost use Rattle.client_slot.specs.declared.limits.TheConstants.{LONGEST_URI, CLOSING_ROOM, MOST_WAITING};
-ghost use Rattle.session_one.specs.declared.parts.TheConstants.{MOST_TRACKS};
+ghost use Rattle.session_one.specs.declared.parts.TheConstants.{MOST_TRACKS, MOST_SESSIONS};
 ghost use Rattle.client_slot.specs.Purposes.{settled_as};
 
 use super::Slot;
+use crate::at_place::{end_at, next_at, queue_at, unqueue_all};
+use crate::closing_room::ClosingRoom;
+use crate::made::MadeSession;
 use crate::purpose::{Purpose, Settled};
+use crate::settling::{FinalReply, settle_sessions};
 use crate::waiting_request::Waiting;
 use gate_bytes::Text;
 use rtsp_head::Item;
@@ -17,8 +21,11 @@ use session_one::{Asked, Play, Track};
 use session_two::Names;
 
 impl Slot {
+    ghost use Rattle.std.specs.Prelude.{Some};
+    ghost use Rattle.client_slot.specs.Places.{session_at};
     ghost use Rattle.client_slot.specs.Changes.{after_waiting, after_next, after_asking, after_queueing, after_release, after_reply, after_note, after_close, after_closing};
-    ghost use Rattle.client_slot.specs.Bounds.{is_torn_at, is_left};
+    ghost use Rattle.client_slot.specs.Bounds.{IsAskable, is_filled};
+    ghost use Rattle.client_slot.specs.Made.{id_made, described_made};
     ghost use Rattle.client_slot.specs.ClosingRequest.{closing_text};
 
     /// A request waits.
@@ -38,66 +45,69 @@ impl Slot {
         self.waiting.pop_front()
     }
 
-    /// A request of the player went up. A SETUP comes with the stream that it sets up.
+    /// A request of the player went up. A SETUP comes with the stream that it sets up, for which the
+    /// session that the request is for has a place.
     pub fn asked(&mut self, asked: Asked, track: Option<Track>)
         requires alive { self.old.alive ≡ true }
         requires idle { self.old.pending ≡ None }
-        requires uri { length asked.uri ≤ LONGEST_URI }
-        requires room { IsSome track → length self.old.session.tracks < MOST_TRACKS }
+        requires placed { IsAskable self.old.sessions asked track }
         ensures { self.new ≡ after_asking asked track self.old }
     {
         self.pending = Some(Purpose::Client(asked, track));
     }
 
-    /// A PLAY of the player waits.
+    /// A PLAY of the player waits, for its session.
     pub fn queue(&mut self, play: Play)
         requires uri { length play.uri ≤ LONGEST_URI }
-        requires room { length self.old.session.queue < MOST_PLAYS }
+        requires session { is_filled play.place self.old.sessions ≡ true }
+        requires room { IfSome play.place (λ place.
+            (place < MOST_SESSIONS) × (length (session_at place self.old.sessions).queue < MOST_PLAYS)) }
         ensures { self.new ≡ after_queueing play self.old }
     {
-        self.session.queue(play);
+        queue_at(&mut self.sessions, play);
     }
 
     /// The PLAY that is due went up, where one is due.
     pub fn release(&mut self)
         ensures { self.new ≡ after_release self.old }
     {
-        if self.due().is_none() {
+        let Some(place) = self.due_place() else {
             return;
-        }
-        if let Some(play) = self.session.next() {
-            self.pending = Some(Purpose::Released(play));
-        }
+        };
+        let Some(play) = next_at(&mut self.sessions, place) else {
+            unreachable!()
+        };
+        self.pending = Some(Purpose::Released(Play {
+            place: Some(place),
+            ..play
+        }));
     }
 
-    /// The open request, which went up with a number, has its final reply. The id is that of the
-    /// session which the server made, where it made one.
-    pub fn settle(&mut self, number: u32, code: u16, id: Option<Text>) -> Settled
+    /// The open request, which went up with a number, has its final reply, and the server made this
+    /// session for it, where it made one.
+    pub fn settle(&mut self, number: u32, code: u16, made: Option<MadeSession>) -> Settled
         requires busy { IsSome self.old.pending }
         requires last { 200 ≤ code }
-        requires id { IfSome id (λ id. is_session_id id ≡ true) }
+        requires made { IsSome made → described_made made ≡ self.old.described }
         ensures settled { IfSome self.old.pending (λ purpose. result ≡ settled_as purpose) }
-        ensures reply { self.new ≡ after_reply number code id self.old }
+        ensures reply { self.new ≡ after_reply number code (id_made made) self.old }
     {
         let Some(purpose) = self.pending.take() else {
             unreachable!()
         };
         let settled = purpose.settled();
-        match purpose {
-            Purpose::Client(asked, track) => self.session.answer(number, code, asked, track, id),
-            Purpose::Released(play) => self.session.released(number, code, play),
-            Purpose::Closing => self.session.leave(),
-        }
-        self.let_go();
+        let reply = FinalReply { number, code, made };
+        settle_sessions(&mut self.sessions, &mut self.described, purpose, reply);
         settled
     }
 
-    /// The end of what plays was told: whether it counts.
-    pub fn noted(&mut self, names: Names) -> bool
-        ensures counts { result ≡ end_counts self.old.session.running names }
-        ensures noted { self.new ≡ after_note names self.old }
+    /// The end of what plays was told of the session at a place: whether it counts.
+    pub fn noted(&mut self, place: u8, names: Names) -> bool
+        requires { place < MOST_SESSIONS }
+        ensures counts { result ≡ end_counts (session_at place self.old.sessions).running names }
+        ensures noted { self.new ≡ after_note (Some place) names self.old }
     {
-        self.session.end(names)
+        end_at(&mut self.sessions, place, names)
     }
 
     /// The connection closes.
@@ -105,36 +115,8 @@ impl Slot {
         ensures { self.new ≡ after_close self.old }
     {
         self.alive = false;
-        self.session.unqueue();
+        unqueue_all(&mut self.sessions);
         self.waiting.clear();
-        self.let_go();
-    }
-
-    /// Gives back the room for a closing TEARDOWN, where none can go up any more.
-    fn let_go(&mut self)
-        ensures { self.new ≡ self.old }
-    {
-        if self.is_left() {
-            self.room = None;
-        }
-    }
-
-    /// Whether the connection closed, and its closing TEARDOWN went up or never will.
-    fn is_left(&self) -> bool
-        ensures { result ≡ is_left self.now }
-    {
-        !self.alive && self.is_torn()
-    }
-
-    /// Whether no closing TEARDOWN can go up any more, once the connection is closed.
-    fn is_torn(&self) -> bool
-        ensures { result ≡ is_torn_at self.now.pending self.now.session.id }
-    {
-        match &self.pending {
-            None | Some(Purpose::Released(_)) => self.session.id().is_none(),
-            Some(Purpose::Client(_, _)) => false,
-            Some(Purpose::Closing) => true,
-        }
     }
 
     /// The text of the closing TEARDOWN with this number, which went up, where one is to.
@@ -143,12 +125,23 @@ impl Slot {
         ensures short { IfSome result (λ text. length text ≤ CLOSING_ROOM) }
         ensures closing { self.new ≡ after_closing self.old }
     {
-        if self.alive || self.pending.is_some() || self.session.id().is_none() {
-            return None;
-        }
-        let room = self.room.take()?;
-        let text = self.session.teardown_text(room, number)?;
-        self.pending = Some(Purpose::Closing);
+        let place = self.closing_place()?;
+        let Some(room) = take_room(&mut self.rooms, place) else {
+            unreachable!()
+        };
+        let Some(text) = self.sessions[usize::from(place)].teardown_text(room, number) else {
+            unreachable!()
+        };
+        self.pending = Some(Purpose::Closing(place));
         Some(text)
     }
+}
+
+/// The room of a place is taken, where it is there.
+fn take_room(rooms: &mut Vec<Option<ClosingRoom>>, place: u8) -> Option<ClosingRoom>
+    requires { place < length rooms.old.items }
+    ensures room { is_some result ≡ slice_index_or (rooms_left rooms.old.items) place false }
+    ensures left { rooms_left rooms.new.items ≡ slice_set (rooms_left rooms.old.items) place false }
+{
+    rooms[usize::from(place)].take()
 }
