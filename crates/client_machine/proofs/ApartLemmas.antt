@@ -1,266 +1,276 @@
 -- The streams of a connection alone are apart: a SETUP has the next number as that of its pair, and channels that no other
 -- stream has.
-use Rattle.std.proofs.Common.{◌≡◌, ◌≢◌, ◌∙◌, ℕ, ◌+◌, ◌≤◌, nat_lt, Bool, true, false, cond, ◌||◌, List, [], ◌∷◌, ◌++◌, Option, Some, None, refl, sym, ap, subst, arith}
-use Rattle.std.specs.Prelude.{is_none}
+use Rattle.std.proofs.Common.{◌≡◌, ◌≢◌, ◌∙◌, ℕ, zero, suc, ◌+◌, ◌≤◌, ◌==◌, Bool, true, false, ◌||◌, List, [], ◌∷◌, ◌++◌, length, map, Option, Some, None, refl, sym, ap, subst, arith}
+use Rattle.std.specs.Prelude.{is_none, is_some}
 use Rattle.std.specs.Option.{option_to_list}
+use Rattle.std.proofs.lemmas.Bool.{eqb-true, eqb-false}
 use Rattle.std.proofs.lemmas.List.{append-nil}
-use Rattle.rtsp_head.specs.Items.{Shape}
-use Rattle.rtsp_small.specs.declared.method.Method.{Method}
-use Rattle.rtsp_small.specs.declared.method.Method.TheVariants as methods
 use Rattle.rtsp_transport.specs.declared.channels.Pair.{Pair}
 use Rattle.rtsp_uri.specs.declared.base.Bases.{Bases}
-use Rattle.session_one.specs.declared.parts.Play.{Play}
 use Rattle.session_one.specs.declared.parts.Track.{Track}
-use Rattle.session_one.specs.Table.{is_success}
-use Rattle.translate_down.specs.Replies.{Told}
 use Rattle.translate_up.specs.Channels.{share, is_taken}
-use Rattle.translate_up.specs.Views.{Given}
-use Rattle.translate_up.specs.declared.decision.Decision.{Decision}
-use Rattle.translate_up.specs.declared.decision.Decision.TheVariants.{Answer, Forward, Queue, Setup}
-use Rattle.translate_up.proofs.PlaceLemmas.{HasPlace}
+use Rattle.translate_up.specs.Views.{all_tracks}
+use Rattle.client_slot.specs.declared.session_turn.Part.{Part}
+use Rattle.client_slot.specs.declared.session_turn.Part.TheVariants.{Keeps, Takes, Loses}
 use Rattle.client_slot.specs.declared.purpose.Purpose.{Purpose}
 use Rattle.client_slot.specs.declared.purpose.Purpose.TheVariants as purposes
 use Rattle.client_slot.specs.Session.{PlayerSession}
-use Rattle.client_slot.specs.SessionChanges.{when_granted, when_moved}
+use Rattle.client_slot.specs.SessionTurns.{reply_turn, tracks_then}
+use Rattle.client_slot.specs.Places.{changed_at, changed_where, tracks_of}
 use Rattle.client_slot.specs.Client.{Client}
-use Rattle.client_slot.specs.Changes as changes
+use Rattle.client_slot.specs.Changes.{settled_place, session_after, sessions_after}
+use Rattle.client_slot.specs.SessionChanges.{when_next}
 use Rattle.client_machine.specs.Apart.{stream_asked, streams_of, AreStreamsApart, IsStreamApart, AreAllStreamsApart}
 use Rattle.client_machine.specs.Bounds.{ArePairsBelow}
-use Rattle.client_machine.specs.Events.{PrivateEvent, arrive, answer, note, media, end, slow, up_end}
-use Rattle.client_machine.specs.Treatment.{given, one_queued, decision_on, Going, Treated, treated_first, treated}
-use Rattle.client_machine.specs.Releases as going
-use Rattle.client_machine.specs.ServerItems.{NextPart, rests, releases, goes_on, Hearing, idles, new_id, settle_at, hear}
+use Rattle.client_machine.specs.Events.{PrivateEvent}
+use Rattle.client_machine.specs.Treatment.{session_seen, given, Going, treated}
+use Rattle.client_machine.specs.Releases.{track_of, after_plays, goes_at}
+use Rattle.client_machine.specs.ServerItems.{NextPart, Hearing, new_id, hear}
 use Rattle.client_machine.specs.Step.{going_on, step}
-use Rattle.client_machine.specs.Alone.{Private, pair_unless, pair_alone, effect_while, private_after}
-use Rattle.client_machine.proofs.BelowLemmas.{IsNumbered, hear_numbered, alone_numbered}
-use Rattle.client_machine.proofs.HoldLemmas.{IsHeldStill, hear_still}
-use Rattle.client_machine.proofs.RoomLemmas.{decision_placed}
+use Rattle.client_machine.specs.Alone.{pair_alone, private_after}
+use Rattle.client_machine.proofs.WayLemmas.{going_as, alone_as}
+use Rattle.client_machine.proofs.BelowLemmas.{IsNumbered, hear_numbered, IsNextPair, next_alone, alone_numbered, tracks_below}
+use Rattle.client_machine.proofs.FullLemmas.{either_false}
+use Rattle.client_machine.proofs.HoldLemmas.{same_tracks, changed_same, plays_steady, heard_as}
+use Rattle.client_machine.proofs.PlacedLemmas.{IsInPlace, hear_placed, AreChannelsFree, IsGoingIn, treated_in, seen_tracks, plays_idle, few_all, alone_placed}
 
--- Fewer streams are apart.
-from_front : (track : Track) (front back : List Track) → IsStreamApart track (front ++ back) → IsStreamApart track front
-from_front track [] back apart = tt
-from_front track (first ∷ front) back apart = (apart.0, from_front track front back apart.1)
+-- Two streams are apart whichever comes first.
+swap_eq : (a b : ℕ) → (a == b) ≡ (b == a)
+swap_eq a b = by (a == b) (b == a) refl refl
+  where
+    by : (x y : Bool) → (a == b) ≡ x → (b == a) ≡ y → x ≡ y
+    by true true h k = refl
+    by false false h k = refl
+    by true false h k = absurd (eqb-false b a k (sym (eqb-true a b h)))
+    by false true h k = absurd (eqb-false a b h (sym (eqb-true b a k)))
 
-front_apart : (front back : List Track) → AreAllStreamsApart (front ++ back) → AreAllStreamsApart front
-front_apart [] back apart = tt
-front_apart (first ∷ front) back apart = (from_front first front back apart.0, front_apart front back apart.1)
+swap_or : (a b c d : Bool) → ((a || b) || (c || d)) ≡ ((a || c) || (b || d))
+swap_or true b c d = refl
+swap_or false true true d = refl
+swap_or false true false d = refl
+swap_or false false true d = refl
+swap_or false false false d = refl
+
+share_swap : (p q : Pair) → share p q ≡ share q p
+share_swap p q = rw (swap_eq q.rtp p.rtp, swap_eq q.rtp p.rtcp, swap_eq q.rtcp p.rtp, swap_eq q.rtcp p.rtcp) (swap_or (p.rtp == q.rtp) (p.rtp == q.rtcp) (p.rtcp == q.rtp) (p.rtcp == q.rtcp))
+
+apart_swap : (one other : Track) → AreStreamsApart one other → AreStreamsApart other one
+apart_swap one other apart = record { pairs = λ same. apart.pairs (sym same); channels = share_swap other.client one.client ∙ apart.channels }
+
+-- each of these and each of those
+abbrev AreEachApart : List Track → List Track → Type 0
+AreEachApart [] others = Unit {0}
+AreEachApart (track ∷ tracks) others = IsStreamApart track others × AreEachApart tracks others
+
+-- a stream and those of two lists
+one_parts : (track : Track) (first second : List Track) → IsStreamApart track (first ++ second) → IsStreamApart track first × IsStreamApart track second
+one_parts track [] second apart = (tt, apart)
+one_parts track (one ∷ first) second apart = let more = one_parts track first second apart.1 in ((apart.0, more.0), more.1)
+
+one_joined : (track : Track) (first second : List Track) → IsStreamApart track first → IsStreamApart track second → IsStreamApart track (first ++ second)
+one_joined track [] second a b = b
+one_joined track (one ∷ first) second a b = (a.0, one_joined track first second a.1 b)
+
+-- those of two lists are apart where those of each are, and each of one list from each of the other
+record AreBothApart (first second : List Track) : Type 0 where
+  one : AreAllStreamsApart first
+  other : AreAllStreamsApart second
+  between : AreEachApart first second
+
+all_parts : (first second : List Track) → AreAllStreamsApart (first ++ second) → AreBothApart first second
+all_parts [] second apart = record { one = tt; other = apart; between = tt }
+all_parts (track ∷ first) second apart =
+    let here = one_parts track first second apart.0 in
+    let more = all_parts first second apart.1 in
+    record { one = (here.0, more.one); other = more.other; between = (here.1, more.between) }
+
+all_joined : (first second : List Track) → AreBothApart first second → AreAllStreamsApart (first ++ second)
+all_joined [] second both = both.other
+all_joined (track ∷ first) second both =
+    (one_joined track first second both.one.0 both.between.0, all_joined first second (record { one = both.one.1; other = both.other; between = both.between.1 }))
+
+each_first : (first second third : List Track) → AreEachApart first (second ++ third) → AreEachApart first second
+each_first [] second third apart = tt
+each_first (track ∷ first) second third apart = ((one_parts track second third apart.0).0, each_first first second third apart.1)
+
+each_second : (first second third : List Track) → AreEachApart first (second ++ third) → AreEachApart first third
+each_second [] second third apart = tt
+each_second (track ∷ first) second third apart = ((one_parts track second third apart.0).1, each_second first second third apart.1)
+
+each_joined : (first second third : List Track) → AreEachApart first third → AreEachApart second third → AreEachApart (first ++ second) third
+each_joined [] second third a b = b
+each_joined (track ∷ first) second third a b = (a.0, each_joined first second third a.1 b)
+
+each_none : (tracks : List Track) → AreEachApart tracks []
+each_none [] = tt
+each_none (track ∷ tracks) = (tt, each_none tracks)
+
+each_more : (tracks : List Track) (track : Track) (more : List Track) → AreEachApart tracks (track ∷ []) → AreEachApart tracks more → AreEachApart tracks (track ∷ more)
+each_more [] track more a b = tt
+each_more (one ∷ tracks) track more a b = ((a.0.0, b.0), each_more tracks track more a.1 b.1)
+
+swap_one : (track : Track) (tracks : List Track) → IsStreamApart track tracks → AreEachApart tracks (track ∷ [])
+swap_one track [] apart = tt
+swap_one track (one ∷ tracks) apart = ((apart_swap track one apart.0, tt), swap_one track tracks apart.1)
+
+each_swap : (first second : List Track) → AreEachApart first second → AreEachApart second first
+each_swap [] second apart = each_none second
+each_swap (track ∷ first) second apart = each_more second track first (swap_one track second apart.0) (each_swap first second apart.1)
 
 nil_apart : (tracks : List Track) → AreAllStreamsApart tracks → AreAllStreamsApart (tracks ++ [])
 nil_apart tracks apart = subst (λ (all : List Track). AreAllStreamsApart all) (sym (append-nil tracks)) apart
 
--- One more is apart that each of them is apart from.
-abbrev IsApartBehind : List Track → Track → Type 0
-IsApartBehind [] new = Unit {0}
-IsApartBehind (track ∷ tracks) new = AreStreamsApart track new × IsApartBehind tracks new
+front_apart : (front back : List Track) → AreAllStreamsApart (front ++ back) → AreAllStreamsApart front
+front_apart front back apart = (all_parts front back apart).one
 
-from_more : (track : Track) (tracks : List Track) (new : Track) → IsStreamApart track tracks → AreStreamsApart track new → IsStreamApart track (tracks ++ new ∷ [])
-from_more track [] new apart one = (one, tt)
-from_more track (first ∷ tracks) new apart one = (apart.0, from_more track tracks new apart.1 one)
+-- A session whose streams are kept, or get one more, or are lost.
+record IsTurned (track : Option Track) (before after : PlayerSession) : Type 0 where
+  part : Part
+  is : after.tracks ≡ tracks_then part before.tracks track
 
-more_apart : (tracks : List Track) (new : Track) → AreAllStreamsApart tracks → IsApartBehind tracks new → AreAllStreamsApart (tracks ++ new ∷ [])
-more_apart [] new apart behind = (tt, tt)
-more_apart (track ∷ tracks) new apart behind = (from_more track tracks new apart.0 behind.0, more_apart tracks new apart.1 behind.1)
+part_apart : (part : Part) (was : List Track) (track : Option Track) (more : List Track) → AreAllStreamsApart ((was ++ more) ++ option_to_list track) → AreAllStreamsApart (tracks_then part was track ++ more)
+part_apart Keeps was track more apart = front_apart (was ++ more) (option_to_list track) apart
+part_apart Loses was track more apart = (all_parts was more (front_apart (was ++ more) (option_to_list track) apart)).other
+part_apart Takes was track more apart =
+    let new = option_to_list track in
+    let outer = all_parts (was ++ more) new apart in
+    let inner = all_parts was more outer.one in
+    let new_and = each_swap (was ++ more) new outer.between in
+    all_joined (was ++ new) more (record {
+      one = all_joined was new (record { one = inner.one; other = outer.other; between = each_swap new was (each_first new was more new_and) });
+      other = inner.other;
+      between = each_joined was new more inner.between (each_second new was more new_and);
+    })
 
--- The stream of a SETUP that goes up is one.
-either_false : (a b : Bool) → (a || b) ≡ false → (a ≡ false) × (b ≡ false)
-either_false true b e = cc
-either_false false b e = (refl, e)
+part_each : (first : List Track) (part : Part) (was : List Track) (track : Option Track) → AreEachApart first was → AreEachApart first (option_to_list track) → AreEachApart first (tracks_then part was track)
+part_each first Keeps was track a b = a
+part_each first Takes was track a b = each_swap (was ++ option_to_list track) first (each_joined was (option_to_list track) first (each_swap first was a) (each_swap first (option_to_list track) b))
+part_each first Loses was track a b = each_none first
 
+turned_each : (first : List Track) (place : ℕ) (change : PlayerSession → PlayerSession) (track : Option Track) (sessions : List PlayerSession) → ((session : PlayerSession) → IsTurned track session (change session))
+    → AreEachApart first (tracks_of sessions) → AreEachApart first (option_to_list track) → AreEachApart first (tracks_of (changed_at place change sessions))
+turned_each first place change track [] turns a b = a
+turned_each first zero change track (one ∷ more) turns a b =
+    let turn = turns one in
+    subst (λ (tracks : List Track). AreEachApart first (tracks ++ tracks_of more)) (sym turn.is)
+    (each_swap (tracks_then turn.part one.tracks track ++ tracks_of more) first
+    (each_joined (tracks_then turn.part one.tracks track) (tracks_of more) first
+    (each_swap first (tracks_then turn.part one.tracks track) (part_each first turn.part one.tracks track (each_first first one.tracks (tracks_of more) a) b))
+    (each_swap first (tracks_of more) (each_second first one.tracks (tracks_of more) a))))
+turned_each first (suc place) change track (one ∷ more) turns a b =
+    each_swap (one.tracks ++ tracks_of (changed_at place change more)) first
+    (each_joined one.tracks (tracks_of (changed_at place change more)) first (each_swap first one.tracks (each_first first one.tracks (tracks_of more) a))
+    (each_swap first (tracks_of (changed_at place change more)) (turned_each first place change track more turns (each_second first one.tracks (tracks_of more) a) b)))
+
+turned_apart : (place : ℕ) (change : PlayerSession → PlayerSession) (track : Option Track) (sessions : List PlayerSession) → ((session : PlayerSession) → IsTurned track session (change session))
+    → AreAllStreamsApart (tracks_of sessions ++ option_to_list track) → AreAllStreamsApart (tracks_of (changed_at place change sessions))
+turned_apart place change track [] turns apart = tt
+turned_apart zero change track (one ∷ more) turns apart =
+    let turn = turns one in
+    subst (λ (tracks : List Track). AreAllStreamsApart (tracks ++ tracks_of more)) (sym turn.is) (part_apart turn.part one.tracks track (tracks_of more) apart)
+turned_apart (suc place) change track (one ∷ more) turns apart =
+    let new = option_to_list track in
+    let outer = all_parts (one.tracks ++ tracks_of more) new apart in
+    let inner = all_parts one.tracks (tracks_of more) outer.one in
+    let new_and = each_swap (one.tracks ++ tracks_of more) new outer.between in
+    all_joined one.tracks (tracks_of (changed_at place change more)) (record {
+      one = inner.one;
+      other = turned_apart place change track more turns
+          (all_joined (tracks_of more) new (record { one = inner.other; other = outer.other; between = each_swap new (tracks_of more) (each_second new one.tracks (tracks_of more) new_and) }));
+      between = turned_each one.tracks place change track more turns inner.between (each_swap new one.tracks (each_first new one.tracks (tracks_of more) new_and));
+    })
+
+turned_where : (place : Option ℕ) (change : PlayerSession → PlayerSession) (track : Option Track) (sessions : List PlayerSession) → ((session : PlayerSession) → IsTurned track session (change session))
+    → AreAllStreamsApart (tracks_of sessions ++ option_to_list track) → AreAllStreamsApart (tracks_of (changed_where place change sessions))
+turned_where None change track sessions turns apart = front_apart (tracks_of sessions) (option_to_list track) apart
+turned_where (Some place) change track sessions turns apart = turned_apart place change track sessions turns apart
+
+-- what a reply makes of the streams
+after_apart : (purpose : Purpose) (number code : ℕ) (described id : Option (List ℕ)) (sessions : List PlayerSession) → AreAllStreamsApart (tracks_of sessions ++ stream_asked (Some purpose))
+    → AreAllStreamsApart (tracks_of (sessions_after purpose number code described id sessions))
+after_apart (purposes.Client asked track) number code described id sessions apart =
+    turned_where (settled_place (purposes.Client asked track) id sessions) (session_after (purposes.Client asked track) number code described id) track sessions
+    (λ session. record { part = (reply_turn (purposes.Client asked track) code (is_some id) session.state).tracks; is = refl }) apart
+after_apart (purposes.Released play) number code described id sessions apart =
+    turned_where play.place (session_after (purposes.Released play) number code described id) None sessions
+    (λ session. record { part = (reply_turn (purposes.Released play) code (is_some id) session.state).tracks; is = refl }) apart
+after_apart (purposes.Closing place) number code described id sessions apart =
+    turned_where (Some place) (session_after (purposes.Closing place) number code described id) None sessions (λ session. record { part = Loses; is = refl }) apart
+
+hear_apart : (bases : Bases) (n : ℕ) (client : Client) (event : PrivateEvent) → AreAllStreamsApart (streams_of client) → AreAllStreamsApart (streams_of (hear bases n client event).effect.client)
+hear_apart bases n client event apart = heard_as (λ after. AreAllStreamsApart (streams_of after)) bases n client event
+    (λ after still. subst (λ (all : List Track). AreAllStreamsApart all)
+    (sym (ap (λ (tracks : List Track). tracks ++ stream_asked after.pending) (same_tracks client.sessions after.sessions still.sessions) ∙ ap (λ (purpose : Option Purpose). tracks_of client.sessions ++ stream_asked purpose) still.pending)) apart)
+    (λ purpose told ssrc full here is.
+    nil_apart (tracks_of (sessions_after purpose n told.code client.described (new_id purpose told) client.sessions))
+    (after_apart purpose n told.code client.described (new_id purpose told) client.sessions (subst (λ (one : Option Purpose). AreAllStreamsApart (tracks_of client.sessions ++ stream_asked one)) is apart)))
+
+-- The stream of a SETUP that goes up is apart from all.
 below_next : (n pair : ℕ) → pair ≤ n → pair ≢ n + 1
 below_next n pair low same = omega (arith, low, same)
 
-new_apart : (n : ℕ) (tracks : List Track) (uri : List ℕ) (channels : Pair) → ArePairsBelow n tracks → is_taken tracks channels ≡ false → IsApartBehind tracks (record { uri = uri; client = channels; pair = n + 1 })
-new_apart n [] uri channels below free = tt
-new_apart n (track ∷ tracks) uri channels below free =
-    let parts = either_false (share track.client channels) (is_taken tracks channels) free in
-    (record { pairs = below_next n track.pair below.0.1; channels = parts.0 }, new_apart n tracks uri channels below.1 parts.1)
+new_apart : (n : ℕ) (tracks : List Track) (new : Track) → ArePairsBelow n tracks → is_taken tracks new.client ≡ false → new.pair ≡ n + 1 → AreEachApart tracks (new ∷ [])
+new_apart n [] new below free next = tt
+new_apart n (track ∷ tracks) new below free next =
+    let parts = either_false (share track.client new.client) (is_taken tracks new.client) free in
+    ((record { pairs = λ same. below_next n track.pair below.0.1 (same ∙ next); channels = parts.0 }, tt), new_apart n tracks new below.1 parts.1 next)
 
--- what a reply makes of the streams
-granted_apart : (n : ℕ) (method : Method) (uri : List ℕ) (track : Option Track) (id : Option (List ℕ)) (session : PlayerSession)
-    → AreAllStreamsApart (session.tracks ++ option_to_list track) → AreAllStreamsApart (when_granted method n uri track id session).tracks
-granted_apart n methods.Options uri track id session apart = front_apart session.tracks (option_to_list track) apart
-granted_apart n methods.Describe uri track id session apart = front_apart session.tracks (option_to_list track) apart
-granted_apart n methods.Setup uri track id session apart = apart
-granted_apart n methods.Play uri track id session apart = front_apart session.tracks (option_to_list track) apart
-granted_apart n methods.Pause uri track id session apart = front_apart session.tracks (option_to_list track) apart
-granted_apart n methods.Teardown uri track id session apart = tt
-granted_apart n methods.GetParameter uri track id session apart = front_apart session.tracks (option_to_list track) apart
-granted_apart n methods.SetParameter uri track id session apart = front_apart session.tracks (option_to_list track) apart
+abbrev AreFreeFor : List Track → Option Pair → Type 0
+AreFreeFor tracks None = Unit {0}
+AreFreeFor tracks (Some channels) = is_taken tracks channels ≡ false
 
-either_apart : (first : Bool) (one other : PlayerSession) → AreAllStreamsApart one.tracks → AreAllStreamsApart other.tracks → AreAllStreamsApart (cond first one other).tracks
-either_apart true one other a b = a
-either_apart false one other a b = b
-
-session_apart : (n : ℕ) (purpose : Option Purpose) (code : ℕ) (id : Option (List ℕ)) (session : PlayerSession)
-    → AreAllStreamsApart (session.tracks ++ stream_asked purpose) → AreAllStreamsApart (changes.session_after purpose n code id session).tracks
-session_apart n None code id session apart = front_apart session.tracks [] apart
-session_apart n (Some (purposes.Client asked track)) code id session apart =
-    either_apart (is_success code) (when_granted asked.method n asked.uri track id (when_moved asked.method code session)) session
-    (granted_apart n asked.method asked.uri track id (when_moved asked.method code session) apart) (front_apart session.tracks (option_to_list track) apart)
-session_apart n (Some (purposes.Released play)) code id session apart =
-    either_apart (is_success code) _ _ (front_apart session.tracks [] apart) (front_apart session.tracks [] apart)
-session_apart n (Some purposes.Closing) code id session apart = tt
-
--- what an event does by itself
-settled_apart : (bases : Bases) (n : ℕ) (pending : Option Purpose) (told : Told) (ssrc : Option ℕ) (client : Client)
-    → AreAllStreamsApart (streams_of client) → AreAllStreamsApart (streams_of (settle_at bases n pending told ssrc client).effect.client)
-settled_apart bases n None told ssrc client apart = apart
-settled_apart bases n (Some purpose) told ssrc client apart =
-    let id : Option (List ℕ) = new_id purpose client.session.id told in
-    nil_apart (changes.session_after client.pending n told.code id client.session).tracks (session_apart n client.pending told.code id client.session apart)
-
-answer_apart : (early : Bool) (client : Client) (heard : Hearing) → AreAllStreamsApart (streams_of client) → AreAllStreamsApart (streams_of heard.effect.client)
-    → AreAllStreamsApart (streams_of (cond early (idles client) heard).effect.client)
-answer_apart true client heard apart later = apart
-answer_apart false client heard apart later = later
-
-still_apart : (before after : Client) → IsHeldStill before after → AreAllStreamsApart (streams_of before) → AreAllStreamsApart (streams_of after)
-still_apart before after still apart = subst (λ (all : List Track). AreAllStreamsApart all)
-    (sym (ap (λ (tracks : List Track). tracks ++ stream_asked after.pending) still.tracks ∙ ap (λ (purpose : Option Purpose). before.session.tracks ++ stream_asked purpose) still.pending)) apart
-
-hear_apart : (bases : Bases) (n : ℕ) (client : Client) (event : PrivateEvent) → AreAllStreamsApart (streams_of client) → AreAllStreamsApart (streams_of (hear bases n client event).effect.client)
-hear_apart bases n client (arrive shape full) apart = still_apart client (hear bases n client (arrive shape full)).effect.client (hear_still bases n client (arrive shape full) tt) apart
-hear_apart bases n client (answer told ssrc full) apart =
-    answer_apart (nat_lt told.code 200) client (settle_at bases n client.pending told ssrc client) apart (settled_apart bases n client.pending told ssrc client apart)
-hear_apart bases n client (note reason names) apart = still_apart client (hear bases n client (note reason names)).effect.client (hear_still bases n client (note reason names) tt) apart
-hear_apart bases n client (media pair half rest) apart = still_apart client (hear bases n client (media pair half rest)).effect.client (hear_still bases n client (media pair half rest) tt) apart
-hear_apart bases n client end apart = still_apart client (hear bases n client end).effect.client (hear_still bases n client end tt) apart
-hear_apart bases n client slow apart = still_apart client (hear bases n client slow).effect.client (hear_still bases n client slow tt) apart
-hear_apart bases n client up_end apart = apart
-
--- the channels of a SETUP that goes up
-abbrev AreChannelsFree : List Track → Option Pair → Type 0
-AreChannelsFree tracks None = Unit {0}
-AreChannelsFree tracks (Some channels) = is_taken tracks channels ≡ false
-
-abbrev IsFreeGoing : List Track → Option Going → Type 0
-IsFreeGoing tracks None = Unit {0}
-IsFreeGoing tracks (Some one) = AreChannelsFree tracks one.channels
-
-first_free : (decision : Decision) (given : Given) (more : List Shape) (again : Given → Treated) → HasPlace given decision → ((one : Given) → IsFreeGoing one.tracks (again one).going)
-    → IsFreeGoing given.tracks (treated_first decision given more again).going
-first_free (Answer text) given more again place later = later given
-first_free (Queue play text) given more again place later = later (one_queued given)
-first_free (Forward request asked) given more again place later = tt
-first_free (Setup request asked channels) given more again place later = place.1
-
-treated_free : (shapes : List Shape) (given : Given) → IsFreeGoing given.tracks (treated shapes given).going
-treated_free [] given = tt
-treated_free (shape ∷ more) given =
-    first_free (decision_on given shape) given more (treated more) (decision_placed given shape) (treated_free more)
-
--- What goes up then, where the pair that is free has the next number.
-abbrev IsNextPair : ℕ → Option ℕ → Type 0
-IsNextPair n None = Unit {0}
-IsNextPair n (Some pair) = pair ≡ n + 1
-
-release_apart : (play : Option Play) (client : Client) → AreAllStreamsApart (streams_of client) → AreAllStreamsApart (streams_of (changes.release_at play client))
-release_apart None client apart = apart
-release_apart (Some play) client apart = nil_apart client.session.tracks (front_apart client.session.tracks (stream_asked client.pending) apart)
-
-released_apart : (play : Option Play) (client : Client) → AreAllStreamsApart (streams_of client) → AreAllStreamsApart (streams_of (going.released_with play client).client)
-released_apart None client apart = apart
-released_apart (Some play) client apart = release_apart (changes.due_play client) client apart
-
-close_apart : (id : Option (List ℕ)) (client : Client) → AreAllStreamsApart (streams_of client) → AreAllStreamsApart (streams_of (changes.close_at id client))
-close_apart None client apart = apart
-close_apart (Some id) client apart = nil_apart client.session.tracks (front_apart client.session.tracks (stream_asked client.pending) apart)
-
-leave_apart : (id : Option (List ℕ)) (client : Client) → AreAllStreamsApart (streams_of client) → AreAllStreamsApart (streams_of (going.leave_at id client).client)
-leave_apart None client apart = apart
-leave_apart (Some id) client apart = close_apart (changes.closing_session client) client apart
-
--- PLAYs that wait keep the streams
-plays_streams : (plays : List Play) (client : Client) → streams_of (going.after_plays plays client) ≡ streams_of client
-plays_streams [] client = refl
-plays_streams (play ∷ plays) client = plays_streams plays (changes.after_queueing play client)
-
-plays_tracks : (plays : List Play) (client : Client) → (going.after_plays plays client).session.tracks ≡ client.session.tracks
-plays_tracks [] client = refl
-plays_tracks (play ∷ plays) client = plays_tracks plays (changes.after_queueing play client)
-
-asked_apart : (n : ℕ) (tracks : List Track) (uri : List ℕ) (pair : Option ℕ) (channels : Option Pair) → IsNextPair n pair → ArePairsBelow n tracks → AreChannelsFree tracks channels → AreAllStreamsApart tracks
-    → AreAllStreamsApart (tracks ++ option_to_list (going.track_of uri pair channels))
+asked_apart : (n : ℕ) (tracks : List Track) (uri : List ℕ) (pair : Option ℕ) (channels : Option Pair) → IsNextPair n pair → ArePairsBelow n tracks → AreFreeFor tracks channels → AreAllStreamsApart tracks
+    → AreAllStreamsApart (tracks ++ option_to_list (track_of uri pair channels))
 asked_apart n tracks uri None channels next below free apart = nil_apart tracks apart
 asked_apart n tracks uri (Some pair) None next below free apart = nil_apart tracks apart
 asked_apart n tracks uri (Some pair) (Some channels) next below free apart =
-    subst (λ (one : ℕ). AreAllStreamsApart (tracks ++ record { uri = uri; client = channels; pair = one } ∷ [])) (sym next)
-    (more_apart tracks (record { uri = uri; client = channels; pair = n + 1 }) apart (new_apart n tracks uri channels below free))
+    all_joined tracks (record { uri = uri; client = channels; pair = pair } ∷ []) (record { one = apart; other = (tt, tt); between = new_apart n tracks (record { uri = uri; client = channels; pair = pair }) below free next })
 
-goes_apart : (n : ℕ) (one : Option Going) (pair : Option ℕ) (hand : List ℕ) (client : Client) → IsNextPair n pair → ArePairsBelow n client.session.tracks → IsFreeGoing client.session.tracks one → AreAllStreamsApart (streams_of client)
-    → AreAllStreamsApart (streams_of (going.goes_at one pair hand client).client)
-goes_apart n None pair hand client next below free apart = apart
-goes_apart n (Some one) pair hand client next below free apart =
-    asked_apart n client.session.tracks one.asked.uri pair one.channels next below free (front_apart client.session.tracks (stream_asked client.pending) apart)
+free_of : (sessions : List PlayerSession) (going : Option Going) (one : Going) → going ≡ Some one → IsGoingIn (map session_seen sessions) going → length (tracks_of sessions) ≤ 63 → AreFreeFor (tracks_of sessions) one.channels
+free_of sessions going one is all few = by one.channels (subst (IsGoingIn (map session_seen sessions)) is all).1
+  where
+    by : (channels : Option Pair) → AreChannelsFree (all_tracks (map session_seen sessions)) channels → AreFreeFor (tracks_of sessions) channels
+    by None free = tt
+    by (Some channels) free = subst (λ (tracks : List Track). length tracks ≤ 63 → is_taken tracks channels ≡ false) (seen_tracks sessions) free few
 
-treat_apart : (bases : Bases) (n : ℕ) (pair : Option ℕ) (client : Client) → IsNextPair n pair → ArePairsBelow n client.session.tracks → AreAllStreamsApart (streams_of client)
-    → AreAllStreamsApart (streams_of (going.treat bases pair client).client)
-treat_apart bases n pair client next below apart =
-    let all : Treated = treated client.waiting (given bases (is_none pair) client) in
-    let left : Client = record client { waiting = all.left } in
-    let same : (going.after_plays all.plays left).session.tracks ≡ client.session.tracks = plays_tracks all.plays left in
-    goes_apart n all.going pair all.hand (going.after_plays all.plays left) next
-    (subst (λ (tracks : List Track). ArePairsBelow n tracks) (sym same) below)
-    (subst (λ (tracks : List Track). IsFreeGoing tracks all.going) (sym same) (treated_free client.waiting (given bases (is_none pair) client)))
-    (subst (λ (tracks : List Track). AreAllStreamsApart tracks) (sym (plays_streams all.plays left)) apart)
+goes_apart : (n : ℕ) (one : Option Going) (pair : Option ℕ) (hand : List ℕ) (before client : Client) → IsNextPair n pair → ArePairsBelow n (tracks_of before.sessions) → length (tracks_of before.sessions) ≤ 63
+    → IsGoingIn (map session_seen before.sessions) one → AreAllStreamsApart (tracks_of before.sessions) → tracks_of client.sessions ≡ tracks_of before.sessions → AreAllStreamsApart (streams_of client) → AreAllStreamsApart (streams_of (goes_at one pair hand client).client)
+goes_apart n None pair hand before client next below few free apart same all = all
+goes_apart n (Some one) pair hand before client next below few free apart same all =
+    subst (λ (tracks : List Track). AreAllStreamsApart (tracks ++ option_to_list (track_of one.asked.uri pair one.channels))) (sym same)
+    (asked_apart n (tracks_of before.sessions) one.asked.uri pair one.channels next below (free_of before.sessions (Some one) one refl free few) apart)
 
-due_apart : (bases : Bases) (n : ℕ) (pair : Option ℕ) (play : Option Play) (client : Client) → IsNextPair n pair → ArePairsBelow n client.session.tracks → AreAllStreamsApart (streams_of client)
-    → AreAllStreamsApart (streams_of (going.go_due bases pair play client).client)
-due_apart bases n pair (Some play) client next below apart = released_apart (Some play) client apart
-due_apart bases n pair None client next below apart = treat_apart bases n pair client next below apart
-
-idle_apart : (bases : Bases) (n : ℕ) (pair : Option ℕ) (alive : Bool) (client : Client) → IsNextPair n pair → ArePairsBelow n client.session.tracks → AreAllStreamsApart (streams_of client)
-    → AreAllStreamsApart (streams_of (going.go_idle bases pair alive client).client)
-idle_apart bases n pair true client next below apart = due_apart bases n pair (changes.due_play client) client next below apart
-idle_apart bases n pair false client next below apart = leave_apart client.session.id client apart
-
-at_apart : (bases : Bases) (n : ℕ) (pair : Option ℕ) (pending : Option Purpose) (client : Client) → IsNextPair n pair → ArePairsBelow n client.session.tracks → AreAllStreamsApart (streams_of client)
-    → AreAllStreamsApart (streams_of (going.go_at bases pair pending client).client)
-at_apart bases n pair (Some purpose) client next below apart = apart
-at_apart bases n pair None client next below apart = idle_apart bases n pair client.alive client next below apart
-
-going_apart : (bases : Bases) (n : ℕ) (pair : Option ℕ) (next : NextPart) (client : Client) → IsNextPair n pair → ArePairsBelow n client.session.tracks → AreAllStreamsApart (streams_of client)
+going_apart : (bases : Bases) (n : ℕ) (pair : Option ℕ) (next : NextPart) (client : Client) → IsNextPair n pair → ArePairsBelow n (tracks_of client.sessions) → IsInPlace client → AreAllStreamsApart (streams_of client)
     → AreAllStreamsApart (streams_of (going_on bases pair next client).client)
-going_apart bases n pair rests client is_next below apart = apart
-going_apart bases n pair releases client is_next below apart = released_apart (changes.due_play client) client apart
-going_apart bases n pair goes_on client is_next below apart = at_apart bases n pair client.pending client is_next below apart
+going_apart bases n pair next client is_next below placed apart =
+    let own = front_apart (tracks_of client.sessions) (stream_asked client.pending) apart in
+    going_as (λ effect. AreAllStreamsApart (streams_of effect.client)) bases pair next client (record {
+      still = apart;
+      released = λ place play idle due is.
+          subst (λ (tracks : List Track). AreAllStreamsApart (tracks ++ []))
+          (sym (same_tracks client.sessions (changed_at place when_next client.sessions) (changed_same place when_next client.sessions (λ session. record { id = refl; tracks = refl })))) (nil_apart (tracks_of client.sessions) own);
+      treats = λ idle alive.
+          let all = treated client.waiting (given bases (is_none pair) client) in
+          let left = record client { waiting = all.left } in
+          let after = after_plays all.plays left in
+          let same = same_tracks client.sessions after.sessions (plays_steady all.plays left).sessions in
+          goes_apart n all.going pair all.hand client after is_next below (few_all client placed) (treated_in client.waiting (given bases (is_none pair) client)) own same
+          (subst (λ (tracks : List Track). AreAllStreamsApart (tracks ++ stream_asked after.pending)) (sym same)
+          (subst (λ (one : Option Purpose). AreAllStreamsApart (tracks_of client.sessions ++ stream_asked one)) (sym (plays_idle all.plays left)) apart));
+      left = λ place id idle dead filled is. nil_apart (tracks_of client.sessions) own;
+    })
 
-step_apart : (bases : Bases) (n : ℕ) (pair : Option ℕ) (client : Client) (event : PrivateEvent) → IsNextPair n pair → IsNumbered n client → AreAllStreamsApart (streams_of client)
+step_apart : (bases : Bases) (n : ℕ) (pair : Option ℕ) (client : Client) (event : PrivateEvent) → IsNextPair n pair → IsNumbered n client → IsInPlace client → AreAllStreamsApart (streams_of client)
     → AreAllStreamsApart (streams_of (step bases n pair client event).client)
-step_apart bases n pair client event next numbered apart =
+step_apart bases n pair client event next numbered placed apart =
     let heard : Hearing = hear bases n client event in
-    going_apart bases n pair heard.next heard.effect.client next (hear_numbered bases n client event numbered).0.tracks (hear_apart bases n client event apart)
+    going_apart bases n pair heard.next heard.effect.client next (tracks_below n heard.effect.client.sessions (hear_numbered bases n client event numbered).0.sessions)
+    (hear_placed bases n client event placed) (hear_apart bases n client event apart)
 
 -- So it is for a connection alone.
-next_unless : (full : Bool) (n : ℕ) → IsNextPair n (pair_unless full (n + 1))
-next_unless true n = tt
-next_unless false n = refl
-
-next_alone : (event : PrivateEvent) (n : ℕ) → IsNextPair n (pair_alone event (n + 1))
-next_alone (arrive shape full) n = next_unless full n
-next_alone (answer told ssrc full) n = next_unless full n
-next_alone (note reason names) n = refl
-next_alone (media pair half rest) n = refl
-next_alone end n = refl
-next_alone slow n = refl
-next_alone up_end n = refl
-
-steps_apart : (bases : Bases) (p : Private) (event : PrivateEvent) → IsNumbered p.count p.client → AreAllStreamsApart (streams_of p.client)
-    → AreAllStreamsApart (streams_of (step bases p.count (pair_alone event (p.count + 1)) p.client event).client)
-steps_apart bases p event numbered apart = step_apart bases p.count (pair_alone event (p.count + 1)) p.client event (next_alone event p.count) numbered apart
-
-while_apart : (over : Bool) (bases : Bases) (p : Private) (event : PrivateEvent) → IsNumbered p.count p.client → AreAllStreamsApart (streams_of p.client)
-    → AreAllStreamsApart (streams_of (effect_while over bases p event).client)
-while_apart true bases p event numbered apart = apart
-while_apart false bases p (arrive shape full) numbered apart = steps_apart bases p (arrive shape full) numbered apart
-while_apart false bases p (answer told ssrc full) numbered apart = steps_apart bases p (answer told ssrc full) numbered apart
-while_apart false bases p (note reason names) numbered apart = steps_apart bases p (note reason names) numbered apart
-while_apart false bases p (media pair half rest) numbered apart = steps_apart bases p (media pair half rest) numbered apart
-while_apart false bases p end numbered apart = steps_apart bases p end numbered apart
-while_apart false bases p slow numbered apart = steps_apart bases p slow numbered apart
-while_apart false bases p up_end numbered apart = apart
-
 pub alone_apart : (bases : Bases) (events : List PrivateEvent) → AreAllStreamsApart (streams_of (private_after bases events).client)
 alone_apart bases [] = tt
 alone_apart bases (event ∷ events) =
-    while_apart (private_after bases events).over bases (private_after bases events) event (alone_numbered bases events) (alone_apart bases events)
+    let p = private_after bases events in
+    alone_as (λ effect. AreAllStreamsApart (streams_of effect.client)) bases p event (alone_apart bases events) (alone_apart bases events)
+    (step_apart bases p.count (pair_alone event (p.count + 1)) p.client event (next_alone event p.count) (alone_numbered bases events) (alone_placed bases events) (alone_apart bases events))

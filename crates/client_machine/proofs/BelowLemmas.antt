@@ -1,42 +1,35 @@
 -- The numbers that are kept of a connection alone are those of its own requests, so two numberings that agree on these
 -- agree on the connection.
-use Rattle.std.proofs.Common.{◌≡◌, ◌∙◌, ℕ, ◌+◌, ◌≤◌, nat_lt, Bool, true, false, cond, List, [], ◌∷◌, ◌++◌, map, Option, Some, None, refl, ap, subst, arith}
-use Rattle.std.specs.Prelude.{is_none}
+use Rattle.std.proofs.Common.{◌≡◌, ◌∙◌, ℕ, zero, suc, ◌+◌, ◌≤◌, ◌==◌, Bool, true, false, cond, List, [], ◌∷◌, ◌++◌, length, map, Option, Some, None, refl, sym, ap, subst, arith}
+use Rattle.std.specs.Prelude.{is_none, is_some}
 use Rattle.std.specs.Option.{option_map, option_or, option_to_list}
-use Rattle.rtsp_head.specs.Items.{Shape}
-use Rattle.rtsp_head.specs.declared.item.ItemKind.{ItemKind}
-use Rattle.rtsp_head.specs.declared.item.ItemKind.TheVariants.{Request, Response, Frame, Bad}
-use Rattle.rtsp_small.specs.declared.method.Method.{Method}
-use Rattle.rtsp_small.specs.declared.method.Method.TheVariants as methods
-use Rattle.rtsp_small.specs.declared.notify.NotifyReason.{NotifyReason}
-use Rattle.rtsp_small.specs.declared.notify.NotifyReason.TheVariants.{EndOfStream, MediaProperties, ScaleChange}
 use Rattle.rtsp_transport.specs.declared.channels.Pair.{Pair}
 use Rattle.rtsp_uri.specs.declared.base.Bases.{Bases}
 use Rattle.session_one.specs.declared.parts.Play.{Play}
 use Rattle.session_one.specs.declared.parts.Track.{Track}
 use Rattle.session_one.specs.declared.table.State.TheVariants.{Ready}
-use Rattle.session_one.specs.Table.{is_success}
-use Rattle.session_two.specs.declared.names.Names.{Names}
 use Rattle.session_two.specs.Ends.{end_counts}
-use Rattle.translate_down.specs.Replies.{Told}
 use Rattle.client_slot.specs.declared.purpose.Purpose.{Purpose}
 use Rattle.client_slot.specs.declared.purpose.Purpose.TheVariants as purposes
-use Rattle.client_slot.specs.Session.{PlayerSession}
-use Rattle.client_slot.specs.SessionChanges.{when_granted, when_moved, when_played, when_ended}
+use Rattle.client_slot.specs.Session.{PlayerSession, new_session}
+use Rattle.client_slot.specs.Places.{changed_at, changed_where, place_with, tracks_of}
+use Rattle.client_slot.specs.SessionChanges.{when_ended, when_next, when_queued, when_unqueued}
+use Rattle.client_slot.specs.declared.session_turn.Part.{Part}
+use Rattle.client_slot.specs.declared.session_turn.Part.TheVariants.{Keeps, Takes, Loses}
+use Rattle.client_slot.specs.declared.session_turn.SessionTurn.{SessionTurn}
+use Rattle.client_slot.specs.SessionTurns.{Brought, reply_turn, brought_by, part_then, tracks_then, turned}
 use Rattle.client_slot.specs.Client.{Client}
 use Rattle.client_slot.specs.Changes as changes
-use Rattle.client_slot.specs.Renumber.{track_under, purpose_under, client_under}
-use Rattle.client_machine.specs.declared.why.CloseWhy.{CloseWhy}
-use Rattle.client_machine.specs.declared.why.CloseWhy.TheVariants as why
-use Rattle.client_machine.specs.Bounds.{IsWithin, IsNumberBelow, ArePairsBelow, IsTrackBelow, IsPurposeBelow, IsBelow, IsOpened}
+use Rattle.client_slot.specs.Renumber.{track_under, purpose_under, session_under, client_under}
+use Rattle.client_machine.specs.Bounds.{IsWithin, IsNumberBelow, ArePairsBelow, IsTrackBelow, IsPurposeBelow, IsSessionBelow, AreSessionsBelow, IsBelow, IsOpened}
 use Rattle.client_machine.specs.Effects.{Outgoing, asks, carries, Effect}
 use Rattle.client_machine.specs.Events.{PrivateEvent, arrive, answer, note, media, end, slow, up_end}
-use Rattle.client_machine.specs.Frames.{channel_in, behind_channel, Half, half_for, channel_for}
-use Rattle.client_machine.specs.Treatment.{given, Going, Treated, treated}
+use Rattle.client_machine.specs.Treatment.{given, Going, treated}
 use Rattle.client_machine.specs.Releases as going
-use Rattle.client_machine.specs.ServerItems.{NextPart, rests, releases, goes_on, Hearing, idles, closes, carry, take_item, take, new_id, settle_at, take_note, give, take_media, hear}
+use Rattle.client_machine.specs.ServerItems.{NextPart, rests, releases, goes_on, Hearing, new_id, hear}
 use Rattle.client_machine.specs.Step.{going_on, step}
-use Rattle.client_machine.specs.Alone.{Private, pair_unless, pair_alone, effect_while, asked_in, private_after}
+use Rattle.client_machine.specs.Alone.{pair_unless, pair_alone, asked_in, private_after}
+use Rattle.client_machine.proofs.WayLemmas.{hear_as, going_as, alone_as}
 
 -- What is within a bound is within a greater one.
 within_more : (n m number : ℕ) → n ≤ m → IsWithin n number → IsWithin m number
@@ -58,14 +51,14 @@ purpose_more : (n m : ℕ) (purpose : Option Purpose) → n ≤ m → IsPurposeB
 purpose_more n m None more below = tt
 purpose_more n m (Some (purposes.Client asked track)) more below = track_more n m track more below
 purpose_more n m (Some (purposes.Released play)) more below = tt
-purpose_more n m (Some purposes.Closing) more below = tt
+purpose_more n m (Some (purposes.Closing place)) more below = tt
+
+sessions_more : (n m : ℕ) (sessions : List PlayerSession) → n ≤ m → AreSessionsBelow n sessions → AreSessionsBelow m sessions
+sessions_more n m [] more below = tt
+sessions_more n m (one ∷ later) more below = (record { running = number_more n m one.running more below.0.running; tracks = pairs_more n m one.tracks more below.0.tracks }, sessions_more n m later more below.1)
 
 pub below_more : (n m : ℕ) (client : Client) → n ≤ m → IsBelow n client → IsBelow m client
-below_more n m client more below = record {
-  running = number_more n m client.session.running more below.running;
-  tracks = pairs_more n m client.session.tracks more below.tracks;
-  pending = purpose_more n m client.pending more below.pending;
-}
+below_more n m client more below = record { sessions = sessions_more n m client.sessions more below.sessions; pending = purpose_more n m client.pending more below.pending }
 
 opened_more : (n m : ℕ) (purpose : Option Purpose) → n ≤ m → IsOpened n purpose → IsOpened m purpose
 opened_more n m None more opened = tt
@@ -78,132 +71,98 @@ IsNumbered n client = IsBelow n client × IsOpened n client.pending
 numbered_more : (n m : ℕ) (client : Client) → n ≤ m → IsNumbered n client → IsNumbered m client
 numbered_more n m client more numbered = (below_more n m client more numbered.0, opened_more n m client.pending more numbered.1)
 
--- what an event does by itself, where the open request is the last one
-abbrev IsSessionBelow : ℕ → PlayerSession → Type 0
-IsSessionBelow n session = IsNumberBelow n session.running × ArePairsBelow n session.tracks
+-- a change at a place that keeps a session below keeps all
+changed_below : (n place : ℕ) (change : PlayerSession → PlayerSession) (sessions : List PlayerSession) → ((session : PlayerSession) → IsSessionBelow n session → IsSessionBelow n (change session))
+    → AreSessionsBelow n sessions → AreSessionsBelow n (changed_at place change sessions)
+changed_below n place change [] keeps below = tt
+changed_below n zero change (one ∷ more) keeps below = (keeps one below.0, below.1)
+changed_below n (suc place) change (one ∷ more) keeps below = (below.0, changed_below n place change more keeps below.1)
+
+where_below : (n : ℕ) (place : Option ℕ) (change : PlayerSession → PlayerSession) (sessions : List PlayerSession) → ((session : PlayerSession) → IsSessionBelow n session → IsSessionBelow n (change session))
+    → AreSessionsBelow n sessions → AreSessionsBelow n (changed_where place change sessions)
+where_below n None change sessions keeps below = below
+where_below n (Some place) change sessions keeps below = changed_below n place change sessions keeps below
+
+mapped_below : (n : ℕ) (change : PlayerSession → PlayerSession) (sessions : List PlayerSession) → ((session : PlayerSession) → IsSessionBelow n session → IsSessionBelow n (change session))
+    → AreSessionsBelow n sessions → AreSessionsBelow n (map change sessions)
+mapped_below n change [] keeps below = tt
+mapped_below n change (one ∷ more) keeps below = (keeps one below.0, mapped_below n change more keeps below.1)
+
+-- a turn of a session, where what is brought is below
+running_below : (n : ℕ) (part : Part) (was new : Option ℕ) → IsNumberBelow n was → IsNumberBelow n new → IsNumberBelow n (part_then part was new)
+running_below n Keeps was new old one = old
+running_below n Takes was new old one = one
+running_below n Loses was new old one = tt
 
 one_more : (n : ℕ) (tracks : List Track) (track : Option Track) → ArePairsBelow n tracks → IsTrackBelow n track → ArePairsBelow n (tracks ++ option_to_list track)
 one_more n [] None all one = tt
 one_more n [] (Some track) all one = (one, tt)
 one_more n (first ∷ tracks) track all one = (all.0, one_more n tracks track all.1 one)
 
-granted_below : (n : ℕ) (method : Method) (uri : List ℕ) (track : Option Track) (id : Option (List ℕ)) (session : PlayerSession)
-    → 1 ≤ n → IsTrackBelow n track → IsSessionBelow n session → IsSessionBelow n (when_granted method n uri track id session)
-granted_below n methods.Options uri track id session some one below = below
-granted_below n methods.Describe uri track id session some one below = below
-granted_below n methods.Setup uri track id session some one below = (below.0, one_more n session.tracks track below.1 one)
-granted_below n methods.Play uri track id session some one below = ((some, omega arith), below.1)
-granted_below n methods.Pause uri track id session some one below = (tt, below.1)
-granted_below n methods.Teardown uri track id session some one below = (tt, tt)
-granted_below n methods.GetParameter uri track id session some one below = below
-granted_below n methods.SetParameter uri track id session some one below = below
+tracks_below_then : (n : ℕ) (part : Part) (tracks : List Track) (track : Option Track) → ArePairsBelow n tracks → IsTrackBelow n track → ArePairsBelow n (tracks_then part tracks track)
+tracks_below_then n Keeps tracks track old one = old
+tracks_below_then n Takes tracks track old one = one_more n tracks track old one
+tracks_below_then n Loses tracks track old one = tt
 
-either_below : (first : Bool) (n : ℕ) (one other : PlayerSession) → IsSessionBelow n one → IsSessionBelow n other → IsSessionBelow n (cond first one other)
-either_below true n one other a b = a
-either_below false n one other a b = b
+turned_below : (n : ℕ) (turn : SessionTurn) (brought : Brought) (session : PlayerSession) → IsWithin n brought.number → IsTrackBelow n brought.track → IsSessionBelow n session → IsSessionBelow n (turned turn brought session)
+turned_below n turn brought session number track below = record {
+  running = running_below n turn.running session.running (Some brought.number) below.running number;
+  tracks = tracks_below_then n turn.tracks session.tracks brought.track below.tracks track;
+}
 
-after_below : (n : ℕ) (purpose : Option Purpose) (code : ℕ) (id : Option (List ℕ)) (session : PlayerSession)
-    → IsOpened n purpose → IsPurposeBelow n purpose → IsSessionBelow n session → IsSessionBelow n (changes.session_after purpose n code id session)
-after_below n None code id session some one below = below
-after_below n (Some (purposes.Client asked track)) code id session some one below =
-    either_below (is_success code) n (when_granted asked.method n asked.uri track id (when_moved asked.method code session)) session
-    (granted_below n asked.method asked.uri track id (when_moved asked.method code session) some one below) below
-after_below n (Some (purposes.Released play)) code id session some one below =
-    either_below (is_success code) n (when_played n play.uri session) (record session { state = Ready; running = None; queue = [] }) ((some, omega arith), below.1) (tt, below.1)
-after_below n (Some purposes.Closing) code id session some one below = (below.0, tt)
+session_below : (n code : ℕ) (described id : Option (List ℕ)) (purpose : Purpose) (session : PlayerSession) → 1 ≤ n → IsPurposeBelow n (Some purpose) → IsSessionBelow n session
+    → IsSessionBelow n (changes.session_after purpose n code described id session)
+session_below n code described id (purposes.Client asked track) session some one below =
+    turned_below n (reply_turn (purposes.Client asked track) code (is_some id) session.state) (brought_by (purposes.Client asked track) n described id) session (some, omega arith) one below
+session_below n code described id (purposes.Released play) session some one below =
+    turned_below n (reply_turn (purposes.Released play) code (is_some id) session.state) (brought_by (purposes.Released play) n described id) session (some, omega arith) tt below
+session_below n code described id (purposes.Closing place) session some one below = record { running = tt; tracks = tt }
 
-reply_numbered : (n code : ℕ) (id : Option (List ℕ)) (client : Client) → IsNumbered n client → IsNumbered n (changes.after_reply n code id client)
-reply_numbered n code id client numbered =
-    let below : IsSessionBelow n (changes.session_after client.pending n code id client.session) =
-    after_below n client.pending code id client.session numbered.1 numbered.0.pending (numbered.0.running, numbered.0.tracks) in
-    (record { running = below.0; tracks = below.1; pending = tt }, tt)
+ended_below : (counts : Bool) (n : ℕ) (session : PlayerSession) → IsSessionBelow n session → IsSessionBelow n (cond counts (record session { state = cond (length session.queue == 0) Ready session.state; running = None }) session)
+ended_below true n session below = record { running = tt; tracks = below.tracks }
+ended_below false n session below = below
 
-note_numbered : (n : ℕ) (names : Names) (client : Client) → IsNumbered n client → IsNumbered n (changes.after_note names client)
-note_numbered n names client numbered =
-    let below : IsSessionBelow n (when_ended names client.session) =
-    either_below (end_counts client.session.running names) n _ client.session (tt, numbered.0.tracks) (numbered.0.running, numbered.0.tracks) in
-    (record { running = below.0; tracks = below.1; pending = numbered.0.pending }, numbered.1)
-
-closes_numbered : (n : ℕ) (alive : Bool) (reason : CloseWhy) (client : Client) → IsNumbered n client → IsNumbered n (closes alive reason client).effect.client
-closes_numbered n true reason client numbered = numbered
-closes_numbered n false reason client numbered = numbered
-
-carry_numbered : (n : ℕ) (half : Option Half) (rest : List ℕ) (client : Client) → IsNumbered n client → IsNumbered n (carry half rest client).effect.client
-carry_numbered n None rest client numbered = numbered
-carry_numbered n (Some half) rest client numbered = numbered
-
-item_numbered : (n : ℕ) (kind : ItemKind) (shape : Shape) (client : Client) → IsNumbered n client → IsNumbered n (take_item kind shape client).effect.client
-item_numbered n Request shape client numbered = numbered
-item_numbered n Response shape client numbered = numbered
-item_numbered n Frame shape client numbered = carry_numbered n (half_for (channel_in shape) client.session.tracks) (behind_channel shape) client numbered
-item_numbered n (Bad kind) shape client numbered = numbered
-
-take_numbered : (n : ℕ) (alive : Bool) (shape : Shape) (client : Client) → IsNumbered n client → IsNumbered n (take alive shape client).effect.client
-take_numbered n true shape client numbered = item_numbered n shape.kind shape client numbered
-take_numbered n false shape client numbered = numbered
-
-settle_numbered : (bases : Bases) (n : ℕ) (pending : Option Purpose) (told : Told) (ssrc : Option ℕ) (client : Client)
-    → IsNumbered n client → IsNumbered n (settle_at bases n pending told ssrc client).effect.client
-settle_numbered bases n None told ssrc client numbered = numbered
-settle_numbered bases n (Some purpose) told ssrc client numbered = reply_numbered n told.code (new_id purpose client.session.id told) client numbered
-
-answer_numbered : (n : ℕ) (early : Bool) (client : Client) (heard : Hearing) → IsNumbered n client → IsNumbered n heard.effect.client → IsNumbered n (cond early (idles client) heard).effect.client
-answer_numbered n true client heard numbered later = numbered
-answer_numbered n false client heard numbered later = later
-
-told_numbered : (n : ℕ) (reason : NotifyReason) (names : Names) (client : Client) → IsNumbered n client → IsNumbered n (take_note reason names client).effect.client
-told_numbered n EndOfStream names client numbered = note_numbered n names client numbered
-told_numbered n MediaProperties names client numbered = numbered
-told_numbered n ScaleChange names client numbered = numbered
-
-give_numbered : (n : ℕ) (channel : Option ℕ) (rest : List ℕ) (client : Client) → IsNumbered n client → IsNumbered n (give channel rest client).effect.client
-give_numbered n None rest client numbered = numbered
-give_numbered n (Some channel) rest client numbered = numbered
-
-media_numbered : (n : ℕ) (alive : Bool) (pair half : ℕ) (rest : List ℕ) (client : Client) → IsNumbered n client → IsNumbered n (take_media alive pair half rest client).effect.client
-media_numbered n true pair half rest client numbered = give_numbered n (channel_for pair half client.session.tracks) rest client numbered
-media_numbered n false pair half rest client numbered = numbered
+-- what an event does by itself, where the open request is the last one
+settled_numbered : (n code : ℕ) (id : Option (List ℕ)) (purpose : Purpose) (client : Client) → client.pending ≡ Some purpose → IsNumbered n client → IsNumbered n (changes.settle_with (Some purpose) n code id client)
+settled_numbered n code id purpose client is numbered = (
+  record {
+    sessions = where_below n (changes.settled_place purpose id client.sessions) (changes.session_after purpose n code client.described id) client.sessions
+        (λ session. session_below n code client.described id purpose session (subst (IsOpened n) is numbered.1) (subst (IsPurposeBelow n) is numbered.0.pending)) numbered.0.sessions;
+    pending = tt;
+  },
+  tt,
+)
 
 pub hear_numbered : (bases : Bases) (n : ℕ) (client : Client) (event : PrivateEvent) → IsNumbered n client → IsNumbered n (hear bases n client event).effect.client
-hear_numbered bases n client (arrive shape full) numbered = take_numbered n client.alive shape client numbered
-hear_numbered bases n client (answer told ssrc full) numbered =
-    answer_numbered n (nat_lt told.code 200) client (settle_at bases n client.pending told ssrc client) numbered (settle_numbered bases n client.pending told ssrc client numbered)
-hear_numbered bases n client (note reason names) numbered = told_numbered n reason names client numbered
-hear_numbered bases n client (media pair half rest) numbered = media_numbered n client.alive pair half rest client numbered
-hear_numbered bases n client end numbered = closes_numbered n client.alive why.Ended client numbered
-hear_numbered bases n client slow numbered = closes_numbered n client.alive why.Slow client numbered
-hear_numbered bases n client up_end numbered = numbered
+hear_numbered bases n client event numbered = hear_as (λ heard. IsNumbered n heard.effect.client) bases n client event (record {
+  idle = numbered;
+  closing = λ reason alive. (record { sessions = mapped_below n when_unqueued client.sessions (λ session below. record { running = below.running; tracks = below.tracks }) numbered.0.sessions; pending = numbered.0.pending }, numbered.1);
+  waits = λ shape full here is alive. (record { sessions = numbered.0.sessions; pending = numbered.0.pending }, numbered.1);
+  carrying = λ shape full half here is. numbered;
+  settles = λ purpose told ssrc full here late is. subst (λ (one : Option Purpose). IsNumbered n (changes.settle_with one n told.code (new_id purpose told) client)) (sym is) (settled_numbered n told.code (new_id purpose told) purpose client is numbered);
+  notes = λ id names here. (
+    record {
+      sessions = where_below n (place_with id client.sessions) (when_ended names) client.sessions (λ session. ended_below (end_counts session.running names) n session) numbered.0.sessions;
+      pending = numbered.0.pending;
+    },
+    numbered.1,
+  );
+  gives = λ pair half channel rest here is alive. numbered;
+})
 
 -- what goes up, where the pair that is free has the next number
 abbrev IsGone : ℕ → Effect → Type 0
 IsGone n effect = IsNumbered (n + asked_in effect.message) effect.client
 
-rests_gone : (n : ℕ) (client : Client) → IsNumbered n client → IsNumbered (n + 0) client
-rests_gone n client numbered = numbered_more n (n + 0) client (omega arith) numbered
-
-release_by : (n : ℕ) (play : Option Play) (client : Client) → IsNumbered n client → IsNumbered (n + 1) (changes.release_at play client)
-release_by n None client numbered = numbered_more n (n + 1) client (omega arith) numbered
-release_by n (Some play) client numbered =
-    let more : IsBelow (n + 1) client = below_more n (n + 1) client (omega arith) numbered.0 in
-    (record { running = more.running; tracks = more.tracks; pending = tt }, omega arith)
-
-release_gone : (n : ℕ) (play : Option Play) (client : Client) → IsNumbered n client → IsGone n (going.released_with play client)
-release_gone n None client numbered = rests_gone n client numbered
-release_gone n (Some play) client numbered = release_by n (changes.due_play client) client numbered
-
-leave_by : (n : ℕ) (id : Option (List ℕ)) (client : Client) → IsNumbered n client → IsNumbered (n + 1) (changes.close_at id client)
-leave_by n None client numbered = numbered_more n (n + 1) client (omega arith) numbered
-leave_by n (Some id) client numbered =
-    let more : IsBelow (n + 1) client = below_more n (n + 1) client (omega arith) numbered.0 in
-    (record { running = more.running; tracks = more.tracks; pending = tt }, omega arith)
-
-leave_gone : (n : ℕ) (id : Option (List ℕ)) (client : Client) → IsNumbered n client → IsGone n (going.leave_at id client)
-leave_gone n None client numbered = rests_gone n client numbered
-leave_gone n (Some id) client numbered = leave_by n (changes.closing_session client) client numbered
-
 plays_numbered : (n : ℕ) (plays : List Play) (client : Client) → IsNumbered n client → IsNumbered n (going.after_plays plays client)
 plays_numbered n [] client numbered = numbered
-plays_numbered n (play ∷ plays) client numbered = plays_numbered n plays (changes.after_queueing play client) numbered
+plays_numbered n (play ∷ plays) client numbered = plays_numbered n plays (changes.after_queueing play client) (
+  record {
+    sessions = where_below n play.place (when_queued play) client.sessions (λ session below. record { running = below.running; tracks = below.tracks }) numbered.0.sessions;
+    pending = numbered.0.pending;
+  },
+  numbered.1,
+)
 
 track_below : (n : ℕ) (uri : List ℕ) (pair : Option ℕ) (channels : Option Pair) → IsNumberBelow n pair → IsTrackBelow n (going.track_of uri pair channels)
 track_below n uri None channels free = tt
@@ -211,32 +170,26 @@ track_below n uri (Some pair) None free = tt
 track_below n uri (Some pair) (Some channels) free = free
 
 goes_gone : (n : ℕ) (one : Option Going) (pair : Option ℕ) (text : List ℕ) (client : Client) → IsNumberBelow (n + 1) pair → IsNumbered n client → IsGone n (going.goes_at one pair text client)
-goes_gone n None pair text client free numbered = rests_gone n client numbered
+goes_gone n None pair text client free numbered = numbered_more n (n + 0) client (omega arith) numbered
 goes_gone n (Some one) pair text client free numbered =
-    let more : IsBelow (n + 1) client = below_more n (n + 1) client (omega arith) numbered.0 in
-    (record { running = more.running; tracks = more.tracks; pending = track_below (n + 1) one.asked.uri pair one.channels free }, omega arith)
-
-with_gone : (n : ℕ) (all : Treated) (pair : Option ℕ) (client : Client) → IsNumberBelow (n + 1) pair → IsNumbered n client → IsGone n (going.goes_with all pair client)
-with_gone n all pair client free numbered =
-    goes_gone n all.going pair all.hand (going.after_plays all.plays (record client { waiting = all.left })) free
-    (plays_numbered n all.plays (record client { waiting = all.left }) numbered)
-
-due_gone : (bases : Bases) (n : ℕ) (pair : Option ℕ) (play : Option Play) (client : Client) → IsNumberBelow (n + 1) pair → IsNumbered n client → IsGone n (going.go_due bases pair play client)
-due_gone bases n pair (Some play) client free numbered = release_gone n (Some play) client numbered
-due_gone bases n pair None client free numbered = with_gone n (treated client.waiting (given bases (is_none pair) client)) pair client free numbered
-
-idle_gone : (bases : Bases) (n : ℕ) (pair : Option ℕ) (alive : Bool) (client : Client) → IsNumberBelow (n + 1) pair → IsNumbered n client → IsGone n (going.go_idle bases pair alive client)
-idle_gone bases n pair true client free numbered = due_gone bases n pair (changes.due_play client) client free numbered
-idle_gone bases n pair false client free numbered = leave_gone n client.session.id client numbered
-
-at_gone : (bases : Bases) (n : ℕ) (pair : Option ℕ) (pending : Option Purpose) (client : Client) → IsNumberBelow (n + 1) pair → IsNumbered n client → IsGone n (going.go_at bases pair pending client)
-at_gone bases n pair None client free numbered = idle_gone bases n pair client.alive client free numbered
-at_gone bases n pair (Some purpose) client free numbered = rests_gone n client numbered
+    (record { sessions = sessions_more n (n + 1) client.sessions (omega arith) numbered.0.sessions; pending = track_below (n + 1) one.asked.uri pair one.channels free }, omega arith)
 
 going_gone : (bases : Bases) (n : ℕ) (pair : Option ℕ) (next : NextPart) (client : Client) → IsNumberBelow (n + 1) pair → IsNumbered n client → IsGone n (going_on bases pair next client)
-going_gone bases n pair rests client free numbered = rests_gone n client numbered
-going_gone bases n pair releases client free numbered = release_gone n (changes.due_play client) client numbered
-going_gone bases n pair goes_on client free numbered = at_gone bases n pair client.pending client free numbered
+going_gone bases n pair next client free numbered = going_as (IsGone n) bases pair next client (record {
+  still = numbered_more n (n + 0) client (omega arith) numbered;
+  released = λ place play idle due is. (
+    record {
+      sessions = changed_below (n + 1) place when_next client.sessions (λ session below. record { running = below.running; tracks = below.tracks }) (sessions_more n (n + 1) client.sessions (omega arith) numbered.0.sessions);
+      pending = tt;
+    },
+    omega arith,
+  );
+  treats = λ idle alive.
+      let all = treated client.waiting (given bases (is_none pair) client) in
+      goes_gone n all.going pair all.hand (going.after_plays all.plays (record client { waiting = all.left })) free
+      (plays_numbered n all.plays (record client { waiting = all.left }) (record { sessions = numbered.0.sessions; pending = numbered.0.pending }, numbered.1));
+  left = λ place id idle dead filled is. (record { sessions = sessions_more n (n + 1) client.sessions (omega arith) numbered.0.sessions; pending = tt }, omega arith);
+})
 
 -- Where an event by itself sends a message up, that is a frame, and nothing else goes up.
 abbrev pub IsMute : NextPart → Option Outgoing → Type 0
@@ -246,54 +199,16 @@ IsMute rests (Some (carries pair half rest)) = Unit {0}
 IsMute releases (Some (carries pair half rest)) = ⊥
 IsMute goes_on (Some (carries pair half rest)) = ⊥
 
-closes_mute : (alive : Bool) (reason : CloseWhy) (client : Client) → IsMute (closes alive reason client).next (closes alive reason client).effect.message
-closes_mute true reason client = tt
-closes_mute false reason client = tt
-
-carry_mute : (half : Option Half) (rest : List ℕ) (client : Client) → IsMute (carry half rest client).next (carry half rest client).effect.message
-carry_mute None rest client = tt
-carry_mute (Some half) rest client = tt
-
-item_mute : (kind : ItemKind) (shape : Shape) (client : Client) → IsMute (take_item kind shape client).next (take_item kind shape client).effect.message
-item_mute Request shape client = tt
-item_mute Response shape client = tt
-item_mute Frame shape client = carry_mute (half_for (channel_in shape) client.session.tracks) (behind_channel shape) client
-item_mute (Bad kind) shape client = tt
-
-take_mute : (alive : Bool) (shape : Shape) (client : Client) → IsMute (take alive shape client).next (take alive shape client).effect.message
-take_mute true shape client = item_mute shape.kind shape client
-take_mute false shape client = tt
-
-settle_mute : (bases : Bases) (n : ℕ) (pending : Option Purpose) (told : Told) (ssrc : Option ℕ) (client : Client)
-    → IsMute (settle_at bases n pending told ssrc client).next (settle_at bases n pending told ssrc client).effect.message
-settle_mute bases n None told ssrc client = tt
-settle_mute bases n (Some purpose) told ssrc client = tt
-
-answer_mute : (early : Bool) (client : Client) (heard : Hearing) → IsMute heard.next heard.effect.message → IsMute (cond early (idles client) heard).next (cond early (idles client) heard).effect.message
-answer_mute true client heard mute = tt
-answer_mute false client heard mute = mute
-
-told_mute : (reason : NotifyReason) (names : Names) (client : Client) → IsMute (take_note reason names client).next (take_note reason names client).effect.message
-told_mute EndOfStream names client = tt
-told_mute MediaProperties names client = tt
-told_mute ScaleChange names client = tt
-
-give_mute : (channel : Option ℕ) (rest : List ℕ) (client : Client) → IsMute (give channel rest client).next (give channel rest client).effect.message
-give_mute None rest client = tt
-give_mute (Some channel) rest client = tt
-
-media_mute : (alive : Bool) (pair half : ℕ) (rest : List ℕ) (client : Client) → IsMute (take_media alive pair half rest client).next (take_media alive pair half rest client).effect.message
-media_mute true pair half rest client = give_mute (channel_for pair half client.session.tracks) rest client
-media_mute false pair half rest client = tt
-
 pub hear_mute : (bases : Bases) (n : ℕ) (client : Client) (event : PrivateEvent) → IsMute (hear bases n client event).next (hear bases n client event).effect.message
-hear_mute bases n client (arrive shape full) = take_mute client.alive shape client
-hear_mute bases n client (answer told ssrc full) = answer_mute (nat_lt told.code 200) client (settle_at bases n client.pending told ssrc client) (settle_mute bases n client.pending told ssrc client)
-hear_mute bases n client (note reason names) = told_mute reason names client
-hear_mute bases n client (media pair half rest) = media_mute client.alive pair half rest client
-hear_mute bases n client end = closes_mute client.alive why.Ended client
-hear_mute bases n client slow = closes_mute client.alive why.Slow client
-hear_mute bases n client up_end = tt
+hear_mute bases n client event = hear_as (λ heard. IsMute heard.next heard.effect.message) bases n client event (record {
+  idle = tt;
+  closing = λ reason alive. tt;
+  waits = λ shape full here is alive. tt;
+  carrying = λ shape full half here is. tt;
+  settles = λ purpose told ssrc full here late is. tt;
+  notes = λ id names here. tt;
+  gives = λ pair half channel rest here is alive. tt;
+})
 
 mute_asked : (bases : Bases) (pair : Option ℕ) (next : NextPart) (message : Option Outgoing) (client : Client) → IsMute next message
     → asked_in (going_on bases pair next client).message ≡ asked_in (option_or message (going_on bases pair next client).message)
@@ -311,41 +226,40 @@ step_gone bases n pair client event free numbered =
     (going_gone bases n pair heard.next heard.effect.client free (hear_numbered bases n client event numbered))
 
 -- So it is for a connection alone.
-free_unless : (full : Bool) (n : ℕ) → IsNumberBelow (n + 1) (pair_unless full (n + 1))
-free_unless true n = tt
-free_unless false n = (omega arith, omega arith)
+-- The pair that is free for a connection alone has the next number.
+abbrev pub IsNextPair : ℕ → Option ℕ → Type 0
+IsNextPair n None = Unit {0}
+IsNextPair n (Some pair) = pair ≡ n + 1
 
-free_alone : (event : PrivateEvent) (n : ℕ) → IsNumberBelow (n + 1) (pair_alone event (n + 1))
-free_alone (arrive shape full) n = free_unless full n
-free_alone (answer told ssrc full) n = free_unless full n
-free_alone (note reason names) n = (omega arith, omega arith)
-free_alone (media pair half rest) n = (omega arith, omega arith)
-free_alone end n = (omega arith, omega arith)
-free_alone slow n = (omega arith, omega arith)
-free_alone up_end n = (omega arith, omega arith)
+next_unless : (full : Bool) (n : ℕ) → IsNextPair n (pair_unless full (n + 1))
+next_unless true n = tt
+next_unless false n = refl
 
-steps_gone : (bases : Bases) (p : Private) (event : PrivateEvent) → IsNumbered p.count p.client → IsGone p.count (step bases p.count (pair_alone event (p.count + 1)) p.client event)
-steps_gone bases p event numbered = step_gone bases p.count (pair_alone event (p.count + 1)) p.client event (free_alone event p.count) numbered
+pub next_alone : (event : PrivateEvent) (n : ℕ) → IsNextPair n (pair_alone event (n + 1))
+next_alone (arrive shape full) n = next_unless full n
+next_alone (answer told ssrc full) n = next_unless full n
+next_alone (note id reason names) n = refl
+next_alone (media pair half rest) n = refl
+next_alone end n = refl
+next_alone slow n = refl
+next_alone up_end n = refl
 
-while_gone : (over : Bool) (bases : Bases) (p : Private) (event : PrivateEvent) → IsNumbered p.count p.client → IsGone p.count (effect_while over bases p event)
-while_gone true bases p event numbered = rests_gone p.count p.client numbered
-while_gone false bases p (arrive shape full) numbered = steps_gone bases p (arrive shape full) numbered
-while_gone false bases p (answer told ssrc full) numbered = steps_gone bases p (answer told ssrc full) numbered
-while_gone false bases p (note reason names) numbered = steps_gone bases p (note reason names) numbered
-while_gone false bases p (media pair half rest) numbered = steps_gone bases p (media pair half rest) numbered
-while_gone false bases p end numbered = steps_gone bases p end numbered
-while_gone false bases p slow numbered = steps_gone bases p slow numbered
-while_gone false bases p up_end numbered = rests_gone p.count p.client numbered
+next_below : (n : ℕ) (pair : Option ℕ) → IsNextPair n pair → IsNumberBelow (n + 1) pair
+next_below n None next = tt
+next_below n (Some pair) next = (omega (arith, next), omega (arith, next))
+
+new_below : IsSessionBelow 0 new_session
+new_below = record { running = tt; tracks = tt }
 
 pub alone_numbered : (bases : Bases) (events : List PrivateEvent) → IsNumbered (private_after bases events).count (private_after bases events).client
-alone_numbered bases [] = (record { running = tt; tracks = tt; pending = tt }, tt)
-alone_numbered bases (event ∷ events) = while_gone (private_after bases events).over bases (private_after bases events) event (alone_numbered bases events)
+alone_numbered bases [] = (record { sessions = (new_below, (new_below, (new_below, (new_below, tt)))); pending = tt }, tt)
+alone_numbered bases (event ∷ events) =
+    let p = private_after bases events in
+    let rests = numbered_more p.count (p.count + 0) p.client (omega arith) (alone_numbered bases events) in
+    alone_as (IsGone p.count) bases p event rests rests (step_gone bases p.count (pair_alone event (p.count + 1)) p.client event (next_below p.count (pair_alone event (p.count + 1)) (next_alone event p.count)) (alone_numbered bases events))
 
 pub alone_below : (bases : Bases) (events : List PrivateEvent) → IsBelow (private_after bases events).count (private_after bases events).client
 alone_below bases events = (alone_numbered bases events).0
-
-pub alone_opened : (bases : Bases) (events : List PrivateEvent) → IsOpened (private_after bases events).count (private_after bases events).client.pending
-alone_opened bases events = (alone_numbered bases events).1
 
 -- Two numberings that agree up to a bound agree on what is below it.
 abbrev pub Agree : ℕ → (ℕ → ℕ) → (ℕ → ℕ) → Type 0
@@ -372,19 +286,41 @@ purpose_agree : (n : ℕ) (p q : ℕ → ℕ) (purpose : Option Purpose) → IsP
 purpose_agree n p q None below agree = refl
 purpose_agree n p q (Some (purposes.Client asked track)) below agree = ap (λ (one : Option Track). Some (purposes.Client asked one)) (track_agree n p q track below agree)
 purpose_agree n p q (Some (purposes.Released play)) below agree = refl
-purpose_agree n p q (Some purposes.Closing) below agree = refl
+purpose_agree n p q (Some (purposes.Closing place)) below agree = refl
+
+first_pairs : (n : ℕ) (first second : List Track) → ArePairsBelow n (first ++ second) → ArePairsBelow n first × ArePairsBelow n second
+first_pairs n [] second below = (tt, below)
+first_pairs n (track ∷ first) second below = let rest = first_pairs n first second below.1 in ((below.0, rest.0), rest.1)
+
+both_pairs : (n : ℕ) (first second : List Track) → ArePairsBelow n first → ArePairsBelow n second → ArePairsBelow n (first ++ second)
+both_pairs n [] second one other = other
+both_pairs n (track ∷ first) second one other = (one.0, both_pairs n first second one.1 other)
+
+-- so are the streams of all sessions
+pub tracks_below : (n : ℕ) (sessions : List PlayerSession) → AreSessionsBelow n sessions → ArePairsBelow n (tracks_of sessions)
+tracks_below n [] below = tt
+tracks_below n (one ∷ more) below = both_pairs n one.tracks (tracks_of more) below.0.tracks (tracks_below n more below.1)
+
+session_agree : (n m : ℕ) (f g p q : ℕ → ℕ) (session : PlayerSession) → IsNumberBelow n session.running → ArePairsBelow m session.tracks → Agree n f g → Agree m p q → session_under f p session ≡ session_under g q session
+session_agree n m f g p q session running tracks same alike =
+    ap (λ (running : Option ℕ). record session { tracks = map (track_under p) session.tracks; running = running }) (number_agree n f g session.running running same)
+    ∙ ap (λ (tracks : List Track). record session { tracks = tracks; running = option_map g session.running }) (pairs_agree m p q session.tracks tracks alike)
+
+sessions_agree : (n m : ℕ) (f g p q : ℕ → ℕ) (sessions : List PlayerSession) → AreSessionsBelow n sessions → ArePairsBelow m (tracks_of sessions) → Agree n f g → Agree m p q
+    → map (session_under f p) sessions ≡ map (session_under g q) sessions
+sessions_agree n m f g p q [] below tracks same alike = refl
+sessions_agree n m f g p q (one ∷ more) below tracks same alike =
+    let parts = first_pairs m one.tracks (tracks_of more) tracks in
+    ap (λ first. first ∷ map (session_under f p) more) (session_agree n m f g p q one below.0.running parts.0 same alike)
+    ∙ ap (λ later. session_under g q one ∷ later) (sessions_agree n m f g p q more below.1 parts.1 same alike)
 
 -- numbers of requests up to one bound, and those of pairs up to another
-pub under_agree_each : (n m : ℕ) (f g p q : ℕ → ℕ) (client : Client) → IsNumberBelow n client.session.running → ArePairsBelow m client.session.tracks → IsPurposeBelow m client.pending → Agree n f g → Agree m p q
+pub under_agree_each : (n m : ℕ) (f g p q : ℕ → ℕ) (client : Client) → AreSessionsBelow n client.sessions → ArePairsBelow m (tracks_of client.sessions) → IsPurposeBelow m client.pending → Agree n f g → Agree m p q
     → client_under f p client ≡ client_under g q client
-under_agree_each n m f g p q client running tracks pending same alike =
-    ap (λ (running : Option ℕ). record client { session = record client.session { tracks = map (track_under p) client.session.tracks; running = running }; pending = option_map (purpose_under p) client.pending })
-    (number_agree n f g client.session.running running same)
-    ∙ ap (λ (tracks : List Track). record client { session = record client.session { tracks = tracks; running = option_map g client.session.running }; pending = option_map (purpose_under p) client.pending })
-    (pairs_agree m p q client.session.tracks tracks alike)
-    ∙ ap (λ (pending : Option Purpose). record client { session = record client.session { tracks = map (track_under q) client.session.tracks; running = option_map g client.session.running }; pending = pending })
-    (purpose_agree m p q client.pending pending alike)
+under_agree_each n m f g p q client below tracks pending same alike =
+    ap (λ (sessions : List PlayerSession). record client { sessions = sessions; pending = option_map (purpose_under p) client.pending }) (sessions_agree n m f g p q client.sessions below tracks same alike)
+    ∙ ap (λ (pending : Option Purpose). record client { sessions = map (session_under g q) client.sessions; pending = pending }) (purpose_agree m p q client.pending pending alike)
 
 pub under_agree : (n : ℕ) (f g p q : ℕ → ℕ) (client : Client) → IsBelow n client → ((k : ℕ) → 1 ≤ k → k ≤ n → f k ≡ g k) → ((k : ℕ) → 1 ≤ k → k ≤ n → p k ≡ q k)
     → client_under f p client ≡ client_under g q client
-under_agree n f g p q client below same alike = under_agree_each n n f g p q client below.running below.tracks below.pending same alike
+under_agree n f g p q client below same alike = under_agree_each n n f g p q client below.sessions (tracks_below n client.sessions below.sessions) below.pending same alike

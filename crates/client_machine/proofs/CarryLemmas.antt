@@ -9,6 +9,7 @@ use Rattle.rtsp_head.specs.declared.item.ItemKind.{ItemKind}
 use Rattle.rtsp_head.specs.declared.item.ItemKind.TheVariants.{Frame}
 use Rattle.rtsp_uri.specs.declared.base.Bases.{Bases}
 use Rattle.session_one.specs.declared.parts.Track.{Track}
+use Rattle.client_slot.specs.Places.{tracks_of}
 use Rattle.client_slot.specs.Client.{Client}
 use Rattle.client_machine.specs.Effects.{Outgoing, asks, carries, Effect}
 use Rattle.client_machine.specs.Events.{arrive, media}
@@ -56,18 +57,18 @@ pub record IsMediaGiven (tracks : List Track) (pair half : ℕ) (rest : List ℕ
   pub hand : (effect.hand ≡ []) ⊎ IsHandedOn tracks pair half rest effect.hand
 
 pub media_given : (bases : Bases) (n : ℕ) (free : Option ℕ) (client : Client) (pair half : ℕ) (rest : List ℕ)
-    → IsMediaGiven client.session.tracks pair half rest (step bases n free client (media pair half rest))
+    → IsMediaGiven (tracks_of client.sessions) pair half rest (step bases n free client (media pair half rest))
 media_given bases n free client pair half rest = by client.alive
   where
-    given : (channel : Option ℕ) → channel_for pair half client.session.tracks ≡ channel → IsMediaGiven client.session.tracks pair half rest (heard_step bases free (give channel rest client))
+    given : (channel : Option ℕ) → channel_for pair half (tracks_of client.sessions) ≡ channel → IsMediaGiven (tracks_of client.sessions) pair half rest (heard_step bases free (give channel rest client))
     given None is = record { message = refl; close = refl; hand = inl refl }
     given (Some channel) is =
-        let found = channel_found pair half client.session.tracks channel is in
+        let found = channel_found pair half (tracks_of client.sessions) channel is in
         record { message = refl; close = refl; hand = inr (found.0, found.1, found.2, append-nil (frame_text channel rest) ∙ ap (λ one. frame_text one rest) (sym found.3)) }
 
-    by : (alive : Bool) → IsMediaGiven client.session.tracks pair half rest (heard_step bases free (take_media alive pair half rest client))
+    by : (alive : Bool) → IsMediaGiven (tracks_of client.sessions) pair half rest (heard_step bases free (take_media alive pair half rest client))
     by false = record { message = refl; close = refl; hand = inl refl }
-    by true = given (channel_for pair half client.session.tracks) refl
+    by true = given (channel_for pair half (tracks_of client.sessions)) refl
 
 -- A frame of the player: it goes up on the pair of the stream that has its channel, and nothing else happens.
 abbrev pub IsCarriedBy : List Track → ℕ → List ℕ → Option Outgoing → Type 0
@@ -81,17 +82,17 @@ pub record IsFrameCarried (tracks : List Track) (channel : ℕ) (rest : List ℕ
   pub message : IsCarriedBy tracks channel rest effect.message
 
 pub frame_carried : (bases : Bases) (n : ℕ) (free : Option ℕ) (client : Client) (shape : Shape) (full : Bool) → shape.kind ≡ Frame
-    → IsFrameCarried client.session.tracks (channel_in shape) (behind_channel shape) (step bases n free client (arrive shape full))
+    → IsFrameCarried (tracks_of client.sessions) (channel_in shape) (behind_channel shape) (step bases n free client (arrive shape full))
 frame_carried bases n free client shape full kind = by client.alive
   where
-    carried : (half : Option Half) → half_for (channel_in shape) client.session.tracks ≡ half
-        → IsFrameCarried client.session.tracks (channel_in shape) (behind_channel shape) (heard_step bases free (carry half (behind_channel shape) client))
+    carried : (half : Option Half) → half_for (channel_in shape) (tracks_of client.sessions) ≡ half
+        → IsFrameCarried (tracks_of client.sessions) (channel_in shape) (behind_channel shape) (heard_step bases free (carry half (behind_channel shape) client))
     carried None is = record { hand = refl; close = refl; message = tt }
     carried (Some half) is =
-        let found = half_found (channel_in shape) client.session.tracks half is in
+        let found = half_found (channel_in shape) (tracks_of client.sessions) half is in
         record { hand = refl; close = refl; message = (found.0, found.1, found.2, found.3, refl) }
 
-    by : (alive : Bool) → IsFrameCarried client.session.tracks (channel_in shape) (behind_channel shape) (heard_step bases free (take alive shape client))
+    by : (alive : Bool) → IsFrameCarried (tracks_of client.sessions) (channel_in shape) (behind_channel shape) (heard_step bases free (take alive shape client))
     by false = record { hand = refl; close = refl; message = tt }
-    by true = subst (λ (one : ItemKind). IsFrameCarried client.session.tracks (channel_in shape) (behind_channel shape) (heard_step bases free (take_item one shape client))) (sym kind)
-        (carried (half_for (channel_in shape) client.session.tracks) refl)
+    by true = subst (λ (one : ItemKind). IsFrameCarried (tracks_of client.sessions) (channel_in shape) (behind_channel shape) (heard_step bases free (take_item one shape client))) (sym kind)
+        (carried (half_for (channel_in shape) (tracks_of client.sessions)) refl)

@@ -5,7 +5,6 @@ use Rattle.rtsp_transport.specs.declared.channels.Pair.{Pair}
 use Rattle.rtsp_uri.specs.declared.base.Bases.{Bases}
 use Rattle.head_two.specs.declared.request.Request2.{Request2}
 use Rattle.session_one.specs.declared.parts.Asked.{Asked}
-use Rattle.session_one.specs.declared.parts.Play.{Play}
 use Rattle.translate_up.specs.Setups.{is_setup_item}
 use Rattle.translate_up.specs.Views.{Given}
 use Rattle.translate_up.specs.Decisions.{decide}
@@ -14,7 +13,7 @@ use Rattle.translate_up.specs.declared.decision.Decision.TheVariants.{Answer, Fo
 use Rattle.translate_up.proofs.DecisionLemmas.{IsPlain, decide_plain, decide_marked}
 use Rattle.client_slot.specs.declared.purpose.Purpose.{Purpose}
 use Rattle.client_slot.specs.Client.{Client}
-use Rattle.client_slot.specs.Changes.{due_play}
+use Rattle.client_slot.specs.Changes.{due_place}
 use Rattle.client_machine.specs.OpenRequests.{has_setup}
 use Rattle.client_machine.specs.Effects.{Effect, then_effect}
 use Rattle.client_machine.specs.Events.{PrivateEvent}
@@ -23,7 +22,7 @@ use Rattle.client_machine.specs.Releases as going
 use Rattle.client_machine.specs.ServerItems.{NextPart, rests, releases, goes_on, Hearing, hear}
 use Rattle.client_machine.specs.Step.{going_on, step}
 
-either_false : (a b : Bool) → (a || b) ≡ false → (a ≡ false) × (b ≡ false)
+pub either_false : (a b : Bool) → (a || b) ≡ false → (a ≡ false) × (b ≡ false)
 either_false true b e = cc
 either_false false b e = (refl, e)
 
@@ -37,7 +36,7 @@ decision_marked full given shape other = ap (λ (decision : Decision). cond (fit
 first_marked : (full : Bool) (decision : Decision) (given : Given) (more : List Shape) (again : Given → Treated) → ((one : Given) → again (marked full one) ≡ again one)
     → treated_first decision (marked full given) more again ≡ treated_first decision given more again
 first_marked full (Answer text) given more again same = ap (with_answer text) (same given)
-first_marked full (Queue play text) given more again same = ap (with_play play text) (same (one_queued given))
+first_marked full (Queue play text) given more again same = ap (with_play play text) (same (one_queued play given))
 first_marked full (Forward request asked) given more again same = refl
 first_marked full (Setup request asked channels) given more again same = refl
 
@@ -60,7 +59,7 @@ either_plain false decision plain = tt
 first_plain : (decision : Decision) (given : Given) (more : List Shape) (again : Given → Treated) → IsPlain decision → ((one : Given) → IsPlainGoing (again one).going)
     → IsPlainGoing (treated_first decision given more again).going
 first_plain (Answer text) given more again plain later = later given
-first_plain (Queue play text) given more again plain later = later (one_queued given)
+first_plain (Queue play text) given more again plain later = later (one_queued play given)
 first_plain (Forward request asked) given more again plain later = refl
 first_plain (Setup request asked channels) given more again plain later = absurd plain
 
@@ -86,12 +85,12 @@ treat_unmarked bases p client none =
     (going.after_plays (treated client.waiting (given bases false client)).plays (record client { waiting = (treated client.waiting (given bases false client)).left }))
     (treated_plain client.waiting (given bases false client) none)
 
-due_unmarked : (bases : Bases) (p : ℕ) (play : Option Play) (client : Client) → has_setup client.waiting ≡ false → going.go_due bases None play client ≡ going.go_due bases (Some p) play client
-due_unmarked bases p (Some play) client none = refl
+due_unmarked : (bases : Bases) (p : ℕ) (place : Option ℕ) (client : Client) → has_setup client.waiting ≡ false → going.go_due bases None place client ≡ going.go_due bases (Some p) place client
+due_unmarked bases p (Some place) client none = refl
 due_unmarked bases p None client none = treat_unmarked bases p client none
 
 idle_unmarked : (bases : Bases) (p : ℕ) (alive : Bool) (client : Client) → has_setup client.waiting ≡ false → going.go_idle bases None alive client ≡ going.go_idle bases (Some p) alive client
-idle_unmarked bases p true client none = due_unmarked bases p (due_play client) client none
+idle_unmarked bases p true client none = due_unmarked bases p (due_place client) client none
 idle_unmarked bases p false client none = refl
 
 at_unmarked : (bases : Bases) (p : ℕ) (pending : Option Purpose) (client : Client) → has_setup client.waiting ≡ false → going.go_at bases None pending client ≡ going.go_at bases (Some p) pending client

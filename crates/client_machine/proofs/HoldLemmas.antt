@@ -1,98 +1,124 @@
--- What a step keeps of a connection's streams and of its session's id, and for whom a request goes up.
-use Rattle.std.proofs.Common.{◌≡◌, ◌∙◌, ℕ, Bool, true, false, cond, List, [], ◌∷◌, Option, Some, None, refl, sym, subst}
-use Rattle.std.specs.Prelude.{is_none}
-use Rattle.rtsp_head.specs.Items.{Shape}
-use Rattle.rtsp_head.specs.declared.item.ItemKind.{ItemKind}
-use Rattle.rtsp_head.specs.declared.item.ItemKind.TheVariants.{Request, Response, Frame, Bad}
-use Rattle.rtsp_small.specs.declared.notify.NotifyReason.{NotifyReason}
-use Rattle.rtsp_small.specs.declared.notify.NotifyReason.TheVariants.{EndOfStream, MediaProperties, ScaleChange}
+-- What a step keeps of a connection's sessions and of their streams, and for whom a request goes up.
+use Rattle.std.proofs.Common.{◌≡◌, ◌∙◌, ℕ, zero, suc, ◌+◌, ◌==◌, Bool, true, false, cond, List, [], ◌∷◌, ◌++◌, map, Option, Some, None, refl, sym, ap, subst}
+use Rattle.std.specs.Prelude.{is_none, length}
 use Rattle.rtsp_uri.specs.declared.base.Bases.{Bases}
 use Rattle.session_one.specs.declared.parts.Play.{Play}
-use Rattle.session_two.specs.declared.names.Names.{Names}
+use Rattle.session_one.specs.declared.parts.Track.{Track}
+use Rattle.session_one.specs.declared.table.State.TheVariants.{Ready}
 use Rattle.session_two.specs.Ends.{end_counts}
+use Rattle.translate_down.specs.Replies.{Told}
 use Rattle.client_slot.specs.declared.purpose.Purpose.{Purpose}
 use Rattle.client_slot.specs.declared.purpose.Purpose.TheVariants as purposes
 use Rattle.client_slot.specs.Session.{PlayerSession}
-use Rattle.client_slot.specs.SessionChanges.{when_ended}
+use Rattle.client_slot.specs.SessionChanges.{when_ended, when_next, when_queued, when_unqueued}
+use Rattle.client_slot.specs.Places.{session_at, changed_at, changed_where, first_place, place_with, tracks_of}
 use Rattle.client_slot.specs.Client.{Client}
-use Rattle.client_slot.specs.Changes as changes
-use Rattle.client_machine.specs.declared.why.CloseWhy.{CloseWhy}
-use Rattle.client_machine.specs.declared.why.CloseWhy.TheVariants as why
+use Rattle.client_slot.specs.Changes.{after_queueing, after_waiting, settle_with, after_note, after_close}
 use Rattle.client_machine.specs.Effects.{Outgoing, asks, carries}
 use Rattle.client_machine.specs.Events.{PrivateEvent, arrive, answer, note, media, end, slow, up_end}
-use Rattle.client_machine.specs.Frames.{channel_in, behind_channel, Half, half_for, channel_for}
 use Rattle.client_machine.specs.Treatment.{given, Going, Treated, treated}
-use Rattle.client_machine.specs.Releases as going
-use Rattle.client_machine.specs.ServerItems.{NextPart, rests, releases, goes_on, closes, carry, take_item, take, take_note, give, take_media, hear}
+use Rattle.client_machine.specs.Releases.{after_plays, goes_at, goes_with}
+use Rattle.client_machine.specs.ServerItems.{NextPart, new_id, hear}
 use Rattle.client_machine.specs.Step.{going_on}
+use Rattle.client_machine.proofs.WayLemmas.{hear_as, going_as}
 
--- The streams, the id, and whether it is alive, are as before.
+-- a session has its id and its streams as before
+pub record IsSame (before after : PlayerSession) : Type 0 where
+  pub id : after.id ≡ before.id
+  pub tracks : after.tracks ≡ before.tracks
+
+-- so does each
+abbrev pub AreSame : List PlayerSession → List PlayerSession → Type 0
+AreSame [] [] = Unit {0}
+AreSame [] (other ∷ others) = ⊥
+AreSame (one ∷ more) [] = ⊥
+AreSame (one ∷ more) (other ∷ others) = IsSame one other × AreSame more others
+
+pub all_same : (sessions : List PlayerSession) → AreSame sessions sessions
+all_same [] = tt
+all_same (one ∷ more) = (record { id = refl; tracks = refl }, all_same more)
+
+pub same_then : (a b c : List PlayerSession) → AreSame a b → AreSame b c → AreSame a c
+same_then [] [] [] first second = tt
+same_then [] [] (z ∷ c) first second = absurd second
+same_then [] (y ∷ b) c first second = absurd first
+same_then (x ∷ a) [] c first second = absurd first
+same_then (x ∷ a) (y ∷ b) [] first second = absurd second
+same_then (x ∷ a) (y ∷ b) (z ∷ c) first second = (record { id = second.0.id ∙ first.0.id; tracks = second.0.tracks ∙ first.0.tracks }, same_then a b c first.1 second.1)
+
+-- what is the same then: the streams of all, the session at a place, and the first place that has an id of a kind
+pub same_tracks : (a b : List PlayerSession) → AreSame a b → tracks_of b ≡ tracks_of a
+same_tracks [] [] same = refl
+same_tracks [] (y ∷ b) same = absurd same
+same_tracks (x ∷ a) [] same = absurd same
+same_tracks (x ∷ a) (y ∷ b) same = ap (λ (tracks : List Track). tracks ++ tracks_of b) same.0.tracks ∙ ap (λ (more : List Track). x.tracks ++ more) (same_tracks a b same.1)
+
+pub same_at : (place : ℕ) (a b : List PlayerSession) → AreSame a b → IsSame (session_at place a) (session_at place b)
+same_at place [] [] same = record { id = refl; tracks = refl }
+same_at place [] (y ∷ b) same = absurd same
+same_at place (x ∷ a) [] same = absurd same
+same_at zero (x ∷ a) (y ∷ b) same = same.0
+same_at (suc place) (x ∷ a) (y ∷ b) same = same_at place a b same.1
+
+pub same_first : (test : Option (List ℕ) → Bool) (place : ℕ) (a b : List PlayerSession) → AreSame a b → first_place (λ session. test session.id) place b ≡ first_place (λ session. test session.id) place a
+same_first test place [] [] same = refl
+same_first test place [] (y ∷ b) same = absurd same
+same_first test place (x ∷ a) [] same = absurd same
+same_first test place (x ∷ a) (y ∷ b) same =
+    ap (λ (id : Option (List ℕ)). cond (test id) (Some place) (first_place (λ session. test session.id) (place + 1) b)) same.0.id
+    ∙ ap (λ (later : Option ℕ). cond (test x.id) (Some place) later) (same_first test (place + 1) a b same.1)
+
+pub changed_same : (place : ℕ) (change : PlayerSession → PlayerSession) (sessions : List PlayerSession) → ((session : PlayerSession) → IsSame session (change session)) → AreSame sessions (changed_at place change sessions)
+changed_same place change [] keeps = tt
+changed_same zero change (one ∷ more) keeps = (keeps one, all_same more)
+changed_same (suc place) change (one ∷ more) keeps = (record { id = refl; tracks = refl }, changed_same place change more keeps)
+
+pub where_same : (place : Option ℕ) (change : PlayerSession → PlayerSession) (sessions : List PlayerSession) → ((session : PlayerSession) → IsSame session (change session)) → AreSame sessions (changed_where place change sessions)
+where_same None change sessions keeps = all_same sessions
+where_same (Some place) change sessions keeps = changed_same place change sessions keeps
+
+mapped_same : (change : PlayerSession → PlayerSession) (sessions : List PlayerSession) → ((session : PlayerSession) → IsSame session (change session)) → AreSame sessions (map change sessions)
+mapped_same change [] keeps = tt
+mapped_same change (one ∷ more) keeps = (keeps one, mapped_same change more keeps)
+
+-- The sessions with their streams, and whether it is alive, are as before.
 pub record IsSteady (before after : Client) : Type 0 where
-  pub tracks : after.session.tracks ≡ before.session.tracks
-  pub id : after.session.id ≡ before.session.id
+  pub sessions : AreSame before.sessions after.sessions
   pub alive : after.alive ≡ before.alive
 
-steady : (client : Client) → IsSteady client client
-steady client = record { tracks = refl; id = refl; alive = refl }
-
-steady_then : (a b c : Client) → IsSteady a b → IsSteady b c → IsSteady a c
-steady_then a b c first second = record { tracks = second.tracks ∙ first.tracks; id = second.id ∙ first.id; alive = second.alive ∙ first.alive }
-
--- what goes up keeps them
-release_at_steady : (play : Option Play) (client : Client) → IsSteady client (changes.release_at play client)
-release_at_steady None client = steady client
-release_at_steady (Some play) client = record { tracks = refl; id = refl; alive = refl }
-
-release_steady_by : (play : Option Play) (client : Client) → IsSteady client (going.released_with play client).client
-release_steady_by None client = steady client
-release_steady_by (Some play) client = release_at_steady (changes.due_play client) client
-
-close_at_steady : (id : Option (List ℕ)) (client : Client) → IsSteady client (changes.close_at id client)
-close_at_steady None client = steady client
-close_at_steady (Some id) client = record { tracks = refl; id = refl; alive = refl }
-
-leave_at_steady : (id : Option (List ℕ)) (client : Client) → IsSteady client (going.leave_at id client).client
-leave_at_steady None client = steady client
-leave_at_steady (Some id) client = close_at_steady (changes.closing_session client) client
-
-plays_steady : (plays : List Play) (client : Client) → IsSteady client (going.after_plays plays client)
-plays_steady [] client = steady client
+pub plays_steady : (plays : List Play) (client : Client) → IsSteady client (after_plays plays client)
+plays_steady [] client = record { sessions = all_same client.sessions; alive = refl }
 plays_steady (play ∷ plays) client =
-    steady_then client (changes.after_queueing play client) (going.after_plays plays (changes.after_queueing play client)) (record { tracks = refl; id = refl; alive = refl }) (plays_steady plays (changes.after_queueing play client))
+    let later : IsSteady (after_queueing play client) (after_plays plays (after_queueing play client)) = plays_steady plays (after_queueing play client) in
+    record {
+      sessions = same_then client.sessions (after_queueing play client).sessions (after_plays plays (after_queueing play client)).sessions
+          (where_same play.place (when_queued play) client.sessions (λ session. record { id = refl; tracks = refl })) later.sessions;
+      alive = later.alive;
+    }
 
-goes_at_steady : (one : Option Going) (pair : Option ℕ) (hand : List ℕ) (client : Client) → IsSteady client (going.goes_at one pair hand client).client
-goes_at_steady None pair hand client = steady client
-goes_at_steady (Some one) pair hand client = record { tracks = refl; id = refl; alive = refl }
+goes_steady : (one : Option Going) (pair : Option ℕ) (hand : List ℕ) (before client : Client) → IsSteady before client → IsSteady before (goes_at one pair hand client).client
+goes_steady None pair hand before client steady = steady
+goes_steady (Some one) pair hand before client steady = record { sessions = steady.sessions; alive = steady.alive }
 
-treat_steady : (bases : Bases) (pair : Option ℕ) (client : Client) → IsSteady client (going.treat bases pair client).client
-treat_steady bases pair client =
-    let all : Treated = treated client.waiting (given bases (is_none pair) client) in
+treat_steady : (all : Treated) (pair : Option ℕ) (client : Client) → IsSteady client (goes_with all pair client).client
+treat_steady all pair client =
     let left : Client = record client { waiting = all.left } in
-    steady_then client left (going.goes_with all pair client).client (record { tracks = refl; id = refl; alive = refl })
-    (steady_then left (going.after_plays all.plays left) (going.goes_with all pair client).client (plays_steady all.plays left) (goes_at_steady all.going pair all.hand (going.after_plays all.plays left)))
-
-go_due_steady : (bases : Bases) (pair : Option ℕ) (play : Option Play) (client : Client) → IsSteady client (going.go_due bases pair play client).client
-go_due_steady bases pair (Some play) client = release_steady_by (Some play) client
-go_due_steady bases pair None client = treat_steady bases pair client
-
-go_idle_steady : (bases : Bases) (pair : Option ℕ) (alive : Bool) (client : Client) → IsSteady client (going.go_idle bases pair alive client).client
-go_idle_steady bases pair true client = go_due_steady bases pair (changes.due_play client) client
-go_idle_steady bases pair false client = leave_at_steady client.session.id client
-
-go_at_steady : (bases : Bases) (pair : Option ℕ) (pending : Option Purpose) (client : Client) → IsSteady client (going.go_at bases pair pending client).client
-go_at_steady bases pair (Some purpose) client = steady client
-go_at_steady bases pair None client = go_idle_steady bases pair client.alive client
+    let steady : IsSteady left (after_plays all.plays left) = plays_steady all.plays left in
+    goes_steady all.going pair all.hand client (after_plays all.plays left) (record { sessions = steady.sessions; alive = steady.alive })
 
 pub going_steady : (bases : Bases) (pair : Option ℕ) (next : NextPart) (client : Client) → IsSteady client (going_on bases pair next client).client
-going_steady bases pair rests client = steady client
-going_steady bases pair releases client = release_steady_by (changes.due_play client) client
-going_steady bases pair goes_on client = go_at_steady bases pair client.pending client
+going_steady bases pair next client = going_as (λ effect. IsSteady client effect.client) bases pair next client (record {
+  still = record { sessions = all_same client.sessions; alive = refl };
+  released = λ place play idle due is. record { sessions = changed_same place when_next client.sessions (λ session. record { id = refl; tracks = refl }); alive = refl };
+  treats = λ idle alive. treat_steady (treated client.waiting (given bases (is_none pair) client)) pair client;
+  left = λ place id idle dead filled is. record { sessions = all_same client.sessions; alive = refl };
+})
 
 -- A request of the player goes up for a connection that is alive, and a closing TEARDOWN for one that closed.
 abbrev pub Suits : Bool → Purpose → Type 0
 Suits alive (purposes.Client asked track) = alive ≡ true
 Suits alive (purposes.Released play) = Unit {0}
-Suits alive purposes.Closing = alive ≡ false
+Suits alive (purposes.Closing place) = alive ≡ false
 
 abbrev pub SuitsOpen : Bool → Option Purpose → Type 0
 SuitsOpen alive None = Unit {0}
@@ -103,117 +129,55 @@ SuitsBy alive None new = Unit {0}
 SuitsBy alive (Some (asks request pair)) new = SuitsOpen alive new
 SuitsBy alive (Some (carries pair half rest)) new = Unit {0}
 
-released_suits : (alive : Bool) (play : Option Play) (client : Client) → SuitsOpen alive client.pending → SuitsOpen alive (changes.release_at play client).pending
-released_suits alive None client h = h
-released_suits alive (Some play) client h = tt
-
-due_open : (alive : Bool) (pending : Option Purpose) (running : Option ℕ) (queue : List Play) (play : Play) → changes.due_at pending running queue ≡ Some play → SuitsOpen alive pending
-due_open alive None running queue play due = tt
-due_open alive (Some purpose) running queue play due = cc
-
-release_suits : (play : Option Play) (client : Client) → changes.due_play client ≡ play → SuitsBy client.alive (going.released_with play client).message (going.released_with play client).client.pending
-release_suits None client due = tt
-release_suits (Some play) client due =
-    released_suits client.alive (changes.due_play client) client (due_open client.alive client.pending client.session.running client.session.queue play due)
-
-left_suits : (alive : Bool) (id : Option (List ℕ)) (client : Client) → alive ≡ false → SuitsOpen alive client.pending → SuitsOpen alive (changes.close_at id client).pending
-left_suits alive None client closed h = h
-left_suits alive (Some id) client closed h = closed
-
-leave_suits : (id : Option (List ℕ)) (client : Client) → client.alive ≡ false → client.pending ≡ None → SuitsBy client.alive (going.leave_at id client).message (going.leave_at id client).client.pending
-leave_suits None client closed idle = tt
-leave_suits (Some id) client closed idle =
-    left_suits client.alive (changes.closing_session client) client closed (subst (λ (one : Option Purpose). SuitsOpen client.alive one) (sym idle) tt)
-
-goes_suits : (one : Option Going) (pair : Option ℕ) (hand : List ℕ) (alive : Bool) (client : Client) → alive ≡ true → SuitsBy alive (going.goes_at one pair hand client).message (going.goes_at one pair hand client).client.pending
+goes_suits : (one : Option Going) (pair : Option ℕ) (hand : List ℕ) (alive : Bool) (client : Client) → alive ≡ true → SuitsBy alive (goes_at one pair hand client).message (goes_at one pair hand client).client.pending
 goes_suits None pair hand alive client e = tt
 goes_suits (Some one) pair hand alive client e = e
 
-go_due_suits : (bases : Bases) (pair : Option ℕ) (play : Option Play) (client : Client) → changes.due_play client ≡ play → client.alive ≡ true
-    → SuitsBy client.alive (going.go_due bases pair play client).message (going.go_due bases pair play client).client.pending
-go_due_suits bases pair (Some play) client due e = release_suits (Some play) client due
-go_due_suits bases pair None client due e =
-    let all : Treated = treated client.waiting (given bases (is_none pair) client) in
-    goes_suits all.going pair all.hand client.alive (going.after_plays all.plays (record client { waiting = all.left })) e
-
-go_idle_suits : (bases : Bases) (pair : Option ℕ) (alive : Bool) (client : Client) → client.alive ≡ alive → client.pending ≡ None
-    → SuitsBy client.alive (going.go_idle bases pair alive client).message (going.go_idle bases pair alive client).client.pending
-go_idle_suits bases pair true client e idle = go_due_suits bases pair (changes.due_play client) client refl e
-go_idle_suits bases pair false client e idle = leave_suits client.session.id client e idle
-
-go_at_suits : (bases : Bases) (pair : Option ℕ) (pending : Option Purpose) (client : Client) → client.pending ≡ pending
-    → SuitsBy client.alive (going.go_at bases pair pending client).message (going.go_at bases pair pending client).client.pending
-go_at_suits bases pair (Some purpose) client e = tt
-go_at_suits bases pair None client e = go_idle_suits bases pair client.alive client refl e
-
 pub going_suits : (bases : Bases) (pair : Option ℕ) (next : NextPart) (client : Client)
     → SuitsBy client.alive (going_on bases pair next client).message (going_on bases pair next client).client.pending
-going_suits bases pair rests client = tt
-going_suits bases pair releases client = release_suits (changes.due_play client) client refl
-going_suits bases pair goes_on client = go_at_suits bases pair client.pending client refl
+going_suits bases pair next client = going_as (λ effect. SuitsBy client.alive effect.message effect.client.pending) bases pair next client (record {
+  still = tt;
+  released = λ place play idle due is. tt;
+  treats = λ idle alive.
+      let all = treated client.waiting (given bases (is_none pair) client) in
+      goes_suits all.going pair all.hand client.alive (after_plays all.plays (record client { waiting = all.left })) alive;
+  left = λ place id idle dead filled is. dead;
+})
 
--- An event that is no reply keeps the streams, the id and what is open.
+-- An event that is no reply keeps the sessions with their streams, and what is open.
 pub record IsHeldStill (before after : Client) : Type 0 where
-  pub tracks : after.session.tracks ≡ before.session.tracks
-  pub id : after.session.id ≡ before.session.id
+  pub sessions : AreSame before.sessions after.sessions
   pub pending : after.pending ≡ before.pending
-
-still : (client : Client) → IsHeldStill client client
-still client = record { tracks = refl; id = refl; pending = refl }
-
-closes_still : (alive : Bool) (reason : CloseWhy) (client : Client) → IsHeldStill client (closes alive reason client).effect.client
-closes_still true reason client = record { tracks = refl; id = refl; pending = refl }
-closes_still false reason client = still client
-
-carry_still : (half : Option Half) (rest : List ℕ) (client : Client) → IsHeldStill client (carry half rest client).effect.client
-carry_still None rest client = still client
-carry_still (Some half) rest client = still client
-
-item_still : (kind : ItemKind) (shape : Shape) (client : Client) → IsHeldStill client (take_item kind shape client).effect.client
-item_still Request shape client = record { tracks = refl; id = refl; pending = refl }
-item_still Response shape client = still client
-item_still Frame shape client = carry_still (half_for (channel_in shape) client.session.tracks) (behind_channel shape) client
-item_still (Bad kind) shape client = record { tracks = refl; id = refl; pending = refl }
-
-take_still : (alive : Bool) (shape : Shape) (client : Client) → IsHeldStill client (take alive shape client).effect.client
-take_still true shape client = item_still shape.kind shape client
-take_still false shape client = still client
-
-ended_still : (counts : Bool) (changed session : PlayerSession) → changed.tracks ≡ session.tracks → changed.id ≡ session.id
-    → ((cond counts changed session).tracks ≡ session.tracks) × ((cond counts changed session).id ≡ session.id)
-ended_still true changed session tracks id = (tracks, id)
-ended_still false changed session tracks id = (refl, refl)
-
-note_still : (reason : NotifyReason) (names : Names) (client : Client) → IsHeldStill client (take_note reason names client).effect.client
-note_still EndOfStream names client = record { tracks = parts.0; id = parts.1; pending = refl }
-  where
-    parts : ((when_ended names client.session).tracks ≡ client.session.tracks) × ((when_ended names client.session).id ≡ client.session.id)
-    parts = ended_still (end_counts client.session.running names) _ client.session refl refl
-note_still MediaProperties names client = still client
-note_still ScaleChange names client = still client
-
-give_still : (channel : Option ℕ) (rest : List ℕ) (client : Client) → IsHeldStill client (give channel rest client).effect.client
-give_still None rest client = still client
-give_still (Some channel) rest client = still client
-
-media_still : (alive : Bool) (pair half : ℕ) (rest : List ℕ) (client : Client) → IsHeldStill client (take_media alive pair half rest client).effect.client
-media_still true pair half rest client = give_still (channel_for pair half client.session.tracks) rest client
-media_still false pair half rest client = still client
 
 abbrev pub IsNoAnswer : PrivateEvent → Type 0
 IsNoAnswer (arrive shape full) = Unit {0}
 IsNoAnswer (answer told ssrc full) = ⊥
-IsNoAnswer (note reason names) = Unit {0}
+IsNoAnswer (note id reason names) = Unit {0}
 IsNoAnswer (media pair half rest) = Unit {0}
 IsNoAnswer end = Unit {0}
 IsNoAnswer slow = Unit {0}
 IsNoAnswer up_end = Unit {0}
 
+ended_same : (counts : Bool) (session : PlayerSession) → IsSame session (cond counts (record session { state = cond (length session.queue == 0) Ready session.state; running = None }) session)
+ended_same true session = record { id = refl; tracks = refl }
+ended_same false session = record { id = refl; tracks = refl }
+
+-- what an event makes of a connection by itself: it settles what is open, or keeps this
+pub heard_as : (P : Client → Type 0) (bases : Bases) (number : ℕ) (client : Client) (event : PrivateEvent) → ((after : Client) → IsHeldStill client after → P after)
+    → ((purpose : Purpose) (told : Told) (ssrc : Option ℕ) (full : Bool) → event ≡ answer told ssrc full → client.pending ≡ Some purpose → P (settle_with (Some purpose) number told.code (new_id purpose told) client))
+    → P (hear bases number client event).effect.client
+heard_as P bases number client event still settles = hear_as (λ heard. P heard.effect.client) bases number client event (record {
+  idle = still client (record { sessions = all_same client.sessions; pending = refl });
+  closing = λ reason alive. still (after_close client) (record { sessions = mapped_same when_unqueued client.sessions (λ session. record { id = refl; tracks = refl }); pending = refl });
+  waits = λ shape full here is alive. still (after_waiting (shape ∷ []) client) (record { sessions = all_same client.sessions; pending = refl });
+  carrying = λ shape full half here is. still client (record { sessions = all_same client.sessions; pending = refl });
+  settles = λ purpose told ssrc full here late is.
+      subst (λ (one : Option Purpose). P (settle_with one number told.code (new_id purpose told) client)) (sym is) (settles purpose told ssrc full here is);
+  notes = λ id names here. still (after_note (place_with id client.sessions) names client)
+      (record { sessions = where_same (place_with id client.sessions) (when_ended names) client.sessions (λ session. ended_same (end_counts session.running names) session); pending = refl });
+  gives = λ pair half channel rest here is alive. still client (record { sessions = all_same client.sessions; pending = refl });
+})
+
 pub hear_still : (bases : Bases) (number : ℕ) (client : Client) (event : PrivateEvent) → IsNoAnswer event → IsHeldStill client (hear bases number client event).effect.client
-hear_still bases number client (arrive shape full) h = take_still client.alive shape client
-hear_still bases number client (answer told ssrc full) h = absurd h
-hear_still bases number client (note reason names) h = note_still reason names client
-hear_still bases number client (media pair half rest) h = media_still client.alive pair half rest client
-hear_still bases number client end h = closes_still client.alive why.Ended client
-hear_still bases number client slow h = closes_still client.alive why.Slow client
-hear_still bases number client up_end h = still client
+hear_still bases number client event none =
+    heard_as (IsHeldStill client) bases number client event (λ after still. still) (λ purpose told ssrc full here is. absurd (subst IsNoAnswer here none))

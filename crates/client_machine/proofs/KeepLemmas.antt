@@ -1,55 +1,32 @@
 -- A connection is alive exactly where it was not closed, and nothing happens to it once the connection to the server has
 -- ended.
-use Rattle.std.proofs.Common.{◌≡◌, ◌∙◌, ℕ, ◌+◌, nat_lt, Bool, true, false, cond, ◌&&◌, not, List, [], ◌∷◌, ◌++◌, Option, Some, None, refl, sym, ap}
+use Rattle.std.proofs.Common.{◌≡◌, ◌∙◌, ℕ, ◌+◌, Bool, true, false, cond, ◌&&◌, not, List, [], ◌∷◌, ◌++◌, Option, Some, None, refl, sym, ap}
 use Rattle.std.specs.Prelude.{is_none}
 use Rattle.std.specs.Option.{option_or, option_to_list}
-use Rattle.rtsp_head.specs.Items.{Shape}
-use Rattle.rtsp_head.specs.declared.item.ItemKind.{ItemKind}
-use Rattle.rtsp_head.specs.declared.item.ItemKind.TheVariants.{Request, Response, Frame, Bad}
-use Rattle.rtsp_small.specs.declared.notify.NotifyReason.{NotifyReason}
-use Rattle.rtsp_small.specs.declared.notify.NotifyReason.TheVariants.{EndOfStream, MediaProperties, ScaleChange}
 use Rattle.rtsp_uri.specs.declared.base.Bases.{Bases}
 use Rattle.session_one.specs.declared.parts.Play.{Play}
-use Rattle.session_two.specs.declared.names.Names.{Names}
-use Rattle.translate_down.specs.Replies.{Told}
 use Rattle.client_slot.specs.declared.purpose.Purpose.{Purpose}
 use Rattle.client_slot.specs.Client.{Client}
-use Rattle.client_slot.specs.Changes as changes
+use Rattle.client_slot.specs.Changes.{after_queueing, settle_with}
 use Rattle.client_machine.specs.declared.why.CloseWhy.{CloseWhy}
 use Rattle.client_machine.specs.declared.why.CloseWhy.TheVariants as why
-use Rattle.client_machine.specs.Effects.{Outgoing, Effect, stays}
+use Rattle.client_machine.specs.Effects.{Effect, stays}
 use Rattle.client_machine.specs.Events.{PrivateEvent, arrive, answer, note, media, end, slow, up_end}
-use Rattle.client_machine.specs.Frames.{channel_in, behind_channel, Half, half_for, channel_for}
 use Rattle.client_machine.specs.Treatment.{given, Going, Treated, treated}
 use Rattle.client_machine.specs.Releases as going
-use Rattle.client_machine.specs.ServerItems.{NextPart, rests, releases, goes_on, Hearing, idles, closes, carry, take_item, take, settle_at, take_note, give, take_media, hear}
+use Rattle.client_machine.specs.ServerItems.{NextPart, Hearing, new_id, hear}
 use Rattle.client_machine.specs.Step.{going_on, step}
-use Rattle.client_machine.specs.Alone.{Private, is_live, pair_alone, effect_while, effect_alone, is_up_end, or_else, private_next, private_after, effect_after, piece, hand, sent_up, shut_alone, is_empty_list}
+use Rattle.client_machine.specs.Alone.{Private, is_live, pair_alone, effect_while, effect_alone, is_up_end, or_else, private_next, private_after, effect_after, piece, hand, shut_alone, is_empty_list}
+use Rattle.client_machine.proofs.WayLemmas.{hear_as, going_as}
 
 -- What goes up closes nothing.
 record IsQuiet (was : Bool) (effect : Effect) : Type 0 where
   alive : effect.client.alive ≡ was
   close : effect.close ≡ None
 
-release_alive : (play : Option Play) (client : Client) → (changes.release_at play client).alive ≡ client.alive
-release_alive None client = refl
-release_alive (Some play) client = refl
-
-release_at_quiet : (play : Option Play) (client : Client) → IsQuiet client.alive (going.released_with play client)
-release_at_quiet None client = record { alive = refl; close = refl }
-release_at_quiet (Some play) client = record { alive = release_alive (changes.due_play client) client; close = refl }
-
-close_alive : (id : Option (List ℕ)) (client : Client) → (changes.close_at id client).alive ≡ client.alive
-close_alive None client = refl
-close_alive (Some id) client = refl
-
-leave_at_quiet : (id : Option (List ℕ)) (client : Client) → IsQuiet client.alive (going.leave_at id client)
-leave_at_quiet None client = record { alive = refl; close = refl }
-leave_at_quiet (Some id) client = record { alive = close_alive (changes.closing_session client) client; close = refl }
-
 plays_alive : (plays : List Play) (client : Client) → (going.after_plays plays client).alive ≡ client.alive
 plays_alive [] client = refl
-plays_alive (play ∷ plays) client = plays_alive plays (changes.after_queueing play client)
+plays_alive (play ∷ plays) client = plays_alive plays (after_queueing play client)
 
 goes_at_quiet : (one : Option Going) (pair : Option ℕ) (text : List ℕ) (client : Client) → IsQuiet client.alive (going.goes_at one pair text client)
 goes_at_quiet None pair text client = record { alive = refl; close = refl }
@@ -61,22 +38,13 @@ goes_with_quiet all pair client =
     let quiet : IsQuiet after.alive (going.goes_at all.going pair all.hand after) = goes_at_quiet all.going pair all.hand after in
     record { alive = quiet.alive ∙ plays_alive all.plays (record client { waiting = all.left }); close = quiet.close }
 
-go_due_quiet : (bases : Bases) (pair : Option ℕ) (play : Option Play) (client : Client) → IsQuiet client.alive (going.go_due bases pair play client)
-go_due_quiet bases pair (Some play) client = release_at_quiet (Some play) client
-go_due_quiet bases pair None client = goes_with_quiet (treated client.waiting (given bases (is_none pair) client)) pair client
-
-go_idle_quiet : (bases : Bases) (pair : Option ℕ) (alive : Bool) (client : Client) → IsQuiet client.alive (going.go_idle bases pair alive client)
-go_idle_quiet bases pair true client = go_due_quiet bases pair (changes.due_play client) client
-go_idle_quiet bases pair false client = leave_at_quiet client.session.id client
-
-go_at_quiet : (bases : Bases) (pair : Option ℕ) (pending : Option Purpose) (client : Client) → IsQuiet client.alive (going.go_at bases pair pending client)
-go_at_quiet bases pair None client = go_idle_quiet bases pair client.alive client
-go_at_quiet bases pair (Some purpose) client = record { alive = refl; close = refl }
-
 going_on_quiet : (bases : Bases) (pair : Option ℕ) (next : NextPart) (client : Client) → IsQuiet client.alive (going_on bases pair next client)
-going_on_quiet bases pair rests client = record { alive = refl; close = refl }
-going_on_quiet bases pair releases client = release_at_quiet (changes.due_play client) client
-going_on_quiet bases pair goes_on client = go_at_quiet bases pair client.pending client
+going_on_quiet bases pair next client = going_as (IsQuiet client.alive) bases pair next client (record {
+  still = record { alive = refl; close = refl };
+  released = λ place play idle due is. record { alive = refl; close = refl };
+  treats = λ idle alive. goes_with_quiet (treated client.waiting (given bases (is_none pair) client)) pair client;
+  left = λ place id idle dead filled is. record { alive = refl; close = refl };
+})
 
 -- What an event does by itself leaves a connection alive exactly where it does not close it.
 abbrev IsKept : Bool → Hearing → Type 0
@@ -86,53 +54,21 @@ and_kept : (alive : Bool) → alive ≡ (alive && true)
 and_kept true = refl
 and_kept false = refl
 
-closes_kept : (alive : Bool) (reason : CloseWhy) (client : Client) → client.alive ≡ alive → IsKept alive (closes alive reason client)
-closes_kept true reason client e = refl
-closes_kept false reason client e = e
-
-carry_kept : (half : Option Half) (rest : List ℕ) (client : Client) → client.alive ≡ true → IsKept true (carry half rest client)
-carry_kept None rest client e = e
-carry_kept (Some half) rest client e = e
-
-item_kept : (kind : ItemKind) (shape : Shape) (client : Client) → client.alive ≡ true → IsKept true (take_item kind shape client)
-item_kept Request shape client e = e
-item_kept Response shape client e = e
-item_kept Frame shape client e = carry_kept (half_for (channel_in shape) client.session.tracks) (behind_channel shape) client e
-item_kept (Bad kind) shape client e = refl
-
-take_kept : (alive : Bool) (shape : Shape) (client : Client) → client.alive ≡ alive → IsKept alive (take alive shape client)
-take_kept true shape client e = item_kept shape.kind shape client e
-take_kept false shape client e = e
-
-settle_kept : (bases : Bases) (number : ℕ) (pending : Option Purpose) (told : Told) (ssrc : Option ℕ) (client : Client) → IsKept client.alive (settle_at bases number pending told ssrc client)
-settle_kept bases number None told ssrc client = and_kept client.alive
-settle_kept bases number (Some purpose) told ssrc client = and_kept client.alive
-
-answer_by : (early : Bool) (client : Client) (heard : Hearing) → IsKept client.alive heard → IsKept client.alive (cond early (idles client) heard)
-answer_by true client heard kept = and_kept client.alive
-answer_by false client heard kept = kept
-
-note_kept : (reason : NotifyReason) (names : Names) (client : Client) → IsKept client.alive (take_note reason names client)
-note_kept EndOfStream names client = and_kept client.alive
-note_kept MediaProperties names client = and_kept client.alive
-note_kept ScaleChange names client = and_kept client.alive
-
-give_kept : (channel : Option ℕ) (rest : List ℕ) (client : Client) → IsKept client.alive (give channel rest client)
-give_kept None rest client = and_kept client.alive
-give_kept (Some channel) rest client = and_kept client.alive
-
-media_kept : (alive : Bool) (pair half : ℕ) (rest : List ℕ) (client : Client) → IsKept client.alive (take_media alive pair half rest client)
-media_kept true pair half rest client = give_kept (channel_for pair half client.session.tracks) rest client
-media_kept false pair half rest client = and_kept client.alive
+lost : (b : Bool) → false ≡ (b && false)
+lost true = refl
+lost false = refl
 
 hear_kept : (bases : Bases) (number : ℕ) (client : Client) (event : PrivateEvent) → IsKept client.alive (hear bases number client event)
-hear_kept bases number client (arrive shape full) = take_kept client.alive shape client refl
-hear_kept bases number client (answer told ssrc full) = answer_by (nat_lt told.code 200) client (settle_at bases number client.pending told ssrc client) (settle_kept bases number client.pending told ssrc client)
-hear_kept bases number client (note reason names) = note_kept reason names client
-hear_kept bases number client (media pair half rest) = media_kept client.alive pair half rest client
-hear_kept bases number client end = closes_kept client.alive why.Ended client refl
-hear_kept bases number client slow = closes_kept client.alive why.Slow client refl
-hear_kept bases number client up_end = and_kept client.alive
+hear_kept bases number client event = hear_as (IsKept client.alive) bases number client event (record {
+  idle = and_kept client.alive;
+  closing = λ reason alive. lost client.alive;
+  waits = λ shape full here is alive. and_kept client.alive;
+  carrying = λ shape full half here is. and_kept client.alive;
+  settles = λ purpose told ssrc full here late is.
+      ap (λ (one : Option Purpose). (settle_with one number told.code (new_id purpose told) client).alive) is ∙ and_kept client.alive;
+  notes = λ id names here. and_kept client.alive;
+  gives = λ pair half channel rest here is alive. and_kept client.alive;
+})
 
 or_none : (first : Option CloseWhy) → option_or first None ≡ first
 or_none None = refl
@@ -159,14 +95,14 @@ live_by : (over : Bool) (bases : Bases) (p : Private) (event : PrivateEvent)
     → (not (or_else (is_up_end event) over) && (effect_while over bases p event).client.alive) ≡ ((not over && p.client.alive) && is_none (effect_while over bases p event).close)
 live_by true bases p (arrive shape full) = refl
 live_by true bases p (answer told ssrc full) = refl
-live_by true bases p (note reason names) = refl
+live_by true bases p (note id reason names) = refl
 live_by true bases p (media pair half rest) = refl
 live_by true bases p end = refl
 live_by true bases p slow = refl
 live_by true bases p up_end = refl
 live_by false bases p (arrive shape full) = numbered_alive bases p (arrive shape full)
 live_by false bases p (answer told ssrc full) = numbered_alive bases p (answer told ssrc full)
-live_by false bases p (note reason names) = numbered_alive bases p (note reason names)
+live_by false bases p (note id reason names) = numbered_alive bases p (note id reason names)
 live_by false bases p (media pair half rest) = numbered_alive bases p (media pair half rest)
 live_by false bases p end = numbered_alive bases p end
 live_by false bases p slow = numbered_alive bases p slow
@@ -179,10 +115,6 @@ alone_live bases p event = live_by p.over bases p event
 pub close_append : (one : Option CloseWhy) (closed : List CloseWhy) → is_empty_list (option_to_list one ++ closed) ≡ (is_empty_list closed && is_none one)
 close_append None closed = and_kept (is_empty_list closed)
 close_append (Some one) closed = lost (is_empty_list closed)
-  where
-    lost : (b : Bool) → false ≡ (b && false)
-    lost true = refl
-    lost false = refl
 
 pub live_unclosed : (bases : Bases) (events : List PrivateEvent) → is_live (private_after bases events) ≡ is_empty_list (shut_alone bases events)
 live_unclosed bases [] = refl
@@ -198,7 +130,7 @@ IsOver bases events = (private_after bases events).over ≡ true
 pub over_stays : (bases : Bases) (p : Private) (event : PrivateEvent) → p.over ≡ true → effect_alone bases p event ≡ stays p.client
 over_stays bases p event over = ap (λ b. effect_while b bases p event) over
 
-or_true : (b : Bool) → or_else b true ≡ true
+pub or_true : (b : Bool) → or_else b true ≡ true
 or_true true = refl
 or_true false = refl
 
@@ -214,10 +146,6 @@ over_client bases events (Some event) over = ap (λ (effect : Effect). effect.cl
 pub over_hand : (bases : Bases) (events : List PrivateEvent) (one : Option PrivateEvent) → IsOver bases events → hand bases (option_to_list one ++ events) ≡ hand bases events
 over_hand bases events None over = refl
 over_hand bases events (Some event) over = ap (λ (effect : Effect). piece effect.hand ++ hand bases events) (over_stays bases (private_after bases events) event over)
-
-pub over_up : (bases : Bases) (events : List PrivateEvent) (one : Option PrivateEvent) → IsOver bases events → sent_up bases (option_to_list one ++ events) ≡ sent_up bases events
-over_up bases events None over = refl
-over_up bases events (Some event) over = ap (λ (effect : Effect). option_to_list effect.message ++ sent_up bases events) (over_stays bases (private_after bases events) event over)
 
 pub over_shut : (bases : Bases) (events : List PrivateEvent) (one : Option PrivateEvent) → IsOver bases events → shut_alone bases (option_to_list one ++ events) ≡ shut_alone bases events
 over_shut bases events None over = refl
@@ -262,9 +190,6 @@ ends_over bases events = refl
 -- so for whole runs
 pub ends_hand : (bases : Bases) (events : List PrivateEvent) → hand bases (up_end ∷ events) ≡ hand bases events
 ends_hand bases events = ap (λ (text : List ℕ). piece text ++ hand bases events) (end_hand bases (private_after bases events))
-
-pub ends_up : (bases : Bases) (events : List PrivateEvent) → sent_up bases (up_end ∷ events) ≡ sent_up bases events
-ends_up bases events = ap (λ (message : Option Outgoing). option_to_list message ++ sent_up bases events) (end_up bases (private_after bases events))
 
 pub ends_shut : (bases : Bases) (events : List PrivateEvent) → shut_alone bases (up_end ∷ events) ≡ cond (is_live (private_after bases events)) (why.Upstream ∷ []) [] ++ shut_alone bases events
 ends_shut bases events = ap (λ (closed : List CloseWhy). closed ++ shut_alone bases events) (end_close bases (private_after bases events))

@@ -1,6 +1,6 @@
 -- A step is the same under every numbering that tells apart what the event names.
 use Rattle.std.proofs.Common.{◌≡◌, ◌∙◌, ℕ, ◌==◌, nat_lt, Bool, true, false, cond, List, [], ◌∷◌, map, Option, Some, None, refl, sym, ap}
-use Rattle.std.specs.Prelude.{is_none}
+use Rattle.std.specs.Prelude.{◌++◌, is_none}
 use Rattle.std.specs.Option.{option_map, option_or}
 use Rattle.std.specs.List.{find}
 use Rattle.rtsp_head.specs.Items.{Shape}
@@ -12,22 +12,29 @@ use Rattle.rtsp_transport.specs.declared.channels.Pair.{Pair}
 use Rattle.rtsp_uri.specs.declared.base.Bases.{Bases}
 use Rattle.session_one.specs.declared.parts.Play.{Play}
 use Rattle.session_one.specs.declared.parts.Track.{Track}
+use Rattle.session_one.specs.Table.{same_method}
+use Rattle.rtsp_small.specs.declared.method.Method.TheVariants.{Setup}
+use Rattle.translate_up.specs.QueuedPlay.{play_up}
+use Rattle.translate_up.specs.Views.{session_with_pairs}
 use Rattle.session_two.specs.declared.names.Names.{Names}
 use Rattle.translate_down.specs.Replies.{Told}
 use Rattle.client_slot.specs.declared.purpose.Purpose.{Purpose}
 use Rattle.client_slot.specs.declared.purpose.Purpose.TheVariants as purposes
 use Rattle.client_slot.specs.Client.{Client}
-use Rattle.client_slot.specs.Changes.{due_play, after_reply}
+use Rattle.client_slot.specs.Session.{PlayerSession}
+use Rattle.client_slot.specs.Places.{session_at, session_where, place_with, is_session, queued_at, tracks_of}
+use Rattle.client_slot.specs.Changes.{due_place, closing_place, purpose_place, after_queueing, after_reply, after_note}
+use Rattle.client_slot.specs.ClosingRequest.{closing_request}
 use Rattle.client_slot.specs.Renumber.{track_under, purpose_under, client_under, names_under, AreToldApart}
-use Rattle.client_slot.proofs.RenumberLemmas.{reply_under, note_under, due_under, release_under, closing_under}
+use Rattle.client_slot.proofs.RenumberLemmas.{sessions_under, at_under, where_under, place_under, reply_under, note_under, queueing_under, due_under, queued_under, release_under, close_under, left_under, closing_under}
 use Rattle.client_machine.specs.declared.why.CloseWhy.{CloseWhy}
 use Rattle.client_machine.specs.declared.why.CloseWhy.TheVariants as why
 use Rattle.client_machine.specs.Effects.{Outgoing, asks, Effect, stays, sends, hands, then_effect}
 use Rattle.client_machine.specs.Events.{PrivateEvent, arrive, answer, note, media, end, slow, up_end}
 use Rattle.client_machine.specs.Frames.{channel_in, behind_channel, Half, half_on, half_for, player_channel, channel_for}
-use Rattle.client_machine.specs.Treatment.{given, Going, Treated, treated}
+use Rattle.client_machine.specs.Treatment.{session_seen, given, Going, Treated, treated}
 use Rattle.client_machine.specs.Releases as going
-use Rattle.client_machine.specs.ServerItems.{NextPart, rests, releases, goes_on, Hearing, idles, closes, carry, take_item, take, new_id, reply_hand, settled, settle_at, take_answer, take_note, give, take_media, hear}
+use Rattle.client_machine.specs.ServerItems.{NextPart, rests, releases, goes_on, Hearing, idles, closes, carry, take_item, take, new_id, reply_for, reply_hand, id_after, settled, settle_at, take_answer, take_note, give, take_media, hear}
 use Rattle.client_machine.specs.Renumber.{message_under, effect_under, event_under, AreTracksApart, IsToldApart}
 use Rattle.client_machine.specs.Step.{going_on, heard_step, step}
 use Rattle.client_machine.proofs.BlindLemmas.{treated_under}
@@ -48,7 +55,8 @@ none_same pairs (Some pair) = refl
 
 plays_under : (numbers pairs : ℕ → ℕ) (plays : List Play) (client : Client) → going.after_plays plays (client_under numbers pairs client) ≡ client_under numbers pairs (going.after_plays plays client)
 plays_under numbers pairs [] client = refl
-plays_under numbers pairs (play ∷ plays) client = plays_under numbers pairs plays _
+plays_under numbers pairs (play ∷ plays) client =
+    ap (going.after_plays plays) (sym (queueing_under numbers pairs play client)) ∙ plays_under numbers pairs plays (after_queueing play client)
 
 goes_at_under : (numbers pairs : ℕ → ℕ) (one : Option Going) (pair : Option ℕ) (hand : List ℕ) (client : Client)
     → going.goes_at one (option_map pairs pair) hand (client_under numbers pairs client) ≡ effect_under numbers pairs (going.goes_at one pair hand client)
@@ -65,38 +73,56 @@ goes_with_under numbers pairs all pair client =
     ap (going.goes_at all.going (option_map pairs pair) all.hand) (plays_under numbers pairs all.plays (record client { waiting = all.left }))
     ∙ goes_at_under numbers pairs all.going pair all.hand (going.after_plays all.plays (record client { waiting = all.left }))
 
+-- what requests are judged by
+seen_under : (numbers pairs : ℕ → ℕ) (sessions : List PlayerSession) → map session_seen (sessions_under numbers pairs sessions) ≡ map (session_with_pairs pairs) (map session_seen sessions)
+seen_under numbers pairs [] = refl
+seen_under numbers pairs (one ∷ more) = ap (λ later. session_with_pairs pairs (session_seen one) ∷ later) (seen_under numbers pairs more)
+
 treat_under : (numbers pairs : ℕ → ℕ) (bases : Bases) (pair : Option ℕ) (client : Client) → going.treat bases (option_map pairs pair) (client_under numbers pairs client) ≡ effect_under numbers pairs (going.treat bases pair client)
 treat_under numbers pairs bases pair client =
     ap (λ full. going.goes_with (treated client.waiting (given bases full (client_under numbers pairs client))) (option_map pairs pair) (client_under numbers pairs client)) (none_same pairs pair)
+    ∙ ap (λ seen. going.goes_with (treated client.waiting (record (given bases (is_none pair) client) { sessions = seen })) (option_map pairs pair) (client_under numbers pairs client)) (seen_under numbers pairs client.sessions)
     ∙ ap (λ all. going.goes_with all (option_map pairs pair) (client_under numbers pairs client)) (treated_under pairs client.waiting (given bases (is_none pair) client))
     ∙ goes_with_under numbers pairs (treated client.waiting (given bases (is_none pair) client)) pair client
 
-release_at_under : (numbers pairs : ℕ → ℕ) (play : Option Play) (client : Client) → going.released_with play (client_under numbers pairs client) ≡ effect_under numbers pairs (going.released_with play client)
-release_at_under numbers pairs None client = refl
-release_at_under numbers pairs (Some play) client = ap (sends _) (sym (release_under numbers pairs client))
+released_with_under : (numbers pairs : ℕ → ℕ) (play : Option Play) (id : Option (List ℕ)) (client : Client) → going.released_with play id (client_under numbers pairs client) ≡ effect_under numbers pairs (going.released_with play id client)
+released_with_under numbers pairs None id client = refl
+released_with_under numbers pairs (Some play) id client = ap (sends (asks (play_up id play) None)) (sym (release_under numbers pairs client))
 
-due_same : (numbers pairs : ℕ → ℕ) (client : Client) → due_play (client_under numbers pairs client) ≡ due_play client
-due_same numbers pairs client = due_under numbers pairs client.pending client.session.running client.session.queue
+released_at_under : (numbers pairs : ℕ → ℕ) (place : Option ℕ) (client : Client) → going.released_at place (client_under numbers pairs client) ≡ effect_under numbers pairs (going.released_at place client)
+released_at_under numbers pairs None client = refl
+released_at_under numbers pairs (Some place) client =
+    ap (λ (play : Option Play). going.released_with play (session_at place (sessions_under numbers pairs client.sessions)).id (client_under numbers pairs client)) (queued_under numbers pairs place client.sessions)
+    ∙ ap (λ (session : PlayerSession). going.released_with (queued_at place client.sessions) session.id (client_under numbers pairs client)) (at_under numbers pairs place client.sessions)
+    ∙ released_with_under numbers pairs (queued_at place client.sessions) (session_at place client.sessions).id client
 
 release_same : (numbers pairs : ℕ → ℕ) (client : Client) → going.release (client_under numbers pairs client) ≡ effect_under numbers pairs (going.release client)
-release_same numbers pairs client =
-    ap (λ play. going.released_with play (client_under numbers pairs client)) (due_same numbers pairs client) ∙ release_at_under numbers pairs (due_play client) client
+release_same numbers pairs client = ap (λ place. going.released_at place (client_under numbers pairs client)) (due_under numbers pairs client) ∙ released_at_under numbers pairs (due_place client) client
 
-leave_at_under : (numbers pairs : ℕ → ℕ) (id : Option (List ℕ)) (client : Client) → going.leave_at id (client_under numbers pairs client) ≡ effect_under numbers pairs (going.leave_at id client)
+leave_with_under : (numbers pairs : ℕ → ℕ) (id control : Option (List ℕ)) (client : Client) → going.leave_with id control (client_under numbers pairs client) ≡ effect_under numbers pairs (going.leave_with id control client)
+leave_with_under numbers pairs None control client = refl
+leave_with_under numbers pairs (Some id) control client = ap (sends (asks (closing_request control id) None)) (sym (closing_under numbers pairs client))
+
+leave_at_under : (numbers pairs : ℕ → ℕ) (place : Option ℕ) (client : Client) → going.leave_at place (client_under numbers pairs client) ≡ effect_under numbers pairs (going.leave_at place client)
 leave_at_under numbers pairs None client = refl
-leave_at_under numbers pairs (Some id) client = ap (sends _) (sym (closing_under numbers pairs client))
+leave_at_under numbers pairs (Some place) client =
+    ap (λ (session : PlayerSession). going.leave_with session.id session.control (client_under numbers pairs client)) (at_under numbers pairs place client.sessions)
+    ∙ leave_with_under numbers pairs (session_at place client.sessions).id (session_at place client.sessions).control client
 
-go_due_under : (numbers pairs : ℕ → ℕ) (bases : Bases) (pair : Option ℕ) (play : Option Play) (client : Client)
-    → going.go_due bases (option_map pairs pair) play (client_under numbers pairs client) ≡ effect_under numbers pairs (going.go_due bases pair play client)
-go_due_under numbers pairs bases pair (Some play) client = release_at_under numbers pairs (Some play) client
+leave_same : (numbers pairs : ℕ → ℕ) (client : Client) → going.leave (client_under numbers pairs client) ≡ effect_under numbers pairs (going.leave client)
+leave_same numbers pairs client = ap (λ place. going.leave_at place (client_under numbers pairs client)) (left_under numbers pairs client) ∙ leave_at_under numbers pairs (closing_place client) client
+
+go_due_under : (numbers pairs : ℕ → ℕ) (bases : Bases) (pair place : Option ℕ) (client : Client)
+    → going.go_due bases (option_map pairs pair) place (client_under numbers pairs client) ≡ effect_under numbers pairs (going.go_due bases pair place client)
+go_due_under numbers pairs bases pair (Some place) client = released_at_under numbers pairs (Some place) client
 go_due_under numbers pairs bases pair None client = treat_under numbers pairs bases pair client
 
 go_idle_under : (numbers pairs : ℕ → ℕ) (bases : Bases) (pair : Option ℕ) (alive : Bool) (client : Client)
     → going.go_idle bases (option_map pairs pair) alive (client_under numbers pairs client) ≡ effect_under numbers pairs (going.go_idle bases pair alive client)
 go_idle_under numbers pairs bases pair true client =
-    ap (λ play. going.go_due bases (option_map pairs pair) play (client_under numbers pairs client)) (due_same numbers pairs client)
-    ∙ go_due_under numbers pairs bases pair (due_play client) client
-go_idle_under numbers pairs bases pair false client = leave_at_under numbers pairs client.session.id client
+    ap (λ place. going.go_due bases (option_map pairs pair) place (client_under numbers pairs client)) (due_under numbers pairs client)
+    ∙ go_due_under numbers pairs bases pair (due_place client) client
+go_idle_under numbers pairs bases pair false client = leave_same numbers pairs client
 
 go_at_under : (numbers pairs : ℕ → ℕ) (bases : Bases) (pair : Option ℕ) (pending : Option Purpose) (client : Client)
     → going.go_at bases (option_map pairs pair) (option_map (purpose_under pairs) pending) (client_under numbers pairs client) ≡ effect_under numbers pairs (going.go_at bases pair pending client)
@@ -115,7 +141,7 @@ heard_under numbers pairs heard = record { effect = effect_under numbers pairs h
 
 closes_under : (numbers pairs : ℕ → ℕ) (alive : Bool) (why : CloseWhy) (client : Client) → closes alive why (client_under numbers pairs client) ≡ heard_under numbers pairs (closes alive why client)
 closes_under numbers pairs false why client = refl
-closes_under numbers pairs true why client = refl
+closes_under numbers pairs true why client = ap (λ (after : Client). record { effect = record { client = after; hand = []; message = None; close = Some why }; next = goes_on }) (sym (close_under numbers pairs client))
 
 abbrev half_under : (ℕ → ℕ) → Half → Half
 half_under pairs half = record { pair = pairs half.pair; half = half.half }
@@ -129,6 +155,15 @@ half_same : (pairs : ℕ → ℕ) (channel : ℕ) (tracks : List Track) → half
 half_same pairs channel [] = refl
 half_same pairs channel (track ∷ tracks) = half_here pairs track.pair (half_on channel track) (half_for channel tracks) (half_for channel (map (track_under pairs) tracks)) (half_same pairs channel tracks)
 
+streams_and : (pairs : ℕ → ℕ) (first second : List Track) → map (track_under pairs) (first ++ second) ≡ map (track_under pairs) first ++ map (track_under pairs) second
+streams_and pairs [] second = refl
+streams_and pairs (track ∷ first) second = ap (λ more. track_under pairs track ∷ more) (streams_and pairs first second)
+
+-- the streams of all sessions
+pub tracks_of_under : (numbers pairs : ℕ → ℕ) (sessions : List PlayerSession) → tracks_of (sessions_under numbers pairs sessions) ≡ map (track_under pairs) (tracks_of sessions)
+tracks_of_under numbers pairs [] = refl
+tracks_of_under numbers pairs (one ∷ more) = ap (λ later. map (track_under pairs) one.tracks ++ later) (tracks_of_under numbers pairs more) ∙ sym (streams_and pairs one.tracks (tracks_of more))
+
 carry_under : (numbers pairs : ℕ → ℕ) (half : Option Half) (rest : List ℕ) (client : Client)
     → carry (option_map (half_under pairs) half) rest (client_under numbers pairs client) ≡ heard_under numbers pairs (carry half rest client)
 carry_under numbers pairs None rest client = refl
@@ -138,39 +173,50 @@ item_under : (numbers pairs : ℕ → ℕ) (kind : ItemKind) (shape : Shape) (cl
 item_under numbers pairs Request shape client = refl
 item_under numbers pairs Response shape client = refl
 item_under numbers pairs Frame shape client =
-    ap (λ half. carry half (behind_channel shape) (client_under numbers pairs client)) (half_same pairs (channel_in shape) client.session.tracks)
-    ∙ carry_under numbers pairs (half_for (channel_in shape) client.session.tracks) (behind_channel shape) client
-item_under numbers pairs (Bad kind) shape client = refl
+    ap (λ tracks. carry (half_for (channel_in shape) tracks) (behind_channel shape) (client_under numbers pairs client)) (tracks_of_under numbers pairs client.sessions)
+    ∙ ap (λ half. carry half (behind_channel shape) (client_under numbers pairs client)) (half_same pairs (channel_in shape) (tracks_of client.sessions))
+    ∙ carry_under numbers pairs (half_for (channel_in shape) (tracks_of client.sessions)) (behind_channel shape) client
+item_under numbers pairs (Bad kind) shape client = closes_under numbers pairs true why.BadItem client
 
 take_under : (numbers pairs : ℕ → ℕ) (alive : Bool) (shape : Shape) (client : Client) → take alive shape (client_under numbers pairs client) ≡ heard_under numbers pairs (take alive shape client)
 take_under numbers pairs false shape client = refl
 take_under numbers pairs true shape client = item_under numbers pairs shape.kind shape client
 
-id_same : (pairs : ℕ → ℕ) (purpose : Purpose) (id : Option (List ℕ)) (told : Told) → new_id (purpose_under pairs purpose) id told ≡ new_id purpose id told
-id_same pairs (purposes.Client asked track) id told = refl
-id_same pairs (purposes.Released play) id told = refl
-id_same pairs purposes.Closing id told = refl
+id_same : (pairs : ℕ → ℕ) (purpose : Purpose) (told : Told) → new_id (purpose_under pairs purpose) told ≡ new_id purpose told
+id_same pairs (purposes.Client asked track) told = refl
+id_same pairs (purposes.Released play) told = refl
+id_same pairs (purposes.Closing place) told = refl
 
-client_same : (pairs : ℕ → ℕ) (track : Option Track) → option_map (λ (one : Track). one.client) (option_map (track_under pairs) track) ≡ option_map (λ (one : Track). one.client) track
-client_same pairs None = refl
-client_same pairs (Some track) = refl
+purpose_place_under : (numbers pairs : ℕ → ℕ) (purpose : Purpose) (sessions : List PlayerSession) → purpose_place (purpose_under pairs purpose) (sessions_under numbers pairs sessions) ≡ purpose_place purpose sessions
+purpose_place_under numbers pairs (purposes.Client asked track) sessions =
+    ap (λ (empty : Option ℕ). option_or asked.place (cond (same_method asked.method Setup) empty None)) (place_under numbers pairs (λ session. is_none session.id) 0 sessions (λ session. refl))
+purpose_place_under numbers pairs (purposes.Released play) sessions = refl
+purpose_place_under numbers pairs (purposes.Closing place) sessions = refl
 
-text_same : (numbers pairs : ℕ → ℕ) (bases : Bases) (purpose : Purpose) (told : Told) (ssrc : Option ℕ) (client : Client)
-    → reply_hand bases (purpose_under pairs purpose) told ssrc (client_under numbers pairs client) ≡ reply_hand bases purpose told ssrc client
-text_same numbers pairs bases (purposes.Client asked None) told ssrc client = refl
-text_same numbers pairs bases (purposes.Client asked (Some track)) told ssrc client = refl
-text_same numbers pairs bases (purposes.Released play) told ssrc client = refl
-text_same numbers pairs bases purposes.Closing told ssrc client = refl
+-- the id of the session that a request is for
+id_after_under : (numbers pairs : ℕ → ℕ) (purpose : Purpose) (client after : Client) → id_after (purpose_under pairs purpose) (client_under numbers pairs client) (client_under numbers pairs after) ≡ id_after purpose client after
+id_after_under numbers pairs purpose client after =
+    ap (λ (place : Option ℕ). (session_where place (sessions_under numbers pairs after.sessions)).id) (purpose_place_under numbers pairs purpose client.sessions)
+    ∙ ap (λ (session : PlayerSession). session.id) (where_under numbers pairs (purpose_place purpose client.sessions) after.sessions)
+
+text_same : (pairs : ℕ → ℕ) (bases : Bases) (purpose : Purpose) (told : Told) (ssrc : Option ℕ) (id : Option (List ℕ)) → reply_for bases (purpose_under pairs purpose) told ssrc id ≡ reply_for bases purpose told ssrc id
+text_same pairs bases (purposes.Client asked None) told ssrc id = refl
+text_same pairs bases (purposes.Client asked (Some track)) told ssrc id = refl
+text_same pairs bases (purposes.Released play) told ssrc id = refl
+text_same pairs bases (purposes.Closing place) told ssrc id = refl
+
+abbrev hears : List ℕ → Client → Hearing
+hears text then = record { effect = hands text then; next = goes_on }
 
 settled_under : (numbers pairs : ℕ → ℕ) (bases : Bases) (number : ℕ) (purpose : Purpose) (told : Told) (ssrc : Option ℕ) (client : Client)
     → settled bases (numbers number) (purpose_under pairs purpose) told ssrc (client_under numbers pairs client) ≡ heard_under numbers pairs (settled bases number purpose told ssrc client)
 settled_under numbers pairs bases number purpose told ssrc client =
-    ap (λ (id : Option (List ℕ)). record { effect = hands (reply_hand bases (purpose_under pairs purpose) told ssrc (after_reply (numbers number) told.code id (client_under numbers pairs client))) (after_reply (numbers number) told.code id (client_under numbers pairs client)); next = goes_on })
-    (id_same pairs purpose client.session.id told)
-    ∙ ap (λ (after : Client). record { effect = hands (reply_hand bases (purpose_under pairs purpose) told ssrc after) after; next = goes_on })
-    (sym (reply_under numbers pairs number told.code (new_id purpose client.session.id told) client))
-    ∙ ap (λ (text : List ℕ). record { effect = hands text (client_under numbers pairs (after_reply number told.code (new_id purpose client.session.id told) client)); next = goes_on })
-    (text_same numbers pairs bases purpose told ssrc (after_reply number told.code (new_id purpose client.session.id told) client))
+    let after = after_reply number told.code (new_id purpose told) client in
+    let own = client_under numbers pairs client in
+    ap (λ (id : Option (List ℕ)). hears (reply_hand bases client.alive (purpose_under pairs purpose) told ssrc (id_after (purpose_under pairs purpose) own (after_reply (numbers number) told.code id own))) (after_reply (numbers number) told.code id own)) (id_same pairs purpose told)
+    ∙ ap (λ (then : Client). hears (reply_hand bases client.alive (purpose_under pairs purpose) told ssrc (id_after (purpose_under pairs purpose) own then)) then) (sym (reply_under numbers pairs number told.code (new_id purpose told) client))
+    ∙ ap (λ (id : Option (List ℕ)). hears (reply_hand bases client.alive (purpose_under pairs purpose) told ssrc id) (client_under numbers pairs after)) (id_after_under numbers pairs purpose client after)
+    ∙ ap (λ (text : List ℕ). hears (cond client.alive text []) (client_under numbers pairs after)) (text_same pairs bases purpose told ssrc (id_after purpose client after))
 
 settle_at_under : (numbers pairs : ℕ → ℕ) (bases : Bases) (number : ℕ) (pending : Option Purpose) (told : Told) (ssrc : Option ℕ) (client : Client)
     → settle_at bases (numbers number) (option_map (purpose_under pairs) pending) told ssrc (client_under numbers pairs client) ≡ heard_under numbers pairs (settle_at bases number pending told ssrc client)
@@ -187,11 +233,13 @@ answer_under : (numbers pairs : ℕ → ℕ) (bases : Bases) (number : ℕ) (tol
 answer_under numbers pairs bases number told ssrc client =
     answer_by numbers pairs (nat_lt told.code 200) client _ (settle_at bases number client.pending told ssrc client) (settle_at_under numbers pairs bases number client.pending told ssrc client)
 
-take_note_under : (numbers pairs : ℕ → ℕ) (reason : NotifyReason) (names : Names) (client : Client) → AreToldApart numbers client.session.running names
-    → take_note reason (names_under numbers names) (client_under numbers pairs client) ≡ heard_under numbers pairs (take_note reason names client)
-take_note_under numbers pairs EndOfStream names client apart = ap (λ (after : Client). record { effect = stays after; next = releases }) (sym (note_under numbers pairs names client apart))
-take_note_under numbers pairs MediaProperties names client apart = refl
-take_note_under numbers pairs ScaleChange names client apart = refl
+take_note_under : (numbers pairs : ℕ → ℕ) (id : List ℕ) (reason : NotifyReason) (names : Names) (client : Client) → AreToldApart numbers (session_where (place_with id client.sessions) client.sessions).running names
+    → take_note id reason (names_under numbers names) (client_under numbers pairs client) ≡ heard_under numbers pairs (take_note id reason names client)
+take_note_under numbers pairs id EndOfStream names client apart =
+    ap (λ (place : Option ℕ). record { effect = stays (after_note place (names_under numbers names) (client_under numbers pairs client)); next = releases }) (place_under numbers pairs (λ session. is_session id session.id) 0 client.sessions (λ session. refl))
+    ∙ ap (λ (after : Client). record { effect = stays after; next = releases }) (sym (note_under numbers pairs (place_with id client.sessions) names client apart))
+take_note_under numbers pairs id MediaProperties names client apart = refl
+take_note_under numbers pairs id ScaleChange names client apart = refl
 
 found_by : (pairs : ℕ → ℕ) (here : Bool) (half : ℕ) (track : Track) (moved found : Option Track) → option_map (player_channel half) moved ≡ option_map (player_channel half) found
     → option_map (player_channel half) (cond here (Some (track_under pairs track)) moved) ≡ option_map (player_channel half) (cond here (Some track) found)
@@ -208,18 +256,19 @@ give_under : (numbers pairs : ℕ → ℕ) (channel : Option ℕ) (rest : List �
 give_under numbers pairs None rest client = refl
 give_under numbers pairs (Some channel) rest client = refl
 
-media_under : (numbers pairs : ℕ → ℕ) (alive : Bool) (pair half : ℕ) (rest : List ℕ) (client : Client) → AreTracksApart pairs pair client.session.tracks
+media_under : (numbers pairs : ℕ → ℕ) (alive : Bool) (pair half : ℕ) (rest : List ℕ) (client : Client) → AreTracksApart pairs pair (tracks_of client.sessions)
     → take_media alive (pairs pair) half rest (client_under numbers pairs client) ≡ heard_under numbers pairs (take_media alive pair half rest client)
 media_under numbers pairs false pair half rest client apart = refl
 media_under numbers pairs true pair half rest client apart =
-    ap (λ channel. give channel rest (client_under numbers pairs client)) (channel_same pairs pair half client.session.tracks apart)
-    ∙ give_under numbers pairs (channel_for pair half client.session.tracks) rest client
+    ap (λ tracks. give (channel_for (pairs pair) half tracks) rest (client_under numbers pairs client)) (tracks_of_under numbers pairs client.sessions)
+    ∙ ap (λ channel. give channel rest (client_under numbers pairs client)) (channel_same pairs pair half (tracks_of client.sessions) apart)
+    ∙ give_under numbers pairs (channel_for pair half (tracks_of client.sessions)) rest client
 
 hear_under : (numbers pairs : ℕ → ℕ) (bases : Bases) (number : ℕ) (client : Client) (event : PrivateEvent) → IsToldApart numbers pairs client event
     → hear bases (numbers number) (client_under numbers pairs client) (event_under numbers pairs event) ≡ heard_under numbers pairs (hear bases number client event)
 hear_under numbers pairs bases number client (arrive shape full) apart = take_under numbers pairs client.alive shape client
 hear_under numbers pairs bases number client (answer told ssrc full) apart = answer_under numbers pairs bases number told ssrc client
-hear_under numbers pairs bases number client (note reason names) apart = take_note_under numbers pairs reason names client apart
+hear_under numbers pairs bases number client (note id reason names) apart = take_note_under numbers pairs id reason names client apart
 hear_under numbers pairs bases number client (media pair half rest) apart = media_under numbers pairs client.alive pair half rest client apart
 hear_under numbers pairs bases number client end apart = closes_under numbers pairs client.alive why.Ended client
 hear_under numbers pairs bases number client slow apart = closes_under numbers pairs client.alive why.Slow client

@@ -1,5 +1,6 @@
--- A connection that is alive stands where the walk has come to, and what goes up keeps that.
-use Rattle.std.proofs.Common.{◌≡◌, ◌∙◌, ℕ, true, false, List, [], ◌∷◌, ◌++◌, map, drop, Option, None, Some, IfSome, refl, sym, ap, subst, slice_get, is_none}
+-- A connection that is alive stands where the walks have come to, and what goes up keeps that.
+use Rattle.std.proofs.Common.{◌≡◌, ◌∙◌, ℕ, zero, suc, ◌+◌, ◌==◌, Bool, true, false, cond, not, ◌&&◌, List, [], ◌∷◌, ◌++◌, map, length, Option, None, Some, IfSome, refl, sym, ap, subst}
+use Rattle.std.specs.Prelude.{codes, is_none, slice_get}
 use Rattle.std.proofs.lemmas.List.{append_assoc, map-append}
 use Rattle.rtsp_head.specs.Items.{Shape}
 use Rattle.rtsp_transport.specs.declared.channels.Pair.{Pair}
@@ -10,20 +11,35 @@ use Rattle.session_one.specs.declared.parts.Play.{Play}
 use Rattle.session_one.specs.declared.parts.Track.{Track}
 use Rattle.session_one.specs.declared.table.State.{State}
 use Rattle.session_one.specs.declared.table.State.TheVariants.{Init, Ready, Playing}
+use Rattle.translate_up.specs.Fields.{field}
+use Rattle.translate_up.specs.Ids.{are_same}
+use Rattle.translate_up.specs.Views.{SeenSession, place_from, session_in}
+use Rattle.translate_up.proofs.StateLemmas.{IsValidId, IsSent, IsGiven}
 use Rattle.client_slot.specs.declared.purpose.Purpose.{Purpose}
 use Rattle.client_slot.specs.declared.purpose.Purpose.TheVariants as purposes
 use Rattle.client_slot.specs.Session.{PlayerSession}
+use Rattle.client_slot.specs.SessionChanges.{when_next, when_queued}
+use Rattle.client_slot.specs.Places.{session_at, session_where, changed_at, changed_where, first_place, place_with, is_session, has_due, queued_at}
 use Rattle.client_slot.specs.Client.{Client}
-use Rattle.client_slot.specs.Changes as changes
+use Rattle.client_slot.specs.Changes.{after_queueing, release_with}
+use Rattle.client_slot.proofs.PlaceLemmas.{first_changed, kept_each, place_is}
 use Rattle.client_machine.specs.Effects.{Effect, stays, then_effect}
-use Rattle.client_machine.specs.Treatment.{given, Going, Treated, treated}
-use Rattle.client_machine.specs.Releases as going
-use Rattle.client_machine.specs.ServerItems.{NextPart, rests, releases, goes_on}
+use Rattle.client_machine.specs.Treatment.{session_seen, given, Going, Treated, treated}
+use Rattle.client_machine.specs.Releases.{track_of, after_plays, goes_at, goes_with}
+use Rattle.client_machine.specs.ServerItems.{NextPart}
 use Rattle.client_machine.specs.Step.{going_on}
-use Rattle.client_machine.specs.SeenRun.{SeenStep, may_become, IsWalk}
-use Rattle.client_machine.proofs.SeenWalkLemmas.{may_self, last_from, walk_more, last_more, texts, AreReplies, texts_more, replies_more}
-use Rattle.translate_up.proofs.StateLemmas.{IsValidId, IsSent, IsGiven}
-use Rattle.client_machine.proofs.SeenTreatLemmas.{counted, ArePlays, AreAway, IsTreatedSo, treat_walks}
+use Rattle.client_machine.specs.SeenRun.{SeenStep, may_become, AreNumbered}
+use Rattle.client_machine.proofs.WayLemmas.{going_as}
+use Rattle.client_machine.proofs.PlacedLemmas.{seen_at, plays_idle}
+use Rattle.client_machine.proofs.SeenWalkLemmas.{may_self, AreWalks, walks_more, numbers_more, texts, AreReplies, texts_more, replies_more}
+use Rattle.client_machine.proofs.SeenTreatLemmas.{counted, places_in, states_in, ArePlaysOn, IsNamedAt, AreAway, IsTreatedSo, same_function, treat_walks}
+
+-- the place of the session with an id, and the state of the session at a place
+abbrev pub places_of : List PlayerSession → List ℕ → Option ℕ
+places_of sessions id = place_with id sessions
+
+abbrev pub states_of : List PlayerSession → Option ℕ → State
+states_of sessions place = (session_where place sessions).state
 
 -- A PLAY runs or waits only while streams play.
 abbrev pub IsCalm : State → Option ℕ → List Play → Type 0
@@ -31,57 +47,62 @@ IsCalm Init running queue = (running ≡ None) × (queue ≡ [])
 IsCalm Ready running queue = (running ≡ None) × (queue ≡ [])
 IsCalm Playing running queue = Unit {0}
 
--- The player's owed request: its method had a row in a state that the walk can reach, from which the session's can follow.
-pub record IsAsked (at state : State) (asked : Asked) (track : Option Track) (owed : List Shape) : Type 0 where
-  pub shape : Shape
-  pub owed_is : owed ≡ shape ∷ []
-  pub from : State
-  pub reached : may_become at from ≡ true
-  pub sent : IsSent from (request_of_item shape) asked
-  pub became : may_become from state ≡ true
-  pub channels : IfSome track (λ one. IsGiven one.client)
-
-abbrev pub IsOpen : State → PlayerSession → Option Purpose → List Shape → Type 0
-IsOpen at session None owed = owed ≡ []
-IsOpen at session (Some (purposes.Client asked track)) owed = IsAsked at session.state asked track owed
-IsOpen at session (Some (purposes.Released play)) owed = (owed ≡ []) × (session.state ≡ Playing) × (session.running ≡ None)
-IsOpen at session (Some purposes.Closing) owed = ⊥
-
-pub record IsSoundAt (at : State) (session : PlayerSession) : Type 0 where
-  pub became : may_become at session.state ≡ true
+pub record IsSound (session : PlayerSession) : Type 0 where
   pub calm : IsCalm session.state session.running session.queue
   pub id : IsValidId session.id
 
--- A connection that is alive, by the state that the walk has come to and by the requests without an answer.
-pub record IsStanding (at : State) (client : Client) (requests : List Shape) : Type 0 where
+-- The player's owed request: its method had a row in a state that the walk can reach, from which the session's can follow.
+pub record IsAsked (at : List ℕ → State) (places : List ℕ → Option ℕ) (states : Option ℕ → State) (asked : Asked) (track : Option Track) (owed : List Shape) : Type 0 where
+  pub shape : Shape
+  pub owed_is : owed ≡ shape ∷ []
+  pub from : State
+  pub sent : IsSent from (request_of_item shape) asked
+  pub at_is : IsNamedAt places (field sent.request (codes "Session")) asked.place
+  pub reached : (id : List ℕ) → places id ≡ asked.place → may_become (at id) from ≡ true
+  pub became : may_become from (states asked.place) ≡ true
+  pub channels : IfSome track (λ one. IsGiven one.client)
+
+abbrev pub IsOpen : (List ℕ → State) → List PlayerSession → Option Purpose → List Shape → Type 0
+IsOpen at sessions None owed = owed ≡ []
+IsOpen at sessions (Some (purposes.Client asked track)) owed = IsAsked at (places_of sessions) (states_of sessions) asked track owed
+IsOpen at sessions (Some (purposes.Released play)) owed = (owed ≡ []) × ((session_where play.place sessions).state ≡ Playing) × ((session_where play.place sessions).running ≡ None)
+IsOpen at sessions (Some (purposes.Closing place)) owed = ⊥
+
+-- A connection that is alive, by the states that the walks have come to and by the requests without an answer.
+pub record IsStanding (at : List ℕ → State) (client : Client) (requests : List Shape) : Type 0 where
   pub alive : client.alive ≡ true
-  pub sound : IsSoundAt at client.session
+  pub became : (id : List ℕ) → may_become (at id) (states_of client.sessions (places_of client.sessions id)) ≡ true
+  pub each : (place : Option ℕ) → IsSound (session_where place client.sessions)
   pub owed : List Shape
-  pub is_open : IsOpen at client.session client.pending owed
+  pub is_open : IsOpen at client.sessions client.pending owed
   pub requests_are : requests ≡ owed ++ counted client.waiting
 
 -- What an effect answers, and what stands then.
-pub record IsWalking (at : State) (requests : List Shape) (effect : Effect) : Type 0 where
+pub record IsWalking (at : List ℕ → State) (requests : List Shape) (effect : Effect) : Type 0 where
   pub steps : List SeenStep
-  pub walk : IsWalk at steps
+  pub now : List ℕ → State
+  pub walks : AreWalks at steps now
+  pub numbers : AreNumbered steps
   pub readable : AreReplies steps
   pub text_is : effect.hand ≡ texts steps
   pub left : List Shape
   pub requests_are : requests ≡ map (λ (step : SeenStep). step.request) steps ++ left
-  pub stands : IsStanding (last_from at steps) effect.client left
+  pub stands : IsStanding now effect.client left
 
 -- where nothing is answered
-pub walks_on : (at : State) (requests : List Shape) (effect : Effect) → effect.hand ≡ [] → IsStanding at effect.client requests → IsWalking at requests effect
-walks_on at requests effect none stands = record { steps = []; walk = tt; readable = tt; text_is = none; left = requests; requests_are = refl; stands = stands }
+pub walks_on : (at : List ℕ → State) (requests : List Shape) (effect : Effect) → effect.hand ≡ [] → IsStanding at effect.client requests → IsWalking at requests effect
+walks_on at requests effect none stands = record { steps = []; now = at; walks = λ id. refl; numbers = tt; readable = tt; text_is = none; left = requests; requests_are = refl; stands = stands }
 
 -- one effect after another
-pub walks_then : (at : State) (requests : List Shape) (first second : Effect) → IsWalking at requests first
-    → ((now : State) (left : List Shape) → IsStanding now first.client left → IsWalking now left second) → IsWalking at requests (then_effect first second)
+pub walks_then : (at : List ℕ → State) (requests : List Shape) (first second : Effect) → IsWalking at requests first
+    → ((now : List ℕ → State) (left : List Shape) → IsStanding now first.client left → IsWalking now left second) → IsWalking at requests (then_effect first second)
 walks_then at requests first second a more =
-    let b : IsWalking (last_from at a.steps) a.left second = more (last_from at a.steps) a.left a.stands in
+    let b : IsWalking a.now a.left second = more a.now a.left a.stands in
     record {
       steps = a.steps ++ b.steps;
-      walk = walk_more at a.steps b.steps a.walk b.walk;
+      now = b.now;
+      walks = walks_more at a.now b.now a.steps b.steps a.walks b.walks;
+      numbers = numbers_more a.steps b.steps a.numbers b.numbers;
       readable = replies_more a.steps b.steps a.readable b.readable;
       text_is = ap (λ t. t ++ second.hand) a.text_is ∙ ap (λ t. texts a.steps ++ t) b.text_is ∙ sym (texts_more a.steps b.steps);
       left = b.left;
@@ -89,176 +110,223 @@ walks_then at requests first second a more =
           ∙ ap (λ (l : List Shape). map (λ (step : SeenStep). step.request) a.steps ++ l) b.requests_are
           ∙ sym (append_assoc (map (λ (step : SeenStep). step.request) a.steps) (map (λ (step : SeenStep). step.request) b.steps) b.left)
           ∙ ap (λ (l : List Shape). l ++ b.left) (sym (map-append (λ (step : SeenStep). step.request) a.steps b.steps));
-      stands = subst (λ s. IsStanding s second.client b.left) (sym (last_more at a.steps b.steps)) b.stands;
+      stands = b.stands;
     }
 
+-- what holds of a session, once that at a place is changed
+one_at : (P : PlayerSession → Type 0) (place at : ℕ) (change : PlayerSession → PlayerSession) (sessions : List PlayerSession) → (P (session_at place sessions) → P (change (session_at place sessions)))
+    → P (session_at at sessions) → P (session_at at (changed_at place change sessions))
+one_at P place at change [] keeps all = all
+one_at P zero zero change (one ∷ more) keeps all = keeps all
+one_at P zero (suc at) change (one ∷ more) keeps all = all
+one_at P (suc place) zero change (one ∷ more) keeps all = all
+one_at P (suc place) (suc at) change (one ∷ more) keeps all = one_at P place at change more keeps all
+
+pub one_where : (P : PlayerSession → Type 0) (place : Option ℕ) (change : PlayerSession → PlayerSession) (sessions : List PlayerSession) → (P (session_where place sessions) → P (change (session_where place sessions)))
+    → (at : Option ℕ) → P (session_where at sessions) → P (session_where at (changed_where place change sessions))
+one_where P None change sessions keeps at all = all
+one_where P (Some place) change sessions keeps None all = all
+one_where P (Some place) change sessions keeps (Some at) all = one_at P place at change sessions keeps all
+
+pub each_where : (P : PlayerSession → Type 0) (place : Option ℕ) (change : PlayerSession → PlayerSession) (sessions : List PlayerSession) → (P (session_where place sessions) → P (change (session_where place sessions)))
+    → ((at : Option ℕ) → P (session_where at sessions)) → (at : Option ℕ) → P (session_where at (changed_where place change sessions))
+each_where P place change sessions keeps all at = one_where P place change sessions keeps at (all at)
+
+-- the sessions have their places and states as before
+pub record IsLike (before after : List PlayerSession) : Type 0 where
+  pub places : (id : List ℕ) → places_of after id ≡ places_of before id
+  pub states : (place : Option ℕ) → states_of after place ≡ states_of before place
+
+like_self : (sessions : List PlayerSession) → IsLike sessions sessions
+like_self sessions = record { places = λ id. refl; states = λ place. refl }
+
+like_then : (a b c : List PlayerSession) → IsLike a b → IsLike b c → IsLike a c
+like_then a b c first second = record { places = λ id. second.places id ∙ first.places id; states = λ place. second.states place ∙ first.states place }
+
+pub same_places : (place : Option ℕ) (change : PlayerSession → PlayerSession) (sessions : List PlayerSession) → (change (session_where place sessions)).id ≡ (session_where place sessions).id
+    → (id : List ℕ) → places_of (changed_where place change sessions) id ≡ places_of sessions id
+same_places None change sessions same id = refl
+same_places (Some place) change sessions same id = first_changed (λ session. is_session id session.id) 0 place change sessions (ap (is_session id) same)
+
+pub like_where : (place : Option ℕ) (change : PlayerSession → PlayerSession) (sessions : List PlayerSession) → (change (session_where place sessions)).id ≡ (session_where place sessions).id → (change (session_where place sessions)).state ≡ (session_where place sessions).state
+    → IsLike sessions (changed_where place change sessions)
+like_where place change sessions id state = record { places = same_places place change sessions id; states = states place state }
+  where
+    states : (place : Option ℕ) → (change (session_where place sessions)).state ≡ (session_where place sessions).state → (at : Option ℕ) → states_of (changed_where place change sessions) at ≡ states_of sessions at
+    states None same at = refl
+    states (Some place) same None = refl
+    states (Some place) same (Some at) = kept_each (λ session. session.state) place at change sessions same
+
+like_became : (at : List ℕ → State) (before after : List PlayerSession) → IsLike before after → ((id : List ℕ) → may_become (at id) (states_of before (places_of before id)) ≡ true)
+    → (id : List ℕ) → may_become (at id) (states_of after (places_of after id)) ≡ true
+like_became at before after like became id = ap (λ (place : Option ℕ). may_become (at id) (states_of after place)) (like.places id) ∙ ap (λ (s : State). may_become (at id) s) (like.states (places_of before id)) ∙ became id
+
 -- Where a PLAY is due, streams play, and no request is owed.
-record IsDue (pending : Option Purpose) (running : Option ℕ) (state : State) : Type 0 where
-  pub idle : pending ≡ None
-  pub stopped : running ≡ None
-  pub playing : state ≡ Playing
-
-due_in_queue : (state : State) (queue : List Play) (play : Play) → slice_get queue 0 ≡ Some play → IsCalm state None queue → state ≡ Playing
-due_in_queue Init queue play e calm = let none : None ≡ Some play = ap (λ (q : List Play). slice_get q 0) (sym calm.1) ∙ e in cc
-due_in_queue Ready queue play e calm = let none : None ≡ Some play = ap (λ (q : List Play). slice_get q 0) (sym calm.1) ∙ e in cc
-due_in_queue Playing queue play e calm = refl
-
-due_is : (pending : Option Purpose) (running : Option ℕ) (queue : List Play) (state : State) (play : Play) → changes.due_at pending running queue ≡ Some play → IsCalm state running queue → IsDue pending running state
-due_is None None queue state play e calm = record { idle = refl; stopped = refl; playing = due_in_queue state queue play e calm }
-due_is None (Some number) queue state play e calm = cc
-due_is (Some purpose) running queue state play e calm = cc
+due_in : (state : State) (running : Option ℕ) (queue : List Play) (play : Play) → slice_get queue 0 ≡ Some play → (is_none running && not (length queue == 0)) ≡ true → IsCalm state running queue → (state ≡ Playing) × (running ≡ None)
+due_in state (Some number) queue play first due calm = cc
+due_in Init None queue play first due calm = let none : None ≡ Some play = ap (λ (q : List Play). slice_get q 0) (sym calm.1) ∙ first in cc
+due_in Ready None queue play first due calm = let none : None ≡ Some play = ap (λ (q : List Play). slice_get q 0) (sym calm.1) ∙ first in cc
+due_in Playing None queue play first due calm = (refl, refl)
 
 pub calm_playing : (state : State) (running : Option ℕ) (queue : List Play) → state ≡ Playing → IsCalm state running queue
 calm_playing state running queue e = subst (λ s. IsCalm s running queue) (sym e) tt
 
-pub none_open : (at : State) (client : Client) (owed : List Shape) → client.pending ≡ None → IsOpen at client.session client.pending owed → owed ≡ []
-none_open at client owed idle is = subst (λ (p : Option Purpose). IsOpen at client.session p owed) idle is
+pub none_open : (at : List ℕ → State) (client : Client) (owed : List Shape) → client.pending ≡ None → IsOpen at client.sessions client.pending owed → owed ≡ []
+none_open at client owed idle is = subst (λ (p : Option Purpose). IsOpen at client.sessions p owed) idle is
 
-release_stands : (at : State) (client : Client) (requests : List Shape) (play : Play) → changes.due_play client ≡ Some play → IsStanding at client requests → IsStanding at (changes.release_at (Some play) client) requests
-release_stands at client requests play due st =
-    let is : IsDue client.pending client.session.running client.session.state = due_is client.pending client.session.running client.session.queue client.session.state play due st.sound.calm in
+released_stands : (at : List ℕ → State) (client : Client) (requests : List Shape) (place : ℕ) (play : Play) → client.pending ≡ None → first_place has_due 0 client.sessions ≡ Some place → queued_at place client.sessions ≡ Some play
+    → IsStanding at client requests → IsStanding at (release_with (Some play) place client) requests
+released_stands at client requests place play idle due first st =
+    let there = place_is has_due place client.sessions due in
+    let session = session_at place client.sessions in
+    let is = due_in session.state session.running session.queue play first there.passes (st.each (Some place)).calm in
+    let like = like_where (Some place) when_next client.sessions refl refl in
     record {
       alive = st.alive;
-      sound = record { became = st.sound.became; calm = calm_playing client.session.state client.session.running (drop 1 client.session.queue) is.playing; id = st.sound.id };
+      became = like_became at client.sessions (changed_at place when_next client.sessions) like st.became;
+      each = each_where IsSound (Some place) when_next client.sessions (λ sound. record { calm = calm_playing session.state session.running (when_next session).queue is.0; id = sound.id }) st.each;
       owed = st.owed;
-      is_open = (none_open at client st.owed is.idle st.is_open, is.playing, is.stopped);
+      is_open = (none_open at client st.owed idle st.is_open, like.states (Some place) ∙ is.0, kept_each (λ one. one.running) place place when_next client.sessions refl ∙ is.1);
       requests_are = st.requests_are;
     }
 
-pub release_walks : (at : State) (client : Client) (requests : List Shape) (due : Option Play) → changes.due_play client ≡ due → IsStanding at client requests → IsWalking at requests (going.released_with due client)
-release_walks at client requests None e st = walks_on at requests (stays client) refl st
-release_walks at client requests (Some play) e st =
-    walks_on at requests (going.released_with (Some play) client) refl
-    (subst (λ (d : Option Play). IsStanding at (changes.release_at d client) requests) (sym e) (release_stands at client requests play e st))
+-- PLAYs that wait change queues alone, of sessions that play.
+record IsQueued (before after : Client) : Type 0 where
+  alive : after.alive ≡ before.alive
+  waiting : after.waiting ≡ before.waiting
+  like : IsLike before.sessions after.sessions
+  each : (place : Option ℕ) → IsSound (session_where place after.sessions)
 
--- PLAYs that wait change the queue alone.
-plays_alive : (plays : List Play) (client : Client) → (going.after_plays plays client).alive ≡ client.alive
-plays_alive [] client = refl
-plays_alive (play ∷ plays) client = plays_alive plays (changes.after_queueing play client)
+same_plays : (before after : Option ℕ → State) (plays : List Play) → ((place : Option ℕ) → after place ≡ before place) → ArePlaysOn before plays → ArePlaysOn after plays
+same_plays before after [] same are = tt
+same_plays before after (play ∷ plays) same are = (same play.place ∙ are.0, same_plays before after plays same are.1)
 
-plays_pending : (plays : List Play) (client : Client) → (going.after_plays plays client).pending ≡ client.pending
-plays_pending [] client = refl
-plays_pending (play ∷ plays) client = plays_pending plays (changes.after_queueing play client)
-
-plays_waiting : (plays : List Play) (client : Client) → (going.after_plays plays client).waiting ≡ client.waiting
-plays_waiting [] client = refl
-plays_waiting (play ∷ plays) client = plays_waiting plays (changes.after_queueing play client)
-
-plays_state : (plays : List Play) (client : Client) → (going.after_plays plays client).session.state ≡ client.session.state
-plays_state [] client = refl
-plays_state (play ∷ plays) client = plays_state plays (changes.after_queueing play client)
-
-some_playing : (state : State) (play : Play) (plays : List Play) → ArePlays state (play ∷ plays) → state ≡ Playing
-some_playing Init play plays e = cc
-some_playing Ready play plays e = cc
-some_playing Playing play plays e = refl
-
-plays_sound : (plays : List Play) (at : State) (client : Client) → ArePlays client.session.state plays → IsSoundAt at client.session → IsSoundAt at (going.after_plays plays client).session
-plays_sound [] at client are sound = sound
-plays_sound (play ∷ plays) at client are sound =
-    let playing : client.session.state ≡ Playing = some_playing client.session.state play plays are in
-    plays_sound plays at (changes.after_queueing play client) (subst (λ s. ArePlays s plays) (sym playing) tt)
-    (record { became = sound.became; calm = calm_playing client.session.state client.session.running (client.session.queue ++ play ∷ []) playing; id = sound.id })
+plays_queued : (plays : List Play) (client : Client) → ArePlaysOn (states_of client.sessions) plays → ((place : Option ℕ) → IsSound (session_where place client.sessions)) → IsQueued client (after_plays plays client)
+plays_queued [] client are each = record { alive = refl; waiting = refl; like = like_self client.sessions; each = each }
+plays_queued (play ∷ plays) client are each =
+    let one : Client = after_queueing play client in
+    let session = session_where play.place client.sessions in
+    let like : IsLike client.sessions one.sessions = like_where play.place (when_queued play) client.sessions refl refl in
+    let later : IsQueued one (after_plays plays one) =
+    plays_queued plays one (same_plays (states_of client.sessions) (states_of one.sessions) plays like.states are.1)
+    (each_where IsSound play.place (when_queued play) client.sessions (λ sound. record { calm = calm_playing session.state session.running (session.queue ++ play ∷ []) are.0; id = sound.id }) each) in
+    record { alive = later.alive; waiting = later.waiting; like = like_then client.sessions one.sessions (after_plays plays one).sessions like later.like; each = later.each }
 
 -- the stream that a SETUP sets up
-track_given : (uri : List ℕ) (pair : Option ℕ) (channels : Option Pair) → IfSome channels IsGiven → IfSome (going.track_of uri pair channels) (λ one. IsGiven one.client)
+track_given : (uri : List ℕ) (pair : Option ℕ) (channels : Option Pair) → IfSome channels IsGiven → IfSome (track_of uri pair channels) (λ one. IsGiven one.client)
 track_given uri None channels given = tt
 track_given uri (Some number) None given = tt
 track_given uri (Some number) (Some channels) given = given
 
 -- Requests that were treated, and what goes up of them.
-goes_stands : (one : Option Going) (pair : Option ℕ) (hand : List ℕ) (at state : State) (after : Client) (owed : List Shape) → after.alive ≡ true → after.pending ≡ None → IsSoundAt at after.session → may_become at state ≡ true
-    → after.session.state ≡ state → AreAway state one owed → IsStanding at (going.goes_at one pair hand after).client (owed ++ counted after.waiting)
-goes_stands None pair hand at state after owed alive idle sound reached same away =
-    record { alive = alive; sound = sound; owed = owed; is_open = subst (λ (p : Option Purpose). IsOpen at after.session p owed) (sym idle) away; requests_are = refl }
-goes_stands (Some one) pair hand at state after owed alive idle sound reached same away = record {
-  alive = alive;
-  sound = sound;
-  owed = owed;
-  is_open = record {
-    shape = away.shape;
-    owed_is = away.owed_is;
-    from = state;
-    reached = reached;
-    sent = away.sent;
-    became = subst (λ s. may_become state s ≡ true) (sym same) (may_self state);
-    channels = track_given one.asked.uri pair one.channels away.channels;
-  };
-  requests_are = refl;
+goes_open : (one : Option Going) (pair : Option ℕ) (hand : List ℕ) (at : List ℕ → State) (after : Client) (owed : List Shape) → after.pending ≡ None → ((id : List ℕ) → may_become (at id) (states_of after.sessions (places_of after.sessions id)) ≡ true)
+    → AreAway (places_of after.sessions) (states_of after.sessions) one owed → IsOpen at (goes_at one pair hand after).client.sessions (goes_at one pair hand after).client.pending owed
+goes_open None pair hand at after owed idle became away = subst (λ (p : Option Purpose). IsOpen at after.sessions p owed) (sym idle) away
+goes_open (Some one) pair hand at after owed idle became away = record {
+  shape = away.shape;
+  owed_is = away.owed_is;
+  from = states_of after.sessions one.asked.place;
+  sent = away.sent;
+  at_is = away.at;
+  reached = λ id is. ap (λ (place : Option ℕ). may_become (at id) (states_of after.sessions place)) (sym is) ∙ became id;
+  became = may_self (states_of after.sessions one.asked.place);
+  channels = track_given one.asked.uri pair one.channels away.channels;
 }
 
-goes_hand : (one : Option Going) (pair : Option ℕ) (hand : List ℕ) (client : Client) → (going.goes_at one pair hand client).hand ≡ hand
+goes_hand : (one : Option Going) (pair : Option ℕ) (hand : List ℕ) (client : Client) → (goes_at one pair hand client).hand ≡ hand
 goes_hand None pair hand client = refl
 goes_hand (Some one) pair hand client = refl
 
-treated_walks : (at : State) (client : Client) (pair : Option ℕ) (all : Treated) → client.alive ≡ true → client.pending ≡ None → IsSoundAt at client.session → IsTreatedSo at client.session.state (counted client.waiting) all
-    → IsWalking at (counted client.waiting) (going.goes_with all pair client)
-treated_walks at client pair all alive idle sound so =
+-- as the sessions are seen
+seen_places : (sessions : List PlayerSession) (id : List ℕ) → places_in (map session_seen sessions) id ≡ places_of sessions id
+seen_places sessions id = from 0 sessions
+  where
+    test : (one : Option (List ℕ)) → are_same one (Some id) ≡ is_session id one
+    test None = refl
+    test (Some one) = refl
+
+    from : (first : ℕ) (all : List PlayerSession) → place_from id first (map session_seen all) ≡ first_place (λ session. is_session id session.id) first all
+    from first [] = refl
+    from first (one ∷ more) =
+        ap (λ (here : Bool). cond here (Some first) (place_from id (first + 1) (map session_seen more))) (test one.id)
+        ∙ ap (λ (later : Option ℕ). cond (is_session id one.id) (Some first) later) (from (first + 1) more)
+
+seen_states : (sessions : List PlayerSession) (place : Option ℕ) → states_in (map session_seen sessions) place ≡ states_of sessions place
+seen_states sessions None = refl
+seen_states sessions (Some place) = ap (λ (one : SeenSession). one.state) (seen_at place sessions)
+
+seen_ids : (sessions : List PlayerSession) → ((place : Option ℕ) → IsSound (session_where place sessions)) → (place : Option ℕ) → IsValidId (session_in place (map session_seen sessions)).id
+seen_ids sessions each None = tt
+seen_ids sessions each (Some place) = subst (λ (one : SeenSession). IsValidId one.id) (sym (seen_at place sessions)) (each (Some place)).id
+
+seen_treated : (client : Client) (bases : Bases) (full : Bool) (at : List ℕ → State) → ((id : List ℕ) → may_become (at id) (states_of client.sessions (places_of client.sessions id)) ≡ true) → ((place : Option ℕ) → IsSound (session_where place client.sessions))
+    → IsTreatedSo at (places_of client.sessions) (states_of client.sessions) (counted client.waiting) (treated client.waiting (given bases full client))
+seen_treated client bases full at became each =
+    let seen = map session_seen client.sessions in
+    let places = same_function (places_in seen) (places_of client.sessions) (seen_places client.sessions) in
+    let states = same_function (states_in seen) (states_of client.sessions) (seen_states client.sessions) in
+    subst (λ (f : List ℕ → Option ℕ). IsTreatedSo at f (states_of client.sessions) (counted client.waiting) (treated client.waiting (given bases full client))) places
+    (subst (λ (f : Option ℕ → State). IsTreatedSo at (places_in seen) f (counted client.waiting) (treated client.waiting (given bases full client))) states
+    (treat_walks client.waiting at (given bases full client)
+    (λ id. ap (λ (f : List ℕ → Option ℕ). may_become (at id) (states_in seen (f id))) places ∙ ap (λ (f : Option ℕ → State). may_become (at id) (f (places_of client.sessions id))) states ∙ became id)
+    (seen_ids client.sessions each)))
+
+like_away : (before after : List PlayerSession) (one : Option Going) (owed : List Shape) → IsLike before after → AreAway (places_of before) (states_of before) one owed → AreAway (places_of after) (states_of after) one owed
+like_away before after one owed like away =
+    subst (λ (f : List ℕ → Option ℕ). AreAway f (states_of after) one owed) (sym (same_function (places_of after) (places_of before) like.places))
+    (subst (λ (f : Option ℕ → State). AreAway (places_of before) f one owed) (sym (same_function (states_of after) (states_of before) like.states)) away)
+
+treated_walks : (at : List ℕ → State) (client : Client) (pair : Option ℕ) (all : Treated) → client.alive ≡ true → client.pending ≡ None → ((place : Option ℕ) → IsSound (session_where place client.sessions))
+    → IsTreatedSo at (places_of client.sessions) (states_of client.sessions) (counted client.waiting) all → IsWalking at (counted client.waiting) (goes_with all pair client)
+treated_walks at client pair all alive idle each so =
     let before : Client = record client { waiting = all.left } in
-    let after : Client = going.after_plays all.plays before in
-    let now : State = last_from at so.steps in
+    let after : Client = after_plays all.plays before in
+    let queued : IsQueued before after = plays_queued all.plays before so.plays each in
+    let became = like_became so.now before.sessions after.sessions queued.like so.became in
     record {
       steps = so.steps;
-      walk = so.walk;
+      now = so.now;
+      walks = so.walks;
+      numbers = so.numbers;
       readable = so.readable;
       text_is = goes_hand all.going pair all.hand after ∙ so.text_is;
       left = so.owed ++ counted after.waiting;
-      requests_are = so.requests_are ∙ ap (λ (l : List Shape). map (λ (step : SeenStep). step.request) so.steps ++ (so.owed ++ counted l)) (sym (plays_waiting all.plays before));
-      stands = goes_stands all.going pair all.hand now client.session.state after so.owed (plays_alive all.plays before ∙ alive) (plays_pending all.plays before ∙ idle)
-          (plays_sound all.plays now before so.plays (record { became = so.became; calm = sound.calm; id = sound.id })) so.became (plays_state all.plays before) so.away;
+      requests_are = so.requests_are ∙ ap (λ (l : List Shape). map (λ (step : SeenStep). step.request) so.steps ++ (so.owed ++ counted l)) (sym queued.waiting);
+      stands = stands_at all.going pair all.hand so.now after so.owed (queued.alive ∙ alive) became queued.each
+          (goes_open all.going pair all.hand so.now after so.owed (plays_idle all.plays before ∙ idle) became (like_away before.sessions after.sessions all.going so.owed queued.like so.away));
     }
+  where
+    stands_at : (one : Option Going) (pair : Option ℕ) (hand : List ℕ) (now : List ℕ → State) (after : Client) (owed : List Shape) → after.alive ≡ true → ((id : List ℕ) → may_become (now id) (states_of after.sessions (places_of after.sessions id)) ≡ true)
+        → ((place : Option ℕ) → IsSound (session_where place after.sessions)) → IsOpen now (goes_at one pair hand after).client.sessions (goes_at one pair hand after).client.pending owed → IsStanding now (goes_at one pair hand after).client (owed ++ counted after.waiting)
+    stands_at None pair hand now after owed alive became each is = record { alive = alive; became = became; each = each; owed = owed; is_open = is; requests_are = refl }
+    stands_at (Some one) pair hand now after owed alive became each is = record { alive = alive; became = became; each = each; owed = owed; is_open = is; requests_are = refl }
 
 -- What goes up for a connection that stands.
 none_before : (owed requests : List Shape) (client : Client) → owed ≡ [] → requests ≡ owed ++ counted client.waiting → counted client.waiting ≡ requests
 none_before owed requests client none e = sym (e ∙ ap (λ (l : List Shape). l ++ counted client.waiting) none)
 
-due_walks : (bases : Bases) (pair : Option ℕ) (at : State) (client : Client) (requests : List Shape) (due : Option Play) → client.pending ≡ None → changes.due_play client ≡ due → IsStanding at client requests
-    → IsWalking at requests (going.go_due bases pair due client)
-due_walks bases pair at client requests (Some play) idle e st = release_walks at client requests (Some play) e st
-due_walks bases pair at client requests None idle e st =
-    subst (λ (l : List Shape). IsWalking at l (going.treat bases pair client)) (none_before st.owed requests client (none_open at client st.owed idle st.is_open) st.requests_are)
-    (treated_walks at client pair (treated client.waiting (given bases (is_none pair) client)) st.alive idle st.sound
-    (treat_walks client.waiting at (given bases (is_none pair) client) st.sound.became st.sound.id))
-
-go_by : (bases : Bases) (pair : Option ℕ) (at : State) (client : Client) (requests : List Shape) (pending : Option Purpose) → client.pending ≡ pending → IsStanding at client requests → IsWalking at requests (going.go_at bases pair pending client)
-go_by bases pair at client requests (Some purpose) e st = walks_on at requests (stays client) refl st
-go_by bases pair at client requests None e st =
-    subst (λ b. IsWalking at requests (going.go_idle bases pair b client)) (sym st.alive) (due_walks bases pair at client requests (changes.due_play client) e refl st)
-
-pub going_walks : (bases : Bases) (pair : Option ℕ) (next : NextPart) (at : State) (client : Client) (requests : List Shape) → IsStanding at client requests → IsWalking at requests (going_on bases pair next client)
-going_walks bases pair rests at client requests st = walks_on at requests (stays client) refl st
-going_walks bases pair releases at client requests st = release_walks at client requests (changes.due_play client) refl st
-going_walks bases pair goes_on at client requests st = go_by bases pair at client requests client.pending refl st
+pub going_walks : (bases : Bases) (pair : Option ℕ) (next : NextPart) (at : List ℕ → State) (client : Client) (requests : List Shape) → IsStanding at client requests → IsWalking at requests (going_on bases pair next client)
+going_walks bases pair next at client requests st = going_as (IsWalking at requests) bases pair next client (record {
+  still = walks_on at requests (stays client) refl st;
+  released = λ place play idle due is. walks_on at requests _ refl (released_stands at client requests place play idle due is st);
+  treats = λ idle alive.
+      subst (λ (l : List Shape). IsWalking at l (goes_with (treated client.waiting (given bases (is_none pair) client)) pair client)) (none_before st.owed requests client (none_open at client st.owed idle st.is_open) st.requests_are)
+      (treated_walks at client pair (treated client.waiting (given bases (is_none pair) client)) alive idle st.each (seen_treated client bases (is_none pair) at st.became st.each));
+  left = λ place id idle dead filled is. let bad : true ≡ false = sym st.alive ∙ dead in cc;
+})
 
 -- Nothing is handed to one that is not alive, and it stays so.
 pub record IsDead (effect : Effect) : Type 0 where
   pub closed : effect.client.alive ≡ false
   pub none : effect.hand ≡ []
 
-release_alive : (play : Option Play) (client : Client) → (changes.release_at play client).alive ≡ client.alive
-release_alive None client = refl
-release_alive (Some play) client = refl
-
-release_dead : (play : Option Play) (client : Client) → client.alive ≡ false → IsDead (going.released_with play client)
-release_dead None client e = record { closed = e; none = refl }
-release_dead (Some play) client e = record { closed = release_alive (changes.due_play client) client ∙ e; none = refl }
-
-close_alive : (id : Option (List ℕ)) (client : Client) → (changes.close_at id client).alive ≡ client.alive
-close_alive None client = refl
-close_alive (Some id) client = refl
-
-leave_dead : (id : Option (List ℕ)) (client : Client) → client.alive ≡ false → IsDead (going.leave_at id client)
-leave_dead None client e = record { closed = e; none = refl }
-leave_dead (Some id) client e = record { closed = close_alive (changes.closing_session client) client ∙ e; none = refl }
-
-go_dead : (bases : Bases) (pair : Option ℕ) (pending : Option Purpose) (client : Client) → client.alive ≡ false → IsDead (going.go_at bases pair pending client)
-go_dead bases pair (Some purpose) client e = record { closed = e; none = refl }
-go_dead bases pair None client e = subst (λ b. IsDead (going.go_idle bases pair b client)) (sym e) (leave_dead client.session.id client e)
-
 pub going_dead : (bases : Bases) (pair : Option ℕ) (next : NextPart) (client : Client) → client.alive ≡ false → IsDead (going_on bases pair next client)
-going_dead bases pair rests client e = record { closed = e; none = refl }
-going_dead bases pair releases client e = release_dead (changes.due_play client) client e
-going_dead bases pair goes_on client e = go_dead bases pair client.pending client e
+going_dead bases pair next client dead = going_as IsDead bases pair next client (record {
+  still = record { closed = dead; none = refl };
+  released = λ place play idle due is. record { closed = dead; none = refl };
+  treats = λ idle alive. let bad : true ≡ false = sym alive ∙ dead in cc;
+  left = λ place id idle closed filled is. record { closed = dead; none = refl };
+})
 
 pub then_dead : (first second : Effect) → first.hand ≡ [] → IsDead second → IsDead (then_effect first second)
 then_dead first second none dead = record { closed = dead.closed; none = ap (λ t. t ++ second.hand) none ∙ dead.none }

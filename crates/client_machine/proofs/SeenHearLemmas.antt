@@ -1,47 +1,51 @@
 -- What an event does to a connection that stands.
-use Rattle.std.proofs.Common.{◌≡◌, ◌∙◌, ◌<◌, ◌^◌, ◌==◌, ℕ, Bool, true, false, cond, nat_lt, List, [], ◌∷◌, ◌++◌, length, Option, None, Some, refl, sym, ap, subst, arith}
+use Rattle.std.proofs.Common.{◌≡◌, ◌∙◌, ◌≤◌, ◌==◌, ℕ, Bool, true, false, cond, List, [], ◌∷◌, ◌++◌, length, Option, None, Some, refl, sym, ap, subst, arith}
+use Rattle.std.specs.Prelude.{codes}
 use Rattle.std.specs.List.{list_all}
+use Rattle.translate_up.specs.Fields.{field}
 use Rattle.std.proofs.lemmas.List.{append_assoc, append-nil}
 use Rattle.std.proofs.lemmas.Bool.{eqb-true}
 use Rattle.rtsp_head.specs.Items.{Shape}
 use Rattle.rtsp_head.specs.HeadText.{is_header}
 use Rattle.rtsp_head.specs.declared.item.ItemKind.{ItemKind}
 use Rattle.rtsp_head.specs.declared.item.ItemKind.TheVariants.{Request, Response, Frame, Bad}
-use Rattle.rtsp_small.specs.declared.notify.NotifyReason.{NotifyReason}
-use Rattle.rtsp_small.specs.declared.notify.NotifyReason.TheVariants.{EndOfStream, MediaProperties, ScaleChange}
+use Rattle.rtsp_head.specs.declared.item.TheConstants.{MOST_BODY}
 use Rattle.rtsp_uri.specs.declared.base.Bases.{Bases}
 use Rattle.session_one.specs.declared.parts.Play.{Play}
 use Rattle.session_one.specs.declared.table.State.{State}
+use Rattle.session_one.specs.Table.{is_success}
 use Rattle.session_one.specs.declared.table.State.TheVariants.{Init, Ready, Playing}
 use Rattle.session_two.specs.declared.names.Names.{Names}
-use Rattle.translate_down.specs.Replies.{Told}
 use Rattle.session_two.specs.Ends.{end_counts}
+use Rattle.translate_down.specs.Replies.{Told}
 use Rattle.client_slot.specs.declared.purpose.Purpose.{Purpose}
 use Rattle.client_slot.specs.declared.purpose.Purpose.TheVariants as purposes
 use Rattle.client_slot.specs.Session.{PlayerSession}
+use Rattle.client_slot.specs.SessionChanges.{when_ended}
+use Rattle.client_slot.specs.Places.{session_where, changed_where, place_with, tracks_of}
 use Rattle.client_slot.specs.Client.{Client}
-use Rattle.client_slot.specs.Changes.{after_waiting, after_note}
-use Rattle.client_machine.specs.declared.why.CloseWhy.{CloseWhy}
-use Rattle.client_machine.specs.declared.why.CloseWhy.TheVariants as why
+use Rattle.client_slot.specs.Changes.{after_waiting, after_note, settle_with}
 use Rattle.client_machine.specs.Effects.{Effect, stays, then_effect}
 use Rattle.client_machine.specs.Events.{PrivateEvent, arrive, answer, note, media, end, slow, up_end}
-use Rattle.client_machine.specs.Frames.{channel_in, behind_channel, frame_text, Half, half_for, channel_for}
+use Rattle.client_machine.specs.Frames.{channel_in, behind_channel, frame_text, Half, half_for}
 use Rattle.client_machine.specs.Treatment.{fits_memory}
-use Rattle.client_machine.specs.ServerItems.{NextPart, rests, Hearing, idles, closes, carry, take_item, take, settle_at, take_note, give, take_media, hear}
+use Rattle.client_machine.specs.ServerItems.{NextPart, rests, Hearing, idles, carry, take_item, take, new_id, hear}
 use Rattle.client_machine.specs.Step.{going_on, heard_step, step}
 use Rattle.client_machine.specs.SeenRun.{may_become, request_among, request_taken}
-use Rattle.client_machine.proofs.SeenWalkLemmas.{may_self, may_more}
-use Rattle.client_machine.proofs.SeenTreatLemmas.{counted}
-use Rattle.client_machine.proofs.SeenGoLemmas.{IsCalm, IsOpen, IsStanding, IsWalking, IsDead, walks_on, walks_then, going_walks, going_dead, then_dead, calm_playing}
-use Rattle.client_machine.proofs.SeenSettleLemmas.{settle_walks}
+use Rattle.client_machine.proofs.WayLemmas.{hear_as}
+use Rattle.client_machine.proofs.PlacedLemmas.{IsInPlace}
+use Rattle.client_machine.proofs.SeenWalkLemmas.{may_more}
+use Rattle.client_machine.proofs.SeenTreatLemmas.{counted, IsNamedAt, same_function}
+use Rattle.client_machine.proofs.SeenGoLemmas.{places_of, states_of, IsCalm, IsSound, IsOpen, IsStanding, IsWalking, IsDead, walks_on, walks_then, going_walks, going_dead, then_dead, calm_playing, one_where, each_where, same_places}
+use Rattle.client_machine.proofs.SeenSettleLemmas.{AreDistinct, settle_walks}
 
 -- What is heard walks on, closes the connection, or shows a frame.
-data IsHeard (at : State) (requests : List Shape) (heard : Hearing) : Type 0 where
+data IsHeard (at : List ℕ → State) (requests : List Shape) (heard : Hearing) : Type 0 where
   walks : IsWalking at requests heard.effect → IsHeard at requests heard
   dies : heard.effect.client.alive ≡ false → heard.effect.hand ≡ [] → IsHeard at requests heard
   shows : (channel : ℕ) → (rest : List ℕ) → heard.effect.hand ≡ frame_text channel rest → heard.next ≡ rests → IsStanding at heard.effect.client requests → IsHeard at requests heard
 
-idle : (at : State) (requests : List Shape) (client : Client) → IsStanding at client requests → IsHeard at requests (idles client)
+idle : (at : List ℕ → State) (requests : List Shape) (client : Client) → IsStanding at client requests → IsHeard at requests (idles client)
 idle at requests client st = walks (walks_on at requests (stays client) refl st)
 
 -- a request waits behind the others
@@ -53,36 +57,30 @@ counted_more : (waiting : List Shape) (shape : Shape) → counted (waiting ++ sh
 counted_more [] shape = refl
 counted_more (one ∷ more) shape = counted_by (fits_memory one) one (counted (more ++ shape ∷ [])) (counted more) (cond (fits_memory shape) (shape ∷ []) []) (counted_more more shape)
 
-waits : (at : State) (requests : List Shape) (client : Client) (shape : Shape) → IsStanding at client requests → IsStanding at (after_waiting (shape ∷ []) client) (requests ++ cond (fits_memory shape) (shape ∷ []) [])
-waits at requests client shape st =
+waits_so : (at : List ℕ → State) (requests : List Shape) (client : Client) (shape : Shape) → IsStanding at client requests → IsStanding at (after_waiting (shape ∷ []) client) (requests ++ cond (fits_memory shape) (shape ∷ []) [])
+waits_so at requests client shape st =
     let new : List Shape = cond (fits_memory shape) (shape ∷ []) [] in
     record {
       alive = st.alive;
-      sound = st.sound;
+      became = st.became;
+      each = st.each;
       owed = st.owed;
       is_open = st.is_open;
       requests_are = ap (λ (l : List Shape). l ++ new) st.requests_are ∙ append_assoc st.owed (counted client.waiting) new ∙ ap (λ (l : List Shape). st.owed ++ l) (sym (counted_more client.waiting shape));
     }
 
-nothing_more : (at : State) (requests : List Shape) (client : Client) → IsStanding at client requests → IsStanding at client (requests ++ [])
+nothing_more : (at : List ℕ → State) (requests : List Shape) (client : Client) → IsStanding at client requests → IsStanding at client (requests ++ [])
 nothing_more at requests client st = subst (IsStanding at client) (sym (append-nil requests)) st
 
-carry_heard : (at : State) (requests : List Shape) (half : Option Half) (rest : List ℕ) (client : Client) → IsStanding at client requests → IsHeard at requests (carry half rest client)
+carry_heard : (at : List ℕ → State) (requests : List Shape) (half : Option Half) (rest : List ℕ) (client : Client) → IsStanding at client requests → IsHeard at requests (carry half rest client)
 carry_heard at requests None rest client st = idle at requests client st
 carry_heard at requests (Some half) rest client st = walks (walks_on at requests (carry (Some half) rest client).effect refl st)
 
-item_heard : (at : State) (requests : List Shape) (kind : ItemKind) (shape : Shape) (client : Client) → IsStanding at client requests → IsHeard at (requests ++ request_among kind shape) (take_item kind shape client)
-item_heard at requests Request shape client st = walks (walks_on at (requests ++ request_among Request shape) (stays (after_waiting (shape ∷ []) client)) refl (waits at requests client shape st))
+item_heard : (at : List ℕ → State) (requests : List Shape) (kind : ItemKind) (shape : Shape) (client : Client) → IsStanding at client requests → IsHeard at (requests ++ request_among kind shape) (take_item kind shape client)
+item_heard at requests Request shape client st = walks (walks_on at (requests ++ request_among Request shape) (stays (after_waiting (shape ∷ []) client)) refl (waits_so at requests client shape st))
 item_heard at requests Response shape client st = idle at (requests ++ []) client (nothing_more at requests client st)
-item_heard at requests Frame shape client st = carry_heard at (requests ++ []) (half_for (channel_in shape) client.session.tracks) (behind_channel shape) client (nothing_more at requests client st)
+item_heard at requests Frame shape client st = carry_heard at (requests ++ []) (half_for (channel_in shape) (tracks_of client.sessions)) (behind_channel shape) client (nothing_more at requests client st)
 item_heard at requests (Bad kind) shape client st = dies refl refl
-
-closes_heard : (at : State) (requests : List Shape) (reason : CloseWhy) (client : Client) → client.alive ≡ true → IsHeard at requests (closes client.alive reason client)
-closes_heard at requests reason client alive = subst (λ b. IsHeard at requests (closes b reason client)) (sym alive) (dies refl refl)
-
-give_heard : (at : State) (requests : List Shape) (channel : Option ℕ) (rest : List ℕ) (client : Client) → IsStanding at client requests → IsHeard at requests (give channel rest client)
-give_heard at requests None rest client st = idle at requests client st
-give_heard at requests (Some channel) rest client st = shows channel rest refl refl st
 
 -- The end of what plays.
 ends_playing : (state : State) (running : Option ℕ) (queue : List Play) (names : Names) → end_counts running names ≡ true → IsCalm state running queue → state ≡ Playing
@@ -91,9 +89,9 @@ ends_playing Init (Some number) queue names e calm = let none : Some number ≡ 
 ends_playing Ready (Some number) queue names e calm = let none : Some number ≡ None = calm.0 in cc
 ends_playing Playing (Some number) queue names e calm = refl
 
-ended_may : (empty : Bool) (state : State) → state ≡ Playing → may_become state (cond empty Ready state) ≡ true
-ended_may true state e = subst (λ s. may_become s Ready ≡ true) (sym e) refl
-ended_may false state e = may_self state
+ended_may : (empty : Bool) (from state : State) → state ≡ Playing → may_become from state ≡ true → may_become from (cond empty Ready state) ≡ true
+ended_may true from state e may = may_more from Playing Ready (subst (λ s. may_become from s ≡ true) e may) refl
+ended_may false from state e may = may
 
 no_queue : (queue : List Play) → (length queue == 0) ≡ true → queue ≡ []
 no_queue [] e = refl
@@ -106,96 +104,142 @@ ended_calm : (empty : Bool) (state : State) (queue : List Play) → (length queu
 ended_calm true state queue e playing = (refl, no_queue queue e)
 ended_calm false state queue e playing = calm_playing state None queue playing
 
-open_ended : (at : State) (session after : PlayerSession) (pending : Option Purpose) (owed : List Shape) (names : Names) → end_counts session.running names ≡ true → may_become session.state after.state ≡ true → IsOpen at session pending owed → IsOpen at after pending owed
-open_ended at session after None owed names counts may is = is
-open_ended at session after (Some (purposes.Client asked track)) owed names counts may is = record {
-  shape = is.shape;
-  owed_is = is.owed_is;
-  from = is.from;
-  reached = is.reached;
-  sent = is.sent;
-  became = may_more is.from session.state after.state is.became may;
-  channels = is.channels;
-}
-open_ended at session after (Some (purposes.Released play)) owed names counts may is =
-    let bad : false ≡ true = ap (λ (running : Option ℕ). end_counts running names) (sym is.2) ∙ counts in
-    cc
-open_ended at session after (Some purposes.Closing) owed names counts may is = absurd is
+-- what it makes of a session
+abbrev ended_by : Bool → PlayerSession → PlayerSession
+ended_by counts session = cond counts (record session { state = cond (length session.queue == 0) Ready session.state; running = None }) session
 
-note_by : (counts : Bool) (at : State) (requests : List Shape) (client : Client) (names : Names) → end_counts client.session.running names ≡ counts → IsStanding at client requests
-    → IsStanding at (record client { session = cond counts (record client.session { state = cond (length client.session.queue == 0) Ready client.session.state; running = None }) client.session }) requests
-note_by true at requests client names e st =
-    let state : State = cond (length client.session.queue == 0) Ready client.session.state in
-    let after : PlayerSession = record client.session { state = state; running = None } in
-    let playing : client.session.state ≡ Playing = ends_playing client.session.state client.session.running client.session.queue names e st.sound.calm in
-    let may : may_become client.session.state state ≡ true = ended_may (length client.session.queue == 0) client.session.state playing in
+ended_sound : (counts : Bool) (names : Names) (session : PlayerSession) → end_counts session.running names ≡ counts → IsSound session → IsSound (ended_by counts session)
+ended_sound true names session e sound =
+    record { calm = ended_calm (length session.queue == 0) session.state session.queue refl (ends_playing session.state session.running session.queue names e sound.calm); id = sound.id }
+ended_sound false names session e sound = sound
+
+ended_became : (counts : Bool) (names : Names) (from : State) (session : PlayerSession) → end_counts session.running names ≡ counts → IsSound session → may_become from session.state ≡ true → may_become from (ended_by counts session).state ≡ true
+ended_became true names from session e sound may = ended_may (length session.queue == 0) from session.state (ends_playing session.state session.running session.queue names e sound.calm) may
+ended_became false names from session e sound may = may
+
+ended_id : (counts : Bool) (session : PlayerSession) → (ended_by counts session).id ≡ session.id
+ended_id true session = refl
+ended_id false session = refl
+
+abbrev IsDuly : PlayerSession → Type 0
+IsDuly session = (session.state ≡ Playing) × (session.running ≡ None)
+
+stopped : (names : Names) (session : PlayerSession) → IsDuly session → IsDuly (when_ended names session)
+stopped names session duly =
+    let none : false ≡ end_counts session.running names = ap (λ (running : Option ℕ). end_counts running names) (sym duly.1) in
+    subst (λ b. IsDuly (ended_by b session)) none duly
+
+open_ended : (at : List ℕ → State) (sessions : List PlayerSession) (place : Option ℕ) (names : Names) (pending : Option Purpose) (owed : List Shape) → IsSound (session_where place sessions) → IsOpen at sessions pending owed
+    → IsOpen at (changed_where place (when_ended names) sessions) pending owed
+open_ended at sessions place names None owed sound is = is
+open_ended at sessions place names (Some (purposes.Client asked track)) owed sound is =
+    let own : PlayerSession = session_where place sessions in
+    let places : (id : List ℕ) → places_of (changed_where place (when_ended names) sessions) id ≡ places_of sessions id = same_places place (when_ended names) sessions (ended_id (end_counts own.running names) own) in
+    record {
+      shape = is.shape;
+      owed_is = is.owed_is;
+      from = is.from;
+      sent = is.sent;
+      at_is = subst (λ (f : List ℕ → Option ℕ). IsNamedAt f (field is.sent.request (codes "Session")) asked.place) (sym (same_function (places_of (changed_where place (when_ended names) sessions)) (places_of sessions) places)) is.at_is;
+      reached = λ id here. is.reached id (sym (places id) ∙ here);
+      became = one_where (λ (s : PlayerSession). may_become is.from s.state ≡ true) place (when_ended names) sessions (ended_became (end_counts own.running names) names is.from own refl sound) asked.place is.became;
+      channels = is.channels;
+    }
+open_ended at sessions place names (Some (purposes.Released play)) owed sound is =
+    let duly : IsDuly (session_where play.place (changed_where place (when_ended names) sessions)) = one_where IsDuly place (when_ended names) sessions (stopped names (session_where place sessions)) play.place (is.1, is.2) in
+    (is.0, duly.0, duly.1)
+open_ended at sessions place names (Some (purposes.Closing one)) owed sound is = absurd is
+
+noted : (at : List ℕ → State) (requests : List Shape) (client : Client) (place : Option ℕ) (names : Names) → IsStanding at client requests → IsStanding at (after_note place names client) requests
+noted at requests client place names st =
+    let own : PlayerSession = session_where place client.sessions in
+    let counts : Bool = end_counts own.running names in
     record {
       alive = st.alive;
-      sound = record {
-        became = may_more at client.session.state state st.sound.became may;
-        calm = ended_calm (length client.session.queue == 0) client.session.state client.session.queue refl playing;
-        id = st.sound.id;
-      };
+      became = λ id. ap (λ (q : Option ℕ). may_become (at id) (states_of (changed_where place (when_ended names) client.sessions) q)) (same_places place (when_ended names) client.sessions (ended_id counts own) id)
+          ∙ one_where (λ (s : PlayerSession). may_become (at id) s.state ≡ true) place (when_ended names) client.sessions (ended_became counts names (at id) own refl (st.each place)) (places_of client.sessions id) (st.became id);
+      each = each_where IsSound place (when_ended names) client.sessions (ended_sound counts names own refl) st.each;
       owed = st.owed;
-      is_open = open_ended at client.session after client.pending st.owed names e may st.is_open;
+      is_open = open_ended at client.sessions place names client.pending st.owed (st.each place) st.is_open;
       requests_are = st.requests_are;
     }
-note_by false at requests client names e st = st
-
-note_heard : (at : State) (requests : List Shape) (reason : NotifyReason) (names : Names) (client : Client) → IsStanding at client requests → IsHeard at requests (take_note reason names client)
-note_heard at requests EndOfStream names client st =
-    walks (walks_on at requests (stays (after_note names client)) refl (note_by (end_counts client.session.running names) at requests client names refl st))
-note_heard at requests MediaProperties names client st = idle at requests client st
-note_heard at requests ScaleChange names client st = idle at requests client st
-
-answer_heard : (early : Bool) (at : State) (requests : List Shape) (client : Client) (heard : Hearing) → IsStanding at client requests → (length heard.effect.hand < 2 ^ 64 → IsWalking at requests heard.effect)
-    → length (cond early (idles client) heard).effect.hand < 2 ^ 64 → IsHeard at requests (cond early (idles client) heard)
-answer_heard true at requests client heard st later short = idle at requests client st
-answer_heard false at requests client heard st later short = walks (later short)
 
 -- the requests that an event brings
 abbrev pub asked_by : PrivateEvent → List Shape
 asked_by (arrive shape full) = request_taken shape
 asked_by (answer told ssrc full) = []
-asked_by (note reason names) = []
+asked_by (note id reason names) = []
 asked_by (media pair half rest) = []
 asked_by end = []
 asked_by slow = []
 asked_by up_end = []
 
--- the fields of a reply are as those of every head that was read
+-- A reply has the fields of a head that was read, and no longer a body than an item has.
 abbrev pub IsReadableEvent : PrivateEvent → Type 0
 IsReadableEvent (arrive shape full) = Unit {0}
-IsReadableEvent (answer told ssrc full) = list_all is_header told.fields ≡ true
-IsReadableEvent (note reason names) = Unit {0}
+IsReadableEvent (answer told ssrc full) = (list_all is_header told.fields ≡ true) × (length told.body ≤ MOST_BODY)
+IsReadableEvent (note id reason names) = Unit {0}
 IsReadableEvent (media pair half rest) = Unit {0}
 IsReadableEvent end = Unit {0}
 IsReadableEvent slow = Unit {0}
 IsReadableEvent up_end = Unit {0}
 
-hear_heard : (bases : Bases) (number : ℕ) (at : State) (requests : List Shape) (client : Client) (event : PrivateEvent) → IsReadableEvent event → length (hear bases number client event).effect.hand < 2 ^ 64 → IsStanding at client requests
+-- the session that a success makes is none that is there
+abbrev pub IsNew : List PlayerSession → Option Purpose → Told → Type 0
+IsNew sessions None told = Unit {0}
+IsNew sessions (Some purpose) told = is_success told.code ≡ true → (id : List ℕ) → new_id purpose told ≡ Some id → place_with id sessions ≡ None
+
+abbrev pub IsFreshEvent : Client → PrivateEvent → Type 0
+IsFreshEvent client (arrive shape full) = Unit {0}
+IsFreshEvent client (answer told ssrc full) = IsNew client.sessions client.pending told
+IsFreshEvent client (note id reason names) = Unit {0}
+IsFreshEvent client (media pair half rest) = Unit {0}
+IsFreshEvent client end = Unit {0}
+IsFreshEvent client slow = Unit {0}
+IsFreshEvent client up_end = Unit {0}
+
+-- an event that is no item of the player
+abbrev IsOther : PrivateEvent → Type 0
+IsOther (arrive shape full) = ⊥
+IsOther (answer told ssrc full) = Unit {0}
+IsOther (note id reason names) = Unit {0}
+IsOther (media pair half rest) = Unit {0}
+IsOther end = Unit {0}
+IsOther slow = Unit {0}
+IsOther up_end = Unit {0}
+
+other_heard : (bases : Bases) (number : ℕ) (at : List ℕ → State) (requests : List Shape) (client : Client) (event : PrivateEvent) → IsOther event → IsReadableEvent event → IsFreshEvent client event → AreDistinct client.sessions → IsInPlace client
+    → IsStanding at client requests → IsHeard at requests (hear bases number client event)
+other_heard bases number at requests client event other readable fresh distinct placed st = hear_as (IsHeard at requests) bases number client event (record {
+  idle = idle at requests client st;
+  closing = λ reason alive. dies refl refl;
+  waits = λ shape full here is alive. absurd (subst IsOther here other);
+  carrying = λ shape full half here is. absurd (subst IsOther here other);
+  settles = λ purpose told ssrc full here late is.
+      let can : IsReadableEvent (answer told ssrc full) = subst IsReadableEvent here readable in
+      walks (settle_walks bases number at client requests purpose told ssrc is can.0 can.1 distinct placed (subst (λ (p : Option Purpose). IsNew client.sessions p told) is (subst (IsFreshEvent client) here fresh)) st);
+  notes = λ id names here. walks (walks_on at requests (stays (after_note (place_with id client.sessions) names client)) refl (noted at requests client (place_with id client.sessions) names st));
+  gives = λ pair half channel rest here is alive. shows channel rest refl refl st;
+})
+
+hear_heard : (bases : Bases) (number : ℕ) (at : List ℕ → State) (requests : List Shape) (client : Client) (event : PrivateEvent) → IsReadableEvent event → IsFreshEvent client event → AreDistinct client.sessions → IsInPlace client → IsStanding at client requests
     → IsHeard at (requests ++ asked_by event) (hear bases number client event)
-hear_heard bases number at requests client (arrive shape full) readable short st =
+hear_heard bases number at requests client (arrive shape full) readable fresh distinct placed st =
     subst (λ b. IsHeard at (requests ++ request_taken shape) (take b shape client)) (sym st.alive) (item_heard at requests shape.kind shape client st)
-hear_heard bases number at requests client (answer told ssrc full) readable short st =
-    let now : IsStanding at client (requests ++ []) = nothing_more at requests client st in
-    answer_heard (nat_lt told.code 200) at (requests ++ []) client (settle_at bases number client.pending told ssrc client) now
-    (settle_walks bases number at client (requests ++ []) client.pending told ssrc refl readable now) short
-hear_heard bases number at requests client (note reason names) readable short st = note_heard at (requests ++ []) reason names client (nothing_more at requests client st)
-hear_heard bases number at requests client (media pair half rest) readable short st =
-    subst (λ b. IsHeard at (requests ++ []) (take_media b pair half rest client)) (sym st.alive)
-    (give_heard at (requests ++ []) (channel_for pair half client.session.tracks) rest client (nothing_more at requests client st))
-hear_heard bases number at requests client end readable short st = closes_heard at (requests ++ []) why.Ended client st.alive
-hear_heard bases number at requests client slow readable short st = closes_heard at (requests ++ []) why.Slow client st.alive
-hear_heard bases number at requests client up_end readable short st = idle at (requests ++ []) client (nothing_more at requests client st)
+hear_heard bases number at requests client (answer told ssrc full) readable fresh distinct placed st = other_heard bases number at (requests ++ []) client (answer told ssrc full) tt readable fresh distinct placed (nothing_more at requests client st)
+hear_heard bases number at requests client (note id reason names) readable fresh distinct placed st = other_heard bases number at (requests ++ []) client (note id reason names) tt readable fresh distinct placed (nothing_more at requests client st)
+hear_heard bases number at requests client (media pair half rest) readable fresh distinct placed st = other_heard bases number at (requests ++ []) client (media pair half rest) tt readable fresh distinct placed (nothing_more at requests client st)
+hear_heard bases number at requests client end readable fresh distinct placed st = other_heard bases number at (requests ++ []) client end tt readable fresh distinct placed (nothing_more at requests client st)
+hear_heard bases number at requests client slow readable fresh distinct placed st = other_heard bases number at (requests ++ []) client slow tt readable fresh distinct placed (nothing_more at requests client st)
+hear_heard bases number at requests client up_end readable fresh distinct placed st = other_heard bases number at (requests ++ []) client up_end tt readable fresh distinct placed (nothing_more at requests client st)
 
 -- What a whole step does.
-pub data IsStepped (at : State) (requests : List Shape) (effect : Effect) : Type 0 where
+pub data IsStepped (at : List ℕ → State) (requests : List Shape) (effect : Effect) : Type 0 where
   walked : IsWalking at requests effect → IsStepped at requests effect
   died : IsDead effect → IsStepped at requests effect
   shown : (channel : ℕ) → (rest : List ℕ) → effect.hand ≡ frame_text channel rest → IsStanding at effect.client requests → IsStepped at requests effect
 
-heard_stepped : (bases : Bases) (pair : Option ℕ) (at : State) (requests : List Shape) (heard : Hearing) → IsHeard at requests heard → IsStepped at requests (heard_step bases pair heard)
+heard_stepped : (bases : Bases) (pair : Option ℕ) (at : List ℕ → State) (requests : List Shape) (heard : Hearing) → IsHeard at requests heard → IsStepped at requests (heard_step bases pair heard)
 heard_stepped bases pair at requests heard (walks one) =
     walked (walks_then at requests heard.effect (going_on bases pair heard.next heard.effect.client) one (λ now left st. going_walks bases pair heard.next now heard.effect.client left st))
 heard_stepped bases pair at requests heard (dies closed none) =
@@ -204,41 +248,26 @@ heard_stepped bases pair at requests heard (shows channel rest text quiet st) =
     subst (λ (next : NextPart). IsStepped at requests (then_effect heard.effect (going_on bases pair next heard.effect.client))) (sym quiet)
     (shown channel rest (append-nil heard.effect.hand ∙ text) st)
 
-pub step_stepped : (bases : Bases) (number : ℕ) (pair : Option ℕ) (at : State) (requests : List Shape) (client : Client) (event : PrivateEvent) → IsReadableEvent event → length (hear bases number client event).effect.hand < 2 ^ 64
+pub step_stepped : (bases : Bases) (number : ℕ) (pair : Option ℕ) (at : List ℕ → State) (requests : List Shape) (client : Client) (event : PrivateEvent) → IsReadableEvent event → IsFreshEvent client event → AreDistinct client.sessions → IsInPlace client
     → IsStanding at client requests → IsStepped at (requests ++ asked_by event) (step bases number pair client event)
-step_stepped bases number pair at requests client event readable short st =
-    heard_stepped bases pair at (requests ++ asked_by event) (hear bases number client event) (hear_heard bases number at requests client event readable short st)
+step_stepped bases number pair at requests client event readable fresh distinct placed st =
+    heard_stepped bases pair at (requests ++ asked_by event) (hear bases number client event) (hear_heard bases number at requests client event readable fresh distinct placed st)
 
 -- Nothing is handed to a connection that is not alive.
-dead_idle : (client : Client) → client.alive ≡ false → IsDead (stays client)
-dead_idle client closed = record { closed = closed; none = refl }
-
-answer_dead : (early : Bool) (client : Client) (heard : Hearing) → client.alive ≡ false → IsDead heard.effect → IsDead (cond early (idles client) heard).effect
-answer_dead true client heard closed dead = dead_idle client closed
-answer_dead false client heard closed dead = dead
-
 hand_dead : (alive : Bool) (text : List ℕ) → alive ≡ false → cond alive text [] ≡ []
 hand_dead true text e = cc
 hand_dead false text e = refl
 
-settle_dead : (bases : Bases) (number : ℕ) (pending : Option Purpose) (told : Told) (ssrc : Option ℕ) (client : Client) → client.alive ≡ false → IsDead (settle_at bases number pending told ssrc client).effect
-settle_dead bases number None told ssrc client closed = dead_idle client closed
-settle_dead bases number (Some purpose) told ssrc client closed = record { closed = closed; none = hand_dead client.alive _ closed }
-
-note_dead : (reason : NotifyReason) (names : Names) (client : Client) → client.alive ≡ false → IsDead (take_note reason names client).effect
-note_dead EndOfStream names client closed = record { closed = closed; none = refl }
-note_dead MediaProperties names client closed = dead_idle client closed
-note_dead ScaleChange names client closed = dead_idle client closed
-
 hear_dead : (bases : Bases) (number : ℕ) (client : Client) (event : PrivateEvent) → client.alive ≡ false → IsDead (hear bases number client event).effect
-hear_dead bases number client (arrive shape full) closed = subst (λ b. IsDead (take b shape client).effect) (sym closed) (dead_idle client closed)
-hear_dead bases number client (answer told ssrc full) closed =
-    answer_dead (nat_lt told.code 200) client (settle_at bases number client.pending told ssrc client) closed (settle_dead bases number client.pending told ssrc client closed)
-hear_dead bases number client (note reason names) closed = note_dead reason names client closed
-hear_dead bases number client (media pair half rest) closed = subst (λ b. IsDead (take_media b pair half rest client).effect) (sym closed) (dead_idle client closed)
-hear_dead bases number client end closed = subst (λ b. IsDead (closes b why.Ended client).effect) (sym closed) (dead_idle client closed)
-hear_dead bases number client slow closed = subst (λ b. IsDead (closes b why.Slow client).effect) (sym closed) (dead_idle client closed)
-hear_dead bases number client up_end closed = dead_idle client closed
+hear_dead bases number client event closed = hear_as (λ heard. IsDead heard.effect) bases number client event (record {
+  idle = record { closed = closed; none = refl };
+  closing = λ reason alive. record { closed = refl; none = refl };
+  waits = λ shape full here is alive. record { closed = closed; none = refl };
+  carrying = λ shape full half here is. record { closed = closed; none = refl };
+  settles = λ purpose told ssrc full here late is. record { closed = ap (λ (p : Option Purpose). (settle_with p number told.code (new_id purpose told) client).alive) is ∙ closed; none = hand_dead client.alive _ closed };
+  notes = λ id names here. record { closed = closed; none = refl };
+  gives = λ pair half channel rest here is alive. let bad : true ≡ false = sym alive ∙ closed in cc;
+})
 
 pub step_dead : (bases : Bases) (number : ℕ) (pair : Option ℕ) (client : Client) (event : PrivateEvent) → client.alive ≡ false → IsDead (step bases number pair client event)
 step_dead bases number pair client event closed =

@@ -1,34 +1,43 @@
 -- What a player gets of the server's reply can be read back, and a code that is no success stays none.
-use Rattle.std.proofs.Common.{◌≡◌, ◌∙◌, ◌+◌, ◌<◌, ◌^◌, ◌&&◌, ℕ, Bool, true, false, not, cond, List, [], ◌∷◌, ◌++◌, length, drop, Option, None, Some, IfSome, refl, sym, ap, subst, unwrap_or, option_map, option_and_then, length-append, arith}
+use Rattle.std.proofs.Common.{◌≡◌, ◌∙◌, ◌+◌, ◌<◌, ◌^◌, ◌&&◌, ℕ, Bool, true, false, not, cond, List, [], ◌∷◌, ◌++◌, length, drop, ◌≤◌, Option, None, Some, IfSome, refl, ap, unwrap_or, option_map, option_and_then, arith}
 use Rattle.std.specs.Prelude.{codes, ◌≢◌}
 use Rattle.std.specs.List.{list_all}
+use Rattle.std.specs.Option.{option_or}
 use Rattle.std.proofs.lemmas.Bool.{and_parts, le-leb, eq-eqb}
 use Rattle.gate_bytes.specs.Ascii.{semicolon}
 use Rattle.gate_bytes.specs.Places.{parts_at}
 use Rattle.rtsp_head.specs.Headers.{field_of}
-use Rattle.rtsp_head.specs.Messages.{message_headers}
-use Rattle.rtsp_head.specs.HeadText.{head_text, is_header}
+use Rattle.rtsp_head.specs.Optional.{said_where}
+use Rattle.rtsp_head.specs.declared.header.Header.{Header}
+use Rattle.rtsp_head.specs.declared.item.TheConstants.{MOST_BODY}
+use Rattle.rtsp_head.proofs.FieldLemmas.{field_told}
+use Rattle.rtsp_head.specs.HeadText.{is_header}
 use Rattle.rtsp_small.specs.declared.cseq.TheConstants.{CSEQ_ONE_DIGITS}
 use Rattle.rtsp_small.specs.declared.method.Method.{Method}
-use Rattle.rtsp_small.specs.Sessions.{SessionParts, is_session_id, first_timeout, session_in, session_of}
+use Rattle.rtsp_small.specs.declared.method.Method.TheVariants as methods
+use Rattle.rtsp_small.specs.Sessions.{SessionParts, is_session_id, first_timeout, session_in, session_of, session_text}
+use Rattle.rtsp_small.proofs.SessionLemmas.{session_read}
 use Rattle.rtsp_status.specs.Codes.{CodeRow, code_rows, holds, code_in, code_one}
 use Rattle.rtsp_uri.specs.declared.base.Base.{Base}
 use Rattle.rtsp_uri.specs.declared.base.Bases.{Bases}
 use Rattle.rtsp_uri.specs.BaseTexts.{ends_at, is_base_text}
 use Rattle.rtsp_uri.specs.Uris.{scheme, places_of}
-use Rattle.head_one.specs.declared.reply.Reply1.{Reply1}
-use Rattle.head_one.specs.Replies.{reply_start, reply_text, IsReply}
+use Rattle.rtsp_uri.specs.Descriptions.{rewritten}
+use Rattle.head_one.specs.Replies.{IsReply}
 use Rattle.session_one.specs.declared.parts.Asked.{Asked}
 use Rattle.session_one.specs.declared.parts.Track.{Track}
 use Rattle.session_one.specs.Table.{is_success}
 use Rattle.translate_up.proofs.StateLemmas.{IsValidId, IsGiven, not_true}
-use Rattle.translate_down.specs.Contents.{asks_body, body_told}
+use Rattle.translate_down.specs.Contents.{comes_with_body, is_read, body_told}
+use Rattle.translate_down.specs.Sessions.{tells_session_of, told_timeout, session_value}
+use Rattle.translate_up.specs.Ids.{id_of}
 use Rattle.translate_down.specs.Readable.{CanBeRead}
-use Rattle.translate_down.specs.Replies.{Told, success_of, refusal_of, reply_down}
+use Rattle.translate_down.specs.Replies.{Told, success_fields, success_of, reply_down}
 use Rattle.translate_down.specs.Settings.{Setting}
 use Rattle.translate_down.proofs.ReadLemmas.{down_reply}
-use Rattle.client_slot.specs.Client.{Client}
 use Rattle.client_machine.specs.ServerItems.{session_told, setting}
+use Rattle.client_machine.specs.SeenRun.{id_named}
+use Rattle.client_machine.proofs.GrowthLemmas.{rewritten_length}
 use Rattle.client_machine.proofs.PlayerReplyLemmas.{IsShort, in_short}
 
 -- A code that is no success does not become one.
@@ -50,7 +59,7 @@ pub code_refuses : (code : ℕ) → is_success code ≡ false → is_success (co
 code_refuses code e = ap (λ b. is_success (cond b 200 (code_in (drop 1 code_rows) code))) e ∙ rows_refuse (drop 1 code_rows) code refl e
 
 -- The front is a base.
-base_known : (base : Base) → is_base_text base.text ≡ true
+pub base_known : (base : Base) → is_base_text base.text ≡ true
 base_known base =
     ap (λ b. b && ends_at (7 + length base.text) (places_of (scheme ++ base.text))) (le-leb _ _ base.whole.short)
     ∙ ap (λ places. ends_at (7 + length base.text) places) base.whole.places
@@ -88,16 +97,17 @@ pair_bytes : (track : Option Track) → IfSome track (λ one. IsGiven one.client
 pair_bytes None all = tt
 pair_bytes (Some track) all = all.1
 
--- What is known of a reply to a player's request.
-pub record IsTellable (asked : Asked) (track : Option Track) (told : Told) (client : Client) : Type 0 where
-  pub id : IsValidId client.session.id
+-- What is known of a reply to a player's request, and of the id of its session.
+pub record IsTellable (asked : Asked) (track : Option Track) (told : Told) (session : Option (List ℕ)) : Type 0 where
+  pub id : IsValidId session
   pub channels : IfSome track (λ one. IsGiven one.client)
   pub short : asked.cseq < 10 ^ CSEQ_ONE_DIGITS
   pub fields : list_all is_header told.fields ≡ true
+  pub body : length told.body ≤ MOST_BODY
 
-can_read : (bases : Bases) (asked : Asked) (track : Option Track) (told : Told) (ssrc : Option ℕ) (client : Client) (body : List ℕ) → IsTellable asked track told client
-    → length (body_told (setting bases track ssrc told client) asked.method told.fields body) < 2 ^ 64 → CanBeRead (setting bases track ssrc told client) asked (record told { body = body })
-can_read bases asked track told ssrc client body can short = record {
+can_read : (bases : Bases) (asked : Asked) (track : Option Track) (told : Told) (ssrc : Option ℕ) (session : Option (List ℕ)) (body : List ℕ) → IsTellable asked track told session
+    → length (body_told (setting bases track ssrc told session) asked.method told.fields body) < 2 ^ 64 → CanBeRead (setting bases track ssrc told session) asked (record told { body = body })
+can_read bases asked track told ssrc session body can short = record {
   setting = record { session = can.id; timeout = timeout_told told; client = pair_apart track can.channels };
   front = base_known bases.front;
   client = pair_bytes track can.channels;
@@ -106,30 +116,33 @@ can_read bases asked track told ssrc client body can short = record {
   body = short;
 }
 
-no_body : (place : Setting) (method : Method) (told : Told) → length (body_told place method told.fields []) < 2 ^ 64
-no_body place method told = by (asks_body method) _
+body_short : (place : Setting) (method : Method) (fields : List Header) (body : List ℕ) → length place.front ≤ 255 → length body ≤ MOST_BODY → length (body_told place method fields body) < 2 ^ 64
+body_short place method fields body front short = by (comes_with_body method body) (is_read method fields)
   where
-    by : (asks : Bool) (one : List ℕ) → length (cond (asks && false) one []) < 2 ^ 64
-    by true one = omega arith
-    by false one = omega arith
+    by : (comes read : Bool) → length (cond comes (cond read (rewritten place.up place.front body) body) []) < 2 ^ 64
+    by false read = omega arith
+    by true false = omega (arith, short)
+    by true true = omega (arith, short, rewritten_length place.up place.front body front)
 
-body_within : (reply : Reply1) → length (reply_text reply) < 2 ^ 64 → length reply.body < 2 ^ 64
-body_within reply short = omega (arith, short, length-append (head_text (reply_start reply) (message_headers reply.cseq reply.headers reply.body)) reply.body)
+-- The reply that a player gets can be read back.
+pub down_readable : (bases : Bases) (asked : Asked) (track : Option Track) (told : Told) (ssrc : Option ℕ) (session : Option (List ℕ)) → IsTellable asked track told session → IsReply (reply_down (setting bases track ssrc told session) asked told)
+down_readable bases asked track told ssrc session can =
+    down_reply (setting bases track ssrc told session) asked told
+    (can_read bases asked track told ssrc session told.body can (body_short (setting bases track ssrc told session) asked.method told.fields told.body (omega (arith, bases.front.whole.short)) can.body))
 
--- The reply that a player gets, by whether it is a success.
-pub success_readable : (bases : Bases) (asked : Asked) (track : Option Track) (told : Told) (ssrc : Option ℕ) (client : Client) → IsTellable asked track told client → is_success told.code ≡ true
-    → length (reply_text (reply_down (setting bases track ssrc told client) asked told)) < 2 ^ 64 → IsReply (reply_down (setting bases track ssrc told client) asked told)
-success_readable bases asked track told ssrc client can e short =
-    let place : Setting = setting bases track ssrc told client in
-    let is : reply_down place asked told ≡ success_of place asked told = ap (λ b. cond b (success_of place asked told) (refusal_of asked told)) e in
-    down_reply place asked told
-    (can_read bases asked track told ssrc client told.body can (body_within (success_of place asked told) (subst (λ (one : Reply1). length (reply_text one) < 2 ^ 64) is short)))
+-- The reply to a SETUP tells the id of its session.
+or_nothing : (one : Option (List ℕ)) → option_or one None ≡ one
+or_nothing None = refl
+or_nothing (Some value) = refl
 
-pub refusal_readable : (bases : Bases) (asked : Asked) (track : Option Track) (told : Told) (ssrc : Option ℕ) (client : Client) → IsTellable asked track told client → is_success told.code ≡ false
-    → IsReply (reply_down (setting bases track ssrc told client) asked told)
-refusal_readable bases asked track told ssrc client can e =
-    let place : Setting = setting bases track ssrc told client in
-    let bare : Told = record told { body = [] } in
-    let is : reply_down place asked told ≡ refusal_of asked told = ap (λ b. cond b (success_of place asked told) (refusal_of asked told)) e in
-    let bare_is : reply_down place asked bare ≡ refusal_of asked told = ap (λ b. cond b (success_of place asked bare) (refusal_of asked bare)) e in
-    subst IsReply (bare_is ∙ sym is) (down_reply place asked bare (can_read bases asked track told ssrc client [] can (no_body place asked.method told)))
+id_read : (id : Option (List ℕ)) (timeout : Option ℕ) → IsValidId id → IsShort timeout → option_and_then id_of (option_map (λ one. session_text (record { id = one; timeout = timeout })) id) ≡ id
+id_read None timeout valid short = refl
+id_read (Some id) timeout valid short = ap (option_map (λ (session : SessionParts). session.id)) (session_read (record { id = id; timeout = timeout }) valid short)
+
+pub brought_is : (bases : Bases) (asked : Asked) (track : Option Track) (told : Told) (ssrc : Option ℕ) (session : Option (List ℕ)) → asked.method ≡ methods.Setup → IsValidId session
+    → id_named (field_of (success_of (setting bases track ssrc told session) asked told).headers (codes "Session")) ≡ session
+brought_is bases asked track told ssrc session setup valid =
+    let place : Setting = setting bases track ssrc told session in
+    ap (option_and_then id_of) (field_told (codes "Session") (success_fields place asked told) ∙ or_nothing (session_value place asked))
+    ∙ ap (λ (method : Method). option_and_then id_of (said_where (tells_session_of method asked.named) (option_map (λ id. session_text (record { id = id; timeout = told_timeout method place.timeout })) session))) setup
+    ∙ id_read session place.timeout valid (timeout_told told)

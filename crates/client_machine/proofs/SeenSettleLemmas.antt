@@ -1,10 +1,15 @@
--- A reply of the server to a player's request is the next step of the walk.
-use Rattle.std.proofs.Common.{◌≡◌, ◌∙◌, ◌<◌, ◌^◌, ℕ, Bool, true, false, cond, List, [], ◌∷◌, ◌++◌, length, Option, None, Some, IfSome, refl, sym, ap, subst, unwrap_or, option_and_then}
+-- A reply of the server to a player's request is the next step of the walks.
+use Rattle.std.proofs.Common.{◌≡◌, ◌≢◌, ◌∙◌, ◌+◌, ◌<◌, ◌≤◌, ◌==◌, ◌&&◌, ℕ, zero, suc, Bool, true, false, cond, List, [], ◌∷◌, ◌++◌, length, Option, None, Some, IfSome, refl, sym, ap, subst, unwrap_or, option_and_then, ◌⊎◌, inl, inr, arith}
+use Rattle.std.specs.Prelude.{codes, is_some, is_none}
 use Rattle.std.specs.List.{list_all}
 use Rattle.std.specs.Option.{option_or, option_map}
 use Rattle.std.proofs.lemmas.List.{append-nil}
+use Rattle.std.proofs.lemmas.Bool.{eqb-true, eqb-false}
+use Rattle.std.proofs.lemmas.Slice.Eq.{bytes_eq-Decides}
 use Rattle.rtsp_head.specs.Items.{Shape}
+use Rattle.rtsp_head.specs.Headers.{field_of}
 use Rattle.rtsp_head.specs.HeadText.{is_header}
+use Rattle.rtsp_head.specs.declared.item.TheConstants.{MOST_BODY}
 use Rattle.rtsp_small.specs.Sessions.{SessionParts, is_session_id}
 use Rattle.rtsp_small.specs.declared.method.Method.{Method}
 use Rattle.rtsp_small.specs.declared.method.Method.TheVariants as methods
@@ -18,6 +23,8 @@ use Rattle.session_one.specs.declared.parts.Track.{Track}
 use Rattle.session_one.specs.declared.table.State.{State}
 use Rattle.session_one.specs.declared.table.State.TheVariants.{Init, Ready, Playing}
 use Rattle.session_one.specs.Table.{next_of, is_allowed, is_success}
+use Rattle.translate_up.specs.Fields.{field, is_setup}
+use Rattle.translate_up.specs.Ids.{id_of}
 use Rattle.translate_up.specs.Leads.{method_asked, number_asked, led_by}
 use Rattle.translate_up.proofs.StateLemmas.{IsValidId}
 use Rattle.translate_down.specs.Replies.{Told, success_of, refusal_of, reply_down}
@@ -25,48 +32,70 @@ use Rattle.translate_down.specs.Sessions.{sets_up}
 use Rattle.translate_down.specs.Settings.{Setting}
 use Rattle.client_slot.specs.declared.purpose.Purpose.{Purpose}
 use Rattle.client_slot.specs.declared.purpose.Purpose.TheVariants as purposes
-use Rattle.client_slot.specs.Session.{PlayerSession}
-use Rattle.client_slot.specs.SessionChanges.{when_granted, when_moved, when_played}
+use Rattle.client_slot.specs.declared.session_turn.Part.{Part}
+use Rattle.client_slot.specs.declared.session_turn.Part.TheVariants.{Keeps, Takes, Loses}
+use Rattle.client_slot.specs.Session.{PlayerSession, new_session}
+use Rattle.client_slot.specs.SessionTurns.{Brought, if_made, granted_turn, moved_turn, released_turn, brought_by, part_then, turned}
+use Rattle.client_slot.specs.Places.{session_at, session_where, changed_at, changed_where, first_place, place_with, is_session, empty_place}
+use Rattle.client_slot.specs.Bounds.{IsTidyBy, AreTidy}
 use Rattle.client_slot.specs.Client.{Client}
-use Rattle.client_slot.specs.Changes as changes
+use Rattle.client_slot.specs.Changes.{purpose_place, settled_place, session_after, settle_with}
+use Rattle.client_slot.proofs.PlaceLemmas.{place_is, changed_here, changed_other, first_changed, nothing_changed_where, same_changes}
+use Rattle.client_slot.proofs.TidyLemmas.{tidy_at}
 use Rattle.client_machine.specs.Effects.{hands}
-use Rattle.client_machine.specs.ServerItems.{idles, session_told, new_id_at, new_id, setting, reply_hand, settle_at}
-use Rattle.client_machine.specs.SeenRun.{SeenStep, may_become}
-use Rattle.client_machine.proofs.SeenWalkLemmas.{may_more, IsMoved, moved}
-use Rattle.client_machine.proofs.SeenTreatLemmas.{counted}
-use Rattle.client_machine.proofs.SeenGoLemmas.{IsCalm, IsAsked, IsOpen, IsSoundAt, IsStanding, IsWalking, walks_on, calm_playing}
-use Rattle.client_machine.proofs.SeenReplyLemmas.{code_refuses, id_told, success_readable, refusal_readable}
+use Rattle.client_machine.specs.ServerItems.{session_told, new_id_at, new_id, setting, reply_hand, id_after, settled}
+use Rattle.client_machine.specs.SeenRun.{SeenStep, id_named, id_brought, id_by, id_about, is_about, may_become}
+use Rattle.client_machine.proofs.PlacedLemmas.{IsInPlace}
+use Rattle.client_machine.proofs.SeenWalkLemmas.{may_more, IsMoved, moved, led_for, one_walks}
+use Rattle.client_machine.proofs.SeenTreatLemmas.{counted, IsNamedAt, id_is}
+use Rattle.client_machine.proofs.SeenGoLemmas.{places_of, states_of, IsCalm, IsSound, IsAsked, IsOpen, IsStanding, IsWalking, walks_on, calm_playing, each_where, one_where, same_places}
+use Rattle.client_machine.proofs.SeenReplyLemmas.{code_refuses, id_told, down_readable, brought_is}
 
--- the connection once it has heard a reply to what the request was for
-abbrev heard_as : ℕ → ℕ → Option (List ℕ) → Client → Option Purpose → Client
-heard_as number code id client pending = record client { session = changes.session_after pending number code id client.session; pending = None }
+-- no two sessions have one id
+abbrev pub AreDistinct : List PlayerSession → Type 0
+AreDistinct sessions = (place : ℕ) (id : List ℕ) → (session_at place sessions).id ≡ Some id → place_with id sessions ≡ Some place
 
--- One step more of the walk, by a reply to the open request.
-step_made : (at : State) (client after : Client) (requests owed : List Shape) (asked : Asked) (track : Option Track) (reply : Reply1) (next : State) (hand : List ℕ) (o : IsAsked at client.session.state asked track owed)
+-- One step more of the walks, by a reply to the open request.
+step_made : (at : List ℕ → State) (client after : Client) (requests owed : List Shape) (asked : Asked) (track : Option Track) (reply : Reply1) (next : State) (hand : List ℕ)
+    (o : IsAsked at (places_of client.sessions) (states_of client.sessions) asked track owed)
     → requests ≡ owed ++ counted client.waiting → after.alive ≡ true → after.pending ≡ None → after.waiting ≡ client.waiting → hand ≡ reply_text reply → IsReply reply → reply.cseq ≡ Some asked.cseq
-    → led_by o.from (Some asked.method) reply.code ≡ Some next → IsSoundAt next after.session → IsWalking at requests (hands hand after)
-step_made at client after requests owed asked track reply next hand o are alive idle waits text readable number leads sound =
-    let step : SeenStep = record { request = o.shape; reply = reply; before = o.from; after = next } in
+    → led_by o.from (Some asked.method) reply.code ≡ Some next
+    → ((id : List ℕ) → is_session id (id_by (field o.sent.request (codes "Session")) asked.method reply) ≡ true → (places_of client.sessions id ≡ asked.place) × (may_become next (states_of after.sessions (places_of after.sessions id)) ≡ true))
+    → ((id : List ℕ) → is_session id (id_by (field o.sent.request (codes "Session")) asked.method reply) ≡ false → may_become (at id) (states_of after.sessions (places_of after.sessions id)) ≡ true)
+    → ((place : Option ℕ) → IsSound (session_where place after.sessions)) → IsWalking at requests (hands hand after)
+step_made at client after requests owed asked track reply next hand o are alive idle waits text readable number leads on off each =
+    let step : SeenStep = record { request = o.shape; reply = reply } in
     let named : number_asked (request_of_item o.shape) ≡ Some asked.cseq = ap number_asked o.sent.found_is ∙ ap (λ n. Some n) o.sent.cseq in
     let method : method_asked (request_of_item o.shape) ≡ Some asked.method = ap method_asked o.sent.found_is ∙ ap (λ m. Some m) o.sent.method in
+    let about : id_about (request_of_item o.shape) reply ≡ id_by (field o.sent.request (codes "Session")) asked.method reply =
+    ap (λ found. id_about found reply) o.sent.found_is ∙ ap (λ m. id_by (field o.sent.request (codes "Session")) m reply) o.sent.method in
+    let here : (id : List ℕ) → is_session id (id_by (field o.sent.request (codes "Session")) asked.method reply) ≡ is_about id step = λ id. sym (ap (is_session id) about) in
     record {
       steps = step ∷ [];
-      walk = (o.reached, record { number = number ∙ sym named; leads = ap (λ m. led_by o.from m reply.code) method ∙ leads }, tt);
+      now = led_for at step next;
+      walks = one_walks at step o.from next (λ id is. o.reached id (on id (here id ∙ is)).0) (ap (λ m. led_by o.from m reply.code) method ∙ leads);
+      numbers = (number ∙ sym named, tt);
       readable = (readable, tt);
       text_is = text ∙ sym (append-nil (reply_text reply));
       left = counted client.waiting;
       requests_are = are ∙ ap (λ (l : List Shape). l ++ counted client.waiting) o.owed_is;
       stands = record {
         alive = alive;
-        sound = sound;
+        became = λ id. by id (is_about id step) refl (here id);
+        each = each;
         owed = [];
-        is_open = subst (λ (p : Option Purpose). IsOpen next after.session p []) (sym idle) refl;
+        is_open = subst (λ (p : Option Purpose). IsOpen (led_for at step next) after.sessions p []) (sym idle) refl;
         requests_are = ap counted (sym waits);
       };
     }
+  where
+    by : (id : List ℕ) (is : Bool) → is_about id (record { request = o.shape; reply = reply }) ≡ is → is_session id (id_by (field o.sent.request (codes "Session")) asked.method reply) ≡ is_about id (record { request = o.shape; reply = reply })
+        → may_become (cond is next (at id)) (states_of after.sessions (places_of after.sessions id)) ≡ true
+    by id true is here = (on id (here ∙ is)).1
+    by id false is here = off id (here ∙ is)
 
 -- the state that a success moves a session to
-abbrev moves_to : Method → State → State
+abbrev pub moves_to : Method → State → State
 moves_to method state = unwrap_or (next_of state method) state
 
 calm_options : (state : State) (running : Option ℕ) (queue : List Play) → IsCalm state running queue → IsCalm (moves_to methods.Options state) running queue
@@ -94,10 +123,10 @@ calm_set Init running queue calm = calm
 calm_set Ready running queue calm = calm
 calm_set Playing running queue calm = tt
 
-calm_empty : (state : State) → IsCalm state None []
-calm_empty Init = (refl, refl)
-calm_empty Ready = (refl, refl)
-calm_empty Playing = tt
+calm_none : (state : State) → IsCalm state None []
+calm_none Init = (refl, refl)
+calm_none Ready = (refl, refl)
+calm_none Playing = tt
 
 -- a PLAY is not allowed in Init
 not_init : (from : State) → is_allowed from methods.Play ≡ true → may_become from Init ≡ true → ⊥
@@ -110,103 +139,399 @@ calm_play from Init running queue allowed may = absurd (not_init from allowed ma
 calm_play from Ready running queue allowed may = tt
 calm_play from Playing running queue allowed may = tt
 
-new_or : (id old : Option (List ℕ)) → IsValidId id → IsValidId old → IsValidId (option_or id old)
-new_or None old a b = b
-new_or (Some id) old a b = a
+part_valid : (part : Part) (was new : Option (List ℕ)) → IsValidId was → IsValidId new → IsValidId (part_then part was new)
+part_valid Keeps was new a b = a
+part_valid Takes was new a b = b
+part_valid Loses was new a b = tt
 
-granted_sound : (method : Method) (from next : State) (number : ℕ) (uri : List ℕ) (track : Option Track) (id : Option (List ℕ)) (session : PlayerSession) → is_allowed from method ≡ true → may_become from session.state ≡ true
-    → IsCalm session.state session.running session.queue → IsValidId session.id → IsValidId id → may_become next (moves_to method session.state) ≡ true
-    → IsSoundAt next (when_granted method number uri track id (record session { state = moves_to method session.state }))
-granted_sound methods.Options from next number uri track id session allowed may calm valid new became = record { became = became; calm = calm_options session.state session.running session.queue calm; id = valid }
-granted_sound methods.Describe from next number uri track id session allowed may calm valid new became = record { became = became; calm = calm_describe session.state session.running session.queue calm; id = valid }
-granted_sound methods.Setup from next number uri track id session allowed may calm valid new became =
-    record { became = became; calm = calm_setup session.state session.running session.queue calm; id = new_or id session.id new valid }
-granted_sound methods.Play from next number uri track id session allowed may calm valid new became =
-    record { became = became; calm = calm_play from session.state (Some number) session.queue allowed may; id = valid }
-granted_sound methods.Pause from next number uri track id session allowed may calm valid new became = record { became = became; calm = calm_empty (moves_to methods.Pause session.state); id = valid }
-granted_sound methods.Teardown from next number uri track id session allowed may calm valid new became = record { became = became; calm = calm_empty (moves_to methods.Teardown session.state); id = tt }
-granted_sound methods.GetParameter from next number uri track id session allowed may calm valid new became = record { became = became; calm = calm_get session.state session.running session.queue calm; id = valid }
-granted_sound methods.SetParameter from next number uri track id session allowed may calm valid new became = record { became = became; calm = calm_set session.state session.running session.queue calm; id = valid }
+-- what a success makes of a session
+granted_sound : (method : Method) (from : State) (made : Bool) (brought : Brought) (session : PlayerSession) → is_allowed from method ≡ true → may_become from session.state ≡ true → IsSound session → IsValidId brought.id
+    → IsSound (turned (granted_turn method made (moves_to method session.state)) brought session)
+granted_sound methods.Options from made brought session allowed may sound new = record { calm = calm_options session.state session.running session.queue sound.calm; id = sound.id }
+granted_sound methods.Describe from made brought session allowed may sound new = record { calm = calm_describe session.state session.running session.queue sound.calm; id = sound.id }
+granted_sound methods.Setup from made brought session allowed may sound new =
+    record { calm = calm_setup session.state session.running session.queue sound.calm; id = part_valid (if_made made) session.id brought.id sound.id new }
+granted_sound methods.Play from made brought session allowed may sound new = record { calm = calm_play from session.state (Some brought.number) session.queue allowed may; id = sound.id }
+granted_sound methods.Pause from made brought session allowed may sound new = record { calm = calm_none (moves_to methods.Pause session.state); id = sound.id }
+granted_sound methods.Teardown from made brought session allowed may sound new = record { calm = (refl, refl); id = tt }
+granted_sound methods.GetParameter from made brought session allowed may sound new = record { calm = calm_get session.state session.running session.queue sound.calm; id = sound.id }
+granted_sound methods.SetParameter from made brought session allowed may sound new = record { calm = calm_set session.state session.running session.queue sound.calm; id = sound.id }
 
 -- The id that a reply makes is in the grammar.
 id_of_session : (session : Option SessionParts) → IfSome session (λ one. is_session_id one.id ≡ true) → IsValidId (option_map (λ one. one.id) session)
 id_of_session None all = tt
 id_of_session (Some session) all = all
 
-new_by : (sets : Bool) (id : Option (List ℕ)) (told : Told) → IsValidId (new_id_at sets id told)
-new_by false id told = tt
+new_by : (sets : Bool) (place : Option ℕ) (told : Told) → IsValidId (new_id_at sets place told)
+new_by false place told = tt
 new_by true None told = id_of_session (session_told told) (id_told told)
-new_by true (Some id) told = tt
+new_by true (Some place) told = tt
+
+none_new : (sets : Bool) (place : ℕ) (told : Told) → new_id_at sets (Some place) told ≡ None
+none_new false place told = refl
+none_new true place told = refl
+
+-- A session that is not that of an id is found by it neither before nor after.
+test_none : (id : List ℕ) (part : Part) (was new : Option (List ℕ)) → is_session id was ≡ false → is_session id new ≡ false → is_session id (part_then part was new) ≡ false
+test_none id Keeps was new a b = a
+test_none id Takes was new a b = b
+test_none id Loses was new a b = refl
+
+off_at : (place : ℕ) (change : PlayerSession → PlayerSession) (sessions : List PlayerSession) (id : List ℕ) → is_session id (session_at place sessions).id ≡ false → is_session id (change (session_at place sessions)).id ≡ false
+    → states_of (changed_at place change sessions) (places_of (changed_at place change sessions) id) ≡ states_of sessions (places_of sessions id)
+off_at place change sessions id was new =
+    ap (states_of (changed_at place change sessions)) (first_changed (λ session. is_session id session.id) 0 place change sessions (new ∙ sym was)) ∙ by (places_of sessions id) refl
+  where
+    by : (q : Option ℕ) → place_with id sessions ≡ q → states_of (changed_at place change sessions) q ≡ states_of sessions q
+    by None is = refl
+    by (Some at) is = ap (λ (session : PlayerSession). session.state) (changed_other place at change sessions
+        (λ same. let here = place_is (λ session. is_session id session.id) at sessions is in
+        let bad : true ≡ false = sym (subst (λ (k : ℕ). is_session id (session_at k sessions).id ≡ true) same here.passes) ∙ was in cc))
+
+-- That of its id is found at its place, or is gone.
+kept_at : (place : ℕ) (change : PlayerSession → PlayerSession) (sessions : List PlayerSession) (id : List ℕ) (next : State) → place_with id sessions ≡ Some place → (change (session_at place sessions)).id ≡ (session_at place sessions).id
+    → may_become next (change (session_at place sessions)).state ≡ true → may_become next (states_of (changed_at place change sessions) (places_of (changed_at place change sessions) id)) ≡ true
+kept_at place change sessions id next is kept may =
+    let there = place_is (λ session. is_session id session.id) place sessions is in
+    ap (λ (q : Option ℕ). may_become next (states_of (changed_at place change sessions) q)) (first_changed (λ session. is_session id session.id) 0 place change sessions (ap (is_session id) kept) ∙ is)
+    ∙ ap (λ (session : PlayerSession). may_become next session.state) (changed_here place change sessions there.within) ∙ may
+
+gone_place : (place : ℕ) (change : PlayerSession → PlayerSession) (sessions : List PlayerSession) (id : List ℕ) → AreDistinct sessions → place_with id sessions ≡ Some place → (change (session_at place sessions)).id ≡ None
+    → (q : Option ℕ) → place_with id (changed_at place change sessions) ≡ q → q ≡ None
+gone_place place change sessions id distinct is gone None found = refl
+gone_place place change sessions id distinct is gone (Some at) found = absurd (by (at == place) refl)
+  where
+    by : (same : Bool) → (at == place) ≡ same → ⊥
+    by true e =
+        let there = place_is (λ session. is_session id session.id) place sessions is in
+        let here = place_is (λ session. is_session id session.id) at (changed_at place change sessions) found in
+        let passes : is_session id (session_at place (changed_at place change sessions)).id ≡ true = subst (λ (k : ℕ). is_session id (session_at k (changed_at place change sessions)).id ≡ true) (eqb-true at place e) here.passes in
+        let bad : true ≡ false = sym passes ∙ ap (λ (session : PlayerSession). is_session id session.id) (changed_here place change sessions there.within) ∙ ap (is_session id) gone in
+        cc
+    by false e =
+        let here = place_is (λ session. is_session id session.id) at (changed_at place change sessions) found in
+        let apart : at ≢ place = eqb-false at place e in
+        let own : (session_at at sessions).id ≡ Some id =
+        sym (ap (λ (session : PlayerSession). session.id) (changed_other place at change sessions apart)) ∙ id_is (session_at at (changed_at place change sessions)).id id here.passes in
+        let both : Some at ≡ Some place = sym (distinct at id own) ∙ is in
+        let same : at ≡ place = cc in
+        apart same
+
+gone_at : (place : ℕ) (change : PlayerSession → PlayerSession) (sessions : List PlayerSession) (id : List ℕ) (next : State) → AreDistinct sessions → place_with id sessions ≡ Some place → (change (session_at place sessions)).id ≡ None
+    → may_become next Init ≡ true → may_become next (states_of (changed_at place change sessions) (places_of (changed_at place change sessions) id)) ≡ true
+gone_at place change sessions id next distinct is gone may =
+    ap (λ (q : Option ℕ). may_become next (states_of (changed_at place change sessions) q)) (gone_place place change sessions id distinct is gone (place_with id (changed_at place change sessions)) refl) ∙ may
+
+-- One that was made is found at its place.
+filled_first : (test : PlayerSession → Bool) (from place : ℕ) (change : PlayerSession → PlayerSession) (sessions : List PlayerSession) → first_place test from sessions ≡ None → place < length sessions → test (change (session_at place sessions)) ≡ true
+    → first_place test from (changed_at place change sessions) ≡ Some (from + place)
+filled_first test from place change [] none within passes = absurd (omega (arith, within))
+filled_first test from zero change (one ∷ more) none within passes =
+    ap (λ (here : Bool). cond here (Some from) (first_place test (from + 1) more)) passes ∙ ap (λ (k : ℕ). Some k) (omega arith)
+filled_first test from (suc place) change (one ∷ more) none within passes = by (test one) none (filled_first test (from + 1) place change more)
+  where
+    by : (here : Bool) → cond here (Some from) (first_place test (from + 1) more) ≡ None
+        → (first_place test (from + 1) more ≡ None → place < length more → test (change (session_at place more)) ≡ true → first_place test (from + 1) (changed_at place change more) ≡ Some ((from + 1) + place))
+        → cond here (Some from) (first_place test (from + 1) (changed_at place change more)) ≡ Some (from + suc place)
+    by true none later = cc
+    by false none later = later none (omega (arith, within)) passes ∙ ap (λ (k : ℕ). Some k) (omega arith)
+
+filled_at : (place : ℕ) (change : PlayerSession → PlayerSession) (sessions : List PlayerSession) (id : List ℕ) (next : State) → place_with id sessions ≡ None → place < length sessions → is_session id (change (session_at place sessions)).id ≡ true
+    → may_become next (change (session_at place sessions)).state ≡ true → may_become next (states_of (changed_at place change sessions) (places_of (changed_at place change sessions) id)) ≡ true
+filled_at place change sessions id next none within passes may =
+    ap (λ (q : Option ℕ). may_become next (states_of (changed_at place change sessions) q)) (filled_first (λ session. is_session id session.id) 0 place change sessions none within passes ∙ ap (λ (k : ℕ). Some k) (omega arith))
+    ∙ ap (λ (session : PlayerSession). may_become next session.state) (changed_here place change sessions within) ∙ may
+
+-- what a success makes of a session
+abbrev granted : Asked → Option Track → ℕ → Option (List ℕ) → Option (List ℕ) → PlayerSession → PlayerSession
+granted asked track number described new session = turned (granted_turn asked.method (is_some new) (moves_to asked.method session.state)) (brought_by (purposes.Client asked track) number described new) session
+
+abbrev turned_so : Asked → Option Track → ℕ → Option (List ℕ) → Option (List ℕ) → PlayerSession → Bool → PlayerSession
+turned_so asked track number described new session success =
+    turned (cond success (granted_turn asked.method (is_some new) (cond success (moves_to asked.method session.state) session.state)) (moved_turn session.state)) (brought_by (purposes.Client asked track) number described new) session
+
+same_where : (place : Option ℕ) (change other : PlayerSession → PlayerSession) (sessions : List PlayerSession) → ((session : PlayerSession) → change session ≡ other session) → changed_where place change sessions ≡ changed_where place other sessions
+same_where None change other sessions same = refl
+same_where (Some place) change other sessions same = same_changes place change other sessions same
+
+-- What a reply makes of the states, by the id that it is about and by the place that its request names.
+record IsSettledSo (at : List ℕ → State) (before after : List PlayerSession) (place : Option ℕ) (next : State) (about : Option (List ℕ)) : Type 0 where
+  pub on : (id : List ℕ) → is_session id about ≡ true → (places_of before id ≡ place) × (may_become next (states_of after (places_of after id)) ≡ true)
+  pub off : (id : List ℕ) → is_session id about ≡ false → may_become (at id) (states_of after (places_of after id)) ≡ true
+
+abbrev AreReached : (List ℕ → State) → List PlayerSession → Type 0
+AreReached at sessions = (id : List ℕ) → may_become (at id) (states_of sessions (places_of sessions id)) ≡ true
+
+-- nothing changes, and it is about no session
+none_so : (at : List ℕ → State) (before after : List PlayerSession) (place : Option ℕ) (next : State) (about : Option (List ℕ)) → AreReached at before → after ≡ before → about ≡ None → IsSettledSo at before after place next about
+none_so at before after place next about became same none = record {
+  on = λ id is. let bad : true ≡ false = sym is ∙ ap (is_session id) none in cc;
+  off = λ id is. subst (λ (sessions : List PlayerSession). may_become (at id) (states_of sessions (places_of sessions id)) ≡ true) (sym same) (became id);
+}
+
+-- a refusal changes nothing
+refused_so : (at : List ℕ → State) (before after : List PlayerSession) (place : Option ℕ) (from : State) (about : Option (List ℕ)) → AreReached at before → after ≡ before
+    → ((id : List ℕ) → is_session id about ≡ true → places_of before id ≡ place) → may_become from (states_of before place) ≡ true → IsSettledSo at before after place from about
+refused_so at before after place from about became same named may = record {
+  on = λ id is. (named id is, subst (λ (sessions : List PlayerSession). may_become from (states_of sessions (places_of sessions id)) ≡ true) (sym same) (ap (λ (q : Option ℕ). may_become from (states_of before q)) (named id is) ∙ may));
+  off = λ id is. subst (λ (sessions : List PlayerSession). may_become (at id) (states_of sessions (places_of sessions id)) ≡ true) (sym same) (became id);
+}
+
+same_text : (one id : List ℕ) → is_session id (Some one) ≡ true → one ≡ id
+same_text one id is = (bytes_eq-Decides one id).0 is
+
+gone_init : (next state : State) → may_become next (moves_to methods.Teardown state) ≡ true → may_become next Init ≡ true
+gone_init next Init may = may
+gone_init next Ready may = may
+gone_init next Playing may = may
+
+-- a success for a session that is named
+on_granted : (method : Method) (brought : Brought) (place : ℕ) (sessions : List PlayerSession) (id : List ℕ) (next : State) → AreDistinct sessions → place_with id sessions ≡ Some place → may_become next (moves_to method (session_at place sessions).state) ≡ true
+    → may_become next (states_of (changed_at place (λ session. turned (granted_turn method false (moves_to method session.state)) brought session) sessions) (places_of (changed_at place (λ session. turned (granted_turn method false (moves_to method session.state)) brought session) sessions) id)) ≡ true
+on_granted methods.Options brought place sessions id next distinct is may = kept_at place (λ session. turned (granted_turn methods.Options false (moves_to methods.Options session.state)) brought session) sessions id next is refl may
+on_granted methods.Describe brought place sessions id next distinct is may = kept_at place (λ session. turned (granted_turn methods.Describe false (moves_to methods.Describe session.state)) brought session) sessions id next is refl may
+on_granted methods.Setup brought place sessions id next distinct is may = kept_at place (λ session. turned (granted_turn methods.Setup false (moves_to methods.Setup session.state)) brought session) sessions id next is refl may
+on_granted methods.Play brought place sessions id next distinct is may = kept_at place (λ session. turned (granted_turn methods.Play false (moves_to methods.Play session.state)) brought session) sessions id next is refl may
+on_granted methods.Pause brought place sessions id next distinct is may = kept_at place (λ session. turned (granted_turn methods.Pause false (moves_to methods.Pause session.state)) brought session) sessions id next is refl may
+on_granted methods.Teardown brought place sessions id next distinct is may =
+    gone_at place (λ session. turned (granted_turn methods.Teardown false (moves_to methods.Teardown session.state)) brought session) sessions id next distinct is refl (gone_init next (session_at place sessions).state may)
+on_granted methods.GetParameter brought place sessions id next distinct is may = kept_at place (λ session. turned (granted_turn methods.GetParameter false (moves_to methods.GetParameter session.state)) brought session) sessions id next is refl may
+on_granted methods.SetParameter brought place sessions id next distinct is may = kept_at place (λ session. turned (granted_turn methods.SetParameter false (moves_to methods.SetParameter session.state)) brought session) sessions id next is refl may
+
+named_so : (at : List ℕ → State) (sessions : List PlayerSession) (place : ℕ) (asked : Asked) (track : Option Track) (number : ℕ) (described : Option (List ℕ)) (one : List ℕ) (next : State) → AreDistinct sessions → place_with one sessions ≡ Some place → AreReached at sessions
+    → may_become next (moves_to asked.method (session_at place sessions).state) ≡ true → IsSettledSo at sessions (changed_at place (granted asked track number described None) sessions) (Some place) next (Some one)
+named_so at sessions place asked track number described one next distinct is became may =
+    let change : PlayerSession → PlayerSession = granted asked track number described None in
+    let session : PlayerSession = session_at place sessions in
+    let there = place_is (λ session. is_session one session.id) place sessions is in
+    let own : session.id ≡ Some one = id_is session.id one there.passes in
+    record {
+      on = λ id here. subst (λ (k : List ℕ). (places_of sessions k ≡ Some place) × (may_become next (states_of (changed_at place change sessions) (places_of (changed_at place change sessions) k)) ≡ true)) (same_text one id here)
+          (is, on_granted asked.method (brought_by (purposes.Client asked track) number described None) place sessions one next distinct is may);
+      off = λ id other.
+          let was : is_session id session.id ≡ false = ap (is_session id) own ∙ other in
+          ap (λ (s : State). may_become (at id) s) (off_at place change sessions id was (test_none id (granted_turn asked.method false (moves_to asked.method session.state)).id session.id None was refl)) ∙ became id;
+    }
+
+-- a success of a SETUP that makes a session
+empty_is : (sessions : List PlayerSession) (place : Option ℕ) → AreTidy sessions → empty_place sessions ≡ place → session_where place sessions ≡ new_session
+empty_is sessions None tidy is = refl
+empty_is sessions (Some place) tidy is = by (session_at place sessions).id (place_is (λ session. is_none session.id) place sessions is).passes (tidy_at place sessions tidy)
+  where
+    by : (id : Option (List ℕ)) → is_none id ≡ true → IsTidyBy id (session_at place sessions) → session_at place sessions ≡ new_session
+    by None none tidy = tidy
+    by (Some id) none tidy = cc
+
+filled_so : (at : List ℕ → State) (sessions : List PlayerSession) (place : ℕ) (asked : Asked) (track : Option Track) (number : ℕ) (described : Option (List ℕ)) (one : List ℕ) (next : State) → asked.method ≡ methods.Setup → AreTidy sessions
+    → place_with one sessions ≡ None → empty_place sessions ≡ Some place → AreReached at sessions → may_become next (moves_to methods.Setup Init) ≡ true
+    → IsSettledSo at sessions (changed_at place (granted asked track number described (Some one)) sessions) None next (Some one)
+filled_so at sessions place asked track number described one next setup tidy fresh empty became may =
+    let change : PlayerSession → PlayerSession = granted asked track number described (Some one) in
+    let session : PlayerSession = session_at place sessions in
+    let there = place_is (λ session. is_none session.id) place sessions empty in
+    let new : session ≡ new_session = empty_is sessions (Some place) tidy empty in
+    let passes : is_session one (change session).id ≡ true =
+    ap (λ (m : Method). is_session one (part_then (granted_turn m true (moves_to m session.state)).id session.id (Some one))) setup ∙ (bytes_eq-Decides one one).1 refl in
+    let reaches : may_become next (change session).state ≡ true =
+    ap (λ (m : Method). may_become next (granted_turn m true (moves_to m session.state)).state) setup ∙ ap (λ (s : PlayerSession). may_become next (moves_to methods.Setup s.state)) new ∙ may in
+    record {
+      on = λ id here. subst (λ (k : List ℕ). (places_of sessions k ≡ None) × (may_become next (states_of (changed_at place change sessions) (places_of (changed_at place change sessions) k)) ≡ true)) (same_text one id here)
+          (fresh, filled_at place change sessions one next fresh there.within passes reaches);
+      off = λ id other.
+          let was : is_session id session.id ≡ false = ap (λ (s : PlayerSession). is_session id s.id) new in
+          ap (λ (s : State). may_become (at id) s) (off_at place change sessions id was (test_none id (granted_turn asked.method true (moves_to asked.method session.state)).id session.id (Some one) was other)) ∙ became id;
+    }
+
+made_so : (at : List ℕ → State) (sessions : List PlayerSession) (empty : Option ℕ) (asked : Asked) (track : Option Track) (number : ℕ) (described new : Option (List ℕ)) (next : State) → asked.method ≡ methods.Setup → AreTidy sessions
+    → ((id : List ℕ) → new ≡ Some id → place_with id sessions ≡ None) → empty_place sessions ≡ empty → AreReached at sessions → may_become next (moves_to methods.Setup Init) ≡ true
+    → IsSettledSo at sessions (changed_where (cond (is_some new) empty None) (granted asked track number described new) sessions) None next
+    (session_where empty (changed_where (cond (is_some new) empty None) (granted asked track number described new) sessions)).id
+made_so at sessions empty asked track number described None next setup tidy fresh is became may =
+    none_so at sessions sessions None next (session_where empty sessions).id became refl (ap (λ (s : PlayerSession). s.id) (empty_is sessions empty tidy is))
+made_so at sessions None asked track number described (Some one) next setup tidy fresh is became may = none_so at sessions sessions None next None became refl refl
+made_so at sessions (Some place) asked track number described (Some one) next setup tidy fresh is became may =
+    let change : PlayerSession → PlayerSession = granted asked track number described (Some one) in
+    let there = place_is (λ session. is_none session.id) place sessions is in
+    let about : (session_at place (changed_at place change sessions)).id ≡ Some one =
+    ap (λ (s : PlayerSession). s.id) (changed_here place change sessions there.within)
+    ∙ ap (λ (m : Method). part_then (granted_turn m true (moves_to m (session_at place sessions).state)).id (session_at place sessions).id (Some one)) setup in
+    subst (IsSettledSo at sessions (changed_at place change sessions) None next) (sym about) (filled_so at sessions place asked track number described one next setup tidy (fresh one refl) is became may)
+
+-- whether a request is a SETUP
+setup_or : (method : Method) → (method ≡ methods.Setup) ⊎ (is_setup method ≡ false)
+setup_or methods.Options = inr refl
+setup_or methods.Describe = inr refl
+setup_or methods.Setup = inl refl
+setup_or methods.Play = inr refl
+setup_or methods.Pause = inr refl
+setup_or methods.Teardown = inr refl
+setup_or methods.GetParameter = inr refl
+setup_or methods.SetParameter = inr refl
+
+-- the place that is settled, by the place that a request names and by whether it makes a session
+abbrev settled_by : Option ℕ → Bool → List PlayerSession → Option ℕ
+settled_by place makes sessions = option_or place (cond makes (empty_place sessions) None)
+
+-- the sessions after a success
+abbrev all_granted : Asked → Option Track → ℕ → Option (List ℕ) → Option ℕ → Option (List ℕ) → List PlayerSession → List PlayerSession
+all_granted asked track number described place new sessions = changed_where (settled_by place (is_setup asked.method && is_some new) sessions) (granted asked track number described new) sessions
+
+success_so : (at : List ℕ → State) (sessions : List PlayerSession) (asked : Asked) (track : Option Track) (number : ℕ) (described : Option (List ℕ)) (told : Told) (from : State) (place : Option ℕ) (value : Option (List ℕ)) (reply : Reply1) → AreDistinct sessions → AreTidy sessions
+    → AreReached at sessions → IsNamedAt (places_of sessions) value place → ((id : List ℕ) → new_id_at (sets_up asked.method) place told ≡ Some id → place_with id sessions ≡ None) → is_success reply.code ≡ true → (move : IsMoved from (states_of sessions place) asked.method)
+    → (asked.method ≡ methods.Setup → id_named (field_of reply.headers (codes "Session"))
+    ≡ (session_where (settled_by place (is_setup asked.method) sessions) (all_granted asked track number described place (new_id_at (sets_up asked.method) place told) sessions)).id)
+    → IsSettledSo at sessions (all_granted asked track number described place (new_id_at (sets_up asked.method) place told) sessions) place move.next (id_by value asked.method reply)
+success_so at sessions asked track number described told from (Some place) None reply distinct tidy became named fresh success move brought = cc
+success_so at sessions asked track number described told from (Some place) (Some value) reply distinct tidy became (one, is, there, some) fresh success move brought =
+    subst (λ (new : Option (List ℕ)). IsSettledSo at sessions (changed_at place (granted asked track number described new) sessions) (Some place) move.next (id_of value)) (sym (none_new (sets_up asked.method) place told))
+    (subst (IsSettledSo at sessions (changed_at place (granted asked track number described None) sessions) (Some place) move.next) (sym is)
+    (named_so at sessions place asked track number described one move.next distinct there became move.became))
+success_so at sessions asked track number described told from None (Some value) reply distinct tidy became (one, is, there, some) fresh success move brought = cc
+success_so at sessions asked track number described told from None None reply distinct tidy became named fresh success move brought = by (setup_or asked.method)
+  where
+    by : (asked.method ≡ methods.Setup) ⊎ (is_setup asked.method ≡ false)
+        → IsSettledSo at sessions (all_granted asked track number described None (new_id_at (sets_up asked.method) None told) sessions) None move.next (id_brought asked.method reply)
+    by (inr other) =
+        let new : Option (List ℕ) = new_id_at (sets_up asked.method) None told in
+        none_so at sessions (all_granted asked track number described None new sessions) None move.next (id_brought asked.method reply) became
+        (ap (λ (b : Bool). changed_where (cond (b && is_some new) (empty_place sessions) None) (granted asked track number described new) sessions) other)
+        (ap (λ (b : Bool). cond (b && is_success reply.code) (id_named (field_of reply.headers (codes "Session"))) None) other)
+    by (inl setup) =
+        let new : Option (List ℕ) = new_id_at (sets_up asked.method) None told in
+        let is : is_setup asked.method ≡ true = ap is_setup setup in
+        let made : List PlayerSession = changed_where (cond (is_some new) (empty_place sessions) None) (granted asked track number described new) sessions in
+        let all_is : all_granted asked track number described None new sessions ≡ made =
+        ap (λ (b : Bool). changed_where (cond (b && is_some new) (empty_place sessions) None) (granted asked track number described new) sessions) is in
+        let about : id_brought asked.method reply ≡ (session_where (empty_place sessions) made).id =
+        ap (λ (b : Bool). cond (b && is_success reply.code) (id_named (field_of reply.headers (codes "Session"))) None) is
+        ∙ ap (λ (b : Bool). cond b (id_named (field_of reply.headers (codes "Session"))) None) success ∙ brought setup
+        ∙ ap (λ (b : Bool). (session_where (cond b (empty_place sessions) None) (all_granted asked track number described None new sessions)).id) is
+        ∙ ap (λ (all : List PlayerSession). (session_where (empty_place sessions) all).id) all_is in
+        subst (λ (all : List PlayerSession). IsSettledSo at sessions all None move.next (id_brought asked.method reply)) (sym all_is)
+        (subst (IsSettledSo at sessions made None move.next) (sym about)
+        (made_so at sessions (empty_place sessions) asked track number described new move.next setup tidy fresh refl became (subst (λ (m : Method). may_become move.next (moves_to m Init) ≡ true) setup move.became)))
+
+-- the place that is settled has a state that the request's can lead to
+became_settled : (place : Option ℕ) (sets made : Bool) (sessions : List PlayerSession) (from : State) → AreTidy sessions → may_become from (states_of sessions place) ≡ true → may_become from (states_of sessions (settled_by place (sets && made) sessions)) ≡ true
+became_settled (Some place) sets made sessions from tidy may = may
+became_settled None false made sessions from tidy may = may
+became_settled None true false sessions from tidy may = may
+became_settled None true true sessions from tidy may = ap (λ (s : PlayerSession). may_become from s.state) (empty_is sessions (empty_place sessions) tidy refl) ∙ may
+
+-- Where a request names no session, its refusal is about none; and else about the one that it names.
+refused_about : (places : List ℕ → Option ℕ) (value : Option (List ℕ)) (place : Option ℕ) (method : Method) (reply : Reply1) (id : List ℕ) → IsNamedAt places value place → is_success reply.code ≡ false → is_session id (id_by value method reply) ≡ true → places id ≡ place
+refused_about places None place method reply id named refused is = by (is_setup method) (is_success reply.code) refused is
+  where
+    by : (sets success : Bool) → success ≡ false → is_session id (cond (sets && success) (id_named (field_of reply.headers (codes "Session"))) None) ≡ true → places id ≡ place
+    by true true refused is = cc
+    by true false refused is = cc
+    by false success refused is = cc
+refused_about places (Some value) place method reply id (one, named, there, some) refused is =
+    let same : Some one ≡ Some id = sym named ∙ id_is (id_of value) id is in
+    let text : one ≡ id = cc in
+    subst (λ (k : List ℕ). places k ≡ place) text there
 
 -- A reply to the player's own request.
-asked_settles : (bases : Bases) (number : ℕ) (at : State) (client : Client) (requests : List Shape) (asked : Asked) (track : Option Track) (told : Told) (ssrc : Option ℕ) (success : Bool) → is_success told.code ≡ success
-    → list_all is_header told.fields ≡ true → (st : IsStanding at client requests) → IsAsked at client.session.state asked track st.owed
-    → length (reply_hand bases (purposes.Client asked track) told ssrc (heard_as number told.code (new_id (purposes.Client asked track) client.session.id told) client (Some (purposes.Client asked track)))) < 2 ^ 64
-    → IsWalking at requests (hands (reply_hand bases (purposes.Client asked track) told ssrc (heard_as number told.code (new_id (purposes.Client asked track) client.session.id told) client (Some (purposes.Client asked track))))
-    (heard_as number told.code (new_id (purposes.Client asked track) client.session.id told) client (Some (purposes.Client asked track))))
-asked_settles bases number at client requests asked track told ssrc true e fields st o short =
-    let id : Option (List ℕ) = new_id (purposes.Client asked track) client.session.id told in
-    let after : Client = heard_as number told.code id client (Some (purposes.Client asked track)) in
-    let place : Setting = setting bases track ssrc told after in
-    let state : State = moves_to asked.method client.session.state in
-    let made : PlayerSession = when_granted asked.method number asked.uri track id (record client.session { state = state }) in
-    let session_is : after.session ≡ made =
-    ap (λ b. cond b (when_granted asked.method number asked.uri track id (when_moved asked.method told.code client.session)) client.session) e
-    ∙ ap (λ b. when_granted asked.method number asked.uri track id (record client.session { state = cond b state client.session.state })) e in
-    let move : IsMoved o.from client.session.state asked.method = moved o.from client.session.state asked.method o.became o.sent.allowed in
-    let sound : IsSoundAt move.next made =
-    granted_sound asked.method o.from move.next number asked.uri track id client.session o.sent.allowed o.became st.sound.calm st.sound.id (new_by (sets_up asked.method) client.session.id told) move.became in
-    let sound_now : IsSoundAt move.next after.session = subst (λ (s : PlayerSession). IsSoundAt move.next s) (sym session_is) sound in
+asked_settles : (success : Bool) (bases : Bases) (number : ℕ) (at : List ℕ → State) (client : Client) (requests : List Shape) (asked : Asked) (track : Option Track) (told : Told) (ssrc : Option ℕ) → is_success told.code ≡ success
+    → list_all is_header told.fields ≡ true → length told.body ≤ MOST_BODY → AreDistinct client.sessions → IsInPlace client → (is_success told.code ≡ true → (id : List ℕ) → new_id (purposes.Client asked track) told ≡ Some id → place_with id client.sessions ≡ None)
+    → (st : IsStanding at client requests) → IsAsked at (places_of client.sessions) (states_of client.sessions) asked track st.owed
+    → IsWalking at requests (hands (reply_hand bases client.alive (purposes.Client asked track) told ssrc (id_after (purposes.Client asked track) client (settle_with (Some (purposes.Client asked track)) number told.code (new_id (purposes.Client asked track) told) client)))
+    (settle_with (Some (purposes.Client asked track)) number told.code (new_id (purposes.Client asked track) told) client))
+asked_settles true bases number at client requests asked track told ssrc e fields body distinct placed fresh st o =
+    let purpose : Purpose = purposes.Client asked track in
+    let new : Option (List ℕ) = new_id purpose told in
+    let after : Client = settle_with (Some purpose) number told.code new client in
+    let id : Option (List ℕ) = id_after purpose client after in
+    let place : Setting = setting bases track ssrc told id in
+    let sessions : List PlayerSession = client.sessions in
+    let all : List PlayerSession = all_granted asked track number client.described asked.place new sessions in
+    let where_is : Option ℕ = settled_by asked.place (is_setup asked.method && is_some new) sessions in
+    let all_is : after.sessions ≡ all =
+    same_where where_is (session_after purpose number told.code client.described new) (granted asked track number client.described new) sessions (λ session. ap (turned_so asked track number client.described new session) e) in
+    let each_all : (q : Option ℕ) → IsSound (session_where q all) =
+    each_where IsSound where_is (granted asked track number client.described new) sessions
+    (λ sound. granted_sound asked.method o.from (is_some new) (brought_by purpose number client.described new) (session_where where_is sessions) o.sent.allowed
+    (became_settled asked.place (is_setup asked.method) (is_some new) sessions o.from placed.tidy o.became) sound (new_by (sets_up asked.method) asked.place told)) st.each in
+    let each : (q : Option ℕ) → IsSound (session_where q after.sessions) = subst (λ (one : List PlayerSession). (q : Option ℕ) → IsSound (session_where q one)) (sym all_is) each_all in
+    let valid : IsValidId id = (each (purpose_place purpose sessions)).id in
     let reply_is : reply_down place asked told ≡ success_of place asked told = ap (λ b. cond b (success_of place asked told) (refusal_of asked told)) e in
-    let hand_is : reply_hand bases (purposes.Client asked track) told ssrc after ≡ reply_text (reply_down place asked told) = ap (λ b. cond b (reply_text (reply_down place asked told)) []) st.alive in
-    step_made at client after requests st.owed asked track (reply_down place asked told) move.next (reply_hand bases (purposes.Client asked track) told ssrc after) o st.requests_are st.alive refl refl hand_is
-    (success_readable bases asked track told ssrc after (record { id = sound_now.id; channels = o.channels; short = o.sent.short; fields = fields }) e (subst (λ (t : List ℕ). length t < 2 ^ 64) hand_is short))
-    (ap (λ (one : Reply1). one.cseq) reply_is) (ap (λ (one : Reply1). led_by o.from (Some asked.method) one.code) reply_is ∙ move.row) sound_now
-asked_settles bases number at client requests asked track told ssrc false e fields st o short =
-    let id : Option (List ℕ) = new_id (purposes.Client asked track) client.session.id told in
-    let after : Client = heard_as number told.code id client (Some (purposes.Client asked track)) in
-    let place : Setting = setting bases track ssrc told after in
-    let session_is : after.session ≡ client.session =
-    ap (λ b. cond b (when_granted asked.method number asked.uri track id (when_moved asked.method told.code client.session)) client.session) e in
-    let sound : IsSoundAt o.from client.session = record { became = o.became; calm = st.sound.calm; id = st.sound.id } in
-    let sound_now : IsSoundAt o.from after.session = subst (λ (s : PlayerSession). IsSoundAt o.from s) (sym session_is) sound in
+    let hand_is : reply_hand bases client.alive purpose told ssrc id ≡ reply_text (reply_down place asked told) = ap (λ b. cond b (reply_text (reply_down place asked told)) []) st.alive in
+    let move : IsMoved o.from (states_of sessions asked.place) asked.method = moved o.from (states_of sessions asked.place) asked.method o.became o.sent.allowed in
+    let so : IsSettledSo at sessions all asked.place move.next (id_by (field o.sent.request (codes "Session")) asked.method (reply_down place asked told)) =
+    success_so at sessions asked track number client.described told o.from asked.place (field o.sent.request (codes "Session")) (reply_down place asked told) distinct placed.tidy st.became o.at_is (fresh e) (ap (λ (one : Reply1). is_success one.code) reply_is) move
+    (λ setup. ap (λ (one : Reply1). id_named (field_of one.headers (codes "Session"))) reply_is ∙ brought_is bases asked track told ssrc id setup valid
+    ∙ ap (λ (one : List PlayerSession). (session_where (settled_by asked.place (is_setup asked.method) sessions) one).id) all_is) in
+    let now : IsSettledSo at sessions after.sessions asked.place move.next (id_by (field o.sent.request (codes "Session")) asked.method (reply_down place asked told)) =
+    subst (λ (one : List PlayerSession). IsSettledSo at sessions one asked.place move.next (id_by (field o.sent.request (codes "Session")) asked.method (reply_down place asked told))) (sym all_is) so in
+    step_made at client after requests st.owed asked track (reply_down place asked told) move.next (reply_hand bases client.alive purpose told ssrc id) o st.requests_are st.alive refl refl hand_is
+    (down_readable bases asked track told ssrc id (record { id = valid; channels = o.channels; short = o.sent.short; fields = fields; body = body }))
+    (ap (λ (one : Reply1). one.cseq) reply_is) (ap (λ (one : Reply1). led_by o.from (Some asked.method) one.code) reply_is ∙ move.row) now.on now.off each
+asked_settles false bases number at client requests asked track told ssrc e fields body distinct placed fresh st o =
+    let purpose : Purpose = purposes.Client asked track in
+    let new : Option (List ℕ) = new_id purpose told in
+    let after : Client = settle_with (Some purpose) number told.code new client in
+    let id : Option (List ℕ) = id_after purpose client after in
+    let place : Setting = setting bases track ssrc told id in
+    let sessions : List PlayerSession = client.sessions in
+    let all_is : after.sessions ≡ sessions =
+    nothing_changed_where (settled_place purpose new sessions) (session_after purpose number told.code client.described new) sessions (λ session. ap (turned_so asked track number client.described new session) e) in
+    let each : (q : Option ℕ) → IsSound (session_where q after.sessions) = subst (λ (one : List PlayerSession). (q : Option ℕ) → IsSound (session_where q one)) (sym all_is) st.each in
+    let valid : IsValidId id = (each (purpose_place purpose sessions)).id in
     let reply_is : reply_down place asked told ≡ refusal_of asked told = ap (λ b. cond b (success_of place asked told) (refusal_of asked told)) e in
-    let hand_is : reply_hand bases (purposes.Client asked track) told ssrc after ≡ reply_text (reply_down place asked told) = ap (λ b. cond b (reply_text (reply_down place asked told)) []) st.alive in
-    step_made at client after requests st.owed asked track (reply_down place asked told) o.from (reply_hand bases (purposes.Client asked track) told ssrc after) o st.requests_are st.alive refl refl hand_is
-    (refusal_readable bases asked track told ssrc after (record { id = sound_now.id; channels = o.channels; short = o.sent.short; fields = fields }) e)
+    let refused : is_success (reply_down place asked told).code ≡ false = ap (λ (one : Reply1). is_success one.code) reply_is ∙ code_refuses told.code e in
+    let hand_is : reply_hand bases client.alive purpose told ssrc id ≡ reply_text (reply_down place asked told) = ap (λ b. cond b (reply_text (reply_down place asked told)) []) st.alive in
+    let so : IsSettledSo at sessions after.sessions asked.place o.from (id_by (field o.sent.request (codes "Session")) asked.method (reply_down place asked told)) =
+    refused_so at sessions after.sessions asked.place o.from (id_by (field o.sent.request (codes "Session")) asked.method (reply_down place asked told)) st.became all_is
+    (λ one is. refused_about (places_of sessions) (field o.sent.request (codes "Session")) asked.place asked.method (reply_down place asked told) one o.at_is refused is) o.became in
+    step_made at client after requests st.owed asked track (reply_down place asked told) o.from (reply_hand bases client.alive purpose told ssrc id) o st.requests_are st.alive refl refl hand_is
+    (down_readable bases asked track told ssrc id (record { id = valid; channels = o.channels; short = o.sent.short; fields = fields; body = body }))
     (ap (λ (one : Reply1). one.cseq) reply_is)
-    (ap (λ (one : Reply1). led_by o.from (Some asked.method) one.code) reply_is ∙ ap (λ b. cond b (option_and_then (next_of o.from) (Some asked.method)) (Some o.from)) (code_refuses told.code e)) sound_now
+    (ap (λ b. cond b (option_and_then (next_of o.from) (Some asked.method)) (Some o.from)) refused) so.on so.off each
 
 -- A reply to a PLAY that waited: nothing is answered, and where it is refused what played has ended.
-released_sound : (success : Bool) (at : State) (number : ℕ) (uri : List ℕ) (session : PlayerSession) → session.state ≡ Playing → IsSoundAt at session
-    → IsSoundAt at (cond success (when_played number uri session) (record session { state = Ready; running = None; queue = [] }))
-released_sound true at number uri session playing sound = record { became = sound.became; calm = calm_playing session.state (Some number) session.queue playing; id = sound.id }
-released_sound false at number uri session playing sound =
-    record { became = may_more at Playing Ready (subst (λ s. may_become at s ≡ true) playing sound.became) refl; calm = (refl, refl); id = sound.id }
+released_sound : (success : Bool) (brought : Brought) (session : PlayerSession) → session.state ≡ Playing → IsSound session → IsSound (turned (released_turn success session.state) brought session)
+released_sound true brought session playing sound = record { calm = calm_playing session.state (Some brought.number) session.queue playing; id = sound.id }
+released_sound false brought session playing sound = record { calm = (refl, refl); id = sound.id }
 
-released_settles : (bases : Bases) (number : ℕ) (at : State) (client : Client) (requests : List Shape) (play : Play) (told : Told) (ssrc : Option ℕ) (id : Option (List ℕ)) (st : IsStanding at client requests) → st.owed ≡ [] → client.session.state ≡ Playing
-    → IsWalking at requests (hands (reply_hand bases (purposes.Released play) told ssrc (heard_as number told.code id client (Some (purposes.Released play)))) (heard_as number told.code id client (Some (purposes.Released play))))
-released_settles bases number at client requests play told ssrc id st none playing =
-    let after : Client = heard_as number told.code id client (Some (purposes.Released play)) in
-    walks_on at requests (hands (reply_hand bases (purposes.Released play) told ssrc after) after) (ap (λ b. cond {A = List ℕ} b [] []) st.alive)
-    (record { alive = st.alive; sound = released_sound (is_success told.code) at number play.uri client.session playing st.sound; owed = st.owed; is_open = none; requests_are = st.requests_are })
+released_may : (success : Bool) (from : State) (brought : Brought) (session : PlayerSession) → session.state ≡ Playing → may_become from session.state ≡ true → may_become from (turned (released_turn success session.state) brought session).state ≡ true
+released_may true from brought session playing may = may
+released_may false from brought session playing may = may_more from Playing Ready (subst (λ s. may_become from s ≡ true) playing may) refl
+
+released_id : (success : Bool) (brought : Brought) (session : PlayerSession) → (turned (released_turn success session.state) brought session).id ≡ session.id
+released_id true brought session = refl
+released_id false brought session = refl
+
+released_settles : (bases : Bases) (number : ℕ) (at : List ℕ → State) (client : Client) (requests : List Shape) (play : Play) (told : Told) (ssrc : Option ℕ) (session new : Option (List ℕ)) (st : IsStanding at client requests) → st.owed ≡ []
+    → (session_where play.place client.sessions).state ≡ Playing
+    → IsWalking at requests (hands (reply_hand bases client.alive (purposes.Released play) told ssrc session) (settle_with (Some (purposes.Released play)) number told.code new client))
+released_settles bases number at client requests play told ssrc session new st none playing =
+    let purpose : Purpose = purposes.Released play in
+    let change : PlayerSession → PlayerSession = session_after purpose number told.code client.described new in
+    let brought : Brought = brought_by purpose number client.described new in
+    let success : Bool = is_success told.code in
+    let sessions : List PlayerSession = client.sessions in
+    let own : PlayerSession = session_where play.place sessions in
+    walks_on at requests (hands (reply_hand bases client.alive purpose told ssrc session) (settle_with (Some purpose) number told.code new client)) (ap (λ b. cond {A = List ℕ} b [] []) st.alive)
+    (record {
+      alive = st.alive;
+      became = λ one. ap (λ (q : Option ℕ). may_become (at one) (states_of (changed_where play.place change sessions) q)) (same_places play.place change sessions (released_id success brought own) one)
+          ∙ one_where (λ (s : PlayerSession). may_become (at one) s.state ≡ true) play.place change sessions (released_may success (at one) brought own playing) (places_of sessions one) (st.became one);
+      each = each_where IsSound play.place change sessions (released_sound success brought own playing) st.each;
+      owed = [];
+      is_open = refl;
+      requests_are = st.requests_are ∙ ap (λ (l : List Shape). l ++ counted client.waiting) none;
+    })
 
 -- By what the open request was for.
-abbrev Settles : Bases → ℕ → State → Client → List Shape → Purpose → Told → Option ℕ → Option Purpose → Type 0
-Settles bases number at client requests purpose told ssrc pending =
-    length (reply_hand bases purpose told ssrc (heard_as number told.code (new_id purpose client.session.id told) client pending)) < 2 ^ 64
-    → IsWalking at requests (hands (reply_hand bases purpose told ssrc (heard_as number told.code (new_id purpose client.session.id told) client pending)) (heard_as number told.code (new_id purpose client.session.id told) client pending))
-
-purpose_settles : (bases : Bases) (number : ℕ) (at : State) (client : Client) (requests : List Shape) (purpose : Purpose) (told : Told) (ssrc : Option ℕ) → list_all is_header told.fields ≡ true → (st : IsStanding at client requests)
-    → IsOpen at client.session (Some purpose) st.owed → Settles bases number at client requests purpose told ssrc (Some purpose)
-purpose_settles bases number at client requests (purposes.Client asked track) told ssrc fields st is short = asked_settles bases number at client requests asked track told ssrc (is_success told.code) refl fields st is short
-purpose_settles bases number at client requests (purposes.Released play) told ssrc fields st is short =
-    released_settles bases number at client requests play told ssrc (new_id (purposes.Released play) client.session.id told) st is.0 is.1
-purpose_settles bases number at client requests purposes.Closing told ssrc fields st is short = absurd is
-
-pub settle_walks : (bases : Bases) (number : ℕ) (at : State) (client : Client) (requests : List Shape) (pending : Option Purpose) (told : Told) (ssrc : Option ℕ) → client.pending ≡ pending → list_all is_header told.fields ≡ true
-    → IsStanding at client requests → length (settle_at bases number pending told ssrc client).effect.hand < 2 ^ 64 → IsWalking at requests (settle_at bases number pending told ssrc client).effect
-settle_walks bases number at client requests None told ssrc e fields st short = walks_on at requests (idles client).effect refl st
-settle_walks bases number at client requests (Some purpose) told ssrc e fields st short =
-    subst (Settles bases number at client requests purpose told ssrc) (sym e)
-    (purpose_settles bases number at client requests purpose told ssrc fields st (subst (λ (p : Option Purpose). IsOpen at client.session p st.owed) e st.is_open)) short
+pub settle_walks : (bases : Bases) (number : ℕ) (at : List ℕ → State) (client : Client) (requests : List Shape) (purpose : Purpose) (told : Told) (ssrc : Option ℕ) → client.pending ≡ Some purpose → list_all is_header told.fields ≡ true → length told.body ≤ MOST_BODY
+    → AreDistinct client.sessions → IsInPlace client → (is_success told.code ≡ true → (id : List ℕ) → new_id purpose told ≡ Some id → place_with id client.sessions ≡ None) → IsStanding at client requests → IsWalking at requests (settled bases number purpose told ssrc client).effect
+settle_walks bases number at client requests purpose told ssrc e fields body distinct placed fresh st =
+    subst (λ (p : Option Purpose). IsWalking at requests (hands (reply_hand bases client.alive purpose told ssrc (id_after purpose client (settle_with p number told.code (new_id purpose told) client))) (settle_with p number told.code (new_id purpose told) client))) (sym e)
+    (by purpose fresh (subst (λ (p : Option Purpose). IsOpen at client.sessions p st.owed) e st.is_open))
+  where
+    by : (one : Purpose) → (is_success told.code ≡ true → (id : List ℕ) → new_id one told ≡ Some id → place_with id client.sessions ≡ None) → IsOpen at client.sessions (Some one) st.owed
+        → IsWalking at requests (hands (reply_hand bases client.alive one told ssrc (id_after one client (settle_with (Some one) number told.code (new_id one told) client))) (settle_with (Some one) number told.code (new_id one told) client))
+    by (purposes.Client asked track) fresh is = asked_settles (is_success told.code) bases number at client requests asked track told ssrc refl fields body distinct placed fresh st is
+    by (purposes.Released play) fresh is =
+        released_settles bases number at client requests play told ssrc (id_after (purposes.Released play) client (settle_with (Some (purposes.Released play)) number told.code None client)) None st is.0 is.1
+    by (purposes.Closing place) fresh is = absurd is

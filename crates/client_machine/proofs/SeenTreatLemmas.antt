@@ -1,153 +1,284 @@
 -- Requests that are treated in a row walk the table.
-use Rattle.std.proofs.Common.{◌≡◌, ◌∙◌, ◌^◌, ℕ, Bool, true, false, cond, List, [], ◌∷◌, ◌++◌, map, length, Option, None, Some, IfSome, refl, sym, ap, subst}
+use Rattle.std.proofs.Common.{◌≡◌, ◌∙◌, ◌^◌, ℕ, zero, suc, ◌+◌, Bool, true, false, cond, List, [], ◌∷◌, ◌++◌, map, length, Option, None, Some, IfSome, IsSome, Result, Ok, Err, refl, sym, ap, subst}
+use Rattle.std.specs.Prelude.{codes}
+use Rattle.std.specs.Option.{option_and_then}
 use Rattle.std.proofs.lemmas.Bool.{ltb-true}
+use Rattle.std.proofs.lemmas.Slice.Eq.{bytes_eq-Decides}
+use Rattle.rtsp_head.specs.Headers.{field_of}
 use Rattle.rtsp_head.specs.Items.{Shape}
+use Rattle.rtsp_small.specs.declared.method.Method.{Method}
+use Rattle.rtsp_small.specs.declared.method.Method.TheVariants as methods
+use Rattle.head_one.specs.declared.reply.Reply1.{Reply1}
+use Rattle.head_one.specs.declared.request.Request1.{Request1}
+use Rattle.head_one.specs.declared.refusal.Refusal.{Refusal}
 use Rattle.head_one.specs.Replies.{reply_text}
 use Rattle.head_one.specs.Requests.{request_of_item}
 use Rattle.session_one.specs.declared.parts.Play.{Play}
 use Rattle.session_one.specs.declared.table.State.{State}
-use Rattle.session_one.specs.declared.table.State.TheVariants.{Init, Ready, Playing}
-use Rattle.translate_up.specs.Views.{Given}
-use Rattle.translate_up.specs.Decisions.{decide}
+use Rattle.session_one.specs.declared.table.State.TheVariants.{Init, Playing}
+use Rattle.session_one.specs.Table.{next_of, is_success}
+use Rattle.translate_up.specs.Fields.{field}
+use Rattle.translate_up.specs.Ids.{id_of, are_same}
+use Rattle.translate_up.specs.Leads.{method_asked, led_by}
+use Rattle.translate_up.specs.Views.{SeenSession, Given, place_from, place_of, place_named, session_in, judged_by}
+use Rattle.translate_up.specs.Decisions.{judged_read, judged_of, decide}
 use Rattle.translate_up.specs.declared.decision.Decision.{Decision}
 use Rattle.translate_up.specs.declared.decision.Decision.TheVariants.{Answer, Forward, Queue, Setup}
-use Rattle.client_machine.specs.Treatment.{one_queued, fits_memory, Going, Treated, with_answer, treated_first, treated}
-use Rattle.client_machine.specs.SeenRun.{SeenStep, may_become, IsWalk}
-use Rattle.client_machine.proofs.SeenWalkLemmas.{may_self, last_from, texts, AreReplies}
 use Rattle.translate_up.proofs.StateLemmas.{IsValidId, IsAnswer, IsSent, IsGiven, IsDecided, decided}
+use Rattle.translate_up.proofs.DecisionLemmas.{IsPlacedAs, decide_placed}
+use Rattle.translate_up.proofs.UnrefusedLemmas.{IsUnrefused, IsUpAs, IsUnrefusedIn, decided_unrefused, named_there}
+use Rattle.client_slot.specs.Places.{is_session}
+use Rattle.client_machine.specs.Treatment.{queued_more, queued_more_where, one_queued, fits_memory, Going, Treated, with_answer, treated_first, treated}
+use Rattle.client_machine.specs.SeenRun.{SeenStep, id_brought, id_by, id_about, is_about, may_become, AreNumbered}
+use Rattle.client_machine.proofs.PlacedLemmas.{calm_in}
+use Rattle.client_machine.proofs.SeenWalkLemmas.{may_self, AreWalks, walks_more, led_for, one_walks, texts, AreReplies}
 
 -- the requests that memory can hold
 abbrev pub counted : List Shape → List Shape
 counted [] = []
 counted (shape ∷ more) = cond (fits_memory shape) (shape ∷ counted more) (counted more)
 
+-- the place of the session with an id, and the state of the session at a place
+abbrev pub places_in : List SeenSession → List ℕ → Option ℕ
+places_in sessions id = place_of id sessions
+
+abbrev pub states_in : List SeenSession → Option ℕ → State
+states_in sessions place = (session_in place sessions).state
+
 -- PLAYs wait only while streams play.
-abbrev pub ArePlays : State → List Play → Type 0
-ArePlays Init plays = plays ≡ []
-ArePlays Ready plays = plays ≡ []
-ArePlays Playing plays = Unit {0}
+abbrev pub ArePlaysOn : (Option ℕ → State) → List Play → Type 0
+ArePlaysOn states [] = Unit {0}
+ArePlaysOn states (play ∷ plays) = (states play.place ≡ Playing) × ArePlaysOn states plays
+
+-- By a request's Session field: it names the session at a place, or none.
+abbrev pub IsNamedAt : (List ℕ → Option ℕ) → Option (List ℕ) → Option ℕ → Type 0
+IsNamedAt places None place = place ≡ None
+IsNamedAt places (Some value) place = (id : List ℕ) × (id_of value ≡ Some id) × (places id ≡ place) × IsSome place
 
 -- the request that goes up
-pub record IsAway (state : State) (one : Going) (owed : List Shape) : Type 0 where
+pub record IsAway (places : List ℕ → Option ℕ) (states : Option ℕ → State) (one : Going) (owed : List Shape) : Type 0 where
   pub shape : Shape
   pub owed_is : owed ≡ shape ∷ []
-  pub sent : IsSent state (request_of_item shape) one.asked
+  pub sent : IsSent (states one.asked.place) (request_of_item shape) one.asked
   pub channels : IfSome one.channels IsGiven
+  pub at : IsNamedAt places (field sent.request (codes "Session")) one.asked.place
 
-abbrev pub AreAway : State → Option Going → List Shape → Type 0
-AreAway state None owed = owed ≡ []
-AreAway state (Some one) owed = IsAway state one owed
+abbrev pub AreAway : (List ℕ → Option ℕ) → (Option ℕ → State) → Option Going → List Shape → Type 0
+AreAway places states None owed = owed ≡ []
+AreAway places states (Some one) owed = IsAway places states one owed
 
--- What becomes of requests, from a state that the walk has come to, in a state of the session.
-pub record IsTreatedSo (at state : State) (requests : List Shape) (all : Treated) : Type 0 where
+-- What becomes of requests, from states that the walks have come to, in the states of the sessions.
+pub record IsTreatedSo (at : List ℕ → State) (places : List ℕ → Option ℕ) (states : Option ℕ → State) (requests : List Shape) (all : Treated) : Type 0 where
   pub steps : List SeenStep
   pub owed : List Shape
-  pub walk : IsWalk at steps
-  pub became : may_become (last_from at steps) state ≡ true
+  pub now : List ℕ → State
+  pub walks : AreWalks at steps now
+  pub became : (id : List ℕ) → may_become (now id) (states (places id)) ≡ true
+  pub numbers : AreNumbered steps
   pub readable : AreReplies steps
   pub text_is : all.hand ≡ texts steps
   pub requests_are : requests ≡ map (λ (step : SeenStep). step.request) steps ++ (owed ++ counted all.left)
-  pub away : AreAway state all.going owed
-  pub plays : ArePlays state all.plays
+  pub away : AreAway places states all.going owed
+  pub plays : ArePlaysOn states all.plays
+
+-- An answer of the gateway itself is about the session by whose state it was decided.
+brought_none : (method : Method) (reply : Reply1) (id : List ℕ) → led_by Init (Some method) reply.code ≡ Some Init → is_session id (id_brought method reply) ≡ true → ⊥
+brought_none methods.Options reply id leads about = cc
+brought_none methods.Describe reply id leads about = cc
+brought_none methods.Setup reply id leads about = by (is_success reply.code) leads about
+  where
+    by : (success : Bool) → cond success (option_and_then (next_of Init) (Some methods.Setup)) (Some Init) ≡ Some Init → is_session id (cond success (option_and_then id_of (field_of reply.headers (codes "Session"))) None) ≡ true → ⊥
+    by true leads about = cc
+    by false leads about = cc
+brought_none methods.Play reply id leads about = cc
+brought_none methods.Pause reply id leads about = cc
+brought_none methods.Teardown reply id leads about = cc
+brought_none methods.GetParameter reply id leads about = cc
+brought_none methods.SetParameter reply id leads about = cc
+
+pub id_is : (one : Option (List ℕ)) (id : List ℕ) → is_session id one ≡ true → one ≡ Some id
+id_is None id e = cc
+id_is (Some one) id e = ap (λ (text : List ℕ). Some text) ((bytes_eq-Decides one id).0 e)
+
+answered_by : (sessions : List SeenSession) (value : Option (List ℕ)) (method : Method) (reply : Reply1) (id : List ℕ) → led_by (states_in sessions (place_named value sessions)) (Some method) reply.code ≡ Some (states_in sessions (place_named value sessions))
+    → is_session id (id_by value method reply) ≡ true → states_in sessions (places_in sessions id) ≡ states_in sessions (place_named value sessions)
+answered_by sessions None method reply id leads about = absurd (brought_none method reply id leads about)
+answered_by sessions (Some value) method reply id leads about =
+    ap (λ (one : Option (List ℕ)). states_in sessions (option_and_then (λ text. place_of text sessions) one)) (sym (id_is (id_of value) id about))
+
+answered_at : (given : Given) (found : Result Request1 Refusal) (reply : Reply1) (id : List ℕ) → led_by (judged_read given found).state (method_asked found) reply.code ≡ Some (judged_read given found).state
+    → is_session id (id_about found reply) ≡ true → states_in given.sessions (places_in given.sessions id) ≡ (judged_read given found).state
+answered_at given (Ok request) reply id leads about = answered_by given.sessions (field request (codes "Session")) request.method reply id leads about
+answered_at given (Err refusal) reply id leads about = cc
 
 -- one step before those of the others
-step_first : (at state : State) (shape : Shape) (requests : List Shape) (text : List ℕ) (later : Treated) → may_become at state ≡ true → IsAnswer state (request_of_item shape) text → IsTreatedSo state state requests later
-    → IsTreatedSo at state (shape ∷ requests) (with_answer text later)
-step_first at state shape requests text later may answer so =
-    let step : SeenStep = record { request = shape; reply = answer.reply; before = state; after = state } in
+step_first : (at : List ℕ → State) (places : List ℕ → Option ℕ) (states : Option ℕ → State) (state : State) (shape : Shape) (requests : List Shape) (text : List ℕ) (later : Treated) (answer : IsAnswer state (request_of_item shape) text)
+    → ((id : List ℕ) → is_about id (record { request = shape; reply = answer.reply }) ≡ true → states (places id) ≡ state) → ((id : List ℕ) → may_become (at id) (states (places id)) ≡ true)
+    → ((next : List ℕ → State) → ((id : List ℕ) → may_become (next id) (states (places id)) ≡ true) → IsTreatedSo next places states requests later) → IsTreatedSo at places states (shape ∷ requests) (with_answer text later)
+step_first at places states state shape requests text later answer about may on =
+    let step : SeenStep = record { request = shape; reply = answer.reply } in
+    let next : List ℕ → State = led_for at step state in
+    let so : IsTreatedSo next places states requests later = on next (λ id. by id (is_about id step) refl) in
     record {
       steps = step ∷ so.steps;
       owed = so.owed;
-      walk = (may, record { number = answer.number; leads = answer.leads }, so.walk);
+      now = so.now;
+      walks = walks_more at next so.now (step ∷ []) so.steps (one_walks at step state state (λ id here. subst (λ (s : State). may_become (at id) s ≡ true) (about id here) (may id)) answer.leads) so.walks;
       became = so.became;
+      numbers = (answer.number, so.numbers);
       readable = (answer.readable, so.readable);
       text_is = ap (λ t. t ++ later.hand) answer.text_is ∙ ap (λ t. reply_text answer.reply ++ t) so.text_is;
       requests_are = ap (λ (l : List Shape). shape ∷ l) so.requests_are;
       away = so.away;
       plays = so.plays;
     }
+  where
+    by : (id : List ℕ) (here : Bool) → is_about id (record { request = shape; reply = answer.reply }) ≡ here → may_become (cond here state (at id)) (states (places id)) ≡ true
+    by id true is = subst (λ (s : State). may_become state s ≡ true) (sym (about id is)) (may_self state)
+    by id false is = may id
 
-play_first : (state : State) (play : Play) (plays : List Play) → state ≡ Playing → ArePlays state (play ∷ plays)
-play_first state play plays e = subst (λ (s : State). ArePlays s (play ∷ plays)) (sym e) tt
-
-no_plays : (state : State) → ArePlays state []
-no_plays Init = refl
-no_plays Ready = refl
-no_plays Playing = tt
-
-goes_away : (at state : State) (shape : Shape) (more : List Shape) (one : Going) → may_become at state ≡ true → IsSent state (request_of_item shape) one.asked → IfSome one.channels IsGiven
-    → IsTreatedSo at state (shape ∷ counted more) (record { hand = []; plays = []; going = Some one; left = more })
-goes_away at state shape more one may sent channels = record {
+goes_away : (at : List ℕ → State) (places : List ℕ → Option ℕ) (states : Option ℕ → State) (shape : Shape) (more : List Shape) (one : Going) → ((id : List ℕ) → may_become (at id) (states (places id)) ≡ true)
+    → (sent : IsSent (states one.asked.place) (request_of_item shape) one.asked) → IfSome one.channels IsGiven → IsNamedAt places (field sent.request (codes "Session")) one.asked.place
+    → IsTreatedSo at places states (shape ∷ counted more) (record { hand = []; plays = []; going = Some one; left = more })
+goes_away at places states shape more one may sent channels named = record {
   steps = [];
   owed = shape ∷ [];
-  walk = tt;
+  now = at;
+  walks = λ id. refl;
   became = may;
+  numbers = tt;
   readable = tt;
   text_is = refl;
   requests_are = refl;
-  away = record { shape = shape; owed_is = refl; sent = sent; channels = channels };
-  plays = no_plays state;
+  away = record { shape = shape; owed_is = refl; sent = sent; channels = channels; at = named };
+  plays = tt;
 }
 
--- what becomes of the others, by how many PLAYs wait
-abbrev GoesOn : Given → List Shape → (Given → Treated) → Type 0
-GoesOn given more again = (queued : ℕ) → IsTreatedSo given.state given.state (counted more) (again (record given { queued = queued }))
+-- A request that goes up names a session that is there, or none.
+some_place : (sessions : List SeenSession) (place : Option ℕ) (id : List ℕ) → (session_in place sessions).id ≡ Some id → IsSome place
+some_place sessions None id e = cc
+some_place sessions (Some place) id e = refl
 
-by_decision : (at : State) (given : Given) (shape : Shape) (more : List Shape) (again : Given → Treated) (decision : Decision) → may_become at given.state ≡ true → IsDecided given.state (request_of_item shape) decision → GoesOn given more again
-    → IsTreatedSo at given.state (shape ∷ counted more) (treated_first decision given more again)
-by_decision at given shape more again (Answer text) may one on = step_first at given.state shape (counted more) text (again given) may one (on given.queued)
-by_decision at given shape more again (Queue play text) may one on =
-    let first = step_first at given.state shape (counted more) text (again (one_queued given)) may one.0 (on (one_queued given).queued) in
-    record {
-      steps = first.steps;
-      owed = first.owed;
-      walk = first.walk;
-      became = first.became;
-      readable = first.readable;
-      text_is = first.text_is;
-      requests_are = first.requests_are;
-      away = first.away;
-      plays = play_first given.state play (again (one_queued given)).plays one.1;
-    }
-by_decision at given shape more again (Forward request asked) may one on = goes_away at given.state shape more (record { request = request; asked = asked; channels = None }) may one tt
-by_decision at given shape more again (Setup request asked pair) may one on = goes_away at given.state shape more (record { request = request; asked = asked; channels = Some pair }) may one.0 one.1
+named_by : (given : Given) (request : Request1) (value : Option (List ℕ)) (place : Option ℕ) → field request (codes "Session") ≡ value → place ≡ place_named value given.sessions → IsUnrefused (judged_by given (field request (codes "Session"))) request
+    → IsNamedAt (places_in given.sessions) value place
+named_by given request None place is at un = at
+named_by given request (Some value) place is at un =
+    let there = named_there (judged_by given (field request (codes "Session"))) request value un is in
+    let same : place ≡ place_of there.0 given.sessions = at ∙ ap (option_and_then (λ id. place_of id given.sessions)) there.2 in
+    let here : place_named (field request (codes "Session")) given.sessions ≡ place = ap (λ (one : Option (List ℕ)). place_named one given.sessions) is ∙ sym at in
+    (there.0, there.2, sym same, some_place given.sessions place there.0 (ap (λ (one : Option ℕ). (session_in one given.sessions).id) (sym here) ∙ there.1))
 
--- A walk that has come to a state from which the session's can follow.
-from_before : (at state : State) (requests : List Shape) (later : Treated) → may_become at state ≡ true → IsTreatedSo at state requests later → IsTreatedSo at state requests (with_answer [] later)
-from_before at state requests later may so = record {
+named_at : (given : Given) (found : Result Request1 Refusal) (method : Method) (request : Request1) (place : Option ℕ) → found ≡ Ok request → place ≡ (judged_read given found).place → IsUnrefusedIn given found method
+    → IsNamedAt (places_in given.sessions) (field request (codes "Session")) place
+named_at given found method request place is at (one, found_is, method_is, un) =
+    let same : one ≡ request = cc in
+    named_by given request (field request (codes "Session")) place refl (at ∙ ap (λ (read : Result Request1 Refusal). (judged_read given read).place) is)
+    (subst (λ (r : Request1). IsUnrefused (judged_by given (field r (codes "Session"))) r) same un)
+
+-- what becomes of the others, wherever the walks have come to
+abbrev AreValid : List SeenSession → Type 0
+AreValid sessions = (place : Option ℕ) → IsValidId (session_in place sessions).id
+
+abbrev Walks : List Shape → Type 0
+Walks more = (at : List ℕ → State) (given : Given) → ((id : List ℕ) → may_become (at id) (states_in given.sessions (places_in given.sessions id)) ≡ true) → AreValid given.sessions
+    → IsTreatedSo at (places_in given.sessions) (states_in given.sessions) (counted more) (treated more given)
+
+-- PLAYs that wait change no place and no state.
+calm_places : (queued : Option ℕ) (sessions : List SeenSession) (id : List ℕ) → places_in (queued_more_where queued sessions) id ≡ places_in sessions id
+calm_places None sessions id = refl
+calm_places (Some queued) sessions id = from queued 0 sessions
+  where
+    from : (at first : ℕ) (all : List SeenSession) → place_from id first (queued_more at all) ≡ place_from id first all
+    from at first [] = refl
+    from zero first (one ∷ more) = refl
+    from (suc at) first (one ∷ more) = ap (λ (later : Option ℕ). cond (are_same one.id (Some id)) (Some first) later) (from at (first + 1) more)
+
+calm_states : (queued : Option ℕ) (sessions : List SeenSession) (place : Option ℕ) → states_in (queued_more_where queued sessions) place ≡ states_in sessions place
+calm_states queued sessions place = calm_in (λ one. one.state) queued place sessions (λ one n. refl)
+
+calm_valid : (queued : Option ℕ) (sessions : List SeenSession) → AreValid sessions → AreValid (queued_more_where queued sessions)
+calm_valid queued sessions valid place = subst IsValidId (sym (calm_in (λ one. one.id) queued place sessions (λ one n. refl))) (valid place)
+
+pub same_function : {A B : Type 0} (f g : A → B) → ((x : A) → f x ≡ g x) → f ≡ g
+same_function f g same = λ i x. same x i
+
+queued_walks : (at : List ℕ → State) (given : Given) (play : Play) (more : List Shape) → Walks more → AreValid given.sessions → ((id : List ℕ) → may_become (at id) (states_in given.sessions (places_in given.sessions id)) ≡ true)
+    → IsTreatedSo at (places_in given.sessions) (states_in given.sessions) (counted more) (treated more (one_queued play given))
+queued_walks at given play more walks valid may =
+    let places = same_function (places_in (queued_more_where play.place given.sessions)) (places_in given.sessions) (calm_places play.place given.sessions) in
+    let states = same_function (states_in (queued_more_where play.place given.sessions)) (states_in given.sessions) (calm_states play.place given.sessions) in
+    subst (λ (f : List ℕ → Option ℕ). IsTreatedSo at f (states_in given.sessions) (counted more) (treated more (one_queued play given))) places
+    (subst (λ (f : Option ℕ → State). IsTreatedSo at (places_in (queued_more_where play.place given.sessions)) f (counted more) (treated more (one_queued play given))) states
+    (walks at (one_queued play given)
+    (λ id. ap (λ (f : List ℕ → Option ℕ). may_become (at id) (states_in (queued_more_where play.place given.sessions) (f id))) places ∙ ap (λ (f : Option ℕ → State). may_become (at id) (f (places_in given.sessions id))) states ∙ may id)
+    (calm_valid play.place given.sessions valid)))
+
+with_more_plays : (at : List ℕ → State) (places : List ℕ → Option ℕ) (states : Option ℕ → State) (requests : List Shape) (all : Treated) (play : Play) → states play.place ≡ Playing → IsTreatedSo at places states requests all
+    → IsTreatedSo at places states requests (record all { plays = play ∷ all.plays })
+with_more_plays at places states requests all play playing so = record {
   steps = so.steps;
   owed = so.owed;
-  walk = so.walk;
+  now = so.now;
+  walks = so.walks;
   became = so.became;
+  numbers = so.numbers;
   readable = so.readable;
   text_is = so.text_is;
   requests_are = so.requests_are;
   away = so.away;
-  plays = so.plays;
+  plays = (playing, so.plays);
 }
 
--- what becomes of the others, wherever the walk has come to
-abbrev Walks : List Shape → Type 0
-Walks more = (at : State) (given : Given) → may_become at given.state ≡ true → IsValidId given.session → IsTreatedSo at given.state (counted more) (treated more given)
+judged_state : (given : Given) (found : Result Request1 Refusal) → (judged_read given found).state ≡ states_in given.sessions (judged_read given found).place
+judged_state given (Ok request) = refl
+judged_state given (Err refusal) = refl
 
-by_memory : (fits : Bool) (at : State) (given : Given) (shape : Shape) (more : List Shape) → fits_memory shape ≡ fits → may_become at given.state ≡ true → IsValidId given.session → Walks more
-    → IsTreatedSo at given.state (cond fits (shape ∷ counted more) (counted more)) (treated_first (cond fits (decide given shape) (Answer [])) given more (treated more))
+by_decision : (at : List ℕ → State) (given : Given) (shape : Shape) (more : List Shape) (decision : Decision) → ((id : List ℕ) → may_become (at id) (states_in given.sessions (places_in given.sessions id)) ≡ true) → AreValid given.sessions
+    → IsDecided (judged_of given shape).state (request_of_item shape) decision → IsPlacedAs (judged_of given shape) decision → IsUpAs (IsUnrefusedIn given (request_of_item shape)) decision → Walks more
+    → IsTreatedSo at (places_in given.sessions) (states_in given.sessions) (shape ∷ counted more) (treated_first decision given more (treated more))
+by_decision at given shape more (Answer text) may valid one placed un walks =
+    step_first at (places_in given.sessions) (states_in given.sessions) (judged_of given shape).state shape (counted more) text (treated more given) one
+    (λ id about. answered_at given (request_of_item shape) one.reply id one.leads about) may (λ next became. walks next given became valid)
+by_decision at given shape more (Queue play text) may valid one placed un walks =
+    with_more_plays at (places_in given.sessions) (states_in given.sessions) (shape ∷ counted more) (with_answer text (treated more (one_queued play given))) play
+    (ap (states_in given.sessions) placed ∙ sym (judged_state given (request_of_item shape)) ∙ one.1)
+    (step_first at (places_in given.sessions) (states_in given.sessions) (judged_of given shape).state shape (counted more) text (treated more (one_queued play given)) one.0
+    (λ id about. answered_at given (request_of_item shape) one.0.reply id one.0.leads about) may (λ next became. queued_walks next given play more walks valid became))
+by_decision at given shape more (Forward request asked) may valid one placed un walks =
+    let state : (judged_of given shape).state ≡ states_in given.sessions asked.place = judged_state given (request_of_item shape) ∙ ap (states_in given.sessions) (sym placed) in
+    let sent : IsSent (states_in given.sessions asked.place) (request_of_item shape) asked = subst (λ (s : State). IsSent s (request_of_item shape) asked) state one in
+    goes_away at (places_in given.sessions) (states_in given.sessions) shape more (record { request = request; asked = asked; channels = None }) may sent tt
+    (named_at given (request_of_item shape) asked.method sent.request asked.place sent.found_is placed un)
+by_decision at given shape more (Setup request asked pair) may valid one placed un walks =
+    let state : (judged_of given shape).state ≡ states_in given.sessions asked.place = judged_state given (request_of_item shape) ∙ ap (states_in given.sessions) (sym placed) in
+    let sent : IsSent (states_in given.sessions asked.place) (request_of_item shape) asked = subst (λ (s : State). IsSent s (request_of_item shape) asked) state one.0 in
+    goes_away at (places_in given.sessions) (states_in given.sessions) shape more (record { request = request; asked = asked; channels = Some pair }) may sent one.1
+    (named_at given (request_of_item shape) asked.method sent.request asked.place sent.found_is placed un)
+
+valid_judged : (given : Given) (found : Result Request1 Refusal) → AreValid given.sessions → IsValidId (judged_read given found).session
+valid_judged given (Ok request) valid = valid (place_named (field request (codes "Session")) given.sessions)
+valid_judged given (Err refusal) valid = tt
+
+by_memory : (fits : Bool) (at : List ℕ → State) (given : Given) (shape : Shape) (more : List Shape) → fits_memory shape ≡ fits → ((id : List ℕ) → may_become (at id) (states_in given.sessions (places_in given.sessions id)) ≡ true) → AreValid given.sessions → Walks more
+    → IsTreatedSo at (places_in given.sessions) (states_in given.sessions) (cond fits (shape ∷ counted more) (counted more)) (treated_first (cond fits (decide given shape) (Answer [])) given more (treated more))
 by_memory true at given shape more e may valid walks =
-    by_decision at given shape more (treated more) (decide given shape) may (decided given shape valid (ltb-true (length shape.bytes) (2 ^ 64) e))
-    (λ queued. walks given.state (record given { queued = queued }) (may_self given.state) valid)
-by_memory false at given shape more e may valid walks = from_before at given.state (counted more) (treated more given) may (walks at given may valid)
+    by_decision at given shape more (decide given shape) may valid (decided given shape (valid_judged given (request_of_item shape) valid) (ltb-true (length shape.bytes) (2 ^ 64) e)) (decide_placed given shape) (decided_unrefused given shape) walks
+by_memory false at given shape more e may valid walks = walks at given may valid
 
 -- Requests that wait are treated.
-pub treat_walks : (waiting : List Shape) (at : State) (given : Given) → may_become at given.state ≡ true → IsValidId given.session → IsTreatedSo at given.state (counted waiting) (treated waiting given)
+pub treat_walks : (waiting : List Shape) (at : List ℕ → State) (given : Given) → ((id : List ℕ) → may_become (at id) (states_in given.sessions (places_in given.sessions id)) ≡ true) → AreValid given.sessions
+    → IsTreatedSo at (places_in given.sessions) (states_in given.sessions) (counted waiting) (treated waiting given)
 treat_walks [] at given may valid = record {
   steps = [];
   owed = [];
-  walk = tt;
+  now = at;
+  walks = λ id. refl;
   became = may;
+  numbers = tt;
   readable = tt;
   text_is = refl;
   requests_are = refl;
   away = refl;
-  plays = no_plays given.state;
+  plays = tt;
 }
 treat_walks (shape ∷ more) at given may valid = by_memory (fits_memory shape) at given shape more refl may valid (treat_walks more)

@@ -8,6 +8,8 @@ use Rattle.rtsp_head.specs.Messages.{Message, messages_of}
 use Rattle.rtsp_small.specs.declared.method.Method.{Method}
 use Rattle.rtsp_small.specs.declared.method.Method.TheVariants as methods
 use Rattle.head_one.specs.declared.reply.Reply1.{Reply1}
+use Rattle.head_one.specs.Requests.{request_of_item}
+use Rattle.translate_up.specs.Leads.{method_asked, led_by}
 use Rattle.head_one.specs.Replies.{reply_text, reply_message, IsReply}
 use Rattle.head_one.proofs.ReadLemmas.{reply_told, replies_read}
 use Rattle.session_one.specs.declared.table.State.{State}
@@ -15,7 +17,7 @@ use Rattle.session_one.specs.declared.table.State.TheVariants.{Init, Ready, Play
 use Rattle.session_one.specs.Table.{next_of, is_allowed}
 use Rattle.client_machine.specs.Alone.{piece}
 use Rattle.client_machine.specs.Frames.{frame_text}
-use Rattle.client_machine.specs.SeenRun.{SeenStep, may_become, IsWalk, replies_among, replies_in, and_replies, replies_handed}
+use Rattle.client_machine.specs.SeenRun.{SeenStep, is_about, steps_about, may_become, IsWalk, AreNumbered, replies_among, replies_in, and_replies, replies_handed}
 
 -- A session can be in the state that it is in, and what it can be in from there.
 pub may_self : (s : State) → may_become s s ≡ true
@@ -36,18 +38,42 @@ may_more Playing Ready Ready x y = refl
 may_more Playing Ready Playing x y = cc
 may_more Playing Playing c x y = y
 
--- the state that a walk leads to
-abbrev pub last_from : State → List SeenStep → State
-last_from state [] = state
-last_from state (step ∷ more) = last_from step.after more
+-- one walk after another
+pub walk_more : (from mid to : State) (xs ys : List SeenStep) → IsWalk from xs mid → IsWalk mid ys to → IsWalk from (xs ++ ys) to
+walk_more from mid to [] ys first second = subst (λ (s : State). IsWalk s ys to) first second
+walk_more from mid to (x ∷ xs) ys first second = (first.0, first.1, walk_more first.0 mid to xs ys first.2 second)
 
-pub walk_more : (state : State) (xs ys : List SeenStep) → IsWalk state xs → IsWalk (last_from state xs) ys → IsWalk state (xs ++ ys)
-walk_more state [] ys first second = second
-walk_more state (x ∷ xs) ys first second = (first.0, first.1, walk_more x.after xs ys first.2 second)
+about_by : (here : Bool) (one : SeenStep) (xs ys both : List SeenStep) → both ≡ xs ++ ys → cond here (one ∷ both) both ≡ cond here (one ∷ xs) xs ++ ys
+about_by true one xs ys both e = ap (λ (l : List SeenStep). one ∷ l) e
+about_by false one xs ys both e = e
 
-pub last_more : (state : State) (xs ys : List SeenStep) → last_from state (xs ++ ys) ≡ last_from (last_from state xs) ys
-last_more state [] ys = refl
-last_more state (x ∷ xs) ys = last_more x.after xs ys
+about_more : (id : List ℕ) (xs ys : List SeenStep) → steps_about id (xs ++ ys) ≡ steps_about id xs ++ steps_about id ys
+about_more id [] ys = refl
+about_more id (x ∷ xs) ys = about_by (is_about id x) x (steps_about id xs) (steps_about id ys) (steps_about id (xs ++ ys)) (about_more id xs ys)
+
+-- A walk for each id, from the states that the sessions had.
+abbrev pub AreWalks : (List ℕ → State) → List SeenStep → (List ℕ → State) → Type 0
+AreWalks from steps to = (id : List ℕ) → IsWalk (from id) (steps_about id steps) (to id)
+
+pub walks_more : (from mid to : List ℕ → State) (xs ys : List SeenStep) → AreWalks from xs mid → AreWalks mid ys to → AreWalks from (xs ++ ys) to
+walks_more from mid to xs ys first second id =
+    subst (λ (steps : List SeenStep). IsWalk (from id) steps (to id)) (sym (about_more id xs ys)) (walk_more (from id) (mid id) (to id) (steps_about id xs) (steps_about id ys) (first id) (second id))
+
+pub numbers_more : (xs ys : List SeenStep) → AreNumbered xs → AreNumbered ys → AreNumbered (xs ++ ys)
+numbers_more [] ys first second = second
+numbers_more (x ∷ xs) ys first second = (first.0, numbers_more xs ys first.1 second)
+
+-- the states after one step more
+abbrev pub led_for : (List ℕ → State) → SeenStep → State → List ℕ → State
+led_for from step to id = cond (is_about id step) to (from id)
+
+pub one_walks : (from : List ℕ → State) (step : SeenStep) (before to : State) → ((id : List ℕ) → is_about id step ≡ true → may_become (from id) before ≡ true)
+    → led_by before (method_asked (request_of_item step.request)) step.reply.code ≡ Some to → AreWalks from (step ∷ []) (led_for from step to)
+one_walks from step before to reached leads id = by (is_about id step) refl
+  where
+    by : (here : Bool) → is_about id step ≡ here → IsWalk (from id) (cond here (step ∷ []) []) (cond here to (from id))
+    by true is = (to, record { before = before; reached = reached id is; leads = leads }, refl)
+    by false is = refl
 
 -- What a success moves: the state of the walk by its row, and that of the session, which may have ended to play since.
 pub record IsMoved (walked state : State) (method : Method) : Type 0 where

@@ -33,7 +33,7 @@ pair_unless false number = Some number
 abbrev pub pair_alone : PrivateEvent → ℕ → Option ℕ
 pair_alone (arrive shape full) number = pair_unless full number
 pair_alone (answer told ssrc full) number = pair_unless full number
-pair_alone (note reason names) number = Some number
+pair_alone (note id reason names) number = Some number
 pair_alone (media pair half rest) number = Some number
 pair_alone end number = Some number
 pair_alone slow number = Some number

@@ -6,6 +6,7 @@ use Rattle.session_one.specs.declared.parts.Track.{Track}
 use Rattle.translate_up.specs.Channels.{share}
 use Rattle.client_slot.specs.declared.purpose.Purpose.{Purpose}
 use Rattle.client_slot.specs.declared.purpose.Purpose.TheVariants as purposes
+use Rattle.client_slot.specs.Places.{tracks_of}
 use Rattle.client_slot.specs.Client.{Client}
 
 -- the stream that an open SETUP will set up
@@ -13,11 +14,11 @@ abbrev pub stream_asked : Option Purpose → List Track
 stream_asked None = []
 stream_asked (Some (purposes.Client asked track)) = option_to_list track
 stream_asked (Some (purposes.Released play)) = []
-stream_asked (Some purposes.Closing) = []
+stream_asked (Some (purposes.Closing place)) = []
 
 -- the streams of a connection: those that are set up, in their order, and then that of its open SETUP
 abbrev pub streams_of : Client → List Track
-streams_of client = client.session.tracks ++ stream_asked client.pending
+streams_of client = tracks_of client.sessions ++ stream_asked client.pending
 
 -- Two streams have different pairs of channels on the server's connection, and no channel in common on the player's.
 pub record AreStreamsApart (one other : Track) : Type 0 where

@@ -4,6 +4,7 @@ use Rattle.std.specs.Prelude.{ℕ, ◌≤◌, List, [], ◌∷◌, Option, Some,
 use Rattle.session_one.specs.declared.parts.Track.{Track}
 use Rattle.client_slot.specs.declared.purpose.Purpose.{Purpose}
 use Rattle.client_slot.specs.declared.purpose.Purpose.TheVariants as purposes
+use Rattle.client_slot.specs.Session.{PlayerSession}
 use Rattle.client_slot.specs.Client.{Client}
 
 -- a number from 1 up to as many as went up
@@ -30,17 +31,26 @@ abbrev pub IsPurposeBelow : ℕ → Option Purpose → Type 0
 IsPurposeBelow n None = Unit {0}
 IsPurposeBelow n (Some (purposes.Client asked track)) = IsTrackBelow n track
 IsPurposeBelow n (Some (purposes.Released play)) = Unit {0}
-IsPurposeBelow n (Some purposes.Closing) = Unit {0}
+IsPurposeBelow n (Some (purposes.Closing place)) = Unit {0}
 
--- all numbers of a connection are within those that went up
-pub record AreBelow (n : ℕ) (number : Option ℕ) (all : List Track) (purpose : Option Purpose) : Type 0 where
-  pub running : IsNumberBelow n number
-  pub tracks : ArePairsBelow n all
+-- all numbers of a session are within those that went up
+pub record IsSessionBelow (n : ℕ) (session : PlayerSession) : Type 0 where
+  pub running : IsNumberBelow n session.running
+  pub tracks : ArePairsBelow n session.tracks
+
+-- of each session
+abbrev pub AreSessionsBelow : ℕ → List PlayerSession → Type 0
+AreSessionsBelow n [] = Unit {0}
+AreSessionsBelow n (session ∷ more) = IsSessionBelow n session × AreSessionsBelow n more
+
+-- all numbers of a connection
+pub record AreBelow (n : ℕ) (all : List PlayerSession) (purpose : Option Purpose) : Type 0 where
+  pub sessions : AreSessionsBelow n all
   pub pending : IsPurposeBelow n purpose
 
 -- of a connection
 abbrev pub IsBelow : ℕ → Client → Type 0
-IsBelow n client = AreBelow n client.session.running client.session.tracks client.pending
+IsBelow n client = AreBelow n client.sessions client.pending
 
 -- a request that is open went up
 abbrev pub IsOpened : ℕ → Option Purpose → Type 0

@@ -1,6 +1,7 @@
 pub mod Alone
 pub mod Apart
 pub mod OpenRequests
+pub mod Outlooks
 pub mod Bounds
 pub mod Events
 pub mod Effects

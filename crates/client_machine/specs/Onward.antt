@@ -1,7 +1,9 @@
 -- What goes up for a connection with no open request, as it is planned (this project's own).
-use Rattle.std.specs.Prelude.{◌≡◌, ℕ, ◌≤◌, ◌<◌, is_some, List, ◌++◌, length, Option, Some, None, IsSome}
+use Rattle.std.specs.Prelude.{◌≡◌, ℕ, ◌≤◌, is_some, List, ◌++◌, length, map, Option, Some, None}
 use Rattle.rtsp_uri.specs.declared.base.Bases.{Bases}
-use Rattle.session_one.specs.declared.parts.TheConstants.{MOST_TRACKS}
+use Rattle.session_one.specs.declared.parts.Play.{Play}
+use Rattle.head_two.specs.Requests.{request_text}
+use Rattle.translate_up.specs.QueuedPlay.{play_up}
 use Rattle.client_slot.specs.declared.limits.TheConstants.{LONGEST_URI}
 use Rattle.client_slot.specs.Client.{Client}
 use Rattle.client_machine.specs.declared.parts.Change.{Change}
@@ -13,41 +15,56 @@ use Rattle.client_machine.specs.declared.treat.Progress.{Progress}
 use Rattle.client_machine.specs.Effects.{Effect}
 use Rattle.client_machine.specs.Releases.{track_of, pair_if_wanted, after_plays, go}
 use Rattle.client_machine.specs.Plans.{ArePlaced, IsReadyUp, without, risen, risen_text, is_up}
-use Rattle.client_machine.specs.Sights.{Sight, sight}
+use Rattle.client_machine.specs.Sights.{Sight, sight, sight_at, due_seen}
 use Rattle.client_machine.specs.UpTexts.{text_up, spelled}
 
--- The closing TEARDOWN goes up where there is a session.
-abbrev pub leave_up : Option (List ℕ) → Up
+-- The closing TEARDOWN goes up where a session is left.
+abbrev pub leave_up : Option ℕ → Up
 leave_up None = ups.Nothing
-leave_up (Some id) = ups.Leave
+leave_up (Some place) = ups.Leave
 
 -- a request that goes up, with its text
 abbrev pub up_for : ℕ → Option ℕ → Option Upward → Up
 up_for next pair None = ups.Nothing
 up_for next pair (Some one) = ups.Ask (text_up next pair (pair_if_wanted one.channels pair) one.request) one.asked (track_of one.asked.uri pair one.channels)
 
--- Its URI is short, and its stream has a place beside so many.
-abbrev pub IsPlacedUp : ℕ → Up → Type 0
-IsPlacedUp streams ups.Nothing = Unit {0}
-IsPlacedUp streams (ups.Due text) = Unit {0}
-IsPlacedUp streams ups.Leave = Unit {0}
-IsPlacedUp streams (ups.Ask text asked track) = (length asked.uri ≤ LONGEST_URI) × (IsSome track → streams < MOST_TRACKS)
+-- the PLAY that is due at a place, with its text
+abbrev pub due_with : ℕ → Option Play → Option (List ℕ) → Option Up
+due_with next None id = None
+due_with next (Some play) id = Some (ups.Due (request_text next (play_up id play)))
+
+-- that of the first place that has one due
+abbrev pub due_at : ℕ → Option ℕ → List Sight → Option Up
+due_at next None sights = None
+due_at next (Some place) sights = due_with next (sight_at place sights).first (sight_at place sights).id
+
+-- the PLAY that is due, where one is
+abbrev pub due_for : ℕ → List Sight → Option Up
+due_for next sights = due_at next (due_seen sights) sights
+
+-- the URI of a request that goes up is short
+abbrev pub IsShortAsk : Up → Type 0
+IsShortAsk ups.Nothing = Unit {0}
+IsShortAsk (ups.Due text) = Unit {0}
+IsShortAsk ups.Leave = Unit {0}
+IsShortAsk (ups.Ask text asked track) = length asked.uri ≤ LONGEST_URI
 
 -- what became of requests, as a plan
-pub record IsFinished (next : ℕ) (pair : Option ℕ) (streams : ℕ) (first : Change) (progress : Progress) (plan : Plan) : Type 0 where
+pub record IsFinished (next : ℕ) (pair : Option ℕ) (first : Change) (progress : Progress) (plan : Plan) : Type 0 where
   pub change : plan.change ≡ first
   pub treated : plan.treated ≡ progress.treated
   pub plays : plan.plays ≡ progress.plays
   pub hand : plan.hand ≡ progress.hand
   pub up : plan.up ≡ up_for next pair progress.going
-  pub placed : IsPlacedUp streams plan.up
+  pub short : IsShortAsk plan.up
 
 -- a connection without an open request that shows this
-pub record IsShown (lives : Client) (seen : Sight) (client : Client) : Type 0 where
+pub record IsShown (lives : Client) (seen : List Sight) (described : Option (List ℕ)) (client : Client) : Type 0 where
   pub alive : client.alive ≡ lives.alive
   pub idle : client.pending ≡ None
   pub waiting : client.waiting ≡ lives.waiting
-  pub session : sight client.session ≡ seen
+  pub sessions : map sight client.sessions ≡ seen
+  pub about : client.described ≡ described
 
 -- A plan does this effect for a connection that its change leaves, after these bytes.
 pub record Onward (next : ℕ) (pair : Option ℕ) (client : Client) (first : List ℕ) (plan : Plan) (effect : Effect) : Type 0 where
@@ -56,10 +73,10 @@ pub record Onward (next : ℕ) (pair : Option ℕ) (client : Client) (first : Li
   pub request : risen_text next plan.up (after_plays plan.plays (without plan.treated client)) ≡ spelled next pair effect.message
   pub asks : is_up plan.up ≡ is_some effect.message
   pub close : effect.close ≡ None
-  pub plays : ArePlaced (length client.session.queue) plan.plays
-  pub up : IsReadyUp client plan.up
+  pub plays : ArePlaced client.sessions plan.plays
+  pub up : IsReadyUp (after_plays plan.plays (without plan.treated client)) plan.up
 
 -- A plan makes this change, and does what the machine does for a connection that shows this then.
-pub record GoesOnward (bases : Bases) (next : ℕ) (pair : Option ℕ) (lives : Client) (seen : Sight) (first : List ℕ) (change : Change) (plan : Plan) : Type 0 where
+pub record GoesOnward (bases : Bases) (next : ℕ) (pair : Option ℕ) (lives : Client) (seen : List Sight) (described : Option (List ℕ)) (first : List ℕ) (change : Change) (plan : Plan) : Type 0 where
   pub change_is : plan.change ≡ change
-  pub onward : (client : Client) → IsShown lives seen client → Onward next pair client first plan (go bases pair client)
+  pub onward : (client : Client) → IsShown lives seen described client → Onward next pair client first plan (go bases pair client)

@@ -16,7 +16,7 @@ abbrev pub IsAskedAs : Purpose → Request2 → Option ℕ → Type 0
 IsAskedAs (purposes.Client asked None) request pair = (pair ≡ None) × (request.method ≡ method_name (method_up asked.method)) × (is_setup asked.method ≡ false)
 IsAskedAs (purposes.Client asked (Some track)) request pair = (pair ≡ Some track.pair) × (request.method ≡ method_name Setup) × (asked.method ≡ Setup)
 IsAskedAs (purposes.Released play) request pair = (pair ≡ None) × (request.method ≡ method_name Play)
-IsAskedAs purposes.Closing request pair = (pair ≡ None) × (request.method ≡ codes "TEARDOWN")
+IsAskedAs (purposes.Closing place) request pair = (pair ≡ None) × (request.method ≡ codes "TEARDOWN")
 
 -- The open request is this one.
 abbrev pub IsOpenAs : Option Purpose → Request2 → Option ℕ → Type 0

@@ -1,13 +1,12 @@
 -- A plan for an event of a connection: what it says is done, and when that is what the machine does (this project's own).
-use Rattle.std.specs.Prelude.{◌≡◌, ℕ, ◌+◌, ◌^◌, ◌≤◌, ◌<◌, Bool, true, false, is_some, List, [], ◌∷◌, drop, length, Option, Some, None, IsSome, IfSome}
+use Rattle.std.specs.Prelude.{◌≡◌, ℕ, ◌^◌, ◌≤◌, ◌<◌, Bool, true, false, is_some, List, [], ◌∷◌, drop, length, Option, Some, None, IsSome, IfSome}
 use Rattle.rtsp_head.specs.Items.{Shape}
 use Rattle.rtsp_head.specs.Shapes.{shape_of}
 use Rattle.rtsp_head.specs.declared.item.ItemKind.TheVariants as kinds
-use Rattle.rtsp_small.specs.Sessions.{is_session_id}
 use Rattle.rtsp_small.specs.declared.notify.NotifyReason.{NotifyReason}
 use Rattle.rtsp_uri.specs.declared.base.Bases.{Bases}
 use Rattle.head_two.specs.declared.reply.Reply2.{Reply2}
-use Rattle.session_one.specs.declared.parts.TheConstants.{MOST_TRACKS}
+use Rattle.session_one.specs.declared.parts.TheConstants.{MOST_SESSIONS}
 use Rattle.session_one.specs.declared.parts.Asked.{Asked}
 use Rattle.session_one.specs.declared.parts.Play.{Play}
 use Rattle.session_one.specs.declared.parts.Track.{Track}
@@ -15,6 +14,11 @@ use Rattle.session_two.specs.declared.names.Names.{Names}
 use Rattle.play_queue.specs.declared.queue.TheConstants.{MOST_PLAYS}
 use Rattle.translate_down.specs.Replies.{told_by}
 use Rattle.client_slot.specs.declared.limits.TheConstants.{LONGEST_URI, MOST_WAITING}
+use Rattle.client_slot.specs.Made.{id_made, described_made}
+use Rattle.client_slot.specs.Session.{PlayerSession}
+use Rattle.client_slot.specs.Places.{session_at, changed_where}
+use Rattle.client_slot.specs.SessionChanges.{when_queued}
+use Rattle.client_slot.specs.Bounds.{is_filled, IsAskable}
 use Rattle.client_slot.specs.Client.{Client}
 use Rattle.client_slot.specs.Changes.{after_waiting, after_reply, after_note, after_close, after_release, after_closing, after_asking}
 use Rattle.client_slot.specs.ClosingRequest.{closing_text}
@@ -37,27 +41,27 @@ use Rattle.client_machine.specs.UpTexts.{spelled}
 pub data Comes : Type 0 where
   requests : (shape : Shape) → Comes
   replies : (reply : Reply2) → (source : Option ℕ) → Comes
-  notes : (reason : NotifyReason) → (names : Names) → Comes
+  notes : (id : List ℕ) → (reason : NotifyReason) → (names : Names) → Comes
   shuts : (why : CloseWhy) → Comes
 
 -- what comes, without where it lies in memory
 abbrev pub incoming_seen : Incoming → Comes
 incoming_seen (comings.Request item) = requests (shape_of item.now)
 incoming_seen (comings.Reply answer) = replies answer.reply.now answer.source
-incoming_seen (comings.Notice reason names) = notes reason names
+incoming_seen (comings.Notice id reason names) = notes id.now reason names
 
 -- An item that comes as a request is one.
 abbrev pub CanCome : Comes → Type 0
 CanCome (requests shape) = shape.kind ≡ kinds.Request
 CanCome (replies reply source) = Unit {0}
-CanCome (notes reason names) = Unit {0}
+CanCome (notes id reason names) = Unit {0}
 CanCome (shuts why) = Unit {0}
 
 -- what the event does by itself, by the number of the open request
 abbrev pub heard_by : Bases → ℕ → Client → Comes → Hearing
 heard_by bases number client (requests shape) = take client.alive shape client
 heard_by bases number client (replies reply source) = take_answer bases number (told_by reply) source client
-heard_by bases number client (notes reason names) = take_note reason names client
+heard_by bases number client (notes id reason names) = take_note id reason names client
 heard_by bases number client (shuts why) = closes client.alive why client
 
 -- what the machine does, by the lowest pair of channels that is free
@@ -68,16 +72,16 @@ effect_by bases number pair client comes = heard_step bases pair (heard_by bases
 abbrev pub changed : ℕ → Change → Client → Client
 changed number changes.Nothing client = client
 changed number (changes.Waits shapes) client = after_waiting shapes client
-changed number (changes.Settles code id) client = after_reply number code id client
-changed number (changes.Ends names) client = after_note names client
+changed number (changes.Settles code made) client = after_reply number code (id_made made) client
+changed number (changes.Ends place names) client = after_note place names client
 changed number (changes.Closes why) client = after_close client
 
 -- the close that a plan brings
 abbrev pub shut_by : Change → Option CloseWhy
 shut_by changes.Nothing = None
 shut_by (changes.Waits shapes) = None
-shut_by (changes.Settles code id) = None
-shut_by (changes.Ends names) = None
+shut_by (changes.Settles code made) = None
+shut_by (changes.Ends place names) = None
 shut_by (changes.Closes why) = Some why
 
 -- so many requests that waited were treated
@@ -113,21 +117,26 @@ ripe number client plan = after_plays plan.plays (without plan.treated (changed 
 abbrev pub IsReadyChange : Client → Change → Type 0
 IsReadyChange client changes.Nothing = Unit {0}
 IsReadyChange client (changes.Waits shapes) = length client.waiting < MOST_WAITING
-IsReadyChange client (changes.Settles code id) = IsSome client.pending × (200 ≤ code) × IfSome id (λ one. is_session_id one ≡ true)
-IsReadyChange client (changes.Ends names) = Unit {0}
+IsReadyChange client (changes.Settles code made) = IsSome client.pending × (200 ≤ code) × (IsSome made → described_made made ≡ client.described)
+IsReadyChange client (changes.Ends place names) = IfSome place (λ one. one < MOST_SESSIONS)
 IsReadyChange client (changes.Closes why) = Unit {0}
 
--- PLAYs have places in the queue, where so many wait already.
-abbrev pub ArePlaced : ℕ → List Play → Type 0
-ArePlaced queued [] = Unit {0}
-ArePlaced queued (play ∷ plays) = (length play.uri ≤ LONGEST_URI) × (queued < MOST_PLAYS) × ArePlaced (queued + 1) plays
+-- A PLAY can wait: its session is there, and has room for it.
+pub record IsQueueable (sessions : List PlayerSession) (play : Play) : Type 0 where
+  pub uri : length play.uri ≤ LONGEST_URI
+  pub filled : is_filled play.place sessions ≡ true
+  pub room : IfSome play.place (λ place. (place < MOST_SESSIONS) × (length (session_at place sessions).queue < MOST_PLAYS))
+
+-- So can PLAYs, one after another.
+abbrev pub ArePlaced : List PlayerSession → List Play → Type 0
+ArePlaced sessions [] = Unit {0}
+ArePlaced sessions (play ∷ plays) = IsQueueable sessions play × ArePlaced (changed_where play.place (when_queued play) sessions) plays
 
 -- A request can go up, and its stream has a place.
 pub record IsReadyAsk (client : Client) (asked : Asked) (track : Option Track) : Type 0 where
   pub alive : client.alive ≡ true
   pub idle : client.pending ≡ None
-  pub uri : length asked.uri ≤ LONGEST_URI
-  pub room : IsSome track → length client.session.tracks < MOST_TRACKS
+  pub placed : IsAskable client.sessions asked track
 
 -- all memory for what goes up is there
 abbrev pub IsReadyUp : Client → Up → Type 0
@@ -139,8 +148,8 @@ IsReadyUp client (ups.Ask text asked track) = IsReadyAsk client asked track
 -- A plan can be carried out, by the connection before it and that after its change.
 pub record IsReadyFrom (client after : Client) (plan : Plan) : Type 0 where
   pub change : IsReadyChange client plan.change
-  pub plays : ArePlaced (length after.session.queue) plan.plays
-  pub up : IsReadyUp after plan.up
+  pub plays : ArePlaced after.sessions plan.plays
+  pub up : IsReadyUp (after_plays plan.plays (without plan.treated after)) plan.up
 
 -- all memory for a plan is there, whatever its number
 abbrev pub IsReady : Client → Plan → Type 0

@@ -1,15 +1,19 @@
 -- Requests that wait are treated one after another (this project's own).
-use Rattle.std.specs.Prelude.{◌≡◌, ℕ, ◌+◌, ◌≤◌, List, [], ◌∷◌, ◌++◌, length, drop, Option, Some, None, ◌<◌, IsSome}
+use Rattle.std.specs.Prelude.{◌≡◌, ℕ, ◌≤◌, List, [], ◌∷◌, ◌++◌, length, drop, map, Option, Some, None, ◌<◌, IsSome}
 use Rattle.rtsp_head.specs.Items.{Shape}
-use Rattle.play_queue.specs.declared.queue.TheConstants.{MOST_PLAYS}
 use Rattle.session_one.specs.declared.parts.Play.{Play}
-use Rattle.session_one.specs.declared.parts.TheConstants.{MOST_TRACKS}
-use Rattle.translate_up.specs.Views.{Given}
+use Rattle.session_one.specs.declared.parts.TheConstants.{MOST_SESSIONS, MOST_TRACKS}
+use Rattle.translate_up.specs.Views.{SeenSession, Given, session_in}
+use Rattle.translate_up.specs.Placed.{NamesSession}
+use Rattle.client_slot.specs.declared.limits.TheConstants.{LONGEST_URI}
 use Rattle.translate_up.specs.declared.decision.Decision.{Decision}
 use Rattle.translate_up.specs.declared.decision.Decision.TheVariants.{Answer, Forward, Queue, Setup}
 use Rattle.client_machine.specs.declared.treat.Upward.{Upward}
 use Rattle.client_machine.specs.declared.treat.Progress.{Progress}
-use Rattle.client_machine.specs.Treatment.{Going, Treated, treated}
+use Rattle.client_slot.specs.Session.{PlayerSession}
+use Rattle.client_slot.specs.Places.{changed_where}
+use Rattle.client_slot.specs.SessionChanges.{when_queued}
+use Rattle.client_machine.specs.Treatment.{session_seen, queued_more_where, decision_on, Going, Treated, treated}
 use Rattle.client_machine.specs.Plans.{ArePlaced}
 
 -- a request that goes up, without where it lies in memory
@@ -17,57 +21,80 @@ abbrev pub going_of : Upward → Going
 going_of one = record { request = one.request; asked = one.asked; channels = one.channels }
 
 -- none is treated yet, after these bytes
-abbrev pub begun : List ℕ → ℕ → Progress
-begun first queued = record { hand = first; plays = []; queued = queued; treated = 0; going = None }
+abbrev pub begun : List ℕ → Progress
+begun first = record { hand = first; plays = []; treated = 0; going = None }
 
 -- one is treated
 abbrev pub progressed : Decision → Progress → Progress
 progressed (Answer text) progress = record progress { hand = progress.hand ++ text }
-progressed (Queue play text) progress = record progress { hand = progress.hand ++ text; plays = progress.plays ++ play ∷ []; queued = progress.queued + 1 }
+progressed (Queue play text) progress = record progress { hand = progress.hand ++ text; plays = progress.plays ++ play ∷ [] }
 progressed (Forward request asked) progress = record progress { going = Some (record { request = request; asked = asked; channels = None }) }
 progressed (Setup request asked channels) progress = record progress { going = Some (record { request = request; asked = asked; channels = Some channels }) }
 
--- as many PLAYs wait
-abbrev pub with_queued : ℕ → Given → Given
-with_queued queued given = record given { queued = queued }
+-- what the next request finds of sessions
+abbrev pub sessions_then : Decision → List SeenSession → List SeenSession
+sessions_then (Answer text) sessions = sessions
+sessions_then (Queue play text) sessions = queued_more_where play.place sessions
+sessions_then (Forward request asked) sessions = sessions
+sessions_then (Setup request asked channels) sessions = sessions
+
+-- what it is judged by
+abbrev pub given_then : Decision → Given → Given
+given_then (Answer text) given = given
+given_then (Queue play text) given = record given { sessions = queued_more_where play.place given.sessions }
+given_then (Forward request asked) given = given
+given_then (Setup request asked channels) given = given
 
 -- what becomes of requests, after what became of those before them
 abbrev pub ahead : List ℕ → List Play → Treated → Treated
 ahead hand plays later = record later { hand = hand ++ later.hand; plays = plays ++ later.plays }
 
 -- what becomes of all, where these are left
-abbrev pub joined_at : Option Upward → List ℕ → List Play → ℕ → Given → List Shape → Treated
-joined_at None hand plays queued given left = ahead hand plays (treated left (with_queued queued given))
-joined_at (Some one) hand plays queued given left = record { hand = hand; plays = plays; going = Some (going_of one); left = left }
+abbrev pub joined_at : Option Upward → List ℕ → List Play → Given → List Shape → Treated
+joined_at None hand plays given left = ahead hand plays (treated left given)
+joined_at (Some one) hand plays given left = record { hand = hand; plays = plays; going = Some (going_of one); left = left }
 
 -- what was treated, and what comes after
 abbrev pub with_progress : Progress → Given → List Shape → Treated
-with_progress progress given left = joined_at progress.going progress.hand progress.plays progress.queued given left
+with_progress progress given left = joined_at progress.going progress.hand progress.plays given left
 
--- A PLAY that waits has a place where so many wait already.
-abbrev pub HasPlayRoom : ℕ → Decision → Type 0
-HasPlayRoom queued (Answer text) = Unit {0}
-HasPlayRoom queued (Queue play text) = queued < MOST_PLAYS
-HasPlayRoom queued (Forward request asked) = Unit {0}
-HasPlayRoom queued (Setup request asked channels) = Unit {0}
+-- the sessions once PLAYs wait
+abbrev pub sessions_queued : List Play → List PlayerSession → List PlayerSession
+sessions_queued [] sessions = sessions
+sessions_queued (play ∷ plays) sessions = sessions_queued plays (changed_where play.place (when_queued play) sessions)
 
--- A SETUP that goes up has a place for its stream beside so many.
-abbrev pub HasStreamRoom : ℕ → Option Upward → Type 0
-HasStreamRoom streams None = Unit {0}
-HasStreamRoom streams (Some one) = IsSome one.channels → streams < MOST_TRACKS
+-- The PLAYs can wait, one after another, and what is judged by counts them.
+pub record IsFilled (sessions : List PlayerSession) (given : Given) (progress : Progress) : Type 0 where
+  pub counts : given.sessions ≡ map session_seen (sessions_queued progress.plays sessions)
+  pub placed : ArePlaced sessions progress.plays
 
--- The PLAYs have places where so many wait already, and all that wait are counted.
-pub record IsFilled (queue : ℕ) (progress : Progress) : Type 0 where
-  pub counted : queue + length progress.plays ≡ progress.queued
-  pub placed : ArePlaced queue progress.plays
+-- A request that goes up names a session that is there, or none, and a SETUP finds room for its stream.
+abbrev pub IsAskedIn : List SeenSession → Option Upward → Type 0
+IsAskedIn sessions None = Unit {0}
+IsAskedIn sessions (Some one) = NamesSession one.asked.place sessions × (IsSome one.channels → length (session_in one.asked.place sessions).tracks < MOST_TRACKS)
 
 -- So many of those that wait were treated, and what becomes of all is the same whatever comes after them.
-pub record IsOnTheWay (given : Given) (waiting : List Shape) (first : List ℕ) (progress : Progress) : Type 0 where
+pub record IsOnTheWay (first_given given : Given) (waiting : List Shape) (first : List ℕ) (progress : Progress) : Type 0 where
   pub within : progress.treated ≤ length waiting
-  pub leads : (more : List Shape) → with_progress progress given (drop progress.treated waiting ++ more) ≡ ahead first [] (treated (waiting ++ more) given)
-  pub filled : IsFilled given.queued progress
+  pub leads : (more : List Shape) → with_progress progress given (drop progress.treated waiting ++ more) ≡ ahead first [] (treated (waiting ++ more) first_given)
+  pub filled : (sessions : List PlayerSession) → first_given.sessions ≡ map session_seen sessions → IsFilled sessions given progress
+  pub few : length given.sessions ≤ MOST_SESSIONS
+  pub asked : IsAskedIn given.sessions progress.going
 
 -- They are treated until one goes up.
-pub record IsTreated (given : Given) (waiting : List Shape) (first : List ℕ) (progress : Progress) : Type 0 where
-  pub way : IsOnTheWay given waiting first progress
+pub record IsTreated (first_given given : Given) (waiting : List Shape) (first : List ℕ) (progress : Progress) : Type 0 where
+  pub way : IsOnTheWay first_given given waiting first progress
   pub all : progress.going ≡ None → progress.treated ≡ length waiting
+
+-- a PLAY that waits has a short URI
+abbrev pub IsShortQueue : Decision → Type 0
+IsShortQueue (Answer text) = Unit {0}
+IsShortQueue (Queue play text) = length play.uri ≤ LONGEST_URI
+IsShortQueue (Forward request asked) = Unit {0}
+IsShortQueue (Setup request asked channels) = Unit {0}
+
+-- One request more is treated, which is judged by this, and what the next one is judged by is known.
+pub record IsNextTreated (given : Given) (shape : Shape) (old new : Progress) (sessions : List SeenSession) : Type 0 where
+  pub progress : new ≡ progressed (decision_on given shape) old
+  pub found : sessions ≡ sessions_then (decision_on given shape) given.sessions
+  pub short : IsShortQueue (decision_on given shape)

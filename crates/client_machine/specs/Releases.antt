@@ -9,28 +9,39 @@ use Rattle.session_one.specs.declared.parts.Track.{Track}
 use Rattle.translate_up.specs.QueuedPlay.{play_up}
 use Rattle.client_slot.specs.declared.purpose.Purpose.{Purpose}
 use Rattle.client_slot.specs.Client.{Client}
-use Rattle.client_slot.specs.Changes.{due_play, after_release, after_queueing, after_asking, after_closing}
+use Rattle.client_slot.specs.Places.{session_at, queued_at}
+use Rattle.client_slot.specs.Changes.{due_place, closing_place, after_release, after_queueing, after_asking, after_closing}
 use Rattle.client_slot.specs.ClosingRequest.{closing_request}
 use Rattle.client_machine.specs.Effects.{asks, Effect, stays, sends}
 use Rattle.client_machine.specs.Treatment.{given, Going, Treated, treated}
 
--- The PLAY that is due goes up, where one is.
-abbrev pub released_with : Option Play → Client → Effect
-released_with None client = stays client
-released_with (Some play) client = sends (asks (play_up client.session.id play) None) (after_release client)
+-- A PLAY goes up for a session, where one waits.
+abbrev pub released_with : Option Play → Option (List ℕ) → Client → Effect
+released_with None id client = stays client
+released_with (Some play) id client = sends (asks (play_up id play) None) (after_release client)
+
+-- The PLAY that is due at a place goes up for its session.
+abbrev pub released_at : Option ℕ → Client → Effect
+released_at None client = stays client
+released_at (Some place) client = released_with (queued_at place client.sessions) (session_at place client.sessions).id client
 
 -- the PLAY that is due goes up, where one is
 abbrev pub release : Client → Effect
-release client = released_with (due_play client) client
+release client = released_at (due_place client) client
 
--- The closing TEARDOWN goes up, where there is a session.
-abbrev pub leave_at : Option (List ℕ) → Client → Effect
+-- The closing TEARDOWN of a session goes up.
+abbrev pub leave_with : Option (List ℕ) → Option (List ℕ) → Client → Effect
+leave_with None control client = stays client
+leave_with (Some id) control client = sends (asks (closing_request control id) None) (after_closing client)
+
+-- that of the session at a place
+abbrev pub leave_at : Option ℕ → Client → Effect
 leave_at None client = stays client
-leave_at (Some id) client = sends (asks (closing_request client.session.control id) None) (after_closing client)
+leave_at (Some place) client = leave_with (session_at place client.sessions).id (session_at place client.sessions).control client
 
--- the TEARDOWN of a connection that closed with a session
+-- the TEARDOWN of the first session of a connection that closed with one
 abbrev pub leave : Client → Effect
-leave client = leave_at client.session.id client
+leave client = leave_at (closing_place client) client
 
 -- the stream that a SETUP sets up
 abbrev pub track_of : List ℕ → Option ℕ → Option Pair → Option Track
@@ -65,13 +76,13 @@ abbrev pub treat : Bases → Option ℕ → Client → Effect
 treat bases pair client = goes_with (treated client.waiting (given bases (is_none pair) client)) pair client
 
 -- the PLAY that is due goes before requests that wait
-abbrev pub go_due : Bases → Option ℕ → Option Play → Client → Effect
-go_due bases pair (Some play) client = released_with (Some play) client
+abbrev pub go_due : Bases → Option ℕ → Option ℕ → Client → Effect
+go_due bases pair (Some place) client = released_at (Some place) client
 go_due bases pair None client = treat bases pair client
 
 -- what goes up for a connection that has nothing open
 abbrev pub go_idle : Bases → Option ℕ → Bool → Client → Effect
-go_idle bases pair true client = go_due bases pair (due_play client) client
+go_idle bases pair true client = go_due bases pair (due_place client) client
 go_idle bases pair false client = leave client
 
 -- nothing goes up while a request is open

@@ -3,6 +3,7 @@
 use Rattle.std.specs.Prelude.{◌≡◌, ℕ, ◌==◌, List, [], ◌∷◌}
 use Rattle.std.specs.Option.{option_map}
 use Rattle.session_one.specs.declared.parts.Track.{Track}
+use Rattle.client_slot.specs.Places.{session_where, place_with, tracks_of}
 use Rattle.client_slot.specs.Client.{Client}
 use Rattle.client_slot.specs.Renumber.{client_under, names_under, AreToldApart}
 use Rattle.client_machine.specs.Effects.{Outgoing, asks, carries, Effect}
@@ -26,7 +27,7 @@ effect_under numbers pairs effect = record {
 abbrev pub event_under : (ℕ → ℕ) → (ℕ → ℕ) → PrivateEvent → PrivateEvent
 event_under numbers pairs (arrive shape full) = arrive shape full
 event_under numbers pairs (answer told ssrc full) = answer told ssrc full
-event_under numbers pairs (note reason names) = note reason (names_under numbers names)
+event_under numbers pairs (note id reason names) = note id reason (names_under numbers names)
 event_under numbers pairs (media pair half rest) = media (pairs pair) half rest
 event_under numbers pairs end = end
 event_under numbers pairs slow = slow
@@ -45,8 +46,8 @@ AreTracksApart pairs pair (track ∷ tracks) = IsTrackApart pairs pair track × 
 abbrev pub IsToldApart : (ℕ → ℕ) → (ℕ → ℕ) → Client → PrivateEvent → Type 0
 IsToldApart numbers pairs client (arrive shape full) = Unit {0}
 IsToldApart numbers pairs client (answer told ssrc full) = Unit {0}
-IsToldApart numbers pairs client (note reason names) = AreToldApart numbers client.session.running names
-IsToldApart numbers pairs client (media pair half rest) = AreTracksApart pairs pair client.session.tracks
+IsToldApart numbers pairs client (note id reason names) = AreToldApart numbers (session_where (place_with id client.sessions) client.sessions).running names
+IsToldApart numbers pairs client (media pair half rest) = AreTracksApart pairs pair (tracks_of client.sessions)
 IsToldApart numbers pairs client end = Unit {0}
 IsToldApart numbers pairs client slow = Unit {0}
 IsToldApart numbers pairs client up_end = Unit {0}

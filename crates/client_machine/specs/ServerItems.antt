@@ -17,8 +17,9 @@ use Rattle.translate_down.specs.Sessions.{sets_up}
 use Rattle.translate_down.specs.Replies.{Told, reply_text_of}
 use Rattle.client_slot.specs.declared.purpose.Purpose.{Purpose}
 use Rattle.client_slot.specs.declared.purpose.Purpose.TheVariants as purposes
+use Rattle.client_slot.specs.Places.{session_where, place_with, tracks_of}
 use Rattle.client_slot.specs.Client.{Client}
-use Rattle.client_slot.specs.Changes.{after_waiting, after_reply, after_note, after_close}
+use Rattle.client_slot.specs.Changes.{purpose_place, after_waiting, after_reply, after_note, after_close}
 use Rattle.client_machine.specs.declared.why.CloseWhy.{CloseWhy}
 use Rattle.client_machine.specs.declared.why.CloseWhy.TheVariants.{Ended, BadItem, Slow}
 use Rattle.client_machine.specs.Effects.{Effect, carries, stays, sends, hands}
@@ -55,7 +56,7 @@ carry (Some half) rest client = record { effect = sends (carries half.pair half.
 abbrev pub take_item : ItemKind → Shape → Client → Hearing
 take_item Request shape client = record { effect = stays (after_waiting (shape ∷ []) client); next = goes_on }
 take_item Response shape client = idles client
-take_item Frame shape client = carry (half_for (channel_in shape) client.session.tracks) (behind_channel shape) client
+take_item Frame shape client = carry (half_for (channel_in shape) (tracks_of client.sessions)) (behind_channel shape) client
 take_item (Bad kind) shape client = closes true BadItem client
 
 -- an item of a player; one that closed is not heard
@@ -67,48 +68,48 @@ take true shape client = take_item shape.kind shape client
 abbrev pub session_told : Told → Option SessionParts
 session_told told = option_and_then session_of (field_of told.fields (codes "Session"))
 
--- the id of the session that the server made for a SETUP, where there was none
-abbrev pub new_id_at : Bool → Option (List ℕ) → Told → Option (List ℕ)
-new_id_at false id told = None
-new_id_at true (Some id) told = None
+-- the id of the session that the server made for a SETUP that named none
+abbrev pub new_id_at : Bool → Option ℕ → Told → Option (List ℕ)
+new_id_at false place told = None
+new_id_at true (Some place) told = None
 new_id_at true None told = option_map (λ session. session.id) (session_told told)
 
--- whether the reply may name a new session
-abbrev pub sets_session : Purpose → Bool
-sets_session (purposes.Client asked track) = sets_up asked.method
-sets_session (purposes.Released play) = false
-sets_session purposes.Closing = false
-
--- the session's id after a final reply
-abbrev pub new_id : Purpose → Option (List ℕ) → Told → Option (List ℕ)
-new_id purpose id told = new_id_at (sets_session purpose) id told
+-- the id of the session that the server made, where it made one
+abbrev pub new_id : Purpose → Told → Option (List ℕ)
+new_id (purposes.Client asked track) told = new_id_at (sets_up asked.method) asked.place told
+new_id (purposes.Released play) told = None
+new_id (purposes.Closing place) told = None
 
 -- what a reply is written for, once the connection has heard it
-abbrev pub setting : Bases → Option Track → Option ℕ → Told → Client → Setting
-setting bases track ssrc told client = record {
+abbrev pub setting : Bases → Option Track → Option ℕ → Told → Option (List ℕ) → Setting
+setting bases track ssrc told id = record {
   front = bases.front.text;
   up = bases.up.text;
-  session = client.session.id;
+  session = id;
   client = option_map (λ one. one.client) track;
   ssrc = ssrc;
   timeout = option_and_then (λ session. session.timeout) (session_told told);
 }
 
 -- The reply as its player gets it: to its own request, where it is alive.
-abbrev pub reply_for : Bases → Purpose → Told → Option ℕ → Client → List ℕ
-reply_for bases (purposes.Client asked track) told ssrc client = reply_text_of (setting bases track ssrc told client) asked told
-reply_for bases (purposes.Released play) told ssrc client = []
-reply_for bases purposes.Closing told ssrc client = []
+abbrev pub reply_for : Bases → Purpose → Told → Option ℕ → Option (List ℕ) → List ℕ
+reply_for bases (purposes.Client asked track) told ssrc id = reply_text_of (setting bases track ssrc told id) asked told
+reply_for bases (purposes.Released play) told ssrc id = []
+reply_for bases (purposes.Closing place) told ssrc id = []
 
 -- what a player is handed for a reply; one that closed gets nothing
-abbrev pub reply_hand : Bases → Purpose → Told → Option ℕ → Client → List ℕ
-reply_hand bases purpose told ssrc client = if client.alive then reply_for bases purpose told ssrc client else []
+abbrev pub reply_hand : Bases → Bool → Purpose → Told → Option ℕ → Option (List ℕ) → List ℕ
+reply_hand bases alive purpose told ssrc id = if alive then reply_for bases purpose told ssrc id else []
+
+-- the id of the session that a request is for, once the reply was heard
+abbrev pub id_after : Purpose → Client → Client → Option (List ℕ)
+id_after purpose client after = (session_where (purpose_place purpose client.sessions) after.sessions).id
 
 -- The final reply to the open request, which went up with a number.
 abbrev pub settled : Bases → ℕ → Purpose → Told → Option ℕ → Client → Hearing
 settled bases number purpose told ssrc client =
-    let after = after_reply number told.code (new_id purpose client.session.id told) client in
-    record { effect = hands (reply_hand bases purpose told ssrc after) after; next = goes_on }
+    let after = after_reply number told.code (new_id purpose told) client in
+    record { effect = hands (reply_hand bases client.alive purpose told ssrc (id_after purpose client after)) after; next = goes_on }
 
 -- a final reply settles the open request
 abbrev pub settle_at : Bases → ℕ → Option Purpose → Told → Option ℕ → Client → Hearing
@@ -119,11 +120,11 @@ settle_at bases number (Some purpose) told ssrc client = settled bases number pu
 abbrev pub take_answer : Bases → ℕ → Told → Option ℕ → Client → Hearing
 take_answer bases number told ssrc client = if nat_lt told.code 200 then idles client else settle_at bases number client.pending told ssrc client
 
--- The notify of the end of what plays counts, and no other one does (RFC 7826, 13.5.1).
-abbrev pub take_note : NotifyReason → Names → Client → Hearing
-take_note EndOfStream names client = record { effect = stays (after_note names client); next = releases }
-take_note MediaProperties names client = idles client
-take_note ScaleChange names client = idles client
+-- The notify of the end of what plays in a session counts, and no other one does (RFC 7826, 13.5.1).
+abbrev pub take_note : List ℕ → NotifyReason → Names → Client → Hearing
+take_note id EndOfStream names client = record { effect = stays (after_note (place_with id client.sessions) names client); next = releases }
+take_note id MediaProperties names client = idles client
+take_note id ScaleChange names client = idles client
 
 -- a frame of the server, where its pair is that of a stream of a connection that is alive
 abbrev pub give : Option ℕ → List ℕ → Client → Hearing
@@ -133,13 +134,13 @@ give (Some channel) rest client = record { effect = hands (frame_text channel re
 -- a frame of the server for a player that is alive
 abbrev pub take_media : Bool → ℕ → ℕ → List ℕ → Client → Hearing
 take_media false pair half rest client = idles client
-take_media true pair half rest client = give (channel_for pair half client.session.tracks) rest client
+take_media true pair half rest client = give (channel_for pair half (tracks_of client.sessions)) rest client
 
 -- What an event does by itself. The number is that of the open request.
 abbrev pub hear : Bases → ℕ → Client → PrivateEvent → Hearing
 hear bases number client (arrive shape full) = take client.alive shape client
 hear bases number client (answer told ssrc full) = take_answer bases number told ssrc client
-hear bases number client (note reason names) = take_note reason names client
+hear bases number client (note id reason names) = take_note id reason names client
 hear bases number client (media pair half rest) = take_media client.alive pair half rest client
 hear bases number client end = closes client.alive Ended client
 hear bases number client slow = closes client.alive Slow client

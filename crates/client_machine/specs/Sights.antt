@@ -1,14 +1,17 @@
--- What a session shows to a request that is treated, and which PLAY it has due (this project's own).
-use Rattle.std.specs.Prelude.{◌≡◌, ℕ, Bool, is_some, List, [], ◌∷◌, ◌++◌, length, slice_get, Option, Some, None, if◌then◌else◌}
+-- What sessions show to a request that is treated, and which PLAY they have due (this project's own).
+use Rattle.std.specs.Prelude.{◌≡◌, ℕ, zero, suc, ◌+◌, Bool, true, ◌&&◌, not, List, [], ◌∷◌, ◌++◌, length, map, slice_get, slice_index_or, Option, Some, None, is_some, if◌then◌else◌}
+use Rattle.std.specs.Borrow.{Bor}
 use Rattle.std.specs.Option.{option_copied}
 use Rattle.rtsp_uri.specs.declared.base.Bases.{Bases}
 use Rattle.session_one.specs.declared.table.State.{State}
-use Rattle.session_one.specs.declared.parts.Track.{Track}
 use Rattle.session_one.specs.declared.parts.Play.{Play}
-use Rattle.translate_up.specs.Views.{Given}
-use Rattle.client_slot.specs.Session.{PlayerSession}
-use Rattle.client_slot.specs.Client.{Client}
+use Rattle.session_one.specs.declared.parts.Track.{Track}
+use Rattle.translate_up.specs.Views.{SeenSession, Given}
+use Rattle.client_slot.specs.Session.{PlayerSession, new_session}
+use Rattle.client_slot.specs.SessionTurns.{Brought}
+use Rattle.client_machine.specs.declared.after.LentParts.{LentParts}
 use Rattle.client_machine.specs.declared.sight.Showing.{Showing}
+use Rattle.client_machine.specs.declared.sight.PlacedShowing.{PlacedShowing}
 
 -- its state, its id, what it is about, its streams, whether a PLAY runs, the first PLAY that waits, and how many wait
 pub record Sight : Type 0 where
@@ -49,24 +52,79 @@ sight_of seen = record {
   queued = seen.queued;
 }
 
--- the PLAY that is due where no request is open
-abbrev pub due_in : Sight → Option Play
-due_in seen = if seen.runs then None else seen.first
+-- what is brought to a session, without where it lies in memory
+abbrev pub brought_of : ℕ → LentParts → Brought
+brought_of number parts = record { number = number; control = option_copied parts.control; id = option_copied parts.id; track = option_copied parts.track }
 
--- what a request is judged by
-abbrev pub given_by : Bases → Bool → Sight → Given
-given_by bases full seen = record {
-  state = seen.state;
-  session = seen.id;
-  tracks = seen.tracks;
-  queued = seen.queued;
-  control = seen.control;
+-- what the session at a place shows
+abbrev pub sight_at : ℕ → List Sight → Sight
+sight_at place sights = slice_index_or sights place (sight new_session)
+
+-- what is seen at a place is replaced
+abbrev pub replaced : ℕ → Sight → List Sight → List Sight
+replaced place new [] = []
+replaced zero new (one ∷ more) = new ∷ more
+replaced (suc place) new (one ∷ more) = one ∷ replaced place new more
+
+-- where a session changes
+abbrev pub replaced_where : Option PlacedShowing → List Sight → List Sight
+replaced_where None sights = sights
+replaced_where (Some changed) sights = replaced changed.place (sight_of changed.session) sights
+
+-- the streams of the session that changes, as they will be
+abbrev pub streams_where : Option PlacedShowing → List Track
+streams_where None = []
+streams_where (Some changed) = (sight_of changed.session).tracks
+
+-- the id of the session that changes
+abbrev pub id_changed : Option PlacedShowing → Option (Bor (List ℕ))
+id_changed None = None
+id_changed (Some changed) = changed.session.id
+
+-- the first place, from a number on, whose sight passes a test
+abbrev pub first_sight : (Sight → Bool) → ℕ → List Sight → Option ℕ
+first_sight test place [] = None
+first_sight test place (one ∷ more) = if test one then Some place else first_sight test (place + 1) more
+
+-- what the session at a place shows, where one is given
+abbrev pub sight_where : Option ℕ → List Sight → Sight
+sight_where None sights = sight new_session
+sight_where (Some place) sights = sight_at place sights
+
+-- whether a PLAY waits, and none runs
+abbrev pub has_due_seen : Sight → Bool
+has_due_seen seen = not seen.runs && is_some seen.first
+
+-- the place that has a PLAY due, where no request is open
+abbrev pub due_seen : List Sight → Option ℕ
+due_seen sights = first_sight has_due_seen 0 sights
+
+-- the first place that has a session
+abbrev pub filled_seen : List Sight → Option ℕ
+filled_seen sights = first_sight (λ seen. is_some seen.id) 0 sights
+
+-- a session as a request finds it
+abbrev pub session_in_sight : Sight → SeenSession
+session_in_sight seen = record { id = seen.id; state = seen.state; tracks = seen.tracks; queued = seen.queued; control = seen.control }
+
+-- what a request is judged by, by what it finds of sessions
+abbrev pub given_shown : Bases → Bool → List SeenSession → Option (List ℕ) → Given
+given_shown bases full sessions described = record {
+  sessions = sessions;
+  described = described;
   full = full;
   front = bases.front.text;
   up = bases.up.text;
 }
 
--- A connection that has heard a reply is alive as before, and has this session.
-pub record IsHeardAs (client : Client) (lives : Bool) (id : Option (List ℕ)) : Type 0 where
-  pub alive : client.alive ≡ lives
-  pub session : client.session.id ≡ id
+-- by what is seen of them
+abbrev pub given_by : Bases → Bool → List Sight → Option (List ℕ) → Given
+given_by bases full sights described = given_shown bases full (map session_in_sight sights) described
+
+-- A place without a session shows an empty one, and with one it is known what that is about.
+abbrev pub IsTidySight : Sight → Type 0
+IsTidySight seen = (seen.id ≡ None → seen ≡ sight new_session) × (is_some seen.id ≡ true → is_some seen.control ≡ true)
+
+-- so does each place
+abbrev pub AreTidySights : List Sight → Type 0
+AreTidySights sights = (place : ℕ) → IsTidySight (sight_at place sights)

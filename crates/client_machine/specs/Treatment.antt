@@ -1,33 +1,52 @@
 -- Requests of a player that are treated in order (this project's own).
-use Rattle.std.specs.Prelude.{ℕ, ◌+◌, ◌^◌, nat_lt, Bool, List, [], ◌∷◌, ◌++◌, length, Option, Some, None, if◌then◌else◌}
+use Rattle.std.specs.Prelude.{ℕ, zero, suc, ◌+◌, ◌^◌, nat_lt, Bool, List, [], ◌∷◌, ◌++◌, length, map, Option, Some, None, if◌then◌else◌}
 use Rattle.rtsp_head.specs.Items.{Shape}
 use Rattle.rtsp_transport.specs.declared.channels.Pair.{Pair}
 use Rattle.rtsp_uri.specs.declared.base.Bases.{Bases}
 use Rattle.head_two.specs.declared.request.Request2.{Request2}
 use Rattle.session_one.specs.declared.parts.Asked.{Asked}
 use Rattle.session_one.specs.declared.parts.Play.{Play}
-use Rattle.translate_up.specs.Views.{Given}
+use Rattle.translate_up.specs.Views.{SeenSession, Given}
 use Rattle.translate_up.specs.Decisions.{decide}
 use Rattle.translate_up.specs.declared.decision.Decision.{Decision}
 use Rattle.translate_up.specs.declared.decision.Decision.TheVariants.{Answer, Forward, Queue, Setup}
+use Rattle.client_slot.specs.Session.{PlayerSession}
 use Rattle.client_slot.specs.Client.{Client}
 
--- what a request of a connection is judged by
+-- a session as a request finds it
+abbrev pub session_seen : PlayerSession → SeenSession
+session_seen session = record {
+  id = session.id;
+  state = session.state;
+  tracks = session.tracks;
+  queued = length session.queue;
+  control = session.control;
+}
+
+-- what requests of a connection are judged by
 abbrev pub given : Bases → Bool → Client → Given
 given bases full client = record {
-  state = client.session.state;
-  session = client.session.id;
-  tracks = client.session.tracks;
-  queued = length client.session.queue;
-  control = client.session.control;
+  sessions = map session_seen client.sessions;
+  described = client.described;
   full = full;
   front = bases.front.text;
   up = bases.up.text;
 }
 
+-- one PLAY more waits in the session at a place
+abbrev pub queued_more : ℕ → List SeenSession → List SeenSession
+queued_more place [] = []
+queued_more zero (one ∷ more) = record one { queued = one.queued + 1 } ∷ more
+queued_more (suc place) (one ∷ more) = one ∷ queued_more place more
+
+-- where a place is given
+abbrev pub queued_more_where : Option ℕ → List SeenSession → List SeenSession
+queued_more_where None sessions = sessions
+queued_more_where (Some place) sessions = queued_more place sessions
+
 -- one PLAY more waits
-abbrev pub one_queued : Given → Given
-one_queued given = record given { queued = given.queued + 1 }
+abbrev pub one_queued : Play → Given → Given
+one_queued play given = record given { sessions = queued_more_where play.place given.sessions }
 
 -- no item has more bytes than memory has places
 abbrev pub fits_memory : Shape → Bool
@@ -70,7 +89,7 @@ with_play play text later = record later { hand = text ++ later.hand; plays = pl
 -- the first request by its decision; the next ones follow unless it goes up
 abbrev pub treated_first : Decision → Given → List Shape → (Given → Treated) → Treated
 treated_first (Answer text) given more again = with_answer text (again given)
-treated_first (Queue play text) given more again = with_play play text (again (one_queued given))
+treated_first (Queue play text) given more again = with_play play text (again (one_queued play given))
 treated_first (Forward request asked) given more again = goes_up (record { request = request; asked = asked; channels = None }) more
 treated_first (Setup request asked channels) given more again = goes_up (record { request = request; asked = asked; channels = Some channels }) more
 

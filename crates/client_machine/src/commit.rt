@@ -63,12 +63,14 @@ impl Change {
                 slot.wait(waiting);
                 None
             }
-            Change::Settles(code, id) => {
-                let _ = slot.settle(number, code, id);
+            Change::Settles(code, made) => {
+                let _ = slot.settle(number, code, made);
                 None
             }
-            Change::Ends(names) => {
-                let _ = slot.noted(names);
+            Change::Ends(place, names) => {
+                if let Some(place) = place {
+                    let _ = slot.noted(place, names);
+                }
                 None
             }
             Change::Closes(why) => {
@@ -120,7 +122,7 @@ fn take_out(slot: &mut Slot, count: usize)
 
 /// PLAYs wait, in their order.
 fn queue_all(slot: &mut Slot, plays: LinkedList<Play>)
-    requires { ArePlaced (length slot.old.session.queue) plays }
+    requires { ArePlaced slot.old.sessions plays }
     ensures { slot.new ≡ after_plays plays slot.old }
 {
     let mut left = plays;

@@ -1,74 +1,52 @@
 //! Plans for the end of what plays, and for closes.
-ghost use Rattle.std.specs.Prelude.{◌≡◌, ℕ, Option, IfOk};
-ghost use Rattle.std.specs.Option.{option_copied};
+ghost use Rattle.std.specs.Prelude.{ℕ, Option, IfOk};
 ghost use Rattle.rtsp_uri.specs.declared.base.Bases.{Bases};
 ghost use Rattle.rtsp_small.specs.declared.notify.NotifyReason.TheVariants.{EndOfStream};
-ghost use Rattle.session_two.specs.Ends.{end_counts};
-ghost use Rattle.client_slot.specs.Changes.{due_play, after_note};
 ghost use Rattle.client_machine.specs.Plans.{notes, shuts, IsPlan, IsShortPlan};
 
-use crate::onward::{due_text, idle, still};
+use crate::after::after_end;
+use crate::onward::{due_up, idle, leave, still};
+use crate::outlook::Outlook;
 use crate::parts::{Change, Plan, Up};
 use crate::why::CloseWhy;
 use client_slot::Slot;
 use gate_bytes::{Memory, Text};
 use rtsp_small::NotifyReason;
-use session_one::Play;
 use session_two::Names;
 use std::alloc::Global;
 
-/// The plan for a notice of the server about the session of a connection. The end of what plays
-/// counts, and no other one does.
+/// The plan for a notice of the server about the session with an id. The end of what plays counts, and
+/// no other one does.
 pub(crate) fn plan_notice(
     alloc: Global,
     slot: &Slot,
     next: u32,
+    id: &[u8],
     reason: NotifyReason,
     names: Names,
 ) -> Result<Plan, Memory>
     ensures { (bases : Bases) (pair : Option ℕ)
-        → IfOk result (IsPlan bases next pair slot.now (notes reason names)) }
+        → IfOk result (IsPlan bases next pair slot.now (notes id.now reason names)) }
 {
     match reason {
-        NotifyReason::EndOfStream => plan_end(alloc, slot, next, names),
+        NotifyReason::EndOfStream => plan_end(alloc, slot, next, id, names),
         NotifyReason::MediaProperties | NotifyReason::ScaleChange => Ok(idle(alloc)),
     }
 }
 
-/// The plan for the end of what plays: the PLAY goes up that is due then.
-fn plan_end(alloc: Global, slot: &Slot, next: u32, names: Names) -> Result<Plan, Memory>
+/// The plan for the end of what plays in the session with an id: the PLAY goes up that is due then.
+fn plan_end(alloc: Global, slot: &Slot, next: u32, id: &[u8], names: Names) -> Result<Plan, Memory>
     ensures { (bases : Bases) (pair : Option ℕ)
-        → IfOk result (IsPlan bases next pair slot.now (notes EndOfStream names)) }
+        → IfOk result (IsPlan bases next pair slot.now (notes id.now EndOfStream names)) }
 {
-    let change = Change::Ends(names);
-    match due_after(slot, names) {
-        Some(play) => {
-            let text = due_text(alloc, slot.session(), play, next)?;
-            Ok(still(alloc, change, Text::new(alloc), Up::Due(text)))
-        }
+    let place = slot.find(id);
+    let change = Change::Ends(place, names);
+    if slot.busy() {
+        return Ok(still(alloc, change, Text::new(alloc), Up::Nothing));
+    }
+    match due_up(alloc, &after_end(slot, place, names), next)? {
+        Some(up) => Ok(still(alloc, change, Text::new(alloc), up)),
         None => Ok(still(alloc, change, Text::new(alloc), Up::Nothing)),
-    }
-}
-
-/// The PLAY that is due once the end of what plays was told.
-fn due_after(slot: &Slot, names: Names) -> Option<&Play>
-    ensures { option_copied result ≡ due_play (after_note names slot.now) }
-{
-    if !slot.busy() && counts(slot.running(), names) {
-        slot.first_queued()
-    } else {
-        slot.due()
-    }
-}
-
-/// Whether the end of what plays counts.
-fn counts(running: Option<u32>, names: Names) -> bool
-    ensures { result ≡ end_counts running names }
-{
-    match (running, names) {
-        (None, _) => false,
-        (Some(_), Names::Unsaid) => true,
-        (Some(number), Names::This(named)) => named == number,
     }
 }
 
@@ -82,9 +60,8 @@ pub fn plan_close(alloc: Global, slot: &Slot, why: CloseWhy) -> Plan
         return idle(alloc);
     }
     let change = Change::Closes(why);
-    if slot.busy() || slot.session().is_none() {
-        still(alloc, change, Text::new(alloc), Up::Nothing)
-    } else {
-        still(alloc, change, Text::new(alloc), Up::Leave)
+    if slot.busy() {
+        return still(alloc, change, Text::new(alloc), Up::Nothing);
     }
+    still(alloc, change, Text::new(alloc), leave(&Outlook::now(slot)))
 }

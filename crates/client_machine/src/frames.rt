@@ -1,10 +1,11 @@
 //! Where frames of media go.
+ghost use Rattle.client_slot.specs.Places.{tracks_of};
 ghost use Rattle.std.specs.Prelude.{◌≡◌, option_map};
 ghost use Rattle.client_machine.specs.Frames.{half_for, channel_for};
 ghost use Rattle.client_machine.specs.Halves.{half_of};
 
 use client_slot::Slot;
-use session_one::Track;
+use session_one::{MOST_SESSIONS, Track};
 
 /// Half of a pair of channels to the server.
 #[derive(Clone, Copy, Debug, PartialEq, Eq)]
@@ -17,9 +18,16 @@ pub struct StreamHalf {
 
 /// The half of a pair that a channel of the player stands for, where it stands for one.
 pub fn half_for(slot: &Slot, channel: u8) -> Option<StreamHalf>
-    ensures { option_map half_of result ≡ half_for channel slot.now.session.tracks }
+    ensures { option_map half_of result ≡ half_for channel (tracks_of slot.now.sessions) }
 {
-    half_in(slot.tracks(), channel)
+    slot.keeps();
+    for place in 0..MOST_SESSIONS {
+        let half = half_in(slot.tracks(place as u8), channel);
+        if half.is_some() {
+            return half;
+        }
+    }
+    None
 }
 
 /// The half that a channel stands for, by the first stream that has it.
@@ -45,9 +53,23 @@ fn half_in(tracks: &[Track], channel: u8) -> Option<StreamHalf>
 
 /// The player's channel for a half of a pair, where one of its streams has the pair.
 pub fn channel_for(slot: &Slot, pair: u8, half: u8) -> Option<u8>
-    ensures { result ≡ channel_for pair half slot.now.session.tracks }
+    ensures { result ≡ channel_for pair half (tracks_of slot.now.sessions) }
 {
-    let track = slot.tracks().iter().find(|track| track.pair == pair)?;
+    slot.keeps();
+    for place in 0..MOST_SESSIONS {
+        let channel = channel_in(slot.tracks(place as u8), pair, half);
+        if channel.is_some() {
+            return channel;
+        }
+    }
+    None
+}
+
+/// The player's channel for a half of a pair, by the first stream that has the pair.
+fn channel_in(tracks: &[Track], pair: u8, half: u8) -> Option<u8>
+    ensures { result ≡ channel_for pair half tracks.now }
+{
+    let track = tracks.iter().find(|track| track.pair == pair)?;
     if half == 0 {
         Some(track.client.rtp)
     } else {

@@ -21,6 +21,6 @@ pub enum Incoming<'a> {
     Request(&'a Item),
     /// The server replied to its open request.
     Reply(ServerReply<'a>),
-    /// The server told about its session, and named one of its requests or none.
-    Notice(NotifyReason, Names),
+    /// The server told about the session with this id, and named one of its requests or none.
+    Notice(&'a [u8], NotifyReason, Names),
 }

@@ -24,6 +24,12 @@ pub fn a_step_keeps_any_numbering()
         ≡ effect_under numbers pairs (step bases number pair client event) }
 {}
 
+/// The numbers that a connection alone keeps are those of its own requests.
+pub fn own_numbers_are_kept()
+    ensures { (bases : Bases) (events : List PrivateEvent)
+        → IsBelow (private_after bases events).count (private_after bases events).client }
+{}
+
 /// Whether a pair of channels is free matters only where a SETUP waits.
 pub fn a_free_pair_matters_to_a_setup_alone()
     ensures { (bases : Bases) (number pair : ℕ) (client : Client) (event : PrivateEvent)
@@ -46,10 +52,4 @@ pub fn what_is_not_closed_is_alive()
 pub fn own_streams_are_apart()
     ensures { (bases : Bases) (events : List PrivateEvent)
         → AreAllStreamsApart (streams_of (private_after bases events).client) }
-{}
-
-/// The numbers that a connection alone keeps are those of its own requests.
-pub fn own_numbers_are_kept()
-    ensures { (bases : Bases) (events : List PrivateEvent)
-        → IsBelow (private_after bases events).count (private_after bases events).client }
 {}

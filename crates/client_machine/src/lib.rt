@@ -13,6 +13,7 @@ mod frames;
 mod input;
 mod laws;
 mod onward;
+mod outlook;
 mod parts;
 mod plans;
 mod player_reply;

@@ -8,15 +8,16 @@ ghost use Rattle.client_machine.specs.declared.parts.Change.TheVariants as chang
 ghost use Rattle.client_machine.specs.declared.parts.Up.TheVariants as ups;
 ghost use Rattle.client_machine.specs.Releases.{track_of};
 ghost use Rattle.client_machine.specs.UpTexts.{text_up};
-ghost use Rattle.client_machine.specs.Sights.{sight_of, given_by};
-ghost use Rattle.client_machine.specs.Progresses.{HasStreamRoom, IsTreated};
-ghost use Rattle.session_one.specs.declared.parts.TheConstants.{MOST_TRACKS};
-ghost use Rattle.client_machine.specs.Onward.{leave_up, up_for, IsPlacedUp, IsFinished, GoesOnward};
+ghost use Rattle.translate_up.specs.Views.{Given};
+ghost use Rattle.client_machine.specs.Sights.{filled_seen, given_by};
+ghost use Rattle.client_machine.specs.Outlooks.{sights_of};
+ghost use Rattle.client_machine.specs.Progresses.{IsTreated};
+ghost use Rattle.client_machine.specs.Onward.{leave_up, up_for, due_for, IsShortAsk, IsFinished, GoesOnward};
 
+use crate::outlook::Outlook;
 use crate::parts::{Change, Plan, Up};
-use crate::sight::{Showing, streams};
 use crate::treat::{Progress, Upward, treat_waiting};
-use client_slot::{LONGEST_URI, Slot};
+use client_slot::LONGEST_URI;
 use gate_bytes::{Memory, Text};
 use head_two::{Request2, write_request};
 use rtsp_transport::Pair;
@@ -85,17 +86,10 @@ fn going_text(
 
 /// A request goes up beside so many streams. A URI over the longest is as if there were no memory
 /// for it.
-fn ask(
-    alloc: Global,
-    next: u32,
-    pair: Option<u8>,
-    streams: usize,
-    going: Upward<'_>,
-) -> Result<Up, Memory>
+fn ask(alloc: Global, next: u32, pair: Option<u8>, going: Upward<'_>) -> Result<Up, Memory>
     requires pair { IfSome pair (λ one. one < PAIRS) }
-    requires room { IsSome going.channels → streams < MOST_TRACKS }
     ensures up { IfOk result (λ up. up ≡ up_for next pair (Some going.entry)) }
-    ensures placed { IfOk result (IsPlacedUp streams) }
+    ensures short { IfOk result IsShortAsk }
 {
     let Upward {
         request,
@@ -115,13 +109,11 @@ pub(crate) fn finished(
     alloc: Global,
     next: u32,
     pair: Option<u8>,
-    streams: usize,
     change: Change,
     progress: Progress<'_>,
 ) -> Result<Plan, Memory>
     requires pair { IfSome pair (λ one. one < PAIRS) }
-    requires room { HasStreamRoom streams progress.going }
-    ensures { IfOk result (IsFinished next pair streams change progress.entry) }
+    ensures { IfOk result (IsFinished next pair change progress.entry) }
 {
     let Progress {
         hand,
@@ -131,7 +123,7 @@ pub(crate) fn finished(
         ..
     } = progress;
     let up = match going {
-        Some(going) => ask(alloc, next, pair, streams, going)?,
+        Some(going) => ask(alloc, next, pair, going)?,
         None => Up::Nothing,
     };
     Ok(Plan {
@@ -164,62 +156,81 @@ pub(crate) fn idle(alloc: Global) -> Plan
     still(alloc, Change::Nothing, Text::new(alloc), Up::Nothing)
 }
 
-/// What becomes of the requests that wait, which are judged by the session that is seen.
-fn treat_after<'a>(
-    alloc: Global,
-    bases: &Bases,
-    slot: &'a Slot,
-    full: bool,
-    seen: &Showing<'a>,
-    hand: Text,
-) -> Result<Progress<'a>, Memory>
-    ensures { IfOk result (IsTreated (given_by bases.now full (sight_of seen.now)) slot.now.waiting hand) }
+/// The PLAY that is due in the light of an event, where one is, with the next number.
+pub(crate) fn due_up(alloc: Global, outlook: &Outlook<'_>, next: u32) -> Result<Option<Up>, Memory>
+    ensures { IfOk result (λ up. up ≡ due_for next (sights_of outlook.now)) }
 {
-    match seen.added {
-        Some(added) if slot.waiting() > 0 => {
-            let all = streams(alloc, seen.tracks, added)?;
-            let view = seen.view(bases, &all, full);
-            treat_waiting(alloc, &view, slot, hand)
-        }
-        Some(_) => Ok(Progress::begun(alloc, hand, seen.queued)),
-        None => {
-            let view = seen.view(bases, seen.tracks, full);
-            treat_waiting(alloc, &view, slot, hand)
-        }
-    }
+    let Some(place) = outlook.due_place() else {
+        return Ok(None);
+    };
+    let session = outlook.session(place);
+    let Some(play) = session.first else {
+        unreachable!()
+    };
+    let text = due_text(alloc, session.id, play, next)?;
+    Ok(Some(Up::Due(text)))
 }
 
-/// The plan for a connection that this change leaves with no open request and with the session that
-/// is seen, after these bytes for its client.
+/// What becomes of the requests that wait, which are judged by the connection that is seen.
+fn treat_after<'a>(
+    alloc: Global,
+    bases: &'a Bases,
+    outlook: &Outlook<'a>,
+    full: bool,
+    hand: Text,
+) -> Result<Progress<'a>, Memory>
+    ensures { IfOk result (λ progress. (last : Given)
+        × IsTreated
+        (given_by bases.entry.now full (sights_of outlook.entry.now) (option_copied outlook.entry.now.described))
+        last outlook.entry.now.slot.now.waiting hand progress) }
+{
+    let slot = outlook.slot;
+    if slot.waiting() == 0 {
+        return Ok(Progress::begun(alloc, hand));
+    }
+    let streams = outlook.streams(alloc)?;
+    let mut sessions = outlook.sessions(&streams);
+    treat_waiting(
+        alloc,
+        &mut sessions,
+        outlook.described,
+        full,
+        bases,
+        slot,
+        hand,
+    )
+}
+
+/// The plan for a connection that this change leaves with no open request and as it is seen, after
+/// these bytes for its client.
 pub(crate) fn onward<'a>(
     alloc: Global,
-    bases: &Bases,
-    slot: &'a Slot,
+    bases: &'a Bases,
     next: u32,
     pair: Option<u8>,
-    seen: &Showing<'a>,
+    outlook: &Outlook<'a>,
     change: Change,
     hand: Text,
 ) -> Result<Plan, Memory>
     requires { IfSome pair (λ one. one < PAIRS) }
-    ensures { IfOk result (GoesOnward bases.now next pair slot.now (sight_of seen.now) hand change) }
+    ensures { IfOk result (GoesOnward bases.entry.now next pair outlook.now.slot.now (sights_of outlook.now)
+        (option_copied outlook.now.described) hand change) }
 {
-    if !slot.alive() {
-        return Ok(still(alloc, change, hand, leave(seen)));
+    if !outlook.slot.alive() {
+        return Ok(still(alloc, change, hand, leave(outlook)));
     }
-    if let Some(play) = seen.due() {
-        let text = due_text(alloc, seen.id, play, next)?;
-        return Ok(still(alloc, change, hand, Up::Due(text)));
+    if let Some(up) = due_up(alloc, outlook, next)? {
+        return Ok(still(alloc, change, hand, up));
     }
-    let progress = treat_after(alloc, bases, slot, pair.is_none(), seen, hand)?;
-    finished(alloc, next, pair, seen.streams(), change, progress)
+    let progress = treat_after(alloc, bases, outlook, pair.is_none(), hand)?;
+    finished(alloc, next, pair, change, progress)
 }
 
-/// The closing TEARDOWN, where there is a session.
-fn leave(seen: &Showing<'_>) -> Up
-    ensures { result ≡ leave_up (sight_of seen.now).id }
+/// The closing TEARDOWN, where a session is left.
+pub(crate) fn leave(outlook: &Outlook<'_>) -> Up
+    ensures { result ≡ leave_up (filled_seen (sights_of outlook.now)) }
 {
-    if seen.id.is_some() {
+    if outlook.has_session() {
         Up::Leave
     } else {
         Up::Nothing

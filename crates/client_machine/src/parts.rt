@@ -1,7 +1,7 @@
 //! The parts of a plan, and what is handed out once it is carried out.
 
 use crate::why::CloseWhy;
-use client_slot::Waiting;
+use client_slot::{MadeSession, Waiting};
 use gate_bytes::Text;
 use session_one::{Asked, Play, Track};
 use session_two::Names;
@@ -14,11 +14,11 @@ pub(crate) enum Change {
     Nothing,
     /// A request waits.
     Waits(Waiting),
-    /// The open request has its final reply, with this code and the id of the session that the server
-    /// made, where it made one.
-    Settles(u16, Option<Text>),
-    /// The end of what plays was told.
-    Ends(Names),
+    /// The open request has its final reply, with this code and the session that the server made, where
+    /// it made one.
+    Settles(u16, Option<MadeSession>),
+    /// The end of what plays was told of the session at a place.
+    Ends(Option<u8>, Names),
     /// The connection closes.
     Closes(CloseWhy),
 }

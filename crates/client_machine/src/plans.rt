@@ -67,7 +67,7 @@ fn plan_any(
     match *incoming {
         Incoming::Request(item) => plan_request(alloc, bases, slot, next, pair, item),
         Incoming::Reply(answer) => plan_reply(alloc, bases, slot, next, pair, answer),
-        Incoming::Notice(reason, names) => plan_notice(alloc, slot, next, reason, names),
+        Incoming::Notice(id, reason, names) => plan_notice(alloc, slot, next, id, reason, names),
     }
 }
 

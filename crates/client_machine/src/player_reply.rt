@@ -6,10 +6,8 @@ ghost use Rattle.rtsp_small.specs.Sessions.{is_session_id};
 ghost use Rattle.rtsp_small.specs.Views.{session_seen};
 ghost use Rattle.head_two.specs.declared.reply.Reply2.{Reply2};
 ghost use Rattle.translate_down.specs.Replies.{told_by, reply_text_of};
-ghost use Rattle.client_slot.specs.Client.{Client};
 ghost use Rattle.client_slot.specs.Purposes.{purpose_seen};
 ghost use Rattle.client_machine.specs.ServerItems.{session_told, new_id, reply_hand};
-ghost use Rattle.client_machine.specs.Sights.{IsHeardAs};
 ghost use Rattle.client_machine.specs.UpTexts.{grant_said};
 
 use crate::input::ServerReply;
@@ -52,19 +50,15 @@ pub(crate) fn timeout_told(told: Option<SessionField<'_>>) -> Option<u64>
     told?.timeout
 }
 
-/// The id of the session that the server made for a SETUP, where there was none.
-pub(crate) fn new_id<'a>(
-    slot: &'a Slot,
-    pending: Pending<'a>,
-    told: Option<SessionField<'a>>,
-) -> Option<&'a [u8]>
+/// The id of the session that the server made for a SETUP that named none.
+pub(crate) fn new_id<'a>(pending: Pending<'a>, told: Option<SessionField<'a>>) -> Option<&'a [u8]>
     requires { IfSome told (λ field. is_session_id field.id.now ≡ true) }
     ensures id { (reply : Reply2) → option_map session_seen told.entry ≡ session_told (told_by reply)
-        → option_copied result ≡ new_id (purpose_seen pending.entry) slot.entry.now.session.id (told_by reply) }
+        → option_copied result ≡ new_id (purpose_seen pending.entry) (told_by reply) }
     ensures valid { IfSome result (λ id. is_session_id id.now ≡ true) }
 {
     match pending {
-        Pending::Client(asked, _) if asked.method == Method::Setup && slot.session().is_none() => {
+        Pending::Client(asked, _) if asked.method == Method::Setup && asked.place.is_none() => {
             Some(told?.id)
         }
         _ => None,
@@ -85,12 +79,11 @@ pub(crate) fn reply_hand<'a>(
     requires id { IfSome id (λ one. is_session_id one.now ≡ true) }
     requires timeout { IfSome timeout (λ seconds. seconds < 10 ^ TIMEOUT_DIGITS) }
     ensures { IfOk result (λ text.
-        (client : Client) → IsHeardAs client slot.entry.now.alive (option_copied id.entry)
-        → option_and_then (λ field. field.timeout) (session_told (told_by answer.entry.reply.now))
+        option_and_then (λ field. field.timeout) (session_told (told_by answer.entry.reply.now))
         ≡ timeout
         → text
-        ≡ reply_hand bases.entry.now (purpose_seen pending.entry) (told_by answer.entry.reply.now)
-        answer.entry.source client) }
+        ≡ reply_hand bases.entry.now slot.entry.now.alive (purpose_seen pending.entry)
+        (told_by answer.entry.reply.now) answer.entry.source (option_copied id.entry)) }
 {
     match pending {
         Pending::Client(asked, track) if slot.alive() => {

@@ -2,6 +2,10 @@
 ghost use Rattle.std.specs.Prelude.{◌≡◌, ◌<◌, ◌≤◌, Some, IfOk, IfSome};
 ghost use Rattle.channel_map.specs.declared.map.TheConstants.{PAIRS};
 ghost use Rattle.client_slot.specs.Purposes.{purpose_seen};
+ghost use Rattle.std.specs.Prelude.{true, IsSome};
+ghost use Rattle.std.specs.Option.{option_copied};
+ghost use Rattle.rtsp_small.specs.Sessions.{is_session_id};
+ghost use Rattle.client_slot.specs.Made.{id_made, described_made};
 ghost use Rattle.client_machine.specs.Plans.{replies, IsPlan};
 
 use crate::after::after_reply;
@@ -9,7 +13,7 @@ use crate::input::ServerReply;
 use crate::onward::{idle, onward};
 use crate::parts::{Change, Plan};
 use crate::player_reply::{new_id, reply_hand, session_told, timeout_told};
-use client_slot::{Pending, Slot};
+use client_slot::{MadeSession, Pending, Slot};
 use gate_bytes::{Memory, Text};
 use rtsp_uri::Bases;
 use std::alloc::Global;
@@ -56,9 +60,32 @@ fn settle<'a>(
     let reply = answer.reply;
     let told = session_told(reply);
     let timeout = timeout_told(told);
-    let id = new_id(slot, pending, told);
-    let seen = after_reply(slot, pending, reply.code, id);
-    let hand = reply_hand(alloc, bases, slot, pending, answer, seen.id, timeout)?;
-    let change = Change::Settles(reply.code, Text::copied(alloc, id)?);
-    onward(alloc, bases, slot, next, pair, &seen, change, hand)
+    let id = new_id(pending, told);
+    let outlook = after_reply(slot, pending, reply.code, id);
+    let hand = reply_hand(
+        alloc,
+        bases,
+        slot,
+        pending,
+        answer,
+        outlook.changed_id(),
+        timeout,
+    )?;
+    let change = Change::Settles(reply.code, made(alloc, slot, id)?);
+    onward(alloc, bases, next, pair, &outlook, change, hand)
+}
+
+/// The session that the server made, where it made one, with copies of what is kept of it.
+fn made(alloc: Global, slot: &Slot, id: Option<&[u8]>) -> Result<Option<MadeSession>, Memory>
+    requires { IfSome id (λ one. is_session_id one.now ≡ true) }
+    ensures made { IfOk result (λ made. id_made made ≡ option_copied id.entry) }
+    ensures described { IfOk result (λ made. IsSome made → described_made made ≡ slot.now.described) }
+{
+    let Some(id) = id else {
+        return Ok(None);
+    };
+    Ok(Some(MadeSession {
+        id: Text::copy(alloc, id)?,
+        described: Text::copied(alloc, slot.described())?,
+    }))
 }

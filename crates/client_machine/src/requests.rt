@@ -3,13 +3,13 @@ ghost use Rattle.std.specs.Prelude.{◌≡◌, ◌<◌, [], ◌∷◌, length, t
 ghost use Rattle.channel_map.specs.declared.map.TheConstants.{PAIRS};
 ghost use Rattle.rtsp_head.specs.Shapes.{shape_of};
 ghost use Rattle.client_slot.specs.declared.limits.TheConstants.{MOST_WAITING};
-ghost use Rattle.client_slot.specs.Changes.{due_play};
+ghost use Rattle.client_slot.specs.Changes.{due_place};
 ghost use Rattle.client_machine.specs.declared.parts.Change.TheVariants as changes;
 ghost use Rattle.client_machine.specs.Plans.{requests, CanCome, IsPlan};
 
-use crate::onward::{due_text, finished, idle, still};
+use crate::onward::{due_up, finished, idle, still};
+use crate::outlook::Outlook;
 use crate::parts::{Change, Plan, Up};
-use crate::sight::seen;
 use crate::treat::treat_waiting;
 use client_slot::{MOST_WAITING, Slot, Waiting};
 use gate_bytes::{Memory, Text};
@@ -38,10 +38,9 @@ pub(crate) fn plan_request(
         let change = waits(alloc, slot, item)?;
         return Ok(still(alloc, change, Text::new(alloc), Up::Nothing));
     }
-    if let Some(play) = slot.due() {
+    if let Some(up) = due_up(alloc, &Outlook::now(slot), next)? {
         let change = waits(alloc, slot, item)?;
-        let text = due_text(alloc, slot.session(), play, next)?;
-        return Ok(still(alloc, change, Text::new(alloc), Up::Due(text)));
+        return Ok(still(alloc, change, Text::new(alloc), up));
     }
     treat_request(alloc, bases, slot, next, pair, item)
 }
@@ -64,7 +63,7 @@ fn waits(alloc: Global, slot: &Slot, item: &Item) -> Result<Change, Memory>
 /// treated, and it after them.
 fn treat_request<'a>(
     alloc: Global,
-    bases: &Bases,
+    bases: &'a Bases,
     slot: &'a Slot,
     next: u32,
     pair: Option<u8>,
@@ -74,17 +73,25 @@ fn treat_request<'a>(
     requires pair { IfSome pair (λ one. one < PAIRS) }
     requires alive { slot.now.alive ≡ true }
     requires idle { slot.now.pending ≡ None }
-    requires due { due_play slot.now ≡ None }
-    ensures { IfOk result (IsPlan bases.now next pair slot.now (requests (shape_of item.now))) }
+    requires due { due_place slot.now ≡ None }
+    ensures { IfOk result (IsPlan bases.entry.now next pair slot.entry.now (requests (shape_of item.entry.now))) }
 {
-    let seen = seen(slot, slot.state());
-    let view = seen.view(bases, seen.tracks, pair.is_none());
-    let mut progress = treat_waiting(alloc, &view, slot, Text::new(alloc))?;
-    let streams = slot.tracks().len();
+    let outlook = Outlook::now(slot);
+    let mut sessions = outlook.sessions(&[]);
+    let full = pair.is_none();
+    let mut progress = treat_waiting(
+        alloc,
+        &mut sessions,
+        outlook.described,
+        full,
+        bases,
+        slot,
+        Text::new(alloc),
+    )?;
     if progress.going.is_some() {
         let change = waits(alloc, slot, item)?;
-        return finished(alloc, next, pair, streams, change, progress);
+        return finished(alloc, next, pair, change, progress);
     }
-    progress.then(alloc, &view, item)?;
-    finished(alloc, next, pair, streams, Change::Nothing, progress)
+    progress.then(alloc, &mut sessions, outlook.described, full, bases, item)?;
+    finished(alloc, next, pair, Change::Nothing, progress)
 }

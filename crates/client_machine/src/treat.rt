@@ -1,20 +1,26 @@
 //! Requests that wait are treated.
-ghost use Rattle.std.specs.Prelude.{◌≡◌, ◌+◌, ◌<◌, ℕ, [], ◌∷◌, ◌++◌, Some, IfOk, OnOk};
+ghost use Rattle.std.specs.Prelude.{◌≡◌, ◌≤◌, ◌<◌, length, map, [], ◌∷◌, ◌++◌, Some, IfOk, IfSome, OnOk};
+ghost use Rattle.std.specs.Option.{option_copied};
+ghost use Rattle.session_one.specs.declared.parts.TheConstants.{MOST_SESSIONS};
+ghost use Rattle.client_slot.specs.declared.limits.TheConstants.{LONGEST_URI};
 ghost use Rattle.rtsp_head.specs.Shapes.{shape_of};
-ghost use Rattle.translate_up.specs.Views.{given_of};
-ghost use Rattle.client_machine.specs.Treatment.{decision_on};
+ghost use Rattle.translate_up.specs.Views.{session_shown, session_in};
+ghost use Rattle.translate_up.specs.Placed.{NamesSession, IsDecidedIn};
+ghost use Rattle.client_machine.specs.Treatment.{queued_more_where, decision_on};
+ghost use Rattle.client_machine.specs.Sights.{given_shown};
 ghost use Rattle.play_queue.specs.declared.queue.TheConstants.{MOST_PLAYS};
-ghost use Rattle.client_machine.specs.Progresses.{begun, progressed, with_queued, HasPlayRoom, IsFilled, IsTreated};
+ghost use Rattle.client_machine.specs.Progresses.{begun, progressed, sessions_then, IsTreated, IsShortQueue, IsNextTreated};
 
 use client_slot::{LONGEST_URI, Slot};
 use gate_bytes::{Memory, Text};
 use head_two::Request2;
 use rtsp_head::Item;
 use rtsp_transport::Pair;
+use rtsp_uri::Bases;
 use session_one::{Asked, Play};
 use std::alloc::Global;
 use std::collections::LinkedList;
-use translate_up::{Decision, View, decide};
+use translate_up::{Decision, SessionView, View, decide};
 
 /// A request that goes up.
 #[derive(Drop)]
@@ -34,8 +40,6 @@ pub(crate) struct Progress<'a> {
     pub hand: Text,
     /// The PLAYs that wait now, and did not before.
     pub plays: LinkedList<Play>,
-    /// How many PLAYs wait in all.
-    pub queued: usize,
     /// How many of the requests that waited were treated.
     pub treated: usize,
     /// The request that goes up.
@@ -43,42 +47,42 @@ pub(crate) struct Progress<'a> {
 }
 
 impl<'a> Progress<'a> {
-    /// No request was treated yet, and so many PLAYs wait. These bytes come before the answers.
-    pub fn begun(alloc: Global, hand: Text, queued: usize) -> Progress<'a>
-        ensures { result ≡ begun hand queued }
+    /// No request was treated yet. These bytes come before the answers.
+    pub fn begun(alloc: Global, hand: Text) -> Progress<'a>
+        ensures { result ≡ begun hand }
     {
         Progress {
             hand,
             plays: LinkedList::new(alloc),
-            queued,
             treated: 0,
             going: None,
         }
     }
 
-    /// One request more is treated.
-    pub fn then(&mut self, alloc: Global, view: &View<'a, '_>, item: &'a Item) -> Result<(), Memory>
-        ensures treated { OnOk result
-            (self.new
-            ≡ progressed
-            (decision_on (with_queued self.old.queued (given_of view.now)) (shape_of item.now))
-            self.old) }
-        ensures filled { (queue : ℕ) → IsFilled queue self.old → OnOk result (IsFilled queue self.new) }
+    /// One request more is treated, and a PLAY that waits is counted.
+    pub fn then<'v>(
+        &mut self,
+        alloc: Global,
+        sessions: &mut [Option<SessionView<'a, 'v>>],
+        described: Option<&'v [u8]>,
+        full: bool,
+        bases: &'v Bases,
+        item: &'a Item,
+    ) -> Result<(), Memory>
+        requires few { length sessions.old ≤ MOST_SESSIONS }
+        ensures { OnOk result (IsNextTreated
+            (given_shown bases.entry.now full (map session_shown sessions.old) (option_copied described.entry))
+            (shape_of item.entry.now) self.old self.new (map session_shown sessions.new)) }
     {
-        let view = View {
-            queued: self.queued,
-            ..*view
-        };
-        let decision = decide(alloc, &view, item)?;
-        prove!(item.bytes.len() <= usize::MAX);
+        let decision = judge(alloc, sessions, described, full, bases, item)?;
+        count(sessions, &decision);
         self.decided(decision)
     }
 
     /// This becomes of one request more.
     fn decided(&mut self, decision: Decision<'a>) -> Result<(), Memory>
-        requires { HasPlayRoom self.old.queued decision }
         ensures treated { OnOk result (self.new ≡ progressed decision.entry self.old) }
-        ensures filled { (queue : ℕ) → IsFilled queue self.old → OnOk result (IsFilled queue self.new) }
+        ensures short { OnOk result (IsShortQueue decision.entry) }
     {
         match decision {
             Decision::Answer(text) => self.answered(text),
@@ -99,7 +103,6 @@ impl<'a> Progress<'a> {
     /// One request is answered. The first answer is handed out as it is.
     fn answered(&mut self, text: Text) -> Result<(), Memory>
         ensures treated { OnOk result (self.new ≡ record self.old { hand = self.old.hand ++ text }) }
-        ensures filled { (queue : ℕ) → IsFilled queue self.old → OnOk result (IsFilled queue self.new) }
     {
         if self.hand.is_empty() {
             self.hand = text;
@@ -110,18 +113,14 @@ impl<'a> Progress<'a> {
 
     /// A PLAY waits, and is answered. A URI over the longest is as if there were no memory for it.
     fn put(&mut self, play: Play, text: Text) -> Result<(), Memory>
-        requires { self.old.queued < MOST_PLAYS }
         ensures treated { OnOk result
-            (self.new
-            ≡ record self.old
-            { hand = self.old.hand ++ text; plays = self.old.plays ++ play ∷ []; queued = self.old.queued + 1 }) }
-        ensures filled { (queue : ℕ) → IsFilled queue self.old → OnOk result (IsFilled queue self.new) }
+            (self.new ≡ record self.old { hand = self.old.hand ++ text; plays = self.old.plays ++ play ∷ [] }) }
+        ensures short { OnOk result (length play.uri ≤ LONGEST_URI) }
     {
         if play.uri.len() > LONGEST_URI {
             return Err(Memory);
         }
         self.plays.push_back(play)?;
-        self.queued += 1;
         self.answered(text)
     }
 
@@ -139,23 +138,80 @@ impl<'a> Progress<'a> {
     }
 }
 
+/// What becomes of a request of a player with these sessions.
+fn judge<'a, 'v>(
+    alloc: Global,
+    sessions: &'v [Option<SessionView<'a, 'v>>],
+    described: Option<&'v [u8]>,
+    full: bool,
+    bases: &'v Bases,
+    item: &'a Item,
+) -> Result<Decision<'a>, Memory>
+    requires few { length sessions.now ≤ MOST_SESSIONS }
+    ensures { IfOk result (λ decision.
+        decision
+        ≡ decision_on
+        (given_shown bases.entry.now full (map session_shown sessions.entry.now) (option_copied described.entry))
+        (shape_of item.entry.now)) }
+{
+    let view = View {
+        sessions,
+        described,
+        full,
+        bases,
+    };
+    let decision = decide(alloc, &view, item)?;
+    prove!(item.bytes.len() <= usize::MAX);
+    Ok(decision)
+}
+
+/// A PLAY that waits by this decision is counted.
+fn count(sessions: &mut [Option<SessionView<'_, '_>>], decision: &Decision<'_>)
+    requires { IsDecidedIn (map session_shown sessions.old) decision.now }
+    ensures { map session_shown sessions.new ≡ sessions_then decision.now (map session_shown sessions.old) }
+{
+    if let Decision::Queue(play, _) = decision {
+        count_play(sessions, play.place);
+    }
+}
+
+/// One PLAY more waits in the session at a place.
+fn count_play(sessions: &mut [Option<SessionView<'_, '_>>], place: Option<u8>)
+    requires named { NamesSession place (map session_shown sessions.old) }
+    requires room { (session_in place (map session_shown sessions.old)).queued < MOST_PLAYS }
+    ensures { map session_shown sessions.new ≡ queued_more_where place (map session_shown sessions.old) }
+{
+    if let Some(place) = place {
+        if let Some(session) = &mut sessions[usize::from(place)] {
+            session.queued += 1;
+        }
+    }
+}
+
 /// Treats the requests that wait in order, until one of them goes up. Their answers follow the bytes
 /// that are handed already.
-pub(crate) fn treat_waiting<'a>(
+pub(crate) fn treat_waiting<'a, 'v>(
     alloc: Global,
-    view: &View<'a, '_>,
+    sessions: &mut [Option<SessionView<'a, 'v>>],
+    described: Option<&'v [u8]>,
+    full: bool,
+    bases: &'v Bases,
     slot: &'a Slot,
     first: Text,
 ) -> Result<Progress<'a>, Memory>
-    ensures { IfOk result (λ progress. IsTreated (given_of view.now) slot.now.waiting first progress) }
+    requires few { length sessions.old ≤ MOST_SESSIONS }
+    ensures { IfOk result (IsTreated
+        (given_shown bases.entry.now full (map session_shown sessions.old) (option_copied described.entry))
+        (given_shown bases.entry.now full (map session_shown sessions.new) (option_copied described.entry))
+        slot.entry.now.waiting first) }
 {
     let count = slot.waiting();
-    let mut progress = Progress::begun(alloc, first, view.queued);
+    let mut progress = Progress::begun(alloc, first);
     while progress.treated < count && progress.going.is_none() {
         let Some(item) = slot.waiting_at(progress.treated) else {
             unreachable!()
         };
-        progress.then(alloc, view, item)?;
+        progress.then(alloc, sessions, described, full, bases, item)?;
         progress.treated += 1;
     }
     Ok(progress)

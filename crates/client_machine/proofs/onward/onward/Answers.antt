@@ -1,23 +1,29 @@
-use Rattle.std.proofs.Common.{◌≡◌, None, length, sym}
+-- By what is seen of the connection.
+use Rattle.std.proofs.Common.{◌∙◌, sym, ap}
+use Rattle.std.specs.Option.{option_copied}
 use Rattle.std.proofs.lemmas.Result.{IfOk-weaker}
-use Rattle.client_machine.specs.Sights.{sight_of, due_in, given_by}
-use Rattle.client_machine.proofs.AfterLemmas.{none_is, treated_shown}
-use Rattle.client_machine.proofs.RoomLemmas.{way_room, room_as}
+use Rattle.client_machine.specs.declared.parts.Up.{Up}
+use Rattle.client_machine.specs.Outlooks.{sights_of}
+use Rattle.client_machine.proofs.OnwardLemmas.{none_is, still, closed_goes, due_goes, treated_goes}
 use Rattle.client_machine.proofs.onward.onward.Goals as goal
+
+pub returns-then-not-alive : goal.returns-then-not-alive
+returns-then-not-alive c =
+    let outlook = c.args.outlook.now in
+    closed_goes c.args.bases.now c.args.next c.args.pair outlook.slot.now (sights_of outlook) (option_copied outlook.described) c.args.hand c.args.change c.still.result (sym c.if-not-alive.ensures)
+    (c.still.ensures ∙ ap (λ (up : Up). still c.args.change c.args.hand up) c.leave.ensures)
+
+pub returns-in-Some : goal.returns-in-Some
+returns-in-Some c =
+    let outlook = c.args.outlook.now in
+    due_goes c.args.bases.now c.args.next c.args.pair outlook.slot.now (sights_of outlook) (option_copied outlook.described) c.args.hand c.args.change c.in-Some.up c.still-in-Some.result (sym c.if-not-alive.ensures)
+    (sym c.in_ok-up.ensures ∙ c.in-Some.is) c.still-in-Some.ensures
 
 pub returns : goal.returns
 returns c =
-    let due : due_in (sight_of c.args.seen.now) ≡ None = sym c.in_default.ensures in
+    let outlook = c.args.outlook.now in
     IfOk-weaker c.finished.result _ _
-    (λ plan finished. record {
-      change_is = finished.change;
-      onward = λ client shown.
-          treated_shown c.args.bases.now c.args.next c.args.pair c.is_none.result c.args.slot.now client (sight_of c.args.seen.now) c.args.hand c.in_ok-progress.progress c.streams.result c.args.change plan
-          shown (sym c.if-not-alive.ensures) due (none_is c.args.pair c.is_none.result c.is_none.ensures) c.in_ok-progress.ensures c.streams.ensures.0 finished;
-    })
+    (λ plan finished.
+    treated_goes c.args.bases.now c.args.next c.args.pair c.is_none.result outlook.slot.now (sights_of outlook) (option_copied outlook.described) c.args.hand c.args.change c.in_ok-progress.ensures.0 c.in_ok-progress.progress plan
+    (sym c.if-not-alive.ensures) (sym c.in_ok-up.ensures ∙ c.in_default.is) (none_is c.args.pair c.is_none.result c.is_none.ensures) c.in_ok-progress.ensures.1 finished)
     c.finished.ensures
-
-pub finished-requires-clause-room : goal.finished-requires-clause-room
-finished-requires-clause-room c =
-    room_as (length (sight_of c.args.seen.now).tracks) c.streams.result c.in_ok-progress.progress.going c.streams.ensures.1
-    (way_room (given_by c.args.bases.now c.is_none.result (sight_of c.args.seen.now)) c.args.slot.now.waiting c.args.hand c.in_ok-progress.progress c.in_ok-progress.ensures)

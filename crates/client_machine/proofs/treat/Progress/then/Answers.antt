@@ -1,15 +1,14 @@
-use Rattle.std.proofs.Common.{sym, subst}
+-- A PLAY that waits finds room.
+use Rattle.std.proofs.Common.{map, sym, subst}
+use Rattle.std.specs.Option.{option_copied}
 use Rattle.rtsp_head.specs.Shapes.{shape_of}
-use Rattle.translate_up.specs.Views.{given_of, Given}
-use Rattle.translate_up.specs.Decisions.{decide}
-use Rattle.translate_up.specs.declared.decision.Decision.{Decision}
-use Rattle.translate_up.proofs.PlaceLemmas.{decide_place}
-use Rattle.client_machine.specs.Progresses.{with_queued, HasPlayRoom}
-use Rattle.client_machine.proofs.RoomLemmas.{play_room}
+use Rattle.translate_up.specs.Views.{session_shown}
+use Rattle.translate_up.specs.Placed.{IsDecidedIn}
+use Rattle.client_machine.specs.Sights.{given_shown}
+use Rattle.client_machine.proofs.TreatLemmas.{decided_on}
 use Rattle.client_machine.proofs.treat.Progress.then.Goals as goal
 
-pub decided-requires : goal.decided-requires
-decided-requires c =
-    let given : Given = with_queued c.args.self.now.queued (given_of c.args.view.now) in
-    subst (λ (one : Decision). HasPlayRoom c.args.self.now.queued one) (sym c.in_ok-decision.ensures)
-    (play_room given (decide given (shape_of c.args.item.now)) (decide_place given (shape_of c.args.item.now)))
+pub count-requires : goal.count-requires
+count-requires c =
+    subst (IsDecidedIn (map session_shown c.args.sessions.now)) (sym c.in_ok-decision.ensures)
+    (decided_on (given_shown c.args.bases.now c.args.full (map session_shown c.args.sessions.now) (option_copied c.args.described)) (shape_of c.args.item.now))

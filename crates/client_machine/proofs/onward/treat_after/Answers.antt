@@ -1,0 +1,20 @@
+-- None waits.
+use Rattle.std.proofs.Common.{◌≤◌, ◌∙◌, sym, subst, arith}
+use Rattle.std.specs.Option.{option_copied}
+use Rattle.client_machine.specs.Sights.{given_by}
+use Rattle.client_machine.specs.Outlooks.{sights_of}
+use Rattle.client_machine.specs.Progresses.{IsTreated}
+use Rattle.session_one.specs.declared.parts.TheConstants.{MOST_SESSIONS}
+use Rattle.client_machine.proofs.SightLemmas.{outlook_length, found_length}
+use Rattle.client_machine.proofs.TreatLemmas.{way_begins}
+use Rattle.client_machine.proofs.onward.treat_after.Goals as goal
+
+pub returns-then-waiting-eq0 : goal.returns-then-waiting-eq0
+returns-then-waiting-eq0 c =
+    let outlook = c.args.outlook.now in
+    let judged = given_by c.args.bases.now c.args.full (sights_of outlook) (option_copied outlook.described) in
+    let four = found_length (sights_of outlook) ∙ outlook_length outlook in (
+      judged,
+      subst (IsTreated judged judged outlook.slot.now.waiting c.args.hand) (sym c.begun.ensures)
+          (record { way = way_begins judged outlook.slot.now.waiting c.args.hand (subst (λ n. n ≤ MOST_SESSIONS) (sym four) (omega arith)); all = λ none. sym c.if-waiting-eq0.true ∙ c.waiting.ensures }),
+    )
