@@ -1,9 +1,12 @@
 -- The induction over a history: the books and the record of each connection alone agree in it.
-use Rattle.std.proofs.Common.{◌≡◌, ◌≢◌, ◌∙◌, ℕ, ◌==◌, ◌&&◌, not, Bool, true, false, cond, List, [], ◌∷◌, ◌++◌, Option, Some, None, IsSome, ◌⊎◌, inl, inr, refl, sym, ap, subst}
+use Rattle.std.proofs.Common.{◌≡◌, ◌≢◌, ◌∙◌, ℕ, zero, suc, ◌==◌, ◌&&◌, not, Bool, true, false, cond, List, [], ◌∷◌, ◌++◌, Option, Some, None, IsSome, ◌⊎◌, inl, inr, refl, sym, ap, subst}
 use Rattle.std.specs.Prelude.{is_some}
 use Rattle.std.specs.Option.{option_map, option_to_list}
 use Rattle.std.proofs.lemmas.Bool.{eq-eqb, eqb-true}
 use Rattle.rtsp_uri.specs.declared.base.Bases.{Bases}
+use Rattle.client_slot.specs.Session.{PlayerSession, new_session}
+use Rattle.client_slot.specs.Places.{new_sessions, session_at}
+use Rattle.client_slot.specs.Client.{new_client}
 use Rattle.client_machine.specs.Alone.{Private, private_after, asked_in, is_live, effect_alone, is_empty_list}
 use Rattle.client_machine.specs.Effects.{Outgoing, Effect}
 use Rattle.client_machine.specs.Events.{PrivateEvent}
@@ -12,13 +15,14 @@ use Rattle.client_machine.proofs.KeepLemmas.{live_unclosed}
 use Rattle.gateway_claim.specs.declared.event.ToUp.{ToUp}
 use Rattle.gateway_claim.specs.declared.event.UpCause.{UpCause}
 use Rattle.gateway_claim.specs.Kinds.{RequestKind, kind_of}
-use Rattle.gateway_claim.specs.Books.{Opened, Books}
+use Rattle.gateway_claim.specs.Books.{Opened, Books, new_books}
 use Rattle.gateway_claim.specs.Settlement.{settles, free_in}
 use Rattle.gateway_claim.specs.Happenings.{Happening, HistoryEntry, fault_in, entered, shut, nothing_up}
 use Rattle.gateway_claim.specs.OwnEvents.{turn, is_turn, final_in, settled_by, lends_where, has_shut, books_after, books_of, own}
 use Rattle.gateway_claim.specs.Follows.{event_in, effect_at, effect_of_turn, effect, said_breach, spent, message_up, message_due, up_due, Follows, IsHistory}
-use Rattle.gateway_claim.specs.BooksAndSlots.{IsJoined, AreSound}
+use Rattle.gateway_claim.specs.BooksAndSlots.{IsHolding, IsJoined, AreSound}
 use Rattle.gateway_claim.proofs.CaseLemmas.{IsCase, turn_case, nobody_settles, both_none, not_over, own_absent}
+use Rattle.gateway_claim.proofs.FitLemmas.{alone_fit}
 use Rattle.gateway_claim.proofs.HistoryLemmas.{same_number}
 use Rattle.gateway_claim.proofs.SlotLemmas.{alone, AreJoined, settled_sound, settled_other, lent_sound, lent_own, lent_other, IsStep, shared_step, step_is, step_gone, IsTurnStep, turn_step}
 use Rattle.gateway_claim.proofs.OtherLemmas.{differs}
@@ -142,14 +146,16 @@ event_present bases T h i event en is =
 -- It is the turn of a connection, which makes a step.
 step_joined : (bases : Bases) (T : List HistoryEntry) (h : Happening) (i : ℕ) (event : PrivateEvent) (shut : Bool) → AreJoined bases T → fault_in T ≡ None → entered i T ≡ true → own_event bases T i h ≡ Some event
     → IsStep bases (books_of T) (final_in (books_of T) h) i (alone bases T i) event → shut ≡ not (effect_alone bases (alone bases T i) event).client.alive
+    → spent (books_of T).issued (effect_alone bases (alone bases T i) event).message ≡ None
     → AreJoinedWith bases T h (Some i) (effect_alone bases (alone bases T i) event).message shut
-step_joined bases T h i event shut joined standing en is made closed =
+step_joined bases T h i event shut joined standing en is made closed left =
     let is_shared : effect_alone bases (alone bases T i) event ≡ shared_step bases (settled_by (books_of T) h) (alone bases T i) event = step_is bases (books_of T) (final_in (books_of T) h) i (alone bases T i) event (not_over bases T standing i) made in
     let gone : HasGone (settled_by (books_of T) h) i (effect_alone bases (alone bases T i) event).client (alone bases T i).count
     (kind_of (option_map (message_up (books_of T) (settled_by (books_of T) h) i) (effect_alone bases (alone bases T i) event).message) (free_in (settled_by (books_of T) h)) shut) (asked_in (effect_alone bases (alone bases T i) event).message) =
     subst (λ (done : Effect). HasGone (settled_by (books_of T) h) i done.client (alone bases T i).count
     (kind_of (option_map (message_up (books_of T) (settled_by (books_of T) h) i) done.message) (free_in (settled_by (books_of T) h)) shut) (asked_in done.message)) (sym is_shared)
-    (step_gone bases (books_of T) (final_in (books_of T) h) i (alone bases T i) event shut (alone_numbered bases (own bases i T)) made (closed ∙ ap (λ (done : Effect). not done.client.alive) is_shared)) in
+    (step_gone bases (books_of T) (final_in (books_of T) h) i (alone bases T i) event shut (alone_numbered bases (own bases i T)) made (closed ∙ ap (λ (done : Effect). not done.client.alive) is_shared)
+    (alone_fit bases (own bases i T)) (ap (λ (done : Effect). spent (books_of T).issued done.message) (sym is_shared) ∙ left)) in
     let kind : Option RequestKind = kind_of (option_map (message_up (books_of T) (settled_by (books_of T) h) i) (effect_alone bases (alone bases T i) event).message) (free_in (settled_by (books_of T) h)) shut in
     let settled_is_sound : AreSound (settled_by (books_of T) h) = settled_sound (books_of T) i (final_in (books_of T) h) made.is_final joined.0 in (
       lent_sound (settled_by (books_of T) h) i (alone bases T i).count (asked_in (effect_alone bases (alone bases T i) event).message) (effect_alone bases (alone bases T i) event).client kind gone settled_is_sound,
@@ -193,41 +199,62 @@ shut_next bases T e i event history standing en turns is =
     ap (λ closed. not (is_empty_list closed)) (history.1.shut i) ∙ ap not (sym (live_unclosed bases (own bases i (e ∷ T)))) ∙ ap not live
 
 turned : (bases : Bases) (T : List HistoryEntry) (e : HistoryEntry) (i : ℕ) (en : Bool) (event : Option PrivateEvent) → IsHistory bases (e ∷ T) → fault_in (e ∷ T) ≡ None → AreJoined bases T → turn (books_of T) e.happening ≡ Some i → entered i T ≡ en
-    → own_event bases T i e.happening ≡ event → said_breach bases T e.happening ≡ None → AreJoinedWith bases T e.happening (Some i) (effect_of_turn bases T (Some i) e.happening).message (has_shut (Some i) (e ∷ T))
-turned bases T e i false event history standing joined turns en is right =
+    → own_event bases T i e.happening ≡ event → said_breach bases T e.happening ≡ None → spent (books_of T).issued (effect_of_turn bases T (Some i) e.happening).message ≡ None → AreJoinedWith bases T e.happening (Some i) (effect_of_turn bases T (Some i) e.happening).message (has_shut (Some i) (e ∷ T))
+turned bases T e i false event history standing joined turns en is right left =
     idle_joined bases T e.happening i (effect_of_turn bases T (Some i) e.happening).message (has_shut (Some i) (e ∷ T)) joined (absent_final bases T e.happening i joined turns en) (effect_absent bases T e.happening i en) (all_quiet bases T e.happening i (inl en))
-turned bases T e i true None history standing joined turns en is right =
+turned bases T e i true None history standing joined turns en is right left =
     let made : IsTurnStep bases (books_of T) i (alone bases T i) (own_event bases T i e.happening) (final_in (books_of T) e.happening) = turn_step bases T i e.happening (joined.1 i) en turns right in
     let none : final_in (books_of T) e.happening ≡ None = subst (λ (one : Option PrivateEvent). IsTurnStep bases (books_of T) i (alone bases T i) one (final_in (books_of T) e.happening)) is made in
     idle_joined bases T e.happening i (effect_of_turn bases T (Some i) e.happening).message (has_shut (Some i) (e ∷ T)) joined none
     (ap (λ (done : Effect). done.message) (effect_present bases T e.happening i None en is)) (all_quiet bases T e.happening i (inr is))
-turned bases T e i true (Some event) history standing joined turns en is right =
+turned bases T e i true (Some event) history standing joined turns en is right left =
     let made : IsTurnStep bases (books_of T) i (alone bases T i) (own_event bases T i e.happening) (final_in (books_of T) e.happening) = turn_step bases T i e.happening (joined.1 i) en turns right in
     let step : IsStep bases (books_of T) (final_in (books_of T) e.happening) i (alone bases T i) event = subst (λ (one : Option PrivateEvent). IsTurnStep bases (books_of T) i (alone bases T i) one (final_in (books_of T) e.happening)) is made in
     subst (λ (done : Effect). AreJoinedWith bases T e.happening (Some i) done.message (has_shut (Some i) (e ∷ T))) (sym (effect_present bases T e.happening i (Some event) en is))
-    (step_joined bases T e.happening i event (has_shut (Some i) (e ∷ T)) joined (both_none (fault_in T) e.outcome.fault standing).0 en is step (shut_next bases T e i event history standing en turns is))
+    (step_joined bases T e.happening i event (has_shut (Some i) (e ∷ T)) joined (both_none (fault_in T) e.outcome.fault standing).0 en is step (shut_next bases T e i event history standing en turns is)
+    (ap (λ (done : Effect). spent (books_of T).issued done.message) (sym (effect_present bases T e.happening i (Some event) en is)) ∙ left))
 
 joined_by : (bases : Bases) (T : List HistoryEntry) (e : HistoryEntry) (who : Option ℕ) → IsHistory bases (e ∷ T) → fault_in (e ∷ T) ≡ None → AreJoined bases T → turn (books_of T) e.happening ≡ who → said_breach bases T e.happening ≡ None
+    → spent (books_of T).issued (effect_of_turn bases T who e.happening).message ≡ None
     → AreJoinedWith bases T e.happening who (effect_of_turn bases T who e.happening).message (has_shut who (e ∷ T))
-joined_by bases T e None history standing joined turns right = nobody_joined bases T e.happening (effect_of_turn bases T None e.happening).message (has_shut None (e ∷ T)) joined (nobody_settles (books_of T) e.happening turns)
-joined_by bases T e (Some i) history standing joined turns right = turned bases T e i (entered i T) (own_event bases T i e.happening) history standing joined turns refl refl right
+joined_by bases T e None history standing joined turns right left = nobody_joined bases T e.happening (effect_of_turn bases T None e.happening).message (has_shut None (e ∷ T)) joined (nobody_settles (books_of T) e.happening turns)
+joined_by bases T e (Some i) history standing joined turns right left = turned bases T e i (entered i T) (own_event bases T i e.happening) history standing joined turns refl refl right left
 
--- Nothing is wrong with what was said, where nothing ended the connection to the server.
-pub said_right : (bases : Bases) (T : List HistoryEntry) (e : HistoryEntry) → Follows bases T e → fault_in (e ∷ T) ≡ None → said_breach bases T e.happening ≡ None
-said_right bases T e f standing =
+-- Nothing is wrong with what was said, and a number is left, where nothing ended the connection to the server.
+unbroken : (bases : Bases) (T : List HistoryEntry) (e : HistoryEntry) → Follows bases T e → fault_in (e ∷ T) ≡ None → (said_breach bases T e.happening ≡ None) × (spent (books_of T).issued (effect bases T e.happening).message ≡ None)
+unbroken bases T e f standing =
     let quiet = both_none (fault_in T) e.outcome.fault standing in
-    (both_none (said_breach bases T e.happening) (spent (books_of T).issued (effect bases T e.happening).message) (sym (breach_standing bases T e.happening quiet.0) ∙ sym f.fault ∙ quiet.1)).0
+    both_none (said_breach bases T e.happening) (spent (books_of T).issued (effect bases T e.happening).message) (sym (breach_standing bases T e.happening quiet.0) ∙ sym f.fault ∙ quiet.1)
+
+pub said_right : (bases : Bases) (T : List HistoryEntry) (e : HistoryEntry) → Follows bases T e → fault_in (e ∷ T) ≡ None → said_breach bases T e.happening ≡ None
+said_right bases T e f standing = (unbroken bases T e f standing).0
 
 joined_next : (bases : Bases) (T : List HistoryEntry) (e : HistoryEntry) → IsHistory bases (e ∷ T) → fault_in (e ∷ T) ≡ None → AreJoined bases T → AreJoined bases (e ∷ T)
 joined_next bases T e history standing joined =
     let next : AreJoinedWith bases T e.happening (turn (books_of T) e.happening) (effect bases T e.happening).message (has_shut (turn (books_of T) e.happening) (e ∷ T)) =
-    joined_by bases T e (turn (books_of T) e.happening) history standing joined refl (said_right bases T e history.1 standing) in
+    joined_by bases T e (turn (books_of T) e.happening) history standing joined refl (unbroken bases T e history.1 standing).0 (unbroken bases T e history.1 standing).1 in
     let books : books_of (e ∷ T) ≡ books_with (books_of T) e.happening (turn (books_of T) e.happening) (effect bases T e.happening).message (has_shut (turn (books_of T) e.happening) (e ∷ T)) = books_next bases T e history.1 standing in (
       subst (λ (b : Books). AreSound b) (sym books) next.0,
       λ j. subst (λ (p : Private). IsJoined (books_of (e ∷ T)) j p.client p.count) (sym (alone_next bases T e j standing))
           (subst (λ (b : Books). IsJoined b j (alone_with bases (own bases j T) (event_for bases T e.happening (turn (books_of T) e.happening) j)).client (alone_with bases (own bases j T) (event_for bases T e.happening (turn (books_of T) e.happening) j)).count) (sym books) (next.1 j)),
     )
 
+joined_new : (i : ℕ) → IsJoined new_books i new_client 0
+joined_new i = record { counted = refl; tracks = holds_none; granted = λ p id here. cc; pending = tt; last = λ g opened here conn. cc; holds = λ place id here. absurd (no_id place id here); session = λ id here. cc; once = λ a b id at_a at_b. absurd (no_id a id at_a) }
+  where
+    new_at : (place : ℕ) → session_at place new_sessions ≡ new_session
+    new_at zero = refl
+    new_at (suc zero) = refl
+    new_at (suc (suc zero)) = refl
+    new_at (suc (suc (suc zero))) = refl
+    new_at (suc (suc (suc (suc place)))) = refl
+
+    holds_none : (place : ℕ) → IsHolding new_books i (session_at place new_sessions).id (session_at place new_sessions).tracks
+    holds_none place = subst (λ (one : PlayerSession). IsHolding new_books i one.id one.tracks) (sym (new_at place)) refl
+
+    no_id : (place : ℕ) (id : List ℕ) → (session_at place new_sessions).id ≡ Some id → ⊥
+    no_id place id here = let none : None ≡ Some id = ap (λ (one : PlayerSession). one.id) (sym (new_at place)) ∙ here in cc
+
 pub joined : (bases : Bases) (T : List HistoryEntry) → IsHistory bases T → fault_in T ≡ None → AreJoined bases T
-joined bases [] history standing = (sound_new, λ i. record { counted = refl; tracks = tt; pending = tt; last = λ g opened here conn. cc; holds = tt; session = λ id here. cc })
+joined bases [] history standing = (sound_new, joined_new)
 joined bases (e ∷ T) history standing = joined_next bases T e history standing (joined bases T history.0 (both_none (fault_in T) e.outcome.fault standing).0)

@@ -1,43 +1,65 @@
 -- No two streams have one pair of channels, and no two connections have one session.
-use Rattle.std.proofs.Common.{◌≡◌, ◌∙◌, ℕ, suc, zero, Bool, false, true, map, List, [], ◌∷◌, ◌++◌, Option, Some, None, IfSome, refl, sym, ap, subst}
+use Rattle.std.proofs.Common.{◌≡◌, ◌∙◌, ℕ, suc, zero, map, List, [], ◌∷◌, ◌++◌, Option, Some, None, refl, sym, ap, subst}
 use Rattle.std.specs.Prelude.{slice_get}
 use Rattle.rtsp_uri.specs.declared.base.Bases.{Bases}
 use Rattle.session_one.specs.declared.parts.Track.{Track}
 use Rattle.client_slot.specs.declared.purpose.Purpose.{Purpose}
 use Rattle.client_slot.specs.declared.purpose.Purpose.TheVariants as purposes
+use Rattle.client_slot.specs.Session.{PlayerSession}
+use Rattle.client_slot.specs.Places.{session_at, tracks_of}
 use Rattle.client_slot.specs.Client.{Client}
 use Rattle.client_machine.specs.Apart.{stream_asked, streams_of, AreStreamsApart, IsStreamApart, AreAllStreamsApart}
 use Rattle.client_machine.proofs.ApartLemmas.{alone_apart}
-use Rattle.channel_map.specs.declared.map.Held.{Held}
-use Rattle.gateway_claim.specs.Books.{Books}
+use Rattle.gateway_claim.specs.Books.{HeldPair, Books}
 use Rattle.gateway_claim.specs.Happenings.{HistoryEntry, fault_in}
 use Rattle.gateway_claim.specs.OwnEvents.{books_of, own}
 use Rattle.gateway_claim.specs.Follows.{IsHistory}
-use Rattle.gateway_claim.specs.BooksAndSlots.{holding, IsHeldFor, AreHeld, IsOpenFor, IsJoined}
+use Rattle.gateway_claim.specs.BooksAndSlots.{IsHeldFor, AreHeld, IsHolding, IsOpenFor, IsJoined}
 use Rattle.gateway_claim.specs.Turns.{client_alone}
 use Rattle.gateway_claim.specs.Apart.{pairs_held, session_held}
 use Rattle.gateway_claim.proofs.AgreeLemmas.{joined}
 use Rattle.gateway_claim.proofs.SlotLemmas.{AreJoined}
 
+-- What is so of each stream that is held for a session is so of all that are set up.
+abbrev pub EachIs : (Track → Type 0) → List Track → Type 0
+EachIs P [] = Unit {0}
+EachIs P (track ∷ tracks) = P track × EachIs P tracks
+
+both_are : (P : Track → Type 0) (tracks more : List Track) → EachIs P tracks → EachIs P more → EachIs P (tracks ++ more)
+both_are P [] more first later = later
+both_are P (track ∷ tracks) more first later = (first.0, both_are P tracks more first.1 later)
+
+module _ (P : Track → Type 0) (books : Books) (i : ℕ) (so : (id : List ℕ) (track : Track) → IsHeldFor books i (Some id) track.pair → P track) where
+  held_are : (id : List ℕ) (tracks : List Track) → AreHeld books i (Some id) tracks → EachIs P tracks
+  held_are id [] held = tt
+  held_are id (track ∷ tracks) held = (so id track held.0, held_are id tracks held.1)
+
+  holding_are : (session : Option (List ℕ)) (tracks : List Track) → IsHolding books i session tracks → EachIs P tracks
+  holding_are None tracks held = subst (λ (all : List Track). EachIs P all) (sym held) tt
+  holding_are (Some id) tracks held = held_are id tracks held
+
+  pub all_are : (sessions : List PlayerSession) → ((place : ℕ) → IsHolding books i (session_at place sessions).id (session_at place sessions).tracks) → EachIs P (tracks_of sessions)
+  all_are [] held = tt
+  all_are (one ∷ more) held = both_are P one.tracks (tracks_of more) (holding_are one.id one.tracks (held zero)) (all_are more (λ place. held (suc place)))
+
 -- Each stream of a connection has a pair that is held for it.
+abbrev IsHeldSo : Books → ℕ → Track → Type 0
+IsHeldSo books i track = (session : Option (List ℕ)) × IsHeldFor books i session track.pair
+
 abbrev AreEachHeld : Books → ℕ → List Track → Type 0
-AreEachHeld books i [] = Unit {0}
-AreEachHeld books i (track ∷ tracks) = ((granted : Bool) × IsHeldFor books i granted track.pair) × AreEachHeld books i tracks
+AreEachHeld books i tracks = EachIs (IsHeldSo books i) tracks
 
-asked_held : (books : Books) (i number : ℕ) (pending : Option Purpose) → IsOpenFor books i number pending → AreEachHeld books i (stream_asked pending)
-asked_held books i number None is_open = tt
-asked_held books i number (Some (purposes.Client asked (Some track))) is_open = ((false, is_open.1.0), tt)
-asked_held books i number (Some (purposes.Client asked None)) is_open = tt
-asked_held books i number (Some (purposes.Released play)) is_open = tt
-asked_held books i number (Some purposes.Closing) is_open = tt
-
-each_held : (books : Books) (i : ℕ) (tracks more : List Track) → AreHeld books i tracks → AreEachHeld books i more → AreEachHeld books i (tracks ++ more)
-each_held books i [] more held later = later
-each_held books i (track ∷ tracks) more held later = ((true, held.0), each_held books i tracks more held.1 later)
+asked_held : (books : Books) (i number : ℕ) (sessions : List PlayerSession) (pending : Option Purpose) → IsOpenFor books i number sessions pending → AreEachHeld books i (stream_asked pending)
+asked_held books i number sessions None is_open = tt
+asked_held books i number sessions (Some (purposes.Client asked (Some track))) is_open = ((None, is_open.1.0), tt)
+asked_held books i number sessions (Some (purposes.Client asked None)) is_open = tt
+asked_held books i number sessions (Some (purposes.Released play)) is_open = tt
+asked_held books i number sessions (Some (purposes.Closing place)) is_open = tt
 
 streams_held : (books : Books) (i count : ℕ) (client : Client) → IsJoined books i client count → AreEachHeld books i (streams_of client)
 streams_held books i count client joins =
-    each_held books i client.session.tracks (stream_asked client.pending) joins.tracks (asked_held books i (books.number_of i count) client.pending joins.pending)
+    both_are (IsHeldSo books i) (tracks_of client.sessions) (stream_asked client.pending) (all_are (IsHeldSo books i) books i (λ id track held. (Some id, held)) client.sessions joins.tracks)
+    (asked_held books i (books.number_of i count) client.sessions client.pending joins.pending)
 
 -- the stream with a pair of a connection, at its place
 abbrev IsAt : (ℕ → ℕ) → List Track → ℕ → ℕ → Track → Type 0
@@ -48,9 +70,9 @@ stream_at pairs [] place pair here = cc
 stream_at pairs (track ∷ tracks) zero pair here = let same : pairs track.pair ≡ pair = cc in (track, (refl, same))
 stream_at pairs (track ∷ tracks) (suc place) pair here = stream_at pairs tracks place pair here
 
-held_at : (books : Books) (i : ℕ) (tracks : List Track) (place : ℕ) (track : Track) → AreEachHeld books i tracks → slice_get tracks place ≡ Some track → (granted : Bool) × IsHeldFor books i granted track.pair
+held_at : (books : Books) (i : ℕ) (tracks : List Track) (place : ℕ) (track : Track) → AreEachHeld books i tracks → slice_get tracks place ≡ Some track → (session : Option (List ℕ)) × IsHeldFor books i session track.pair
 held_at books i [] place track held here = cc
-held_at books i (first ∷ tracks) zero track held here = let same : first ≡ track = cc in subst (λ (one : Track). (granted : Bool) × IsHeldFor books i granted one.pair) same held.0
+held_at books i (first ∷ tracks) zero track held here = let same : first ≡ track = cc in subst (λ (one : Track). (session : Option (List ℕ)) × IsHeldFor books i session one.pair) same held.0
 held_at books i (first ∷ tracks) (suc place) track held here = held_at books i tracks place track held.1 here
 
 -- Streams that are apart have their pairs at one place each.
@@ -72,23 +94,23 @@ same_place (track ∷ tracks) (suc a) (suc b) one other apart at_one at_other sa
 
 -- A pair tells its connection and its own number.
 record IsPairOf (books : Books) (i pair own : ℕ) : Type 0 where
-  held : (granted : Bool) × (books.held pair ≡ Some (holding i pair granted))
+  held : (session : Option (List ℕ)) × (books.held pair ≡ Some (record { conn = i; session = session }))
   named : books.own_pair pair ≡ own
 
 pair_of_stream : (books : Books) (i : ℕ) (tracks : List Track) (place pair : ℕ) (track : Track) → AreEachHeld books i tracks → IsAt (books.pair_of i) tracks place pair track → IsPairOf books i pair track.pair
 pair_of_stream books i tracks place pair track held at =
     let here = held_at books i tracks place track held at.0 in
     record {
-      held = (here.0, subst (λ (p : ℕ). books.held p ≡ Some (holding i p here.0)) at.1 here.1.0);
+      held = (here.0, subst (λ (p : ℕ). books.held p ≡ Some (record { conn = i; session = here.0 })) at.1 here.1.0);
       named = ap books.own_pair (sym at.1) ∙ here.1.1;
     }
 
-one_conn : (one other : Held) → Some one ≡ Some other → one.conn ≡ other.conn
-one_conn one other e = let same : one ≡ other = cc in ap (λ (held : Held). held.conn) same
+one_conn : (one other : HeldPair) → Some one ≡ Some other → one.conn ≡ other.conn
+one_conn one other e = let same : one ≡ other = cc in ap (λ (held : HeldPair). held.conn) same
 
 same_conn : (books : Books) (i j pair one other : ℕ) → IsPairOf books i pair one → IsPairOf books j pair other → i ≡ j
 same_conn books i j pair one other first second =
-    one_conn (holding i pair first.held.0) (holding j pair second.held.0) (sym first.held.1 ∙ second.held.1)
+    one_conn (record { conn = i; session = first.held.0 }) (record { conn = j; session = second.held.0 }) (sym first.held.1 ∙ second.held.1)
 
 pub pairs_apart : (bases : Bases) (T : List HistoryEntry) (i j a b pair : ℕ) → IsHistory bases T → fault_in T ≡ None → slice_get (pairs_held bases T i) a ≡ Some pair → slice_get (pairs_held bases T j) b ≡ Some pair → (i ≡ j) × (a ≡ b)
 pairs_apart bases T i j a b pair history standing at_i at_j =
@@ -104,13 +126,10 @@ pairs_apart bases T i j a b pair history standing at_i at_j =
           (sym first.named ∙ second.named),
     )
 
--- A session's id is bound to one connection.
-holder_is : (books : Books) (i : ℕ) (has : Option (List ℕ)) (id : List ℕ) → IfSome has (λ one. books.holder one ≡ Some i) → has ≡ Some id → books.holder id ≡ Some i
-holder_is books i None id holds is = cc
-holder_is books i (Some one) id holds is = let same : one ≡ id = cc in ap books.holder (sym same) ∙ holds
-
-pub sessions_apart : (bases : Bases) (T : List HistoryEntry) (i j : ℕ) (id : List ℕ) → IsHistory bases T → fault_in T ≡ None → session_held bases T i ≡ Some id → session_held bases T j ≡ Some id → i ≡ j
-sessions_apart bases T i j id history standing has_i has_j =
+-- A session's id is bound to one connection, which has it at one place.
+pub sessions_apart : (bases : Bases) (T : List HistoryEntry) (i j a b : ℕ) (id : List ℕ) → IsHistory bases T → fault_in T ≡ None → session_held bases T i a ≡ Some id → session_held bases T j b ≡ Some id → (i ≡ j) × (a ≡ b)
+sessions_apart bases T i j a b id history standing at_a at_b =
     let joins : AreJoined bases T = joined bases T history standing in
-    let both : Some i ≡ Some j = sym (holder_is (books_of T) i (session_held bases T i) id (joins.1 i).holds has_i) ∙ holder_is (books_of T) j (session_held bases T j) id (joins.1 j).holds has_j in
-    cc
+    let both : Some i ≡ Some j = sym ((joins.1 i).holds a id at_a) ∙ (joins.1 j).holds b id at_b in
+    let conn : i ≡ j = cc in
+    (conn, (joins.1 i).once a b id at_a (subst (λ (k : ℕ). session_held bases T k b ≡ Some id) (sym conn) at_b))

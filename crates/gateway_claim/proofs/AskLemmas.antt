@@ -11,17 +11,19 @@ use Rattle.head_two.specs.Requests.{request_text}
 use Rattle.client_slot.specs.declared.purpose.Purpose.{Purpose}
 use Rattle.client_slot.specs.declared.purpose.Purpose.TheVariants as purposes
 use Rattle.client_slot.specs.Client.{Client}
-use Rattle.client_machine.specs.Alone.{Private, private_after, pair_alone, asked_in, effect_while, effect_alone}
+use Rattle.client_slot.specs.Places.{tracks_of}
+use Rattle.client_machine.specs.Alone.{Private, private_after, pair_alone, asked_in, effect_alone}
 use Rattle.client_machine.specs.OpenRequests.{IsOpenAs, IsFreeFor, AsksBy}
 use Rattle.client_machine.specs.Bounds.{ArePairsBelow}
 use Rattle.client_machine.specs.Effects.{Outgoing, asks, carries, Effect}
-use Rattle.client_machine.specs.Events.{PrivateEvent, arrive, answer, note, media, end, slow, up_end}
+use Rattle.client_machine.specs.Events.{PrivateEvent, up_end}
 use Rattle.client_machine.specs.Frames.{frame_text}
 use Rattle.client_machine.specs.ServerItems.{NextPart, rests, releases, goes_on, hear}
 use Rattle.client_machine.specs.UpTexts.{text_up}
 use Rattle.client_machine.specs.Step.{going_on, step}
 use Rattle.client_machine.proofs.AskLemmas.{going_asks}
-use Rattle.client_machine.proofs.BelowLemmas.{IsMute, hear_mute, alone_below}
+use Rattle.client_machine.proofs.BelowLemmas.{IsMute, hear_mute, alone_below, tracks_below}
+use Rattle.client_machine.proofs.WayLemmas.{alone_as}
 use Rattle.client_machine.proofs.KeepLemmas.{IsOver, over_stays, end_up}
 use Rattle.gateway_claim.specs.declared.event.ToUp.{ToUp}
 use Rattle.gateway_claim.specs.declared.event.UpMessage.{UpMessage}
@@ -53,15 +55,8 @@ AreAlike one other i n = ((k : ℕ) → k ≤ n → one.number_of i k ≡ other.
 fewer_alike : (one other : Books) (i n more : ℕ) → AreAlike one other i (n + more) → AreAlike one other i n
 fewer_alike one other i n more alike = (λ k le. alike.0 k (grind arith), λ k le. alike.1 k (grind arith))
 
-while_carries : (over : Bool) (bases : Bases) (p : Private) (event : PrivateEvent) → ArePairsBelow p.count p.client.session.tracks → CarriesBelow p.count (effect_while over bases p event).message
-while_carries true bases p event below = tt
-while_carries false bases p (arrive shape full) below = step_below bases p.count (pair_alone (arrive shape full) (p.count + 1)) p.client (arrive shape full) below
-while_carries false bases p (answer told ssrc full) below = step_below bases p.count (pair_alone (answer told ssrc full) (p.count + 1)) p.client (answer told ssrc full) below
-while_carries false bases p (note reason names) below = step_below bases p.count (Some (p.count + 1)) p.client (note reason names) below
-while_carries false bases p (media pair half rest) below = step_below bases p.count (Some (p.count + 1)) p.client (media pair half rest) below
-while_carries false bases p end below = step_below bases p.count (Some (p.count + 1)) p.client end below
-while_carries false bases p slow below = step_below bases p.count (Some (p.count + 1)) p.client slow below
-while_carries false bases p up_end below = tt
+alone_carries : (bases : Bases) (p : Private) (event : PrivateEvent) → ArePairsBelow p.count (tracks_of p.client.sessions) → CarriesBelow p.count (effect_alone bases p event).message
+alone_carries bases p event below = alone_as (λ effect. CarriesBelow p.count effect.message) bases p event tt tt (step_below bases p.count (pair_alone event (p.count + 1)) p.client event below)
 
 message_alike : (one other : Books) (i n : ℕ) (message : Option Outgoing) → AreAlike one other i (n + asked_in message) → CarriesBelow n message
     → option_map (spelled_for one i (n + 1)) message ≡ option_map (spelled_for other i (n + 1)) message
@@ -78,7 +73,7 @@ events_alike bases one other i [] alike = refl
 events_alike bases one other i (event ∷ events) alike =
     ap (λ message. option_to_list message ++ spelled_up one i bases events)
     (message_alike one other i (private_after bases events).count (effect_alone bases (private_after bases events) event).message alike
-    (while_carries (private_after bases events).over bases (private_after bases events) event (alone_below bases events).tracks))
+    (alone_carries bases (private_after bases events) event (tracks_below (private_after bases events).count (private_after bases events).client.sessions (alone_below bases events).sessions)))
     ∙ ap (λ more. option_to_list (option_map (spelled_for other i ((private_after bases events).count + 1)) (effect_alone bases (private_after bases events) event).message) ++ more)
     (events_alike bases one other i events (fewer_alike one other i (private_after bases events).count (asked_in (effect_alone bases (private_after bases events) event).message) alike))
 
@@ -112,7 +107,7 @@ open_named free next request (Some mine) (Some (purposes.Client asked None)) (no
 open_named None next request (Some mine) (Some (purposes.Client asked (Some track))) is_open is_free = cc
 open_named (Some p) next request (Some mine) (Some (purposes.Client asked (Some track))) (some, method, setup) is_free = (p, refl, method)
 open_named free next request (Some mine) (Some (purposes.Released play)) (none, more) is_free = cc
-open_named free next request (Some mine) (Some purposes.Closing) (none, more) is_free = cc
+open_named free next request (Some mine) (Some (purposes.Closing place)) (none, more) is_free = cc
 
 going_named : (free : Option ℕ) (next : ℕ) (old : Option Purpose) (message : Option Outgoing) (new : Option Purpose) → AsksBy (pair_where free next) old message new → IsNamed free message
 going_named free next old None new h = tt

@@ -162,7 +162,7 @@ alone_steps bases p event over plain = ap (λ t. effect_while t bases p event) o
     by : (event : PrivateEvent) → is_up_end event ≡ false → effect_while false bases p event ≡ step bases p.count (pair_alone event (p.count + 1)) p.client event
     by (arrive shape full) e = refl
     by (answer told ssrc full) e = refl
-    by (note reason names) e = refl
+    by (note id reason names) e = refl
     by (media pair half rest) e = refl
     by end e = refl
     by slow e = refl

@@ -8,39 +8,31 @@ use Rattle.rtsp_head.specs.declared.item.ItemKind.TheVariants.{Request, Response
 use Rattle.rtsp_small.specs.declared.notify.NotifyReason.{NotifyReason}
 use Rattle.rtsp_small.specs.declared.notify.NotifyReason.TheVariants.{EndOfStream, MediaProperties, ScaleChange}
 use Rattle.rtsp_uri.specs.declared.base.Bases.{Bases}
-use Rattle.session_one.specs.declared.parts.Play.{Play}
 use Rattle.session_two.specs.declared.names.Names.{Names}
 use Rattle.translate_down.specs.Replies.{Told}
+use Rattle.client_slot.specs.Places.{tracks_of}
 use Rattle.client_slot.specs.declared.purpose.Purpose.{Purpose}
 use Rattle.client_slot.specs.Client.{Client}
-use Rattle.client_slot.specs.Changes.{due_play}
+use Rattle.client_slot.specs.Changes.{settle_with}
 use Rattle.client_machine.specs.declared.why.CloseWhy.{CloseWhy}
 use Rattle.client_machine.specs.declared.why.CloseWhy.TheVariants as why
 use Rattle.client_machine.specs.Events.{PrivateEvent, arrive, answer, note, media, end, slow, up_end}
 use Rattle.client_machine.specs.Frames.{channel_in, behind_channel, Half, half_for, channel_for}
 use Rattle.client_machine.specs.Treatment.{given, Going, Treated, treated}
-use Rattle.client_machine.specs.Releases.{released_with, leave_at, goes_at, after_plays, go_due, go_idle, go_at}
-use Rattle.client_machine.specs.ServerItems.{NextPart, rests, releases, goes_on, Hearing, idles, closes, carry, take_item, take, settle_at, take_note, give, take_media, hear}
+use Rattle.client_machine.specs.Releases.{goes_at, after_plays}
+use Rattle.client_machine.specs.ServerItems.{NextPart, Hearing, idles, closes, carry, take_item, take, new_id, settle_at, take_note, give, take_media, hear}
 use Rattle.client_machine.specs.Step.{going_on, step}
+use Rattle.client_machine.proofs.WayLemmas.{hear_as, going_as}
 use Rattle.client_machine.specs.Alone.{Private, is_live, pair_alone, effect_while, effect_alone}
 
 -- What goes up hands nothing to a client that is not alive.
-leave_mute : (id : Option (List ℕ)) (client : Client) → (leave_at id client).hand ≡ []
-leave_mute None client = refl
-leave_mute (Some id) client = refl
-
-release_mute : (play : Option Play) (client : Client) → (released_with play client).hand ≡ []
-release_mute None client = refl
-release_mute (Some play) client = refl
-
-go_mute : (bases : Bases) (pair : Option ℕ) (pending : Option Purpose) (client : Client) → client.alive ≡ false → (go_at bases pair pending client).hand ≡ []
-go_mute bases pair (Some purpose) client dead = refl
-go_mute bases pair None client dead = ap (λ b. (go_idle bases pair b client).hand) dead ∙ leave_mute client.session.id client
-
 going_mute : (bases : Bases) (pair : Option ℕ) (next : NextPart) (client : Client) → client.alive ≡ false → (going_on bases pair next client).hand ≡ []
-going_mute bases pair rests client dead = refl
-going_mute bases pair releases client dead = release_mute (due_play client) client
-going_mute bases pair goes_on client dead = go_mute bases pair client.pending client dead
+going_mute bases pair next client dead = going_as (λ effect. effect.hand ≡ []) bases pair next client (record {
+  still = refl;
+  released = λ place play idle due is. refl;
+  treats = λ idle alive. let no : false ≡ true = sym dead ∙ alive in cc;
+  left = λ place id idle closed filled is. refl;
+})
 
 -- Nor does an event by itself, after which it is not alive either.
 record IsMuted (heard : Hearing) : Type 0 where
@@ -50,45 +42,26 @@ record IsMuted (heard : Hearing) : Type 0 where
 idles_muted : (client : Client) → client.alive ≡ false → IsMuted (idles client)
 idles_muted client dead = record { hand = refl; alive = dead }
 
-take_muted : (alive : Bool) (shape : Shape) (client : Client) → alive ≡ false → client.alive ≡ false → IsMuted (take alive shape client)
-take_muted true shape client e dead = cc
-take_muted false shape client e dead = idles_muted client dead
-
 -- its reply, which a connection that is not alive does not get
 unheard : (alive : Bool) (text : List ℕ) → alive ≡ false → cond alive text [] ≡ []
 unheard true text e = cc
 unheard false text e = refl
-
-settle_muted : (bases : Bases) (number : ℕ) (pending : Option Purpose) (told : Told) (ssrc : Option ℕ) (client : Client) → client.alive ≡ false → IsMuted (settle_at bases number pending told ssrc client)
-settle_muted bases number None told ssrc client dead = idles_muted client dead
-settle_muted bases number (Some purpose) told ssrc client dead = record { hand = unheard client.alive _ dead; alive = dead }
-
-answer_muted : (early : Bool) (client : Client) (heard : Hearing) → client.alive ≡ false → IsMuted heard → IsMuted (cond early (idles client) heard)
-answer_muted true client heard dead muted = idles_muted client dead
-answer_muted false client heard dead muted = muted
-
-note_muted : (reason : NotifyReason) (names : Names) (client : Client) → client.alive ≡ false → IsMuted (take_note reason names client)
-note_muted EndOfStream names client dead = record { hand = refl; alive = dead }
-note_muted MediaProperties names client dead = idles_muted client dead
-note_muted ScaleChange names client dead = idles_muted client dead
-
-media_muted : (alive : Bool) (pair half : ℕ) (rest : List ℕ) (client : Client) → alive ≡ false → client.alive ≡ false → IsMuted (take_media alive pair half rest client)
-media_muted true pair half rest client e dead = cc
-media_muted false pair half rest client e dead = idles_muted client dead
 
 closes_muted : (alive : Bool) (reason : CloseWhy) (client : Client) → client.alive ≡ alive → IsMuted (closes alive reason client)
 closes_muted true reason client e = record { hand = refl; alive = refl }
 closes_muted false reason client e = idles_muted client e
 
 hear_muted : (bases : Bases) (number : ℕ) (client : Client) (event : PrivateEvent) → client.alive ≡ false → IsMuted (hear bases number client event)
-hear_muted bases number client (arrive shape full) dead = take_muted client.alive shape client dead dead
-hear_muted bases number client (answer told ssrc full) dead =
-    answer_muted (nat_lt told.code 200) client (settle_at bases number client.pending told ssrc client) dead (settle_muted bases number client.pending told ssrc client dead)
-hear_muted bases number client (note reason names) dead = note_muted reason names client dead
-hear_muted bases number client (media pair half rest) dead = media_muted client.alive pair half rest client dead dead
-hear_muted bases number client end dead = closes_muted client.alive why.Ended client refl
-hear_muted bases number client slow dead = closes_muted client.alive why.Slow client refl
-hear_muted bases number client up_end dead = idles_muted client dead
+hear_muted bases number client event dead = hear_as IsMuted bases number client event (record {
+  idle = idles_muted client dead;
+  closing = λ reason alive. record { hand = refl; alive = refl };
+  waits = λ shape full here is alive. let no : false ≡ true = sym dead ∙ alive in cc;
+  carrying = λ shape full half here is. record { hand = refl; alive = dead };
+  settles = λ purpose told ssrc full here late is.
+      record { hand = unheard client.alive _ dead; alive = ap (λ (one : Option Purpose). (settle_with one number told.code (new_id purpose told) client).alive) is ∙ dead };
+  notes = λ id names here. record { hand = refl; alive = dead };
+  gives = λ pair half channel rest here is alive. let no : false ≡ true = sym dead ∙ alive in cc;
+})
 
 muted_on : (bases : Bases) (pair : Option ℕ) (heard : Hearing) → IsMuted heard → (heard.effect.hand ++ (going_on bases pair heard.next heard.effect.client).hand) ≡ []
 muted_on bases pair heard muted =
@@ -106,42 +79,25 @@ step_slow_mute : (bases : Bases) (number : ℕ) (pair : Option ℕ) (client : Cl
 step_slow_mute bases number pair client = muted_on bases pair (closes client.alive why.Slow client) (closes_muted client.alive why.Slow client refl)
 
 -- What goes up closes nothing.
-release_open : (play : Option Play) (client : Client) → (released_with play client).close ≡ None
-release_open None client = refl
-release_open (Some play) client = refl
-
-leave_open : (id : Option (List ℕ)) (client : Client) → (leave_at id client).close ≡ None
-leave_open None client = refl
-leave_open (Some id) client = refl
-
 goes_open : (one : Option Going) (pair : Option ℕ) (text : List ℕ) (client : Client) → (goes_at one pair text client).close ≡ None
 goes_open None pair text client = refl
 goes_open (Some one) pair text client = refl
 
-due_open : (bases : Bases) (pair : Option ℕ) (play : Option Play) (client : Client) → (go_due bases pair play client).close ≡ None
-due_open bases pair (Some play) client = refl
-due_open bases pair None client =
-    let all : Treated = treated client.waiting (given bases (is_none pair) client) in
-    goes_open all.going pair all.hand (after_plays all.plays (record client { waiting = all.left }))
-
-idle_open : (bases : Bases) (pair : Option ℕ) (alive : Bool) (client : Client) → (go_idle bases pair alive client).close ≡ None
-idle_open bases pair true client = due_open bases pair (due_play client) client
-idle_open bases pair false client = leave_open client.session.id client
-
-go_open : (bases : Bases) (pair : Option ℕ) (pending : Option Purpose) (client : Client) → (go_at bases pair pending client).close ≡ None
-go_open bases pair None client = idle_open bases pair client.alive client
-go_open bases pair (Some purpose) client = refl
-
 going_open : (bases : Bases) (pair : Option ℕ) (next : NextPart) (client : Client) → (going_on bases pair next client).close ≡ None
-going_open bases pair rests client = refl
-going_open bases pair releases client = release_open (due_play client) client
-going_open bases pair goes_on client = go_open bases pair client.pending client
+going_open bases pair next client = going_as (λ effect. effect.close ≡ None) bases pair next client (record {
+  still = refl;
+  released = λ place play idle due is. refl;
+  treats = λ idle alive.
+      let all : Treated = treated client.waiting (given bases (is_none pair) client) in
+      goes_open all.going pair all.hand (after_plays all.plays (record client { waiting = all.left }));
+  left = λ place id idle closed filled is. refl;
+})
 
 -- How an event closes a connection, by whether it is alive.
 abbrev pub ClosesBy : Bool → PrivateEvent → Option CloseWhy → Type 0
 ClosesBy alive (arrive shape full) close = (close ≡ None) ⊎ ((alive ≡ true) × (close ≡ Some why.BadItem))
 ClosesBy alive (answer told ssrc full) close = close ≡ None
-ClosesBy alive (note reason names) close = close ≡ None
+ClosesBy alive (note id reason names) close = close ≡ None
 ClosesBy alive (media pair half rest) close = close ≡ None
 ClosesBy alive end close = close ≡ cond alive (Some why.Ended) None
 ClosesBy alive slow close = close ≡ cond alive (Some why.Slow) None
@@ -150,7 +106,7 @@ ClosesBy alive up_end close = Unit {0}
 item_closes : (kind : ItemKind) (shape : Shape) (full : Bool) (client : Client) → ClosesBy true (arrive shape full) (take_item kind shape client).effect.close
 item_closes Request shape full client = inl refl
 item_closes Response shape full client = inl refl
-item_closes Frame shape full client = inl (carried (half_for (channel_in shape) client.session.tracks))
+item_closes Frame shape full client = inl (carried (half_for (channel_in shape) (tracks_of client.sessions)))
   where
     carried : (half : Option Half) → (carry half (behind_channel shape) client).effect.close ≡ None
     carried None = refl
@@ -169,13 +125,13 @@ answer_open : (early : Bool) (client : Client) (heard : Hearing) → heard.effec
 answer_open true client heard none = refl
 answer_open false client heard none = none
 
-note_open : (reason : NotifyReason) (names : Names) (client : Client) → (take_note reason names client).effect.close ≡ None
-note_open EndOfStream names client = refl
-note_open MediaProperties names client = refl
-note_open ScaleChange names client = refl
+note_open : (reason : NotifyReason) (id : List ℕ) (names : Names) (client : Client) → (take_note id reason names client).effect.close ≡ None
+note_open EndOfStream id names client = refl
+note_open MediaProperties id names client = refl
+note_open ScaleChange id names client = refl
 
 media_open : (alive : Bool) (pair half : ℕ) (rest : List ℕ) (client : Client) → (take_media alive pair half rest client).effect.close ≡ None
-media_open true pair half rest client = given_open (channel_for pair half client.session.tracks)
+media_open true pair half rest client = given_open (channel_for pair half (tracks_of client.sessions))
   where
     given_open : (channel : Option ℕ) → (give channel rest client).effect.close ≡ None
     given_open None = refl
@@ -190,7 +146,7 @@ hear_closes : (bases : Bases) (number : ℕ) (client : Client) (event : PrivateE
 hear_closes bases number client (arrive shape full) = take_closes client.alive shape full client
 hear_closes bases number client (answer told ssrc full) =
     answer_open (nat_lt told.code 200) client (settle_at bases number client.pending told ssrc client) (settle_open bases number client.pending told ssrc client)
-hear_closes bases number client (note reason names) = note_open reason names client
+hear_closes bases number client (note id reason names) = note_open reason id names client
 hear_closes bases number client (media pair half rest) = media_open client.alive pair half rest client
 hear_closes bases number client end = closes_so client.alive why.Ended client
 hear_closes bases number client slow = closes_so client.alive why.Slow client
@@ -211,14 +167,14 @@ step_closes bases number pair client event =
 closes_while : (over : Bool) (bases : Bases) (p : Private) (event : PrivateEvent) → ClosesBy (not over && p.client.alive) event (effect_while over bases p event).close
 closes_while true bases p (arrive shape full) = inl refl
 closes_while true bases p (answer told ssrc full) = refl
-closes_while true bases p (note reason names) = refl
+closes_while true bases p (note id reason names) = refl
 closes_while true bases p (media pair half rest) = refl
 closes_while true bases p end = refl
 closes_while true bases p slow = refl
 closes_while true bases p up_end = tt
 closes_while false bases p (arrive shape full) = step_closes bases p.count (pair_alone (arrive shape full) (p.count + 1)) p.client (arrive shape full)
 closes_while false bases p (answer told ssrc full) = step_closes bases p.count (pair_alone (answer told ssrc full) (p.count + 1)) p.client (answer told ssrc full)
-closes_while false bases p (note reason names) = step_closes bases p.count (pair_alone (note reason names) (p.count + 1)) p.client (note reason names)
+closes_while false bases p (note id reason names) = step_closes bases p.count (pair_alone (note id reason names) (p.count + 1)) p.client (note id reason names)
 closes_while false bases p (media pair half rest) = step_closes bases p.count (pair_alone (media pair half rest) (p.count + 1)) p.client (media pair half rest)
 closes_while false bases p end = step_closes bases p.count (pair_alone end (p.count + 1)) p.client end
 closes_while false bases p slow = step_closes bases p.count (pair_alone slow (p.count + 1)) p.client slow
@@ -231,7 +187,7 @@ mute_while : (over : Bool) (bases : Bases) (p : Private) (event : PrivateEvent) 
 mute_while true bases p event dead = refl
 mute_while false bases p (arrive shape full) dead = step_mute bases p.count (pair_alone (arrive shape full) (p.count + 1)) p.client (arrive shape full) dead
 mute_while false bases p (answer told ssrc full) dead = step_mute bases p.count (pair_alone (answer told ssrc full) (p.count + 1)) p.client (answer told ssrc full) dead
-mute_while false bases p (note reason names) dead = step_mute bases p.count (pair_alone (note reason names) (p.count + 1)) p.client (note reason names) dead
+mute_while false bases p (note id reason names) dead = step_mute bases p.count (pair_alone (note id reason names) (p.count + 1)) p.client (note id reason names) dead
 mute_while false bases p (media pair half rest) dead = step_mute bases p.count (pair_alone (media pair half rest) (p.count + 1)) p.client (media pair half rest) dead
 mute_while false bases p end dead = step_end_mute bases p.count (Some (p.count + 1)) p.client
 mute_while false bases p slow dead = step_slow_mute bases p.count (Some (p.count + 1)) p.client

@@ -9,7 +9,7 @@ use Rattle.rtsp_head.specs.Items.{Shape}
 use Rattle.rtsp_head.specs.declared.item.ItemKind.TheVariants as item
 use Rattle.rtsp_uri.specs.declared.base.Bases.{Bases}
 use Rattle.session_one.specs.declared.parts.Track.{Track}
-use Rattle.channel_map.specs.declared.map.Held.{Held}
+use Rattle.client_slot.specs.Places.{tracks_of}
 use Rattle.client_machine.specs.Alone.{new_private, pair_alone, effect_alone}
 use Rattle.client_machine.specs.Effects.{Outgoing, asks, carries, Effect, stays}
 use Rattle.client_machine.specs.Events.{PrivateEvent, arrive, media}
@@ -23,12 +23,13 @@ use Rattle.gateway_claim.specs.declared.event.UpMessage.TheVariants.{Frame}
 use Rattle.gateway_claim.specs.declared.event.UpCause.{UpCause}
 use Rattle.gateway_claim.specs.declared.event.Outcome.{Outcome}
 use Rattle.gateway_claim.specs.ServerItems.{Heard, frames, heard}
-use Rattle.gateway_claim.specs.Books.{Books}
+use Rattle.gateway_claim.specs.Books.{HeldPair, Books}
 use Rattle.gateway_claim.specs.Settlement.{settles}
 use Rattle.gateway_claim.specs.Happenings.{Happening, takes, hears, HistoryEntry, fault_in, entered, nothing_up, silent}
 use Rattle.gateway_claim.specs.OwnEvents.{owner_of, heard_turn, turn, heard_final, settled_by, books_of, is_full, heard_event}
 use Rattle.gateway_claim.specs.Follows.{event_in, effect_at, effect_of_turn, effect, heard_breach, spent, breach, heard_answer, message_due, up_due, Follows, IsHistory}
-use Rattle.gateway_claim.specs.BooksAndSlots.{holding, AreHeld, AreSound}
+use Rattle.gateway_claim.specs.BooksAndSlots.{AreSound}
+use Rattle.gateway_claim.proofs.ApartLemmas.{EachIs, all_are}
 use Rattle.gateway_claim.specs.Next.{client_piece, one_closed, outcome_with, next}
 use Rattle.gateway_claim.specs.Turns.{client_alone}
 use Rattle.gateway_claim.specs.Apart.{IsFrameDown, IsFrameUp}
@@ -70,7 +71,7 @@ effect_stays bases T h i absent = ap (λ t. effect_at bases (cond t (Some (alone
 -- A frame of the server is given by the connection whose turn it is.
 abbrev IsGivenTo : Bases → List HistoryEntry → ℕ → List ℕ → Option ℕ → Effect → Type 0
 IsGivenTo bases T channel rest None made = (made.message ≡ None) × (made.close ≡ None)
-IsGivenTo bases T channel rest (Some i) made = IsMediaGiven (client_alone bases T i).session.tracks ((books_of T).own_pair (channel / 2)) (channel % 2) rest made
+IsGivenTo bases T channel rest (Some i) made = IsMediaGiven (tracks_of (client_alone bases T i).sessions) ((books_of T).own_pair (channel / 2)) (channel % 2) rest made
 
 given_to : (bases : Bases) (T : List HistoryEntry) (shape : Shape) (channel : ℕ) (rest : List ℕ) (who : Option ℕ) → fault_in T ≡ None → heard shape ≡ frames channel rest → IsGivenTo bases T channel rest who (effect_of_turn bases T who (hears shape))
 given_to bases T shape channel rest None standing says = (refl, refl)
@@ -82,11 +83,11 @@ given_to bases T shape channel rest (Some i) standing says = by (entered i T) re
     is_own : own_event bases T i (hears shape) ≡ Some event
     is_own = ap (λ (said : Heard). heard_event (books_of T) (settles (heard_final (books_of T) said) (books_of T)) i (alone bases T i).client.waiting said) says
 
-    by : (en : Bool) → entered i T ≡ en → IsMediaGiven (client_alone bases T i).session.tracks ((books_of T).own_pair (channel / 2)) (channel % 2) rest (effect_of_turn bases T (Some i) (hears shape))
-    by true en = subst (λ (made : Effect). IsMediaGiven (client_alone bases T i).session.tracks ((books_of T).own_pair (channel / 2)) (channel % 2) rest made)
+    by : (en : Bool) → entered i T ≡ en → IsMediaGiven (tracks_of (client_alone bases T i).sessions) ((books_of T).own_pair (channel / 2)) (channel % 2) rest (effect_of_turn bases T (Some i) (hears shape))
+    by true en = subst (λ (made : Effect). IsMediaGiven (tracks_of (client_alone bases T i).sessions) ((books_of T).own_pair (channel / 2)) (channel % 2) rest made)
         (sym (effect_steps bases T (hears shape) i event standing en is_own (alone_steps bases (alone bases T i) event (not_over bases T standing i) refl)))
         (media_given bases (alone bases T i).count (pair_alone event ((alone bases T i).count + 1)) (alone bases T i).client ((books_of T).own_pair (channel / 2)) (channel % 2) rest)
-    by false en = subst (λ (made : Effect). IsMediaGiven (client_alone bases T i).session.tracks ((books_of T).own_pair (channel / 2)) (channel % 2) rest made)
+    by false en = subst (λ (made : Effect). IsMediaGiven (tracks_of (client_alone bases T i).sessions) ((books_of T).own_pair (channel / 2)) (channel % 2) rest made)
         (sym (effect_stays bases T (hears shape) i en)) (record { message = refl; close = refl; hand = inl refl })
 
 -- What comes of it, as it is handed out.
@@ -96,18 +97,18 @@ pub record GoesDown (bases : Bases) (T : List HistoryEntry) (channel : ℕ) (res
   pub closed : out.closed ≡ Nobody
   pub fault : out.fault ≡ None
 
-owner_held : (place : Option Held) (i : ℕ) → owner_of place ≡ Some i → (held : Held) × (place ≡ Some held) × (held.conn ≡ i)
+owner_held : (place : Option HeldPair) (i : ℕ) → owner_of place ≡ Some i → (held : HeldPair) × (place ≡ Some held) × (held.conn ≡ i)
 owner_held None i e = cc
-owner_held (Some held) i e = by held.granted e
+owner_held (Some held) i e = by (is_some held.session) e
   where
-    by : (granted : Bool) → cond granted (Some held.conn) None ≡ Some i → (one : Held) × (Some held ≡ Some one) × (one.conn ≡ i)
+    by : (granted : Bool) → cond granted (Some held.conn) None ≡ Some i → (one : HeldPair) × (Some held ≡ Some one) × (one.conn ≡ i)
     by true h = let same : held.conn ≡ i = cc in (held, refl, same)
     by false h = cc
 
 own_found : (books : Books) (i pair : ℕ) → AreSound books → owner_of (books.held pair) ≡ Some i → books.pair_of i (books.own_pair pair) ≡ pair
 own_found books i pair sound owner =
     let place = owner_held (books.held pair) i owner in
-    ap (λ conn. books.pair_of conn (books.own_pair pair)) (sym place.2) ∙ (sound.pairs pair place.0 place.1).1
+    ap (λ conn. books.pair_of conn (books.own_pair pair)) (sym place.2) ∙ (sound.pairs pair place.0 place.1).0
 
 some_piece : (i first : ℕ) (more : List ℕ) → client_piece (Some i) (first ∷ more) ≡ Some (record { conn = i; bytes = first ∷ more })
 some_piece i first more = ap (λ t. cond t None (Some (record { conn = i; bytes = first ∷ more }))) (by (suc (length more) == 0) refl)
@@ -117,7 +118,7 @@ some_piece i first more = ap (λ t. cond t None (Some (record { conn = i; bytes 
     by false e = refl
 
 piece_down : (bases : Bases) (T : List HistoryEntry) (channel : ℕ) (rest : List ℕ) (i : ℕ) (bytes : List ℕ) → AreSound (books_of T) → owner_of ((books_of T).held (channel / 2)) ≡ Some i
-    → (bytes ≡ []) ⊎ IsHandedOn (client_alone bases T i).session.tracks ((books_of T).own_pair (channel / 2)) (channel % 2) rest bytes → IfSome (client_piece (Some i) bytes) (IsFrameDown bases T channel rest)
+    → (bytes ≡ []) ⊎ IsHandedOn (tracks_of (client_alone bases T i).sessions) ((books_of T).own_pair (channel / 2)) (channel % 2) rest bytes → IfSome (client_piece (Some i) bytes) (IsFrameDown bases T channel rest)
 piece_down bases T channel rest i bytes sound owner (inl none) = subst (λ (one : List ℕ). IfSome (client_piece (Some i) one) (IsFrameDown bases T channel rest)) (sym none) tt
 piece_down bases T channel rest i bytes sound owner (inr (track, stream, pair, is)) =
     subst (λ (one : Option ToClient). IfSome one (IsFrameDown bases T channel rest)) (sym (ap (client_piece (Some i)) is ∙ some_piece i dollar (player_channel (channel % 2) track ∷ rest)))
@@ -180,16 +181,20 @@ pub record GoesUp (bases : Bases) (T : List HistoryEntry) (i : ℕ) (shape : Sha
   pub closed : out.closed ≡ Nobody
   pub fault : out.fault ≡ None
 
-held_for : (books : Books) (i : ℕ) (tracks : List Track) (track : Track) → AreHeld books i tracks → Contains tracks track → owner_of (books.held (books.pair_of i track.pair)) ≡ Some i
+-- each stream's pair was granted to the connection
+abbrev IsOwned : Books → ℕ → Track → Type 0
+IsOwned books i track = owner_of (books.held (books.pair_of i track.pair)) ≡ Some i
+
+held_for : (books : Books) (i : ℕ) (tracks : List Track) (track : Track) → EachIs (IsOwned books i) tracks → Contains tracks track → IsOwned books i track
 held_for books i tracks track held (place, within, is) = by tracks place held within is
   where
-    by : (all : List Track) (k : ℕ) → AreHeld books i all → k < length all → slice_index_or all k track ≡ track → owner_of (books.held (books.pair_of i track.pair)) ≡ Some i
+    by : (all : List Track) (k : ℕ) → EachIs (IsOwned books i) all → k < length all → slice_index_or all k track ≡ track → IsOwned books i track
     by [] k h w e = absurd (omega (arith, w))
-    by (first ∷ all) zero h w e = ap owner_of (subst (λ (one : Track). books.held (books.pair_of i one.pair) ≡ Some (holding i (books.pair_of i one.pair) true)) e h.0.0)
+    by (first ∷ all) zero h w e = subst (λ (one : Track). IsOwned books i one) e h.0
     by (first ∷ all) (suc k) h w e = by all k h.1 (omega (arith, w)) e
 
-message_goes : (bases : Bases) (T : List HistoryEntry) (i : ℕ) (shape : Shape) (message : Option Outgoing) → AreHeld (books_of T) i (client_alone bases T i).session.tracks
-    → IsCarriedBy (client_alone bases T i).session.tracks (channel_in shape) (behind_channel shape) message → (settled : Books)
+message_goes : (bases : Bases) (T : List HistoryEntry) (i : ℕ) (shape : Shape) (message : Option Outgoing) → EachIs (IsOwned (books_of T) i) (tracks_of (client_alone bases T i).sessions)
+    → IsCarriedBy (tracks_of (client_alone bases T i).sessions) (channel_in shape) (behind_channel shape) message → (settled : Books)
     → IfSome (message_due (books_of T) settled (Some i) message) (IsFrameUp bases T i shape)
 message_goes bases T i shape None held carried settled = tt
 message_goes bases T i shape (Some (asks request pair)) held carried settled = absurd carried
@@ -200,7 +205,7 @@ message_goes bases T i shape (Some (carries pair half sent)) held (track, stream
   record {
     stream = stream;
     named = ap ((books_of T).pair_of i) own;
-    owner = subst (λ (one : ℕ). owner_of ((books_of T).held ((books_of T).pair_of i one)) ≡ Some i) own (held_for (books_of T) i (client_alone bases T i).session.tracks track held stream);
+    owner = subst (λ (one : ℕ). owner_of ((books_of T).held ((books_of T).pair_of i one)) ≡ Some i) own (held_for (books_of T) i (tracks_of (client_alone bases T i).sessions) track held stream);
   },
   side,
   ap (λ bytes. Frame (frame_text (2 * (books_of T).pair_of i pair + half) bytes)) same,
@@ -212,21 +217,21 @@ none_spent issued tracks channel rest (Some (asks request pair)) carried = absur
 none_spent issued tracks channel rest (Some (carries pair half sent)) carried = refl
 
 carried_by : (bases : Bases) (T : List HistoryEntry) (i : ℕ) (shape : Shape) → fault_in T ≡ None → shape.kind ≡ item.Frame
-    → IsFrameCarried (client_alone bases T i).session.tracks (channel_in shape) (behind_channel shape) (effect bases T (takes i shape))
+    → IsFrameCarried (tracks_of (client_alone bases T i).sessions) (channel_in shape) (behind_channel shape) (effect bases T (takes i shape))
 carried_by bases T i shape standing kind = by (entered i T) refl
   where
     event : PrivateEvent
     event = arrive shape (is_full (settled_by (books_of T) (takes i shape)) ((alone bases T i).client.waiting ++ shape ∷ []))
 
-    by : (en : Bool) → entered i T ≡ en → IsFrameCarried (client_alone bases T i).session.tracks (channel_in shape) (behind_channel shape) (effect_of_turn bases T (Some i) (takes i shape))
-    by true en = subst (λ (made : Effect). IsFrameCarried (client_alone bases T i).session.tracks (channel_in shape) (behind_channel shape) made)
+    by : (en : Bool) → entered i T ≡ en → IsFrameCarried (tracks_of (client_alone bases T i).sessions) (channel_in shape) (behind_channel shape) (effect_of_turn bases T (Some i) (takes i shape))
+    by true en = subst (λ (made : Effect). IsFrameCarried (tracks_of (client_alone bases T i).sessions) (channel_in shape) (behind_channel shape) made)
         (sym (effect_steps bases T (takes i shape) i event standing en refl (alone_steps bases (alone bases T i) event (not_over bases T standing i) refl)))
         (frame_carried bases (alone bases T i).count (pair_alone event ((alone bases T i).count + 1)) (alone bases T i).client shape (is_full (settled_by (books_of T) (takes i shape)) ((alone bases T i).client.waiting ++ shape ∷ [])) kind)
-    by false en = subst (λ (made : Effect). IsFrameCarried (client_alone bases T i).session.tracks (channel_in shape) (behind_channel shape) made)
+    by false en = subst (λ (made : Effect). IsFrameCarried (tracks_of (client_alone bases T i).sessions) (channel_in shape) (behind_channel shape) made)
         (sym (effect_stays bases T (takes i shape) i en)) (record { hand = refl; close = refl; message = tt })
 
-goes_up : (bases : Bases) (T : List HistoryEntry) (i : ℕ) (shape : Shape) (made : Effect) (settled : Books) → AreHeld (books_of T) i (client_alone bases T i).session.tracks
-    → IsFrameCarried (client_alone bases T i).session.tracks (channel_in shape) (behind_channel shape) made
+goes_up : (bases : Bases) (T : List HistoryEntry) (i : ℕ) (shape : Shape) (made : Effect) (settled : Books) → EachIs (IsOwned (books_of T) i) (tracks_of (client_alone bases T i).sessions)
+    → IsFrameCarried (tracks_of (client_alone bases T i).sessions) (channel_in shape) (behind_channel shape) made
     → GoesUp bases T i shape (outcome_with None (Some i) (record { answer = None; message = message_due (books_of T) settled (Some i) made.message }) made)
 goes_up bases T i shape made settled held carried = record {
   message = message_goes bases T i shape made.message held carried.message settled;
@@ -238,13 +243,13 @@ goes_up bases T i shape made settled held carried = record {
 
 up_next : (bases : Bases) (T : List HistoryEntry) (i : ℕ) (shape : Shape) (fault : Option UpCause) → IsHistory bases T → fault_in T ≡ fault → shape.kind ≡ item.Frame → GoesUp bases T i shape (next bases T (takes i shape))
 up_next bases T i shape None history standing kind =
-    let carried : IsFrameCarried (client_alone bases T i).session.tracks (channel_in shape) (behind_channel shape) (effect bases T (takes i shape)) = carried_by bases T i shape standing kind in
+    let carried : IsFrameCarried (tracks_of (client_alone bases T i).sessions) (channel_in shape) (behind_channel shape) (effect bases T (takes i shape)) = carried_by bases T i shape standing kind in
     let right : breach bases T (takes i shape) ≡ None =
     breach_standing bases T (takes i shape) standing
-    ∙ none_spent (books_of T).issued (client_alone bases T i).session.tracks (channel_in shape) (behind_channel shape) (effect bases T (takes i shape)).message carried.message in
+    ∙ none_spent (books_of T).issued (tracks_of (client_alone bases T i).sessions) (channel_in shape) (behind_channel shape) (effect bases T (takes i shape)).message carried.message in
     subst (λ (out : Outcome). GoesUp bases T i shape out)
     (sym (outcome_at bases T (takes i shape) (Some i) (up_due bases T (takes i shape)) (effect bases T (takes i shape)) standing right refl refl refl))
-    (goes_up bases T i shape (effect bases T (takes i shape)) (settled_by (books_of T) (takes i shape)) ((joined bases T history standing).1 i).tracks carried)
+    (goes_up bases T i shape (effect bases T (takes i shape)) (settled_by (books_of T) (takes i shape)) (all_are (IsOwned (books_of T) i) (books_of T) i (λ id track held. ap owner_of held.0) (client_alone bases T i).sessions ((joined bases T history standing).1 i).tracks) carried)
 up_next bases T i shape (Some cause) history over kind =
     subst (λ (out : Outcome). GoesUp bases T i shape out) (sym (outcome_over bases T (takes i shape) cause over)) (record { message = tt; answer = refl; piece = refl; closed = refl; fault = refl })
 

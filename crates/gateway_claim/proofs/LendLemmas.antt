@@ -1,5 +1,5 @@
 -- A request that goes up with the next number: what it changes for its connection, and that it changes nothing for others.
-use Rattle.std.proofs.Common.{◌≡◌, ◌≢◌, ℕ, ◌+◌, ◌≤◌, ◌==◌, ◌&&◌, Bool, true, false, cond, List, [], ◌∷◌, Option, None, Some, IfSome, IsSome, ◌⊎◌, inl, inr, refl, sym, ◌∙◌, ap, subst, arith}
+use Rattle.std.proofs.Common.{◌≡◌, ◌≢◌, ℕ, zero, suc, ◌+◌, ◌≤◌, ◌==◌, ◌&&◌, Bool, true, false, cond, List, [], ◌∷◌, Option, None, Some, IsSome, ◌⊎◌, inl, inr, refl, sym, ◌∙◌, ap, subst, arith}
 use Rattle.std.proofs.lemmas.Bool.{eq-eqb, eqb-true}
 use Rattle.rtsp_small.specs.declared.method.Method.TheVariants as methods
 use Rattle.session_one.specs.declared.parts.Track.{Track}
@@ -7,13 +7,15 @@ use Rattle.session_one.specs.Table.{same_method}
 use Rattle.translate_up.specs.Fields.{is_setup}
 use Rattle.client_slot.specs.declared.purpose.Purpose.{Purpose}
 use Rattle.client_slot.specs.declared.purpose.Purpose.TheVariants as purposes
+use Rattle.client_slot.specs.Session.{PlayerSession}
+use Rattle.client_slot.specs.Places.{session_at, session_where}
 use Rattle.client_slot.specs.Client.{Client}
-use Rattle.channel_map.specs.declared.map.Held.{Held}
-use Rattle.client_machine.specs.Bounds.{ArePairsBelow}
-use Rattle.gateway_claim.specs.Kinds.{RequestKind, sets_up, tears_down, closes, plain}
-use Rattle.gateway_claim.specs.Books.{Opened, Books, pair_asked, is_pair, pair_else, lends}
-use Rattle.gateway_claim.specs.BooksAndSlots.{kind_for, holding, IsHeldFor, AreHeld, IsPurpose, opened_for, IsOpenFor, IsOnlyOpen, IsJoined, AreSound}
+use Rattle.client_machine.specs.Bounds.{ArePairsBelow, AreSessionsBelow}
+use Rattle.gateway_claim.specs.Kinds.{RequestKind, sets_up, plain, teardown_kind}
+use Rattle.gateway_claim.specs.Books.{Opened, HeldPair, Books, pair_asked, is_pair, pair_else, lends}
+use Rattle.gateway_claim.specs.BooksAndSlots.{kind_for, IsHeldFor, AreHeld, IsHolding, HasPair, IsStreamPair, IsForSession, IsPurpose, opened_for, IsOpenFor, IsOnlyOpen, IsJoined, AreSound}
 use Rattle.gateway_claim.proofs.OtherLemmas.{differs}
+use Rattle.gateway_claim.proofs.SettleLemmas.{AreAlike}
 
 pub below_differs : (x n : ℕ) → x ≤ n → (x == n + 1) ≡ false
 below_differs x n le = differs x (n + 1) (λ same. grind arith)
@@ -24,7 +26,7 @@ IsFree books None = Unit {0}
 IsFree books (Some pair) = books.held pair ≡ None
 
 -- what is held is not what is asked for
-held_apart : (books : Books) (asked : Option ℕ) (p : ℕ) (held : Held) → IsFree books asked → books.held p ≡ Some held → is_pair asked p ≡ false
+held_apart : (books : Books) (asked : Option ℕ) (p : ℕ) (held : HeldPair) → IsFree books asked → books.held p ≡ Some held → is_pair asked p ≡ false
 held_apart books None p held free here = refl
 held_apart books (Some pair) p held free here = differs pair p (λ same.
     let none : None ≡ Some held = sym free ∙ ap books.held same ∙ here in
@@ -40,47 +42,74 @@ pair_same books i kind j own e = ap (λ t. cond (t && own == books.counts i + 1)
 pub number_same : (books : Books) (i : ℕ) (kind : RequestKind) (j own : ℕ) → (j == i) ≡ false → (lends i kind books).number_of j own ≡ books.number_of j own
 number_same books i kind j own e = ap (λ t. cond (t && own == books.counts i + 1) (books.issued + 1) (books.number_of j own)) e
 
-held_same : (books : Books) (i : ℕ) (kind : RequestKind) (p : ℕ) (held : Held) → IsFree books (pair_asked kind) → books.held p ≡ Some held → (lends i kind books).held p ≡ Some held
-held_same books i kind p held free here = ap (λ t. cond t (Some (record { conn = i; pair = p; granted = false })) (books.held p)) (held_apart books (pair_asked kind) p held free here) ∙ here
+held_same : (books : Books) (i : ℕ) (kind : RequestKind) (p : ℕ) (held : HeldPair) → IsFree books (pair_asked kind) → books.held p ≡ Some held → (lends i kind books).held p ≡ Some held
+held_same books i kind p held free here = ap (λ t. cond t (Some (record { conn = i; session = None })) (books.held p)) (held_apart books (pair_asked kind) p held free here) ∙ here
 
-own_same : (books : Books) (i : ℕ) (kind : RequestKind) (p : ℕ) (held : Held) → IsFree books (pair_asked kind) → books.held p ≡ Some held → (lends i kind books).own_pair p ≡ books.own_pair p
+own_same : (books : Books) (i : ℕ) (kind : RequestKind) (p : ℕ) (held : HeldPair) → IsFree books (pair_asked kind) → books.held p ≡ Some held → (lends i kind books).own_pair p ≡ books.own_pair p
 own_same books i kind p held free here = ap (λ t. cond t (books.counts i + 1) (books.own_pair p)) (held_apart books (pair_asked kind) p held free here)
 
 -- what is held for a connection whose own pair is an old one stays held for it
-held_on : (books : Books) (i : ℕ) (kind : RequestKind) (j : ℕ) (granted : Bool) (own : ℕ) → IsFree books (pair_asked kind) → (lends i kind books).pair_of j own ≡ books.pair_of j own
-    → IsHeldFor books j granted own → IsHeldFor (lends i kind books) j granted own
-held_on books i kind j granted own free same h =
-    subst (λ (q : ℕ). ((lends i kind books).held q ≡ Some (holding j q granted)) × ((lends i kind books).own_pair q ≡ own)) (sym same)
-    (held_same books i kind (books.pair_of j own) (holding j (books.pair_of j own) granted) free h.0, own_same books i kind (books.pair_of j own) (holding j (books.pair_of j own) granted) free h.0 ∙ h.1)
+held_on : (books : Books) (i : ℕ) (kind : RequestKind) (j : ℕ) (session : Option (List ℕ)) (own : ℕ) → IsFree books (pair_asked kind) → (lends i kind books).pair_of j own ≡ books.pair_of j own
+    → IsHeldFor books j session own → IsHeldFor (lends i kind books) j session own
+held_on books i kind j session own free same h =
+    subst (λ (q : ℕ). ((lends i kind books).held q ≡ Some (record { conn = j; session = session })) × ((lends i kind books).own_pair q ≡ own)) (sym same)
+    (held_same books i kind (books.pair_of j own) (record { conn = j; session = session }) free h.0, own_same books i kind (books.pair_of j own) (record { conn = j; session = session }) free h.0 ∙ h.1)
 
-others_held : (books : Books) (i : ℕ) (kind : RequestKind) (j : ℕ) (tracks : List Track) → IsFree books (pair_asked kind) → (j == i) ≡ false → AreHeld books j tracks → AreHeld (lends i kind books) j tracks
-others_held books i kind j [] free e h = tt
-others_held books i kind j (track ∷ tracks) free e h = (held_on books i kind j true track.pair free (pair_same books i kind j track.pair e) h.0, others_held books i kind j tracks free e h.1)
+others_held : (books : Books) (i : ℕ) (kind : RequestKind) (j : ℕ) (session : Option (List ℕ)) (tracks : List Track) → IsFree books (pair_asked kind) → (j == i) ≡ false → AreHeld books j session tracks → AreHeld (lends i kind books) j session tracks
+others_held books i kind j session [] free e h = tt
+others_held books i kind j session (track ∷ tracks) free e h = (held_on books i kind j session track.pair free (pair_same books i kind j track.pair e) h.0, others_held books i kind j session tracks free e h.1)
 
-other_purpose : (books : Books) (i : ℕ) (kind : RequestKind) (j : ℕ) (purpose : Purpose) → IsFree books (pair_asked kind) → (j == i) ≡ false → IsPurpose books j purpose → IsPurpose (lends i kind books) j purpose
-other_purpose books i kind j (purposes.Client asked (Some track)) free e h = (held_on books i kind j false track.pair free (pair_same books i kind j track.pair e) h.0, h.1)
-other_purpose books i kind j (purposes.Client asked None) free e h = h
-other_purpose books i kind j (purposes.Released play) free e h = tt
-other_purpose books i kind j purposes.Closing free e h = tt
+others_holding : (books : Books) (i : ℕ) (kind : RequestKind) (j : ℕ) (session : Option (List ℕ)) (tracks : List Track) → IsFree books (pair_asked kind) → (j == i) ≡ false → IsHolding books j session tracks → IsHolding (lends i kind books) j session tracks
+others_holding books i kind j None tracks free e h = h
+others_holding books i kind j (Some id) tracks free e h = others_held books i kind j (Some id) tracks free e h
 
-other_kind : (books : Books) (i : ℕ) (kind : RequestKind) (j : ℕ) (purpose : Purpose) → (j == i) ≡ false → kind_for (books.pair_of j) purpose ≡ kind_for ((lends i kind books).pair_of j) purpose
-other_kind books i kind j (purposes.Client asked (Some track)) e = ap (λ p. sets_up p) (sym (pair_same books i kind j track.pair e))
-other_kind books i kind j (purposes.Client asked None) e = refl
-other_kind books i kind j (purposes.Released play) e = refl
-other_kind books i kind j purposes.Closing e = refl
+-- what is held for a session then was held for it
+pub granted_was : (books : Books) (i : ℕ) (kind : RequestKind) (j p : ℕ) (id : List ℕ) → (lends i kind books).held p ≡ Some (record { conn = j; session = Some id }) → books.held p ≡ Some (record { conn = j; session = Some id })
+granted_was books i kind j p id here = by (is_pair (pair_asked kind) p) here
+  where
+    by : (t : Bool) → cond t (Some (record { conn = i; session = None })) (books.held p) ≡ Some (record { conn = j; session = Some id }) → books.held p ≡ Some (record { conn = j; session = Some id })
+    by true e =
+        let same : record { conn = i; session = None } ≡ record { conn = j; session = Some id } = cc in
+        let none : None ≡ Some id = ap (λ (one : HeldPair). one.session) same in cc
+    by false e = e
+
+-- the pairs of a numbering that agrees on the streams
+pair_had : (pairs other : ℕ → ℕ) (p : ℕ) (tracks : List Track) → ((own : ℕ) → other own ≡ pairs own) → HasPair pairs p tracks → HasPair other p tracks
+pair_had pairs other p [] same has = has
+pair_had pairs other p (track ∷ tracks) same (inl here) = inl (same track.pair ∙ here)
+pair_had pairs other p (track ∷ tracks) same (inr later) = inr (pair_had pairs other p tracks same later)
+
+other_stream : (books : Books) (i : ℕ) (kind : RequestKind) (j : ℕ) (sessions : List PlayerSession) (id : List ℕ) (p : ℕ) → (j == i) ≡ false → IsStreamPair (books.pair_of j) sessions id p → IsStreamPair ((lends i kind books).pair_of j) sessions id p
+other_stream books i kind j sessions id p e stream = record {
+  place = stream.place;
+  named = stream.named;
+  has = pair_had (books.pair_of j) ((lends i kind books).pair_of j) p (session_at stream.place sessions).tracks (λ own. pair_same books i kind j own e) stream.has;
+}
+
+other_purpose : (books : Books) (i : ℕ) (kind : RequestKind) (j : ℕ) (sessions : List PlayerSession) (purpose : Purpose) → IsFree books (pair_asked kind) → (j == i) ≡ false → IsPurpose books j sessions purpose → IsPurpose (lends i kind books) j sessions purpose
+other_purpose books i kind j sessions (purposes.Client asked (Some track)) free e h = (held_on books i kind j None track.pair free (pair_same books i kind j track.pair e) h.0, h.1, h.2)
+other_purpose books i kind j sessions (purposes.Client asked None) free e h = h
+other_purpose books i kind j sessions (purposes.Released play) free e h = tt
+other_purpose books i kind j sessions (purposes.Closing place) free e h = tt
+
+other_kind : (books : Books) (i : ℕ) (kind : RequestKind) (j : ℕ) (sessions : List PlayerSession) (purpose : Purpose) → (j == i) ≡ false → kind_for (books.pair_of j) sessions purpose ≡ kind_for ((lends i kind books).pair_of j) sessions purpose
+other_kind books i kind j sessions (purposes.Client asked (Some track)) e = ap (λ p. sets_up p) (sym (pair_same books i kind j track.pair e))
+other_kind books i kind j sessions (purposes.Client asked None) e = refl
+other_kind books i kind j sessions (purposes.Released play) e = refl
+other_kind books i kind j sessions (purposes.Closing place) e = refl
 
 -- an open number is not the next one
 open_on : (books : Books) (i : ℕ) (kind : RequestKind) (g : ℕ) (opened : Opened) → AreSound books → books.opened g ≡ Some opened → (lends i kind books).opened g ≡ Some opened
 open_on books i kind g opened sound here = ap (λ t. cond t (Some (record { conn = i; kind = kind })) (books.opened g)) (below_differs g books.issued (sound.low g opened here)) ∙ here
 
-other_open : (books : Books) (i : ℕ) (kind : RequestKind) (j count : ℕ) (pending : Option Purpose) → AreSound books → IsFree books (pair_asked kind) → (j == i) ≡ false → IsOpenFor books j (books.number_of j count) pending
-    → IsOpenFor (lends i kind books) j ((lends i kind books).number_of j count) pending
-other_open books i kind j count None sound free e h = tt
-other_open books i kind j count (Some purpose) sound free e h = (
+other_open : (books : Books) (i : ℕ) (kind : RequestKind) (j count : ℕ) (sessions : List PlayerSession) (pending : Option Purpose) → AreSound books → IsFree books (pair_asked kind) → (j == i) ≡ false → IsOpenFor books j (books.number_of j count) sessions pending
+    → IsOpenFor (lends i kind books) j ((lends i kind books).number_of j count) sessions pending
+other_open books i kind j count sessions None sound free e h = tt
+other_open books i kind j count sessions (Some purpose) sound free e h = (
   ap (lends i kind books).opened (number_same books i kind j count e)
-      ∙ open_on books i kind (books.number_of j count) (opened_for books j purpose) sound h.0
-      ∙ ap (λ one. Some (record { conn = j; kind = one })) (other_kind books i kind j purpose e),
-  other_purpose books i kind j purpose free e h.1,
+      ∙ open_on books i kind (books.number_of j count) (opened_for books j sessions purpose) sound h.0
+      ∙ ap (λ one. Some (record { conn = j; kind = one })) (other_kind books i kind j sessions purpose e),
+  other_purpose books i kind j sessions purpose free e h.1,
 )
 
 -- what is open was open, or is the new request
@@ -105,11 +134,13 @@ other_lent books i kind j client count sound free ne joined =
     let e : (j == i) ≡ false = differs j i ne in
     record {
       counted = joined.counted ∙ sym (ap (λ t. cond t (books.counts i + 1) (books.counts j)) e);
-      tracks = others_held books i kind j client.session.tracks free e joined.tracks;
-      pending = other_open books i kind j count client.pending sound free e joined.pending;
+      tracks = λ place. others_holding books i kind j (session_at place client.sessions).id (session_at place client.sessions).tracks free e (joined.tracks place);
+      granted = λ p id here. other_stream books i kind j client.sessions id p e (joined.granted p id (granted_was books i kind j p id here));
+      pending = other_open books i kind j count client.sessions client.pending sound free e joined.pending;
       last = other_last books i kind j count client.pending e ne joined.last;
       holds = joined.holds;
       session = joined.session;
+      once = joined.once;
     }
 
 -- For the connection itself, whose own numbers so far are at most its count.
@@ -141,69 +172,101 @@ old_number books i kind own le = ap (λ t. cond ((i == i) && t) (books.issued + 
     by true = refl
     by false = refl
 
-old_held : (books : Books) (i : ℕ) (kind : RequestKind) (count : ℕ) (tracks : List Track) → IsFree books (pair_asked kind) → count ≡ books.counts i → ArePairsBelow count tracks → AreHeld books i tracks → AreHeld (lends i kind books) i tracks
-old_held books i kind count [] free counted below h = tt
-old_held books i kind count (track ∷ tracks) free counted below h =
-    (held_on books i kind i true track.pair free (old_pair books i kind track.pair (subst (λ (n : ℕ). track.pair ≤ n) counted below.0.1)) h.0, old_held books i kind count tracks free counted below.1 h.1)
+old_held : (books : Books) (i : ℕ) (kind : RequestKind) (count : ℕ) (session : Option (List ℕ)) (tracks : List Track) → IsFree books (pair_asked kind) → count ≡ books.counts i → ArePairsBelow count tracks → AreHeld books i session tracks → AreHeld (lends i kind books) i session tracks
+old_held books i kind count session [] free counted below h = tt
+old_held books i kind count session (track ∷ tracks) free counted below h =
+    (held_on books i kind i session track.pair free (old_pair books i kind track.pair (subst (λ (n : ℕ). track.pair ≤ n) counted below.0.1)) h.0, old_held books i kind count session tracks free counted below.1 h.1)
+
+old_holding : (books : Books) (i : ℕ) (kind : RequestKind) (count : ℕ) (session : Option (List ℕ)) (tracks : List Track) → IsFree books (pair_asked kind) → count ≡ books.counts i → ArePairsBelow count tracks → IsHolding books i session tracks → IsHolding (lends i kind books) i session tracks
+old_holding books i kind count None tracks free counted below h = h
+old_holding books i kind count (Some id) tracks free counted below h = old_held books i kind count (Some id) tracks free counted below h
+
+old_has : (books : Books) (i : ℕ) (kind : RequestKind) (count p : ℕ) (tracks : List Track) → count ≡ books.counts i → ArePairsBelow count tracks → HasPair (books.pair_of i) p tracks → HasPair ((lends i kind books).pair_of i) p tracks
+old_has books i kind count p [] counted below has = has
+old_has books i kind count p (track ∷ tracks) counted below (inl here) = inl (old_pair books i kind track.pair (subst (λ (n : ℕ). track.pair ≤ n) counted below.0.1) ∙ here)
+old_has books i kind count p (track ∷ tracks) counted below (inr later) = inr (old_has books i kind count p tracks counted below.1 later)
+
+-- the streams at a place are old
+pub below_at : (n place : ℕ) (sessions : List PlayerSession) → AreSessionsBelow n sessions → ArePairsBelow n (session_at place sessions).tracks
+below_at n place [] below = tt
+below_at n zero (one ∷ more) below = below.0.tracks
+below_at n (suc place) (one ∷ more) below = below_at n place more below.1
 
 -- What the new request is for: a SETUP asks for a pair that is free, which the connection knows by its next own number.
-abbrev pub IsLentFor : Books → ℕ → RequestKind → Purpose → Type 0
-IsLentFor books count kind (purposes.Client asked (Some track)) = (p : ℕ) × (kind ≡ sets_up p) × (books.held p ≡ None) × (track.pair ≡ count + 1) × (asked.method ≡ methods.Setup)
-IsLentFor books count kind (purposes.Client asked None) = (kind ≡ cond (same_method asked.method methods.Teardown) tears_down plain) × (is_setup asked.method ≡ false)
-IsLentFor books count kind (purposes.Released play) = kind ≡ plain
-IsLentFor books count kind purposes.Closing = kind ≡ closes
+abbrev pub IsLentFor : Books → ℕ → RequestKind → List PlayerSession → Purpose → Type 0
+IsLentFor books count kind sessions (purposes.Client asked (Some track)) =
+    (p : ℕ) × (kind ≡ sets_up p) × (books.held p ≡ None) × (track.pair ≡ count + 1) × (asked.method ≡ methods.Setup) × IsForSession asked.place sessions
+IsLentFor books count kind sessions (purposes.Client asked None) = (kind ≡ cond (same_method asked.method methods.Teardown) (teardown_kind false (session_where asked.place sessions).id) plain) × (is_setup asked.method ≡ false)
+IsLentFor books count kind sessions (purposes.Released play) = kind ≡ plain
+IsLentFor books count kind sessions (purposes.Closing place) = kind ≡ teardown_kind true (session_at place sessions).id
 
-teardown_free : (books : Books) (t : Bool) → IsFree books (pair_asked (cond t tears_down plain))
-teardown_free books true = tt
-teardown_free books false = tt
+teardown_free : (books : Books) (shut : Bool) (id : Option (List ℕ)) → IsFree books (pair_asked (teardown_kind shut id))
+teardown_free books shut None = tt
+teardown_free books true (Some id) = tt
+teardown_free books false (Some id) = tt
 
-pub lent_free : (books : Books) (count : ℕ) (kind : RequestKind) (purpose : Purpose) → IsLentFor books count kind purpose → IsFree books (pair_asked kind)
-lent_free books count kind (purposes.Client asked (Some track)) (p, is, free, own, setup) = subst (λ (k : RequestKind). IsFree books (pair_asked k)) (sym is) free
-lent_free books count kind (purposes.Client asked None) (is, setup) = subst (λ (k : RequestKind). IsFree books (pair_asked k)) (sym is) (teardown_free books (same_method asked.method methods.Teardown))
-lent_free books count kind (purposes.Released play) is = subst (λ (k : RequestKind). IsFree books (pair_asked k)) (sym is) tt
-lent_free books count kind purposes.Closing is = subst (λ (k : RequestKind). IsFree books (pair_asked k)) (sym is) tt
+asked_free : (books : Books) (t : Bool) (id : Option (List ℕ)) → IsFree books (pair_asked (cond t (teardown_kind false id) plain))
+asked_free books true id = teardown_free books false id
+asked_free books false id = tt
 
-new_kind : (books : Books) (i count : ℕ) (kind : RequestKind) (purpose : Purpose) → count ≡ books.counts i → IsLentFor books count kind purpose → kind ≡ kind_for ((lends i kind books).pair_of i) purpose
-new_kind books i count kind (purposes.Client asked (Some track)) counted (p, is, free, own, setup) =
+pub lent_free : (books : Books) (count : ℕ) (kind : RequestKind) (sessions : List PlayerSession) (purpose : Purpose) → IsLentFor books count kind sessions purpose → IsFree books (pair_asked kind)
+lent_free books count kind sessions (purposes.Client asked (Some track)) (p, is, free, own, setup, there) = subst (λ (k : RequestKind). IsFree books (pair_asked k)) (sym is) free
+lent_free books count kind sessions (purposes.Client asked None) (is, setup) = subst (λ (k : RequestKind). IsFree books (pair_asked k)) (sym is) (asked_free books (same_method asked.method methods.Teardown) (session_where asked.place sessions).id)
+lent_free books count kind sessions (purposes.Released play) is = subst (λ (k : RequestKind). IsFree books (pair_asked k)) (sym is) tt
+lent_free books count kind sessions (purposes.Closing place) is = subst (λ (k : RequestKind). IsFree books (pair_asked k)) (sym is) (teardown_free books true (session_at place sessions).id)
+
+new_kind : (books : Books) (i count : ℕ) (kind : RequestKind) (sessions : List PlayerSession) (purpose : Purpose) → count ≡ books.counts i → IsLentFor books count kind sessions purpose → kind ≡ kind_for ((lends i kind books).pair_of i) sessions purpose
+new_kind books i count kind sessions (purposes.Client asked (Some track)) counted (p, is, free, own, setup, there) =
     is ∙ ap (λ q. sets_up q) (sym (ap ((lends i kind books).pair_of i) (own ∙ ap (λ n. n + 1) counted) ∙ new_pair books i kind p (ap pair_asked is)))
-new_kind books i count kind (purposes.Client asked None) counted (is, setup) = is
-new_kind books i count kind (purposes.Released play) counted is = is
-new_kind books i count kind purposes.Closing counted is = is
+new_kind books i count kind sessions (purposes.Client asked None) counted (is, setup) = is
+new_kind books i count kind sessions (purposes.Released play) counted is = is
+new_kind books i count kind sessions (purposes.Closing place) counted is = is
 
-new_held : (books : Books) (i count : ℕ) (kind : RequestKind) (p own : ℕ) → count ≡ books.counts i → kind ≡ sets_up p → own ≡ count + 1 → IsHeldFor (lends i kind books) i false own
+new_held : (books : Books) (i count : ℕ) (kind : RequestKind) (p own : ℕ) → count ≡ books.counts i → kind ≡ sets_up p → own ≡ count + 1 → IsHeldFor (lends i kind books) i None own
 new_held books i count kind p own counted is next =
     let same : (lends i kind books).pair_of i own ≡ p = ap (λ n. (lends i kind books).pair_of i n) (next ∙ ap (λ n. n + 1) counted) ∙ new_pair books i kind p (ap pair_asked is) in
     let asks : is_pair (pair_asked kind) p ≡ true = ap (λ k. is_pair (pair_asked k) p) is ∙ yes p in
-    subst (λ (q : ℕ). ((lends i kind books).held q ≡ Some (holding i q false)) × ((lends i kind books).own_pair q ≡ own)) (sym same) (
-      ap (λ t. cond t (Some (record { conn = i; pair = p; granted = false })) (books.held p)) asks,
+    subst (λ (q : ℕ). ((lends i kind books).held q ≡ Some (record { conn = i; session = None })) × ((lends i kind books).own_pair q ≡ own)) (sym same) (
+      ap (λ t. cond t (Some (record { conn = i; session = None })) (books.held p)) asks,
       ap (λ t. cond t (books.counts i + 1) (books.own_pair p)) asks ∙ sym (next ∙ ap (λ n. n + 1) counted),
     )
 
-new_purpose : (books : Books) (i count : ℕ) (kind : RequestKind) (purpose : Purpose) → count ≡ books.counts i → IsLentFor books count kind purpose → IsPurpose (lends i kind books) i purpose
-new_purpose books i count kind (purposes.Client asked (Some track)) counted (p, is, free, own, setup) = (new_held books i count kind p track.pair counted is own, setup)
-new_purpose books i count kind (purposes.Client asked None) counted (is, setup) = setup
-new_purpose books i count kind (purposes.Released play) counted is = tt
-new_purpose books i count kind purposes.Closing counted is = tt
+new_purpose : (books : Books) (i count : ℕ) (kind : RequestKind) (sessions : List PlayerSession) (purpose : Purpose) → count ≡ books.counts i → IsLentFor books count kind sessions purpose → IsPurpose (lends i kind books) i sessions purpose
+new_purpose books i count kind sessions (purposes.Client asked (Some track)) counted (p, is, free, own, setup, there) = (new_held books i count kind p track.pair counted is own, setup, there)
+new_purpose books i count kind sessions (purposes.Client asked None) counted (is, setup) = setup
+new_purpose books i count kind sessions (purposes.Released play) counted is = tt
+new_purpose books i count kind sessions (purposes.Closing place) counted is = tt
 
 next_number : (books : Books) (i count : ℕ) (kind : RequestKind) → count ≡ books.counts i → (lends i kind books).number_of i (count + 1) ≡ books.issued + 1
 next_number books i count kind counted = ap (λ n. (lends i kind books).number_of i (n + 1)) counted ∙ new_number books i kind
 
 -- The connection that asks is joined with the books that have its request.
-pub own_lent : (books : Books) (i : ℕ) (kind : RequestKind) (purpose : Purpose) (client after : Client) (count : ℕ) → IsJoined books i client count → ArePairsBelow count client.session.tracks
-    → client.pending ≡ None → after.pending ≡ Some purpose → after.session.tracks ≡ client.session.tracks → after.session.id ≡ client.session.id → IsLentFor books count kind purpose
+pub own_lent : (books : Books) (i : ℕ) (kind : RequestKind) (purpose : Purpose) (client after : Client) (count : ℕ) → IsJoined books i client count → AreSessionsBelow count client.sessions
+    → client.pending ≡ None → after.pending ≡ Some purpose → AreAlike client.sessions after.sessions → IsLentFor books count kind after.sessions purpose
     → IsJoined (lends i kind books) i after (count + 1)
-own_lent books i kind purpose client after count joined below idle pending tracks id lent = record {
+own_lent books i kind purpose client after count joined below idle pending alike lent = record {
   counted = ap (λ n. n + 1) joined.counted ∙ sym (ap (λ t. cond t (books.counts i + 1) (books.counts i)) (yes i));
-  tracks = subst (λ (all : List Track). AreHeld (lends i kind books) i all) (sym tracks) (old_held books i kind count client.session.tracks (lent_free books count kind purpose lent) joined.counted below joined.tracks);
-  pending = subst (λ (one : Option Purpose). IsOpenFor (lends i kind books) i ((lends i kind books).number_of i (count + 1)) one) (sym pending) (
+  tracks = λ place.
+      subst (λ (session : Option (List ℕ)). IsHolding (lends i kind books) i session (session_at place after.sessions).tracks) (sym (alike place).0)
+      (subst (λ (tracks : List Track). IsHolding (lends i kind books) i (session_at place client.sessions).id tracks) (sym (alike place).1)
+      (old_holding books i kind count (session_at place client.sessions).id (session_at place client.sessions).tracks (lent_free books count kind after.sessions purpose lent) joined.counted (below_at count place client.sessions below) (joined.tracks place)));
+  granted = λ p id here.
+      let was : IsStreamPair (books.pair_of i) client.sessions id p = joined.granted p id (granted_was books i kind i p id here) in
+      record {
+        place = was.place;
+        named = (alike was.place).0 ∙ was.named;
+        has = subst (λ (tracks : List Track). HasPair ((lends i kind books).pair_of i) p tracks) (sym (alike was.place).1) (old_has books i kind count p (session_at was.place client.sessions).tracks joined.counted (below_at count was.place client.sessions below) was.has);
+      };
+  pending = subst (λ (one : Option Purpose). IsOpenFor (lends i kind books) i ((lends i kind books).number_of i (count + 1)) after.sessions one) (sym pending) (
     ap (lends i kind books).opened (next_number books i count kind joined.counted)
         ∙ ap (λ t. cond t (Some (record { conn = i; kind = kind })) (books.opened (books.issued + 1))) (yes (books.issued + 1))
-        ∙ ap (λ one. Some (record { conn = i; kind = one })) (new_kind books i count kind purpose joined.counted lent),
-    new_purpose books i count kind purpose joined.counted lent,
+        ∙ ap (λ one. Some (record { conn = i; kind = one })) (new_kind books i count kind after.sessions purpose joined.counted lent),
+    new_purpose books i count kind after.sessions purpose joined.counted lent,
   );
   last = λ g opened here conn. last_by g opened conn (open_was books i kind g opened here);
-  holds = subst (λ (one : Option (List ℕ)). IfSome one (λ some. books.holder some ≡ Some i)) (sym id) joined.holds;
-  session = λ one here. id ∙ joined.session one here;
+  holds = λ place id here. joined.holds place id (sym (alike place).0 ∙ here);
+  session = λ id here. let (place, is) = joined.session id here in (place, (alike place).0 ∙ is);
+  once = λ a b id at_a at_b. joined.once a b id (sym (alike a).0 ∙ at_a) (sym (alike b).0 ∙ at_b);
 }
   where
     was_some : (old : Option Purpose) → old ≡ None → IsSome old → ⊥

@@ -23,7 +23,7 @@ use Rattle.gateway_claim.specs.Kinds.{RequestKind, sets_up, tears_down, closes, 
 use Rattle.gateway_claim.specs.Books.{Books, Opened}
 use Rattle.gateway_claim.specs.Happenings.{Happening, enters, takes, ends, lags, hears, up_ends, HistoryEntry, fault_in, entered, is_alive, silent}
 use Rattle.gateway_claim.specs.OwnEvents.{turn, heard_turn, heard_event, is_full, notice_event, settled_by, books_of, own}
-use Rattle.gateway_claim.specs.Follows.{effect_at, event_in, effect_of_turn, effect, is_granted, is_held_elsewhere, grant_breach, kind_breach, reply_breach, heard_breach, said_breach, session_of_private, private_in, spent, breach, up_due, Follows, IsHistory}
+use Rattle.gateway_claim.specs.Follows.{effect_at, event_in, effect_of_turn, effect, is_granted, is_bound, grant_breach, kind_breach, reply_breach, heard_breach, said_breach, session_of_private, private_in, spent, breach, up_due, Follows, IsHistory}
 use Rattle.gateway_claim.specs.Settlement.{id_said}
 use Rattle.gateway_claim.specs.Next.{client_piece, one_closed, outcome_with, next}
 use Rattle.gateway_claim.specs.Orderly.{HandsToLiving, ClosesAtMostOne, closed_if_alive, IsOrderlyEvent, is_from_outside, MayEndServer, IsOrderlyBy, IsOrderlyAfter, IsOrderly}
@@ -57,7 +57,7 @@ does_closes : (bases : Bases) (en : Bool) (p : Private) (event : PrivateEvent) �
 does_closes bases true p event = alone_closes bases p event
 does_closes bases false p (arrive shape full) = inl refl
 does_closes bases false p (answer told ssrc full) = refl
-does_closes bases false p (note reason names) = refl
+does_closes bases false p (note id reason names) = refl
 does_closes bases false p (media pair half rest) = refl
 does_closes bases false p end = refl
 does_closes bases false p slow = refl
@@ -68,7 +68,7 @@ abbrev IsHeardEvent : Option PrivateEvent → Type 0
 IsHeardEvent None = Unit {0}
 IsHeardEvent (Some (arrive shape full)) = ⊥
 IsHeardEvent (Some (answer told ssrc full)) = Unit {0}
-IsHeardEvent (Some (note reason names)) = Unit {0}
+IsHeardEvent (Some (note id reason names)) = Unit {0}
 IsHeardEvent (Some (media pair half rest)) = Unit {0}
 IsHeardEvent (Some end) = ⊥
 IsHeardEvent (Some slow) = ⊥
@@ -89,7 +89,7 @@ does_open bases false p event is = refl
 does_open bases true p None is = refl
 does_open bases true p (Some (arrive shape full)) is = absurd is
 does_open bases true p (Some (answer told ssrc full)) is = alone_closes bases p (answer told ssrc full)
-does_open bases true p (Some (note reason names)) is = alone_closes bases p (note reason names)
+does_open bases true p (Some (note id reason names)) is = alone_closes bases p (note id reason names)
 does_open bases true p (Some (media pair half rest)) is = alone_closes bases p (media pair half rest)
 does_open bases true p (Some end) is = absurd is
 does_open bases true p (Some slow) is = absurd is
@@ -186,19 +186,19 @@ cond_inside : (t : Bool) (one other : Option UpCause) → is_outside one ≡ fal
 cond_inside true one other first second = first
 cond_inside false one other first second = second
 
-kind_inside : (books : Books) (kind : RequestKind) (i : ℕ) (session : Option (List ℕ)) (reply : Reply2) → is_outside (kind_breach books kind i session reply) ≡ false
-kind_inside books (sets_up pair) i session reply =
-    cond_inside (is_success reply.code) (grant_breach books i pair session reply) None
-    (cond_inside (not (is_granted pair session reply)) (Some (causes.BadGrant reply.cseq)) (cond (is_none session && is_held_elsewhere books i (id_said reply)) (Some (causes.SessionTaken reply.cseq)) None)
-    refl (cond_inside (is_none session && is_held_elsewhere books i (id_said reply)) (Some (causes.SessionTaken reply.cseq)) None refl refl))
+kind_inside : (books : Books) (kind : RequestKind) (session : Option (List ℕ)) (reply : Reply2) → is_outside (kind_breach books kind session reply) ≡ false
+kind_inside books (sets_up pair) session reply =
+    cond_inside (is_success reply.code) (grant_breach books pair session reply) None
+    (cond_inside (not (is_granted pair session reply)) (Some (causes.BadGrant reply.cseq)) (cond (is_none session && is_bound books (id_said reply)) (Some (causes.SessionTaken reply.cseq)) None)
+    refl (cond_inside (is_none session && is_bound books (id_said reply)) (Some (causes.SessionTaken reply.cseq)) None refl refl))
     refl
-kind_inside books tears_down i session reply = refl
-kind_inside books closes i session reply = refl
-kind_inside books plain i session reply = refl
+kind_inside books (tears_down id) session reply = refl
+kind_inside books (closes id) session reply = refl
+kind_inside books plain session reply = refl
 
 reply_inside : (bases : Bases) (T : List HistoryEntry) (reply : Reply2) (opened : Option Opened) → is_outside (reply_breach bases T reply opened) ≡ false
 reply_inside bases T reply None = refl
-reply_inside bases T reply (Some opened) = kind_inside (books_of T) opened.kind opened.conn (session_of_private (private_in bases opened.conn T)) reply
+reply_inside bases T reply (Some opened) = kind_inside (books_of T) opened.kind (session_of_private (private_in bases opened.conn T)) reply
 
 heard_inside : (bases : Bases) (T : List HistoryEntry) (said : Heard) → is_outside (heard_breach bases T said) ≡ false
 heard_inside bases T (replies reply) = reply_inside bases T reply ((books_of T).opened reply.cseq)

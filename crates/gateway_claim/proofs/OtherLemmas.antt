@@ -1,18 +1,16 @@
--- What a final reply settles, and a request that goes up, change nothing for any other connection.
-use Rattle.std.proofs.Common.{◌≡◌, ◌≢◌, ℕ, ◌==◌, ◌&&◌, Bool, true, false, cond, List, [], ◌∷◌, Option, None, Some, IfSome, refl, sym, ◌∙◌, ap}
+-- What a final reply settles changes nothing for any other connection.
+use Rattle.std.proofs.Common.{◌≡◌, ◌≢◌, ℕ, ◌==◌, Bool, true, false, cond, List, [], ◌∷◌, Option, None, Some, inl, inr, ◌⊎◌, refl, sym, ◌∙◌, ap}
 use Rattle.std.proofs.lemmas.Bool.{eqb-true}
 use Rattle.session_one.specs.declared.parts.Track.{Track}
 use Rattle.client_slot.specs.declared.purpose.Purpose.{Purpose}
 use Rattle.client_slot.specs.declared.purpose.Purpose.TheVariants as purposes
+use Rattle.client_slot.specs.Session.{PlayerSession}
+use Rattle.client_slot.specs.Places.{session_at}
 use Rattle.client_slot.specs.Client.{Client}
-use Rattle.channel_map.specs.declared.map.Held.{Held}
-use Rattle.channel_map.specs.declared.map.Freed.{Freed}
-use Rattle.channel_map.specs.declared.map.Freed.TheVariants.{Pair, Granted}
-use Rattle.channel_map.specs.Pairs.{kept, granted_now}
 use Rattle.gateway_claim.specs.Kinds.{RequestKind, sets_up, tears_down, closes, plain}
-use Rattle.gateway_claim.specs.Books.{Opened, Books}
-use Rattle.gateway_claim.specs.Settlement.{Final, freed_by, bound_by, held_then, is_id, frees_session, holder_left, holder_then, settles}
-use Rattle.gateway_claim.specs.BooksAndSlots.{holding, IsHeldFor, AreHeld, IsPurpose, opened_for, IsOpenFor, IsJoined, AreSound}
+use Rattle.gateway_claim.specs.Books.{Opened, HeldPair, Books, pair_asked, is_pair}
+use Rattle.gateway_claim.specs.Settlement.{Final, torn_by, bound_by, is_id, is_torn_with, held_left, granted_to, settles}
+use Rattle.gateway_claim.specs.BooksAndSlots.{IsHeldFor, AreHeld, IsHolding, IsPurpose, opened_for, IsOpenFor, IsJoined, AreSound}
 
 -- Two that are different have unequal numbers.
 pub differs : (a b : ℕ) → a ≢ b → (a == b) ≡ false
@@ -24,71 +22,108 @@ differs a b ne = by (a == b) refl
 
 -- The pair of an open SETUP is held by who asked it.
 abbrev pub IsHeldKind : Books → ℕ → RequestKind → Type 0
-IsHeldKind books i (sets_up pair) = books.held pair ≡ Some (holding i pair false)
-IsHeldKind books i tears_down = Unit {0}
-IsHeldKind books i closes = Unit {0}
+IsHeldKind books i (sets_up pair) = books.held pair ≡ Some (record { conn = i; session = None })
+IsHeldKind books i (tears_down id) = Unit {0}
+IsHeldKind books i (closes id) = Unit {0}
 IsHeldKind books i plain = Unit {0}
 
--- A final reply is one to an open request, whose pair is held; and a session that it binds is nobody else's.
+-- A final reply is one to an open request, whose pair is held; a session that it binds is nobody else's; and one that it ends
+-- is bound to who asked.
 pub record IsFinal (books : Books) (final : Final) : Type 0 where
   pub opened : books.opened final.number ≡ Some (record { conn = final.conn; kind = final.kind })
   pub held : IsHeldKind books final.conn final.kind
   pub bound : (id : List ℕ) (j : ℕ) → is_id (bound_by final.kind final.success final.id) id ≡ true → books.holder id ≡ Some j → j ≡ final.conn
+  pub torn : (id : List ℕ) → is_id (torn_by final.kind final.success) id ≡ true → books.holder id ≡ Some final.conn
 
--- what is held by another connection, or by the same one on another pair, stays
-abbrev pub IsApart : RequestKind → ℕ → ℕ → Held → Type 0
-IsApart (sets_up pair) i p held = pair ≢ p
-IsApart tears_down i p held = i ≢ held.conn
-IsApart closes i p held = i ≢ held.conn
-IsApart plain i p held = Unit {0}
+-- a pair that is held for a session, or by another connection, is not that of the SETUP
+abbrev IsElsewhere : ℕ → HeldPair → Type 0
+IsElsewhere i held = held ≢ record { conn = i; session = None }
 
-kept_pair : (pair p : ℕ) (held : Held) → held.pair ≡ p → pair ≢ p → kept (Pair pair) (Some held) ≡ Some held
-kept_pair pair p held own ne = ap (λ t. cond {A = Option Held} t None (Some held)) (differs held.pair pair (λ same. ne (sym same ∙ own)))
+pair_elsewhere : (books : Books) (i : ℕ) (kind : RequestKind) (p : ℕ) (held : HeldPair) → IsHeldKind books i kind → books.held p ≡ Some held → IsElsewhere i held → is_pair (pair_asked kind) p ≡ false
+pair_elsewhere books i (sets_up pair) p held is_held here apart = differs pair p (λ same.
+    let both : Some (record { conn = i; session = None }) ≡ Some held = sym is_held ∙ ap books.held same ∙ here in
+    let one : record { conn = i; session = None } ≡ held = cc in
+    apart (sym one))
+pair_elsewhere books i (tears_down id) p held is_held here apart = refl
+pair_elsewhere books i (closes id) p held is_held here apart = refl
+pair_elsewhere books i plain p held is_held here apart = refl
 
-kept_granted : (i : ℕ) (held : Held) → i ≢ held.conn → kept (Granted i) (Some held) ≡ Some held
-kept_granted i held ne = ap (λ t. cond {A = Option Held} (held.granted && t) None (Some held)) (differs held.conn i (λ same. ne (sym same))) ∙ by held.granted
+-- What is held elsewhere, and for no session that ends, stays.
+pub held_stays : (books : Books) (final : Final) (p : ℕ) (held : HeldPair) → IsHeldKind books final.conn final.kind → books.held p ≡ Some held → IsElsewhere final.conn held
+    → is_torn_with (torn_by final.kind final.success) held.session ≡ false → (settles (Some final) books).held p ≡ Some held
+held_stays books final p held is_held here apart left =
+    ap (λ t. cond t (granted_to final.success final.id (books.held p)) (held_left (torn_by final.kind final.success) (books.held p))) (pair_elsewhere books final.conn final.kind p held is_held here apart)
+    ∙ ap (held_left (torn_by final.kind final.success)) here
+    ∙ ap (λ t. cond {A = Option HeldPair} t None (Some held)) left
+
+-- A session of another connection does not end.
+other_left : (books : Books) (final : Final) (p : ℕ) (held : HeldPair) → IsFinal books final → AreSound books → books.held p ≡ Some held → held.conn ≢ final.conn → is_torn_with (torn_by final.kind final.success) held.session ≡ false
+other_left books final p held is_final sound here ne = by held.session refl
   where
-    by : (granted : Bool) → cond {A = Option Held} (granted && false) None (Some held) ≡ Some held
-    by true = refl
-    by false = refl
+    with_id : (id : List ℕ) → held.session ≡ Some id → (t : Bool) → is_id (torn_by final.kind final.success) id ≡ t → t ≡ false
+    with_id id e false is = refl
+    with_id id e true is =
+        let both : Some held.conn ≡ Some final.conn = sym (sound.bound p held id here e) ∙ is_final.torn id is in
+        let same : held.conn ≡ final.conn = cc in
+        absurd (ne same)
 
-pub apart_stays : (number i : ℕ) (kind : RequestKind) (success : Bool) (id : Option (List ℕ)) (p : ℕ) (held : Held) → held.pair ≡ p → IsApart kind i p held
-    → held_then (Some (record { number = number; conn = i; kind = kind; success = success; id = id })) p (Some held) ≡ Some held
-apart_stays number i (sets_up pair) true id p held own apart = ap (λ t. cond t (granted_now (Some held)) (Some held)) (differs pair p apart)
-apart_stays number i (sets_up pair) false id p held own apart = kept_pair pair p held own apart
-apart_stays number i tears_down true id p held own apart = kept_granted i held apart
-apart_stays number i tears_down false id p held own apart = refl
-apart_stays number i closes success id p held own apart = kept_granted i held apart
-apart_stays number i plain success id p held own apart = refl
+    by : (session : Option (List ℕ)) → held.session ≡ session → is_torn_with (torn_by final.kind final.success) session ≡ false
+    by None e = refl
+    by (Some id) e = with_id id e (is_id (torn_by final.kind final.success) id) refl
 
--- a pair that another connection holds is apart
-other_apart : (books : Books) (i : ℕ) (kind : RequestKind) (p : ℕ) (held : Held) → IsHeldKind books i kind → books.held p ≡ Some held → held.conn ≢ i → IsApart kind i p held
-other_apart books i (sets_up pair) p held is_held here ne = λ same.
-    let both : Some (holding i pair false) ≡ Some held = sym is_held ∙ ap books.held same ∙ here in
-    let conn : i ≡ held.conn = cc in
-    ne (sym conn)
-other_apart books i tears_down p held is_held here ne = λ same. ne (sym same)
-other_apart books i closes p held is_held here ne = λ same. ne (sym same)
-other_apart books i plain p held is_held here ne = tt
-
-pub other_held : (books : Books) (final : Final) (p : ℕ) (held : Held) → IsFinal books final → AreSound books → books.held p ≡ Some held → held.conn ≢ final.conn
+pub other_held : (books : Books) (final : Final) (p : ℕ) (held : HeldPair) → IsFinal books final → AreSound books → books.held p ≡ Some held → held.conn ≢ final.conn
     → (settles (Some final) books).held p ≡ Some held
 other_held books final p held is_final sound here ne =
-    ap (held_then (Some final) p) here
-    ∙ apart_stays final.number final.conn final.kind final.success final.id p held (sound.pairs p held here).0 (other_apart books final.conn final.kind p held is_final.held here ne)
+    held_stays books final p held is_final.held here (λ same. ne (ap (λ (one : HeldPair). one.conn) same)) (other_left books final p held is_final sound here ne)
 
-held_for : (books : Books) (final : Final) (j : ℕ) (granted : Bool) (own : ℕ) → IsFinal books final → AreSound books → j ≢ final.conn → IsHeldFor books j granted own → IsHeldFor (settles (Some final) books) j granted own
-held_for books final j granted own is_final sound ne h = (other_held books final (books.pair_of j own) (holding j (books.pair_of j own) granted) is_final sound h.0 ne, h.1)
+-- What is held then was held by the same connection, and for the same session or as the pair of the SETUP that is granted.
+pub record WasHeld (books : Books) (final : Final) (p : ℕ) (held : HeldPair) : Type 0 where
+  pub before : HeldPair
+  pub was : books.held p ≡ Some before
+  pub conn : before.conn ≡ held.conn
+  pub session : ((is_pair (pair_asked final.kind) p ≡ true) × (final.success ≡ true) × (held.session ≡ final.id)) ⊎ ((before ≡ held) × (is_torn_with (torn_by final.kind final.success) held.session ≡ false))
 
-are_held : (books : Books) (final : Final) (j : ℕ) (tracks : List Track) → IsFinal books final → AreSound books → j ≢ final.conn → AreHeld books j tracks → AreHeld (settles (Some final) books) j tracks
-are_held books final j [] is_final sound ne h = tt
-are_held books final j (track ∷ tracks) is_final sound ne h = (held_for books final j true track.pair is_final sound ne h.0, are_held books final j tracks is_final sound ne h.1)
+pub was_held : (books : Books) (final : Final) (p : ℕ) (held : HeldPair) → (settles (Some final) books).held p ≡ Some held → WasHeld books final p held
+was_held books final p held h = by (is_pair (pair_asked final.kind) p) (books.held p) refl refl h
+  where
+    left : (before : HeldPair) (t : Bool) → is_torn_with (torn_by final.kind final.success) before.session ≡ t → books.held p ≡ Some before → cond {A = Option HeldPair} t None (Some before) ≡ Some held → WasHeld books final p held
+    left before true f was e = cc
+    left before false f was e =
+        let same : before ≡ held = cc in record { before = before; was = was; conn = ap (λ (one : HeldPair). one.conn) same; session = inr (same, ap (λ (one : HeldPair). is_torn_with (torn_by final.kind final.success) one.session) (sym same) ∙ f) }
 
-purpose_kept : (books : Books) (final : Final) (j : ℕ) (purpose : Purpose) → IsFinal books final → AreSound books → j ≢ final.conn → IsPurpose books j purpose → IsPurpose (settles (Some final) books) j purpose
-purpose_kept books final j (purposes.Client asked (Some track)) is_final sound ne h = (held_for books final j false track.pair is_final sound ne h.0, h.1)
-purpose_kept books final j (purposes.Client asked None) is_final sound ne h = h
-purpose_kept books final j (purposes.Released play) is_final sound ne h = tt
-purpose_kept books final j purposes.Closing is_final sound ne h = tt
+    granted : (before : HeldPair) (success : Bool) → final.success ≡ success → is_pair (pair_asked final.kind) p ≡ true → books.held p ≡ Some before → granted_to success final.id (Some before) ≡ Some held → WasHeld books final p held
+    granted before false f asks was e = cc
+    granted before true f asks was e =
+        let same : record { conn = before.conn; session = final.id } ≡ held = cc in
+        record { before = before; was = was; conn = ap (λ (one : HeldPair). one.conn) same; session = inl (asks, f, ap (λ (one : HeldPair). one.session) (sym same)) }
+
+    none_granted : (success : Bool) → granted_to success final.id None ≡ None
+    none_granted true = refl
+    none_granted false = refl
+
+    by : (t : Bool) (before : Option HeldPair) → is_pair (pair_asked final.kind) p ≡ t → books.held p ≡ before
+        → cond t (granted_to final.success final.id before) (held_left (torn_by final.kind final.success) before) ≡ Some held → WasHeld books final p held
+    by true None f was e = let none : None ≡ Some held = sym (none_granted final.success) ∙ e in cc
+    by true (Some before) f was e = granted before final.success refl f was e
+    by false None f was e = cc
+    by false (Some before) f was e = left before (is_torn_with (torn_by final.kind final.success) before.session) refl was e
+
+held_for : (books : Books) (final : Final) (j : ℕ) (session : Option (List ℕ)) (own : ℕ) → IsFinal books final → AreSound books → j ≢ final.conn → IsHeldFor books j session own → IsHeldFor (settles (Some final) books) j session own
+held_for books final j session own is_final sound ne h = (other_held books final (books.pair_of j own) (record { conn = j; session = session }) is_final sound h.0 ne, h.1)
+
+are_held : (books : Books) (final : Final) (j : ℕ) (session : Option (List ℕ)) (tracks : List Track) → IsFinal books final → AreSound books → j ≢ final.conn → AreHeld books j session tracks → AreHeld (settles (Some final) books) j session tracks
+are_held books final j session [] is_final sound ne h = tt
+are_held books final j session (track ∷ tracks) is_final sound ne h = (held_for books final j session track.pair is_final sound ne h.0, are_held books final j session tracks is_final sound ne h.1)
+
+are_holding : (books : Books) (final : Final) (j : ℕ) (session : Option (List ℕ)) (tracks : List Track) → IsFinal books final → AreSound books → j ≢ final.conn → IsHolding books j session tracks → IsHolding (settles (Some final) books) j session tracks
+are_holding books final j None tracks is_final sound ne h = h
+are_holding books final j (Some id) tracks is_final sound ne h = are_held books final j (Some id) tracks is_final sound ne h
+
+purpose_kept : (books : Books) (final : Final) (j : ℕ) (sessions : List PlayerSession) (purpose : Purpose) → IsFinal books final → AreSound books → j ≢ final.conn → IsPurpose books j sessions purpose → IsPurpose (settles (Some final) books) j sessions purpose
+purpose_kept books final j sessions (purposes.Client asked (Some track)) is_final sound ne h = (held_for books final j None track.pair is_final sound ne h.0, h.1, h.2)
+purpose_kept books final j sessions (purposes.Client asked None) is_final sound ne h = h
+purpose_kept books final j sessions (purposes.Released play) is_final sound ne h = tt
+purpose_kept books final j sessions (purposes.Closing place) is_final sound ne h = tt
 
 -- another open number stays open
 other_number : (books : Books) (final : Final) (g j : ℕ) (opened : Opened) → IsFinal books final → j ≢ final.conn → books.opened g ≡ Some opened → opened.conn ≡ j → (g == final.number) ≡ false
@@ -97,11 +132,11 @@ other_number books final g j opened is_final ne here conn = differs g final.numb
     let conns : opened.conn ≡ final.conn = cc in
     ne (sym conn ∙ conns))
 
-open_kept : (books : Books) (final : Final) (j number : ℕ) (pending : Option Purpose) → IsFinal books final → AreSound books → j ≢ final.conn → IsOpenFor books j number pending → IsOpenFor (settles (Some final) books) j number pending
-open_kept books final j number None is_final sound ne h = tt
-open_kept books final j number (Some purpose) is_final sound ne h = (
-  ap (λ t. cond t None (books.opened number)) (other_number books final number j (opened_for books j purpose) is_final ne h.0 refl) ∙ h.0,
-  purpose_kept books final j purpose is_final sound ne h.1,
+open_kept : (books : Books) (final : Final) (j number : ℕ) (sessions : List PlayerSession) (pending : Option Purpose) → IsFinal books final → AreSound books → j ≢ final.conn → IsOpenFor books j number sessions pending → IsOpenFor (settles (Some final) books) j number sessions pending
+open_kept books final j number sessions None is_final sound ne h = tt
+open_kept books final j number sessions (Some purpose) is_final sound ne h = (
+  ap (λ t. cond t None (books.opened number)) (other_number books final number j (opened_for books j sessions purpose) is_final ne h.0 refl) ∙ h.0,
+  purpose_kept books final j sessions purpose is_final sound ne h.1,
 )
 
 -- what is open was open
@@ -112,59 +147,72 @@ was_open books final g opened h = by (g == final.number) h
     by true e = cc
     by false e = (refl, e)
 
--- who has a session keeps it
-holder_stays : (number i : ℕ) (kind : RequestKind) (success : Bool) (said : Option (List ℕ)) (id : List ℕ) (j : ℕ) → (is_id (bound_by kind success said) id ≡ true → j ≡ i) → j ≢ i
-    → holder_then (Some (record { number = number; conn = i; kind = kind; success = success; id = said })) id (Some j) ≡ Some j
-holder_stays number i kind success said id j bound ne = by (is_id (bound_by kind success said) id) refl
+-- Who has a session keeps it, where it neither ends nor is bound anew.
+pub holder_stays : (books : Books) (final : Final) (id : List ℕ) → is_id (bound_by final.kind final.success final.id) id ≡ false → is_id (torn_by final.kind final.success) id ≡ false
+    → (settles (Some final) books).holder id ≡ books.holder id
+holder_stays books final id bound torn = ap (λ t. cond t (Some final.conn) (cond (is_id (torn_by final.kind final.success) id) None (books.holder id))) bound ∙ ap (λ t. cond {A = Option ℕ} t None (books.holder id)) torn
+
+-- another connection's stays its own
+other_holder : (books : Books) (final : Final) (id : List ℕ) (j : ℕ) → IsFinal books final → j ≢ final.conn → books.holder id ≡ Some j → (settles (Some final) books).holder id ≡ Some j
+other_holder books final id j is_final ne h = holder_stays books final id (unbound (is_id (bound_by final.kind final.success final.id) id) refl) (untorn (is_id (torn_by final.kind final.success) id) refl) ∙ h
   where
-    left : (freed : Freed) → (frees_session freed j ≡ true → i ≡ j) → holder_left freed (Some j) ≡ Some j
-    left freed only = by_frees (frees_session freed j) refl
+    unbound : (t : Bool) → is_id (bound_by final.kind final.success final.id) id ≡ t → t ≡ false
+    unbound false e = refl
+    unbound true e = absurd (ne (is_final.bound id j e h))
+
+    untorn : (t : Bool) → is_id (torn_by final.kind final.success) id ≡ t → t ≡ false
+    untorn false e = refl
+    untorn true e = let both : Some j ≡ Some final.conn = sym h ∙ is_final.torn id e in let same : j ≡ final.conn = cc in absurd (ne same)
+
+-- who has a session then had it before, or it is bound
+pub holder_was : (books : Books) (final : Final) (id : List ℕ) (j : ℕ) → (settles (Some final) books).holder id ≡ Some j
+    → ((is_id (bound_by final.kind final.success final.id) id ≡ true) × (final.conn ≡ j)) ⊎ ((is_id (torn_by final.kind final.success) id ≡ false) × (books.holder id ≡ Some j))
+holder_was books final id j h = by (is_id (bound_by final.kind final.success final.id) id) (is_id (torn_by final.kind final.success) id) h
+  where
+    by : (bound torn : Bool) → cond bound (Some final.conn) (cond torn None (books.holder id)) ≡ Some j → ((bound ≡ true) × (final.conn ≡ j)) ⊎ ((torn ≡ false) × (books.holder id ≡ Some j))
+    by true torn e = let same : final.conn ≡ j = cc in inl (refl, same)
+    by false true e = cc
+    by false false e = inr (refl, e)
+
+other_was : (books : Books) (final : Final) (id : List ℕ) (j : ℕ) → j ≢ final.conn → (settles (Some final) books).holder id ≡ Some j → books.holder id ≡ Some j
+other_was books final id j ne h = by (holder_was books final id j h)
+  where
+    by : ((is_id (bound_by final.kind final.success final.id) id ≡ true) × (final.conn ≡ j)) ⊎ ((is_id (torn_by final.kind final.success) id ≡ false) × (books.holder id ≡ Some j)) → books.holder id ≡ Some j
+    by (inl bound) = absurd (ne (sym bound.1))
+    by (inr was) = was.1
+
+-- what another connection holds it held before
+other_before : (books : Books) (final : Final) (j : ℕ) (session : Option (List ℕ)) (p : ℕ) → IsFinal books final → j ≢ final.conn → (settles (Some final) books).held p ≡ Some (record { conn = j; session = session })
+    → books.held p ≡ Some (record { conn = j; session = session })
+other_before books final j session p is_final ne h = by (was_held books final p (record { conn = j; session = session }) h)
+  where
+    asks_own : (kind : RequestKind) (before : HeldPair) → IsHeldKind books final.conn kind → is_pair (pair_asked kind) p ≡ true → books.held p ≡ Some before → before.conn ≡ final.conn
+    asks_own (sets_up pair) before is_held asks was =
+        let same : pair ≡ p = eqb-true pair p asks in
+        let both : Some (record { conn = final.conn; session = None }) ≡ Some before = sym is_held ∙ ap books.held same ∙ was in
+        let one : record { conn = final.conn; session = None } ≡ before = cc in
+        ap (λ (held : HeldPair). held.conn) (sym one)
+    asks_own (tears_down id) before is_held asks was = cc
+    asks_own (closes id) before is_held asks was = cc
+    asks_own plain before is_held asks was = cc
+
+    by : WasHeld books final p (record { conn = j; session = session }) → books.held p ≡ Some (record { conn = j; session = session })
+    by was = cases was.session
       where
-        by_frees : (t : Bool) → frees_session freed j ≡ t → cond {A = Option ℕ} t None (Some j) ≡ Some j
-        by_frees true e = absurd (ne (sym (only e)))
-        by_frees false e = refl
-
-    frees_own : (kind : RequestKind) (success : Bool) → frees_session (freed_by i kind success) j ≡ true → i ≡ j
-    frees_own (sets_up pair) true e = cc
-    frees_own (sets_up pair) false e = cc
-    frees_own tears_down true e = eqb-true i j e
-    frees_own tears_down false e = cc
-    frees_own closes success e = eqb-true i j e
-    frees_own plain success e = cc
-
-    by : (t : Bool) → is_id (bound_by kind success said) id ≡ t → cond t (Some i) (holder_left (freed_by i kind success) (Some j)) ≡ Some j
-    by true e = ap (λ n. Some n) (sym (bound e))
-    by false e = left (freed_by i kind success) (frees_own kind success)
-
--- and had it before
-pub left_was : (freed : Freed) (holder : Option ℕ) (j : ℕ) → holder_left freed holder ≡ Some j → (holder ≡ Some j) × (frees_session freed j ≡ false)
-left_was freed None j e = cc
-left_was freed (Some conn) j e = by (frees_session freed conn) refl e
-  where
-    by : (t : Bool) → frees_session freed conn ≡ t → cond {A = Option ℕ} t None (Some conn) ≡ Some j → (Some conn ≡ Some j) × (frees_session freed j ≡ false)
-    by true f e = cc
-    by false f e = let same : conn ≡ j = cc in (e, ap (frees_session freed) (sym same) ∙ f)
-
-holder_was : (number i : ℕ) (kind : RequestKind) (success : Bool) (said : Option (List ℕ)) (id : List ℕ) (j : ℕ) (holder : Option ℕ) → j ≢ i
-    → holder_then (Some (record { number = number; conn = i; kind = kind; success = success; id = said })) id holder ≡ Some j → holder ≡ Some j
-holder_was number i kind success said id j holder ne h = by (is_id (bound_by kind success said) id) h
-  where
-    by : (t : Bool) → cond t (Some i) (holder_left (freed_by i kind success) holder) ≡ Some j → holder ≡ Some j
-    by true e = let same : i ≡ j = cc in absurd (ne (sym same))
-    by false e = (left_was (freed_by i kind success) holder j e).0
-
-holds_kept : (books : Books) (final : Final) (j : ℕ) (session : Option (List ℕ)) → IsFinal books final → j ≢ final.conn → IfSome session (λ id. books.holder id ≡ Some j) → IfSome session (λ id. (settles (Some final) books).holder id ≡ Some j)
-holds_kept books final j None is_final ne h = tt
-holds_kept books final j (Some id) is_final ne h =
-    ap (holder_then (Some final) id) h ∙ holder_stays final.number final.conn final.kind final.success final.id id j (λ bound. is_final.bound id j bound h) ne
+        cases : ((is_pair (pair_asked final.kind) p ≡ true) × (final.success ≡ true) × (session ≡ final.id)) ⊎ ((was.before ≡ record { conn = j; session = session }) × (is_torn_with (torn_by final.kind final.success) session ≡ false))
+            → books.held p ≡ Some (record { conn = j; session = session })
+        cases (inl granted) = absurd (ne (sym was.conn ∙ asks_own final.kind was.before is_final.held granted.0 was.was))
+        cases (inr same) = was.was ∙ ap (λ (one : HeldPair). Some one) same.0
 
 -- Another connection is joined as before.
 pub other_settled : (books : Books) (final : Final) (j : ℕ) (client : Client) (count : ℕ) → IsFinal books final → AreSound books → j ≢ final.conn → IsJoined books j client count → IsJoined (settles (Some final) books) j client count
 other_settled books final j client count is_final sound ne joined = record {
   counted = joined.counted;
-  tracks = are_held books final j client.session.tracks is_final sound ne joined.tracks;
-  pending = open_kept books final j (books.number_of j count) client.pending is_final sound ne joined.pending;
+  tracks = λ place. are_holding books final j (session_at place client.sessions).id (session_at place client.sessions).tracks is_final sound ne (joined.tracks place);
+  granted = λ p id here. joined.granted p id (other_before books final j (Some id) p is_final ne here);
+  pending = open_kept books final j (books.number_of j count) client.sessions client.pending is_final sound ne joined.pending;
   last = λ g opened here conn. joined.last g opened (was_open books final g opened here).1 conn;
-  holds = holds_kept books final j client.session.id is_final ne joined.holds;
-  session = λ id here. joined.session id (holder_was final.number final.conn final.kind final.success final.id id j (books.holder id) ne here);
+  holds = λ place id here. other_holder books final id j is_final ne (joined.holds place id here);
+  session = λ id here. joined.session id (other_was books final id j ne here);
+  once = joined.once;
 }

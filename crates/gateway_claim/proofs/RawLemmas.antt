@@ -1,13 +1,12 @@
 -- The event of a connection, in its own numbers and in those of all players.
-use Rattle.std.proofs.Common.{◌≡◌, ℕ, ◌≤◌, ◌/◌, ◌%◌, Bool, true, false, cond, List, Option, Some, None, Result, Ok, Err, IsSome, refl, subst}
+use Rattle.std.proofs.Common.{is_some, ◌≡◌, ℕ, ◌≤◌, ◌/◌, ◌%◌, Bool, true, false, cond, List, Option, Some, None, Result, Ok, Err, IsSome, refl, subst}
 use Rattle.std.specs.Option.{option_map}
 use Rattle.rtsp_head.specs.Items.{Shape}
 use Rattle.client_slot.specs.declared.purpose.Purpose.{Purpose}
 use Rattle.client_slot.specs.Client.{Client}
-use Rattle.channel_map.specs.declared.map.Held.{Held}
 use Rattle.client_machine.specs.Bounds.{IsOpened as WasOpened}
 use Rattle.client_machine.specs.Events.{PrivateEvent, media}
-use Rattle.gateway_claim.specs.Books.{Opened, Books}
+use Rattle.gateway_claim.specs.Books.{HeldPair, Opened, Books}
 use Rattle.gateway_claim.specs.ServerItems.{Heard, replies, requests, frames, faults, heard}
 use Rattle.gateway_claim.specs.Notices.{HeardNotice, notice_of}
 use Rattle.gateway_claim.specs.Happenings.{Happening, enters, takes, ends, lags, hears, up_ends}
@@ -26,9 +25,9 @@ notice_is_raw : (books : Books) (i : ℕ) (notice : Result HeardNotice ℕ) → 
 notice_is_raw books i (Ok notice) turns = (notice.names, refl, refl)
 notice_is_raw books i (Err code) turns = cc
 
-frame_is_raw : (books : Books) (i p half : ℕ) (rest : List ℕ) (place : Option Held) → books.held p ≡ place → owner_of place ≡ Some i → IsRaw books i (media (books.own_pair p) half rest) (media p half rest)
+frame_is_raw : (books : Books) (i p half : ℕ) (rest : List ℕ) (place : Option HeldPair) → books.held p ≡ place → owner_of place ≡ Some i → IsRaw books i (media (books.own_pair p) half rest) (media p half rest)
 frame_is_raw books i p half rest None here turns = cc
-frame_is_raw books i p half rest (Some held) here turns = by held.granted turns
+frame_is_raw books i p half rest (Some held) here turns = by (is_some held.session) turns
   where
     by : (t : Bool) → cond t (Some held.conn) None ≡ Some i → IsRaw books i (media (books.own_pair p) half rest) (media p half rest)
     by true e = let conn : held.conn ≡ i = cc in (p, held, refl, refl, here, conn)

@@ -1,42 +1,72 @@
 -- What a player sees in a history walks the table.
-use Rattle.std.proofs.Common.{◌≡◌, ◌∙◌, ◌==◌, ◌&&◌, ℕ, Bool, true, false, cond, not, List, [], ◌∷◌, ◌++◌, take, drop, filter, Option, None, Some, IfSome, IfOk, Result, Ok, Err, option_to_list, refl, sym, ap, subst}
+use Rattle.std.proofs.Common.{◌≡◌, ◌∙◌, ◌==◌, ◌&&◌, ◌+◌, ◌*◌, ◌≤◌, ℕ, zero, suc, Bool, true, false, cond, not, List, [], ◌∷◌, ◌++◌, length, take, drop, filter, Option, None, Some, IfSome, IfOk, Result, Ok, Err, option_to_list, refl, sym, ap, subst, arith}
+use Rattle.std.specs.Prelude.{nat_lt, slice_index}
+use Rattle.std.specs.Option.{option_map, option_or}
 use Rattle.std.specs.List.{list_all}
-use Rattle.std.proofs.lemmas.List.{append-nil}
-use Rattle.std.proofs.lemmas.Bool.{and_parts}
-use Rattle.rtsp_head.specs.Items.{Shape}
-use Rattle.rtsp_head.specs.Heads.{head_of}
+use Rattle.std.proofs.lemmas.List.{append-nil, length-drop}
+use Rattle.std.proofs.lemmas.Bool.{and_parts, ltb-false, eqb-true}
+use Rattle.std.proofs.lemmas.Slice.Eq.{bytes_eq-Decides}
+use Rattle.gate_bytes.specs.Ascii.{dollar}
+use Rattle.rtsp_head.specs.Items.{Shape, bad_span, message_kind, when_whole, body_span, judged_span, headed_span, message_span, frame_span, span_of, head_len, blank_lines}
+use Rattle.rtsp_head.specs.Heads.{head_of, facts_of}
 use Rattle.rtsp_head.specs.Lines.{result_map}
 use Rattle.rtsp_head.specs.Messages.{is_added, own_fields}
 use Rattle.rtsp_head.specs.HeadText.{is_header, CanBeWritten}
+use Rattle.rtsp_head.specs.declared.facts.Facts.{Facts}
+use Rattle.rtsp_head.specs.declared.facts.Length.{Length}
+use Rattle.rtsp_head.specs.declared.facts.Length.TheVariants as lengths
 use Rattle.rtsp_head.specs.declared.head.Head.{Head}
 use Rattle.rtsp_head.specs.declared.header.Header.{Header}
 use Rattle.rtsp_head.specs.HeadParts.{Start}
 use Rattle.rtsp_head.specs.HeadParts as starts
 use Rattle.rtsp_head.specs.declared.fault.HeadFault.{HeadFault}
+use Rattle.rtsp_head.specs.declared.item.BadKind.TheVariants as bad
+use Rattle.rtsp_head.specs.declared.item.Span.{Span}
+use Rattle.rtsp_head.specs.declared.item.Extent.{Extent}
 use Rattle.rtsp_head.specs.declared.item.ItemKind.{ItemKind}
 use Rattle.rtsp_head.specs.declared.item.ItemKind.TheVariants.{Request, Response, Frame, Bad}
+use Rattle.rtsp_head.specs.declared.item.TheConstants.{MOST_BODY, MOST_HEAD}
 use Rattle.rtsp_head.proofs.SoundLemmas.{read_sound}
+use Rattle.rtsp_small.specs.declared.method.Method.{Method}
+use Rattle.rtsp_small.specs.declared.method.Method.TheVariants as methods
 use Rattle.rtsp_uri.specs.declared.base.Bases.{Bases}
 use Rattle.head_two.specs.declared.ask.Ask2.{Ask2}
 use Rattle.head_two.specs.declared.fault.TwoFault.{TwoFault}
 use Rattle.head_two.specs.declared.reply.Reply2.{Reply2}
 use Rattle.head_two.specs.Messages.{checked_cseq}
 use Rattle.head_two.specs.Replies.{reply_at_start, reply_of_head, reply_of_item, ask_of_item}
-use Rattle.translate_down.specs.Replies.{is_no_transport}
-use Rattle.client_machine.specs.Alone.{private_after, effect_after, hand}
+use Rattle.session_one.specs.Table.{is_success}
+use Rattle.translate_up.specs.Fields.{is_setup}
+use Rattle.translate_down.specs.Replies.{is_no_transport, told_by}
+use Rattle.translate_down.specs.Sessions.{sets_up as tells_setup}
+use Rattle.client_slot.specs.declared.purpose.Purpose.{Purpose}
+use Rattle.client_slot.specs.declared.purpose.Purpose.TheVariants as purposes
+use Rattle.client_slot.specs.Session.{PlayerSession}
+use Rattle.client_slot.specs.Places.{session_at, first_place, is_session, place_with}
+use Rattle.client_slot.specs.Client.{Client}
+use Rattle.client_slot.proofs.PlaceLemmas.{place_is}
+use Rattle.client_machine.specs.Alone.{Private, is_live, private_after, hand}
 use Rattle.client_machine.specs.Events.{PrivateEvent, arrive, end, slow, up_end}
-use Rattle.client_machine.specs.SeenRun.{request_taken, IsTableRun, AreShortPieces}
-use Rattle.client_machine.proofs.SeenHearLemmas.{asked_by, IsReadableEvent}
-use Rattle.client_machine.proofs.SeenRunLemmas.{IsRun, seen_run, run_begins, run_more, short_later}
+use Rattle.client_machine.specs.ServerItems.{new_id_at, new_id}
+use Rattle.client_machine.specs.SeenRun.{request_taken, IsTableRun}
+use Rattle.client_machine.proofs.SeenHearLemmas.{asked_by, IsReadableEvent, IsNew, IsFreshEvent}
+use Rattle.client_machine.proofs.SeenSettleLemmas.{AreDistinct}
+use Rattle.client_machine.proofs.SeenRunLemmas.{IsRun, seen_run, run_begins, run_more}
 use Rattle.gateway_claim.specs.declared.event.UpCause.{UpCause}
-use Rattle.gateway_claim.specs.Books.{Books}
+use Rattle.gateway_claim.specs.Books.{Opened, Books}
+use Rattle.gateway_claim.specs.BooksAndSlots.{kind_for, IsPurpose, opened_for, IsOpenFor, IsJoined}
 use Rattle.gateway_claim.specs.ServerItems.{Heard, replies, requests, frames, faults, heard_reply, heard_ask, heard_at, heard}
 use Rattle.gateway_claim.specs.Notices.{HeardNotice, notice_of}
-use Rattle.gateway_claim.specs.Happenings.{Happening, enters, takes, ends, lags, hears, up_ends, HistoryEntry, entered, sent}
+use Rattle.gateway_claim.specs.Settlement.{id_said}
+use Rattle.gateway_claim.specs.Happenings.{Happening, enters, takes, ends, lags, hears, up_ends, HistoryEntry, fault_in, entered, sent}
 use Rattle.gateway_claim.specs.OwnEvents.{is_turn, settled_by, heard_turn, books_of, notice_event, heard_event, own_here, own}
-use Rattle.gateway_claim.specs.Follows.{IsHistory}
-use Rattle.gateway_claim.specs.SeenRun.{request_here, requests_from, IsSeenRun}
+use Rattle.gateway_claim.specs.Follows.{IsHistory, private_in, kind_breach, session_asked, session_of_private, reply_breach, heard_breach, said_breach}
+use Rattle.gateway_claim.specs.SeenRun.{request_here, requests_from, IsItemHeard, AreItemsHeard, IsSeenRun}
+use Rattle.gateway_claim.proofs.AgreeLemmas.{joined, said_right}
+use Rattle.gateway_claim.proofs.AnswerLemmas.{SaysAt, SaysFor, IsSaid, said_for}
 use Rattle.gateway_claim.proofs.HistoryLemmas.{sent_as_alone}
+use Rattle.gateway_claim.proofs.OverLemmas.{faults_over}
+use Rattle.gateway_claim.proofs.SlotLemmas.{alone}
 
 -- What a reply of the server tells has headers of a head that was read.
 filtered : (test keep : Header → Bool) (headers : List Header) → list_all test headers ≡ true → list_all test (filter keep headers) ≡ true
@@ -49,21 +79,82 @@ filtered test keep (header ∷ headers) all =
     by true others one more = ap (λ b. b && list_all test others) one ∙ more
     by false others one more = more
 
+-- The body of a reply is not longer than that of an item.
+abbrev HasShortBody : Option Span → Type 0
+HasShortBody span = IfSome span (λ one. one.kind ≡ Response → one.len ≤ one.head + MOST_BODY)
+
+whole_short : (come : ℕ) (span : Span) → HasShortBody (Some span) → HasShortBody (when_whole come span)
+whole_short come span short = by (nat_lt come span.len)
+  where
+    by : (t : Bool) → HasShortBody (cond t None (Some span))
+    by true = tt
+    by false = short
+
+body_short : (kind : ItemKind) (come n : ℕ) (named : Length) → HasShortBody (body_span kind come n named)
+body_short kind come n lengths.Absent = whole_short come (record { kind = kind; len = n; head = n }) (λ is. omega arith)
+body_short kind come n (lengths.Bytes body) = by (nat_lt MOST_BODY body) refl
+  where
+    by : (t : Bool) → nat_lt MOST_BODY body ≡ t → HasShortBody (cond t (Some (bad_span bad.Body n)) (when_whole come (record { kind = kind; len = n + body; head = n })))
+    by true e = λ is. cc
+    by false e = let few : body ≤ MOST_BODY = ltb-false MOST_BODY body e in whole_short come (record { kind = kind; len = n + body; head = n }) (λ is. omega (arith, few))
+body_short kind come n lengths.Bad = λ is. cc
+
+judged_short : (come n : ℕ) (facts : Result Facts HeadFault) → HasShortBody (judged_span come n facts)
+judged_short come n (Ok facts) = body_short (message_kind facts.request) come n facts.length
+judged_short come n (Err fault) = λ is. cc
+
+headed_short : (bytes : List ℕ) (len : Option ℕ) → HasShortBody (headed_span bytes len)
+headed_short bytes None = by (nat_lt (length bytes) MOST_HEAD)
+  where
+    by : (t : Bool) → HasShortBody (cond t None (Some (bad_span bad.Head MOST_HEAD)))
+    by true = tt
+    by false = λ is. cc
+headed_short bytes (Some n) = judged_short (length bytes) n (facts_of (take n bytes))
+
+frame_short : (bytes : List ℕ) → HasShortBody (frame_span bytes)
+frame_short bytes = by (nat_lt (length bytes) 4)
+  where
+    by : (t : Bool) → HasShortBody (cond t None (when_whole (length bytes) (record { kind = Frame; len = 4 + (256 * slice_index bytes 2 + slice_index bytes 3); head = 0 })))
+    by true = tt
+    by false = whole_short (length bytes) (record { kind = Frame; len = 4 + (256 * slice_index bytes 2 + slice_index bytes 3); head = 0 }) (λ is. cc)
+
+span_short : (bytes : List ℕ) → HasShortBody (span_of bytes)
+span_short [] = tt
+span_short (b ∷ bytes) = by (b == dollar)
+  where
+    by : (t : Bool) → HasShortBody (cond t (frame_span (b ∷ bytes)) (message_span (b ∷ bytes)))
+    by true = frame_short (b ∷ bytes)
+    by false = headed_short (b ∷ bytes) (head_len (take MOST_HEAD (b ∷ bytes)))
+
+same_span : (a b : ℕ) (one other : Span) → ◌≡◌ {A = Option Extent} (Some (record { skipped = a; span = one })) (Some (record { skipped = b; span = other })) → one ≡ other
+same_span a b one other e = let extents : ◌≡◌ {A = Extent} (record { skipped = a; span = one }) (record { skipped = b; span = other }) = cc in ap (λ (extent : Extent). extent.span) extents
+
+item_short : (shape : Shape) → IsItemHeard (hears shape) → shape.kind ≡ Response → length (drop shape.head shape.bytes) ≤ MOST_BODY
+item_short shape is kind = by (span_of (drop (blank_lines shape.bytes) shape.bytes)) (span_short (drop (blank_lines shape.bytes) shape.bytes)) is
+  where
+    by : (span : Option Span) → HasShortBody span → option_map {U = Extent} (λ (one : Span). record { skipped = blank_lines shape.bytes; span = one }) span ≡ Some (record { skipped = 0; span = record { kind = shape.kind; len = length shape.bytes; head = shape.head } })
+        → length (drop shape.head shape.bytes) ≤ MOST_BODY
+    by None short e = cc
+    by (Some span) short e =
+        let same : span ≡ record { kind = shape.kind; len = length shape.bytes; head = shape.head } = same_span (blank_lines shape.bytes) 0 span (record { kind = shape.kind; len = length shape.bytes; head = shape.head }) e in
+        let few : length shape.bytes ≤ shape.head + MOST_BODY = subst (λ (one : Span). one.kind ≡ Response → one.len ≤ one.head + MOST_BODY) same short kind in
+        omega (arith, few, length-drop shape.head shape.bytes)
+
 abbrev IsReadableReply : Reply2 → Type 0
-IsReadableReply reply = list_all is_header reply.head.headers ≡ true
+IsReadableReply reply = (list_all is_header reply.head.headers ≡ true) × (length reply.body ≤ MOST_BODY)
 
-read_cseq : (number : Result ℕ TwoFault) (code : ℕ) (head : Head) (body : List ℕ) → list_all is_header head.headers ≡ true
+read_cseq : (number : Result ℕ TwoFault) (code : ℕ) (head : Head) (body : List ℕ) → list_all is_header head.headers ≡ true → length body ≤ MOST_BODY
     → IfOk (result_map (λ cseq. record { code = code; cseq = cseq; head = head; body = body }) number) IsReadableReply
-read_cseq (Ok cseq) code head body all = all
-read_cseq (Err fault) code head body all = tt
+read_cseq (Ok cseq) code head body all short = (all, short)
+read_cseq (Err fault) code head body all short = tt
 
-read_start : (start : Start) (head : Head) (body : List ℕ) → list_all is_header head.headers ≡ true → IfOk (reply_at_start start head body) IsReadableReply
-read_start (starts.Status version code reason) head body all = read_cseq (checked_cseq version head.headers) code head body all
-read_start (starts.Request method uri version) head body all = tt
+read_start : (start : Start) (head : Head) (body : List ℕ) → list_all is_header head.headers ≡ true → length body ≤ MOST_BODY → IfOk (reply_at_start start head body) IsReadableReply
+read_start (starts.Status version code reason) head body all short = read_cseq (checked_cseq version head.headers) code head body all short
+read_start (starts.Request method uri version) head body all short = tt
 
-read_head : (found : Result Head HeadFault) (body : List ℕ) → ((head : Head) → found ≡ Ok head → CanBeWritten head.start head.headers) → IfOk (reply_of_head found body) IsReadableReply
-read_head (Ok head) body can = read_start head.start head body (can head refl).headers
-read_head (Err fault) body can = tt
+read_head : (found : Result Head HeadFault) (body : List ℕ) → ((head : Head) → found ≡ Ok head → CanBeWritten head.start head.headers) → length body ≤ MOST_BODY → IfOk (reply_of_head found body) IsReadableReply
+read_head (Ok head) body can short = read_start head.start head body (can head refl).headers short
+read_head (Err fault) body can short = tt
 
 -- what is heard of the server
 abbrev IsReadableHeard : Heard → Type 0
@@ -80,79 +171,194 @@ ask_readable : (found : Result Ask2 TwoFault) → IsReadableHeard (heard_ask fou
 ask_readable (Ok request) = tt
 ask_readable (Err fault) = tt
 
-kind_readable : (kind : ItemKind) (shape : Shape) → IsReadableHeard (heard_at kind shape)
-kind_readable Request shape = ask_readable (ask_of_item shape)
-kind_readable Response shape = reply_readable (reply_of_item shape) (read_head (head_of (take shape.head shape.bytes)) (drop shape.head shape.bytes) (read_sound (take shape.head shape.bytes)))
-kind_readable Frame shape = tt
-kind_readable (Bad kind) shape = tt
+kind_readable : (kind : ItemKind) (shape : Shape) → shape.kind ≡ kind → IsItemHeard (hears shape) → IsReadableHeard (heard_at kind shape)
+kind_readable Request shape is item = ask_readable (ask_of_item shape)
+kind_readable Response shape is item =
+    reply_readable (reply_of_item shape) (read_head (head_of (take shape.head shape.bytes)) (drop shape.head shape.bytes) (read_sound (take shape.head shape.bytes)) (item_short shape item is))
+kind_readable Frame shape is item = tt
+kind_readable (Bad kind) shape is item = tt
 
--- an event that brings no request
-abbrev IsQuiet : PrivateEvent → Type 0
-IsQuiet event = IsReadableEvent event × (asked_by event ≡ [])
+-- an event that brings no request, and no session that is there
+abbrev IsQuiet : Private → PrivateEvent → Type 0
+IsQuiet p event = IsReadableEvent event × (asked_by event ≡ []) × (is_live p ≡ true → IsFreshEvent p.client event)
 
-notice_quiet : (books : Books) (i : ℕ) (notice : Result HeardNotice ℕ) → IfSome (notice_event books i notice) IsQuiet
-notice_quiet books i (Ok notice) = (tt, refl)
-notice_quiet books i (Err code) = tt
+notice_quiet : (p : Private) (books : Books) (i : ℕ) (notice : Result HeardNotice ℕ) → IfSome (notice_event books i notice) (IsQuiet p)
+notice_quiet p books i (Ok notice) = (tt, refl, λ live. tt)
+notice_quiet p books i (Err code) = tt
 
-heard_quiet : (books settled : Books) (i : ℕ) (waiting : List Shape) (one : Heard) → IsReadableHeard one → IfSome (heard_event books settled i waiting one) IsQuiet
-heard_quiet books settled i waiting (replies reply) all =
-    (filtered is_header is_no_transport (own_fields reply.head.headers) (filtered is_header (λ header. not (is_added header)) reply.head.headers all), refl)
-heard_quiet books settled i waiting (requests request) all = notice_quiet books i (notice_of books.holder request)
-heard_quiet books settled i waiting (frames channel rest) all = (tt, refl)
-heard_quiet books settled i waiting (faults fault) all = tt
+heard_quiet : (p : Private) (books settled : Books) (i : ℕ) (waiting : List Shape) (one : Heard) → IsReadableHeard one → ((reply : Reply2) → one ≡ replies reply → is_live p ≡ true → IsNew p.client.sessions p.client.pending (told_by reply))
+    → IfSome (heard_event books settled i waiting one) (IsQuiet p)
+heard_quiet p books settled i waiting (replies reply) readable fresh =
+    ((filtered is_header is_no_transport (own_fields reply.head.headers) (filtered is_header (λ header. not (is_added header)) reply.head.headers readable.0), readable.1), refl, fresh reply refl)
+heard_quiet p books settled i waiting (requests request) readable fresh = notice_quiet p books i (notice_of books.holder request)
+heard_quiet p books settled i waiting (frames channel rest) readable fresh = (tt, refl, λ live. tt)
+heard_quiet p books settled i waiting (faults fault) readable fresh = tt
+
+-- The sessions of a connection whose books agree are distinct.
+id_is : (id : List ℕ) (one : Option (List ℕ)) → is_session id one ≡ true → one ≡ Some id
+id_is id None e = cc
+id_is id (Some one) e = ap (λ some. Some some) ((bytes_eq-Decides one id).0 e)
+
+found_at : (place : ℕ) (id : List ℕ) (sessions : List PlayerSession) → place_with id sessions ≡ Some place → (session_at place sessions).id ≡ Some id
+found_at place id sessions e = id_is id (session_at place sessions).id (place_is (λ session. is_session id session.id) place sessions e).passes
+
+none_found : (id : List ℕ) (from : ℕ) (sessions : List PlayerSession) → first_place (λ session. is_session id session.id) from sessions ≡ None → (place : ℕ) → (session_at place sessions).id ≡ Some id → ⊥
+none_found id from [] e place here = cc
+none_found id from (one ∷ more) e place here = by place (is_session id one.id) refl e here (none_found id (from + 1) more)
+  where
+    by : (place : ℕ) (t : Bool) → is_session id one.id ≡ t → cond t (Some from) (first_place (λ session. is_session id session.id) (from + 1) more) ≡ None → (session_at place (one ∷ more)).id ≡ Some id
+        → (first_place (λ session. is_session id session.id) (from + 1) more ≡ None → (at : ℕ) → (session_at at more).id ≡ Some id → ⊥) → ⊥
+    by place true is e here later = cc
+    by zero false is e here later = let no : false ≡ true = sym is ∙ ap (is_session id) here ∙ (bytes_eq-Decides id id).1 refl in cc
+    by (suc place) false is e here later = later e place here
+
+distinct : (books : Books) (i : ℕ) (client : Client) (count : ℕ) → IsJoined books i client count → AreDistinct client.sessions
+distinct books i client count joined place id here = by (place_with id client.sessions) refl
+  where
+    by : (found : Option ℕ) → place_with id client.sessions ≡ found → found ≡ Some place
+    by None e = absurd (none_found id 0 client.sessions e place here)
+    by (Some at) e = ap (λ n. Some n) (joined.once at place id (found_at at id client.sessions e) here)
+
+unheld : (books : Books) (i : ℕ) (client : Client) (count : ℕ) (id : List ℕ) → IsJoined books i client count → books.holder id ≡ None → place_with id client.sessions ≡ None
+unheld books i client count id joined free = by (place_with id client.sessions) refl
+  where
+    by : (found : Option ℕ) → place_with id client.sessions ≡ found → found ≡ None
+    by None e = refl
+    by (Some at) e = let none : None ≡ Some i = sym free ∙ joined.holds at id (found_at at id client.sessions e) in cc
+
+-- The session that a success makes is none that is there, where nothing is wrong with the reply.
+new_free : (books : Books) (i count : ℕ) (client : Client) (purpose : Purpose) (reply : Reply2) → IsPurpose books i client.sessions purpose → IsSaid books i purpose client.sessions (is_success reply.code) reply → is_success reply.code ≡ true
+    → (id : List ℕ) → new_id purpose (told_by reply) ≡ Some id → books.holder id ≡ None
+new_free books i count client (purposes.Client asked (Some track)) reply is said success id new =
+    by asked.place (subst (λ (t : Bool). SaysFor books (purposes.Client asked (Some track)) client.sessions t (id_said reply) (new_id (purposes.Client asked (Some track)) (told_by reply))) success said.says)
+  where
+    by : (place : Option ℕ) → SaysAt books place client.sessions (id_said reply) (new_id (purposes.Client asked (Some track)) (told_by reply)) → books.holder id ≡ None
+    by None (one, is_said, is_new, free) = let both : Some id ≡ Some one = sym new ∙ is_new in let same : id ≡ one = cc in ap books.holder same ∙ free
+    by (Some place) says = let none : Some id ≡ None = sym new ∙ says.1 in cc
+new_free books i count client (purposes.Client asked None) reply is said success id new = let none : Some id ≡ None = sym new ∙ other asked.method is in cc
+  where
+    other : (method : Method) → is_setup method ≡ false → new_id_at (tells_setup method) asked.place (told_by reply) ≡ None
+    other methods.Options e = refl
+    other methods.Describe e = refl
+    other methods.Setup e = cc
+    other methods.Play e = refl
+    other methods.Pause e = refl
+    other methods.Teardown e = refl
+    other methods.GetParameter e = refl
+    other methods.SetParameter e = refl
+new_free books i count client (purposes.Released play) reply is said success id new = cc
+new_free books i count client (purposes.Closing place) reply is said success id new = cc
+
+turn_is : (i : ℕ) (who : Option ℕ) → is_turn i who ≡ true → who ≡ Some i
+turn_is i None e = cc
+turn_is i (Some conn) e = ap (λ n. Some n) (eqb-true conn i e)
+
+fresh_reply : (bases : Bases) (T : List HistoryEntry) (i : ℕ) (reply : Reply2) → IsJoined (books_of T) i (alone bases T i).client (alone bases T i).count → private_in bases i T ≡ Some (alone bases T i)
+    → heard_turn (books_of T) (replies reply) ≡ Some i → heard_breach bases T (replies reply) ≡ None → IsNew (alone bases T i).client.sessions (alone bases T i).client.pending (told_by reply)
+fresh_reply bases T i reply joins here turns right = by ((books_of T).opened reply.cseq) refl turns (alone bases T i).client.pending refl joins.pending
+  where
+    client : Client
+    client = (alone bases T i).client
+
+    count : ℕ
+    count = (alone bases T i).count
+
+    by : (opened : Option Opened) → (books_of T).opened reply.cseq ≡ opened → option_map (λ (one : Opened). one.conn) opened ≡ Some i → (pending : Option Purpose) → (alone bases T i).client.pending ≡ pending
+        → IsOpenFor (books_of T) i ((books_of T).number_of i (alone bases T i).count) (alone bases T i).client.sessions pending → IsNew (alone bases T i).client.sessions pending (told_by reply)
+    by opened is turn None none now = tt
+    by None is turn (Some purpose) some now = cc
+    by (Some opened) is turn (Some purpose) some now = λ success id new. unheld (books_of T) i client count id joins (new_free (books_of T) i count client purpose reply now.1 said success id new)
+      where
+        conn : opened.conn ≡ i
+        conn = cc
+
+        same : opened ≡ opened_for (books_of T) i client.sessions purpose
+        same = let both : Some opened ≡ Some (opened_for (books_of T) i client.sessions purpose) = sym is ∙ ap (books_of T).opened (joins.last reply.cseq opened is conn).0 ∙ now.0 in cc
+
+        wrong : kind_breach (books_of T) (kind_for ((books_of T).pair_of i) client.sessions purpose) (session_asked client.sessions client.pending) reply ≡ None
+        wrong =
+            ap (λ (one : Opened). kind_breach (books_of T) one.kind (session_asked client.sessions client.pending) reply) (sym same)
+            ∙ ap (λ session. kind_breach (books_of T) opened.kind session reply) (sym (ap (λ n. session_of_private (private_in bases n T)) conn ∙ ap session_of_private here))
+            ∙ ap (reply_breach bases T reply) (sym is) ∙ right
+
+        said : IsSaid (books_of T) i purpose client.sessions (is_success reply.code) reply
+        said = said_for (books_of T) i count client purpose reply joins some now.1 wrong
+
+-- The connection to the server stands while a connection is live.
+live_standing : (bases : Bases) (T : List HistoryEntry) (i : ℕ) → IsHistory bases T → entered i T ≡ true → is_live (alone bases T i) ≡ true → fault_in T ≡ None
+live_standing bases T i history en live = by (fault_in T) refl
+  where
+    by : (fault : Option UpCause) → fault_in T ≡ fault → fault ≡ None
+    by None e = refl
+    by (Some cause) e = let no : false ≡ true = ap (λ t. not t && (alone bases T i).client.alive) (sym (faults_over bases T history cause e i en)) ∙ live in cc
 
 -- A run with the events of one entry more.
 same_requests : (bases : Bases) (events : List PrivateEvent) (all : List Shape) → IsRun bases events all → IsRun bases events (all ++ [])
 same_requests bases events all run = subst (IsRun bases events) (sym (append-nil all)) run
 
 abbrev Extends : Bases → List PrivateEvent → List Shape → List PrivateEvent → List Shape → Type 0
-Extends bases events all new extra = AreShortPieces (hand bases (new ++ events)) → IsRun bases (new ++ events) (all ++ extra)
+Extends bases events all new extra = IsRun bases (new ++ events) (all ++ extra)
 
-quiet_more : (bases : Bases) (events : List PrivateEvent) (all : List Shape) (turns : Bool) (one : Option PrivateEvent) → IfSome one IsQuiet → IsRun bases events all → Extends bases events all (cond turns (option_to_list one) []) []
-quiet_more bases events all false one quiet run short = same_requests bases events all run
-quiet_more bases events all true None quiet run short = same_requests bases events all run
-quiet_more bases events all true (Some event) quiet run short = run_more bases events all [] event quiet.0 short (λ live. sym quiet.1) run
+abbrev IsDistinct : Private → Type 0
+IsDistinct p = is_live p ≡ true → AreDistinct p.client.sessions
 
-takes_more : (bases : Bases) (events : List PrivateEvent) (all : List Shape) (turns : Bool) (shape : Shape) (full : Bool) → IsRun bases events all
+quiet_more : (bases : Bases) (events : List PrivateEvent) (all : List Shape) (turns : Bool) (one : Option PrivateEvent) → IsDistinct (private_after bases events) → (turns ≡ true → IfSome one (IsQuiet (private_after bases events))) → IsRun bases events all
+    → Extends bases events all (cond turns (option_to_list one) []) []
+quiet_more bases events all false one apart quiet run = same_requests bases events all run
+quiet_more bases events all true None apart quiet run = same_requests bases events all run
+quiet_more bases events all true (Some event) apart quiet run =
+    let is = quiet refl in
+    run_more bases events all [] event is.0 (λ live. record { distinct = apart live; fresh = is.2 live }) (λ live. sym is.1) run
+
+takes_more : (bases : Bases) (events : List PrivateEvent) (all : List Shape) (turns : Bool) (shape : Shape) (full : Bool) → IsDistinct (private_after bases events) → IsRun bases events all
     → Extends bases events all (cond turns (arrive shape full ∷ []) []) (cond turns (request_taken shape) [])
-takes_more bases events all false shape full run short = same_requests bases events all run
-takes_more bases events all true shape full run short = run_more bases events all (request_taken shape) (arrive shape full) tt short (λ live. refl) run
+takes_more bases events all false shape full apart run = same_requests bases events all run
+takes_more bases events all true shape full apart run = run_more bases events all (request_taken shape) (arrive shape full) tt (λ live. record { distinct = apart live; fresh = tt }) (λ live. refl) run
 
-happening_more : (bases : Bases) (events : List PrivateEvent) (all : List Shape) (books : Books) (i : ℕ) (waiting : List Shape) (happening : Happening) → IsRun bases events all
-    → Extends bases events all (own_here books i waiting None happening) (request_here i happening)
-happening_more bases events all books i waiting (enters conn) run = quiet_more bases events all false None tt run
-happening_more bases events all books i waiting (takes conn shape) run = takes_more bases events all (conn == i) shape _ run
-happening_more bases events all books i waiting (ends conn) run = quiet_more bases events all (conn == i) (Some end) (tt, refl) run
-happening_more bases events all books i waiting (lags conn) run = quiet_more bases events all (conn == i) (Some slow) (tt, refl) run
-happening_more bases events all books i waiting (hears shape) run =
-    quiet_more bases events all (is_turn i (heard_turn books (heard shape))) (heard_event books (settled_by books (hears shape)) i waiting (heard shape))
-    (heard_quiet books (settled_by books (hears shape)) i waiting (heard shape) (kind_readable shape.kind shape)) run
-happening_more bases events all books i waiting (up_ends cause) run = quiet_more bases events all false None tt run
+happening_more : (bases : Bases) (T : List HistoryEntry) (i : ℕ) (waiting all : List Shape) (happening : Happening) → IsDistinct (alone bases T i) → IsItemHeard happening
+    → ((shape : Shape) (reply : Reply2) → happening ≡ hears shape → heard shape ≡ replies reply → heard_turn (books_of T) (heard shape) ≡ Some i → is_live (alone bases T i) ≡ true → IsNew (alone bases T i).client.sessions (alone bases T i).client.pending (told_by reply))
+    → IsRun bases (own bases i T) all → Extends bases (own bases i T) all (own_here (books_of T) i waiting None happening) (request_here i happening)
+happening_more bases T i waiting all (enters conn) apart item fresh run = quiet_more bases (own bases i T) all false None apart (λ turns. tt) run
+happening_more bases T i waiting all (takes conn shape) apart item fresh run = takes_more bases (own bases i T) all (conn == i) shape _ apart run
+happening_more bases T i waiting all (ends conn) apart item fresh run = quiet_more bases (own bases i T) all (conn == i) (Some end) apart (λ turns. (tt, refl, λ live. tt)) run
+happening_more bases T i waiting all (lags conn) apart item fresh run = quiet_more bases (own bases i T) all (conn == i) (Some slow) apart (λ turns. (tt, refl, λ live. tt)) run
+happening_more bases T i waiting all (hears shape) apart item fresh run =
+    quiet_more bases (own bases i T) all (is_turn i (heard_turn (books_of T) (heard shape))) (heard_event (books_of T) (settled_by (books_of T) (hears shape)) i waiting (heard shape)) apart
+    (λ turns. heard_quiet (alone bases T i) (books_of T) (settled_by (books_of T) (hears shape)) i waiting (heard shape) (kind_readable shape.kind shape refl item)
+    (λ reply says live. fresh shape reply refl says (turn_is i (heard_turn (books_of T) (heard shape)) turns) live)) run
+happening_more bases T i waiting all (up_ends cause) apart item fresh run = quiet_more bases (own bases i T) all false None apart (λ turns. tt) run
 
-fault_more : (bases : Bases) (events : List PrivateEvent) (all : List Shape) (books : Books) (i : ℕ) (waiting : List Shape) (fault : Option UpCause) (happening : Happening) → IsRun bases events all
-    → Extends bases events all (own_here books i waiting fault happening) (request_here i happening)
-fault_more bases events all books i waiting (Some cause) happening run short = run_more bases events all (request_here i happening) up_end tt short (λ live. cc) run
-fault_more bases events all books i waiting None happening run short = happening_more bases events all books i waiting happening run short
+entry_more : (bases : Bases) (T : List HistoryEntry) (e : HistoryEntry) (i : ℕ) (all : List Shape) (fault : Option UpCause) → IsHistory bases (e ∷ T) → IsItemHeard e.happening → entered i T ≡ true → e.outcome.fault ≡ fault → IsRun bases (own bases i T) all
+    → Extends bases (own bases i T) all (own_here (books_of T) i (alone bases T i).client.waiting fault e.happening) (request_here i e.happening)
+entry_more bases T e i all (Some cause) history item en is run = run_more bases (own bases i T) all (request_here i e.happening) up_end tt (λ live. record { distinct = distinct_at live; fresh = tt }) (λ live. cc) run
+  where
+    distinct_at : IsDistinct (alone bases T i)
+    distinct_at live = distinct (books_of T) i (alone bases T i).client (alone bases T i).count ((joined bases T history.0 (live_standing bases T i history.0 en live)).1 i)
+entry_more bases T e i all None history item en is run = happening_more bases T i (alone bases T i).client.waiting all e.happening distinct_at item fresh run
+  where
+    joins : is_live (alone bases T i) ≡ true → IsJoined (books_of T) i (alone bases T i).client (alone bases T i).count
+    joins live = (joined bases T history.0 (live_standing bases T i history.0 en live)).1 i
 
-entered_more : (here : Bool) (bases : Bases) (events : List PrivateEvent) (all : List Shape) (books : Books) (i : ℕ) (waiting : List Shape) (fault : Option UpCause) (happening : Happening) → IsRun bases events all
-    → Extends bases events all (cond here (own_here books i waiting fault happening) []) (cond here (request_here i happening) [])
-entered_more true bases events all books i waiting fault happening run short = fault_more bases events all books i waiting fault happening run short
-entered_more false bases events all books i waiting fault happening run short = same_requests bases events all run
+    distinct_at : IsDistinct (alone bases T i)
+    distinct_at live = distinct (books_of T) i (alone bases T i).client (alone bases T i).count (joins live)
 
--- Pieces that came earlier are as short.
-short_events : (bases : Bases) (new events : List PrivateEvent) → AreShortPieces (hand bases (new ++ events)) → AreShortPieces (hand bases events)
-short_events bases [] events short = short
-short_events bases (event ∷ new) events short = short_events bases new events (short_later (effect_after bases (new ++ events) event).hand (hand bases (new ++ events)) short)
+    fresh : (shape : Shape) (reply : Reply2) → e.happening ≡ hears shape → heard shape ≡ replies reply → heard_turn (books_of T) (heard shape) ≡ Some i → is_live (alone bases T i) ≡ true → IsNew (alone bases T i).client.sessions (alone bases T i).client.pending (told_by reply)
+    fresh shape reply here says turns live =
+        let standing : fault_in (e ∷ T) ≡ None = ap (λ fault. option_or fault e.outcome.fault) (live_standing bases T i history.0 en live) ∙ is in
+        fresh_reply bases T i reply (joins live) (ap (λ t. cond t (Some (alone bases T i)) None) en) (ap (heard_turn (books_of T)) (sym says) ∙ turns)
+        (sym (ap (said_breach bases T) here ∙ ap (heard_breach bases T) says) ∙ said_right bases T e history.1 standing)
 
-own_run : (bases : Bases) (history : List HistoryEntry) (i : ℕ) → AreShortPieces (hand bases (own bases i history)) → IsRun bases (own bases i history) (requests_from i history)
-own_run bases [] i short = run_begins bases
-own_run bases (entry ∷ earlier) i short =
-    let waiting : List Shape = (private_after bases (own bases i earlier)).client.waiting in
-    entered_more (entered i earlier) bases (own bases i earlier) (requests_from i earlier) (books_of earlier) i waiting entry.outcome.fault entry.happening
-    (own_run bases earlier i (short_events bases (cond (entered i earlier) (own_here (books_of earlier) i waiting entry.outcome.fault entry.happening) []) (own bases i earlier) short)) short
+own_run : (bases : Bases) (history : List HistoryEntry) (i : ℕ) → IsHistory bases history → AreItemsHeard history → IsRun bases (own bases i history) (requests_from i history)
+own_run bases [] i is items = run_begins bases
+own_run bases (entry ∷ earlier) i is items = by (entered i earlier) refl (own_run bases earlier i is.0 items.1)
+  where
+    by : (en : Bool) → entered i earlier ≡ en → IsRun bases (own bases i earlier) (requests_from i earlier)
+        → Extends bases (own bases i earlier) (requests_from i earlier) (cond en (own_here (books_of earlier) i (alone bases earlier i).client.waiting entry.outcome.fault entry.happening) []) (cond en (request_here i entry.happening) [])
+    by true en run = entry_more bases earlier entry i (requests_from i earlier) entry.outcome.fault is items.0 en refl run
+    by false en run = same_requests bases (own bases i earlier) (requests_from i earlier) run
 
 -- The replies that a player was handed answer the first of its requests, and walk the table.
-pub history_seen : (bases : Bases) (history : List HistoryEntry) (i : ℕ) → IsHistory bases history → AreShortPieces (sent i history) → IsSeenRun i history
-history_seen bases history i is short =
+pub history_seen : (bases : Bases) (history : List HistoryEntry) (i : ℕ) → IsHistory bases history → AreItemsHeard history → IsSeenRun i history
+history_seen bases history i is items =
     let same : sent i history ≡ hand bases (own bases i history) = sent_as_alone bases history is i in
-    subst (IsTableRun (requests_from i history)) (sym same) (seen_run bases (own bases i history) (requests_from i history) (own_run bases history i (subst AreShortPieces same short)))
+    subst (IsTableRun (requests_from i history)) (sym same) (seen_run bases (own bases i history) (requests_from i history) (own_run bases history i is items))

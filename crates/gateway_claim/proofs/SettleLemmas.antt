@@ -1,99 +1,49 @@
 -- What a final reply settles for the connection that asked.
-use Rattle.std.proofs.Common.{◌≡◌, ◌≢◌, ℕ, ◌==◌, Bool, true, false, cond, List, [], ◌∷◌, ◌++◌, Option, None, Some, IfSome, ◌⊎◌, inl, inr, refl, sym, ◌∙◌, ap, subst}
-use Rattle.std.specs.Option.{option_or}
+use Rattle.std.proofs.Common.{◌≡◌, ◌≢◌, ℕ, zero, suc, ◌==◌, ◌<◌, Bool, true, false, cond, List, [], ◌∷◌, ◌++◌, length, Option, None, Some, ◌⊎◌, inl, inr, refl, sym, ◌∙◌, ap, subst, arith}
 use Rattle.std.specs.Str.{bytes_eq}
-use Rattle.std.proofs.lemmas.Bool.{eq-eqb}
+use Rattle.std.proofs.lemmas.Bool.{eq-eqb, eqb-true, eqb-false}
 use Rattle.std.proofs.lemmas.Slice.Eq.{bytes_eq-Decides}
-use Rattle.rtsp_small.specs.declared.method.Method.{Method}
-use Rattle.rtsp_small.specs.declared.method.Method.TheVariants as methods
-use Rattle.session_one.specs.declared.parts.Asked.{Asked}
 use Rattle.session_one.specs.declared.parts.Track.{Track}
-use Rattle.session_one.specs.declared.table.State.TheVariants.{Ready}
-use Rattle.session_one.specs.Table.{same_method, is_success}
-use Rattle.translate_up.specs.Fields.{is_setup}
 use Rattle.client_slot.specs.declared.purpose.Purpose.{Purpose}
-use Rattle.client_slot.specs.declared.purpose.Purpose.TheVariants as purposes
 use Rattle.client_slot.specs.Session.{PlayerSession}
-use Rattle.client_slot.specs.SessionChanges.{when_granted, when_moved, when_released}
-use Rattle.client_slot.specs.Changes.{session_after}
+use Rattle.client_slot.specs.Places.{session_at, changed_at}
 use Rattle.client_slot.specs.Client.{Client}
-use Rattle.channel_map.specs.declared.map.Held.{Held}
-use Rattle.channel_map.specs.declared.map.Freed.TheVariants.{Nothing}
-use Rattle.channel_map.specs.Pairs.{kept, granted_now}
-use Rattle.gateway_claim.specs.Kinds.{sets_up, tears_down, closes, plain}
-use Rattle.gateway_claim.specs.Books.{Books}
-use Rattle.gateway_claim.specs.Settlement.{Final, freed_by, bound_by, held_then, is_id, frees_session, holder_left, settles}
-use Rattle.gateway_claim.specs.BooksAndSlots.{kind_for, holding, IsHeldFor, AreHeld, IsPurpose, IsOnlyOpen, IsJoined}
-use Rattle.gateway_claim.proofs.OtherLemmas.{apart_stays, was_open, left_was}
-
--- the final reply to the request that is open for a purpose
-abbrev pub final_to : Books → ℕ → ℕ → Purpose → Bool → Option (List ℕ) → Final
-final_to books i number purpose success said = record { number = number; conn = i; kind = kind_for (books.pair_of i) purpose; success = success; id = said }
-
--- What the reply to a SETUP makes of the session's id: it says the session that there was, or a new one.
-abbrev pub SaysSession : Option (List ℕ) → Option (List ℕ) → Option (List ℕ) → Type 0
-SaysSession None said new = (id : List ℕ) × (said ≡ Some id) × (new ≡ Some id)
-SaysSession (Some session) said new = (said ≡ Some session) × (new ≡ None)
-
-abbrev pub SaysFor : Purpose → Bool → Option (List ℕ) → Option (List ℕ) → Option (List ℕ) → Type 0
-SaysFor (purposes.Client asked (Some track)) true session said new = SaysSession session said new
-SaysFor (purposes.Client asked (Some track)) false session said new = Unit {0}
-SaysFor (purposes.Client asked None) success session said new = Unit {0}
-SaysFor (purposes.Released play) success session said new = Unit {0}
-SaysFor purposes.Closing success session said new = Unit {0}
-
--- What is left of the streams and of the id.
-abbrev IsLeft : PlayerSession → List Track → Option (List ℕ) → Type 0
-IsLeft session tracks id = (session.tracks ≡ tracks) × (session.id ≡ id)
-
-abbrev was_granted : Option Held → Bool
-was_granted None = false
-was_granted (Some held) = held.granted
+use Rattle.client_slot.proofs.PlaceLemmas.{changed_here, changed_other}
+use Rattle.gateway_claim.specs.Kinds.{RequestKind, sets_up, tears_down, closes, plain}
+use Rattle.gateway_claim.specs.Books.{HeldPair, Books, pair_asked, is_pair}
+use Rattle.gateway_claim.specs.Settlement.{Final, torn_by, bound_by, is_id, held_left, granted_to, settles}
+use Rattle.gateway_claim.specs.BooksAndSlots.{IsHeldFor, AreHeld, IsHolding, HasPair, IsStreamPair, IsOpenFor, IsOnlyOpen, IsJoined}
+use Rattle.gateway_claim.proofs.OtherLemmas.{IsHeldKind, held_stays, WasHeld, was_held, was_open, holder_stays, holder_was}
 
 false_is_true : false ≡ true → ⊥
 false_is_true e = cc
 
--- a stream's pair is another one than that of the open SETUP
-track_apart : (books : Books) (i own setup : ℕ) → IsHeldFor books i true own → IsHeldFor books i false setup → books.pair_of i setup ≢ books.pair_of i own
-track_apart books i own setup h s = λ same.
-    false_is_true (ap was_granted (sym s.0 ∙ ap books.held same ∙ h.0))
+pub same_id : (one id : List ℕ) → bytes_eq id one ≡ true → id ≡ one
+same_id one id e = (bytes_eq-Decides id one).0 e
 
-track_stays : (books : Books) (i number own setup : ℕ) (success : Bool) (said : Option (List ℕ)) → IsHeldFor books i true own → IsHeldFor books i false setup
-    → held_then (Some (record { number = number; conn = i; kind = sets_up (books.pair_of i setup); success = success; id = said })) (books.pair_of i own) (books.held (books.pair_of i own))
-    ≡ Some (holding i (books.pair_of i own) true)
-track_stays books i number own setup success said h s =
-    ap (held_then (Some (record { number = number; conn = i; kind = sets_up (books.pair_of i setup); success = success; id = said })) (books.pair_of i own)) h.0
-    ∙ apart_stays number i (sets_up (books.pair_of i setup)) success said (books.pair_of i own) (holding i (books.pair_of i own) true) refl (track_apart books i own setup h s)
+pub is_own_id : (id : List ℕ) → bytes_eq id id ≡ true
+is_own_id id = (bytes_eq-Decides id id).1 refl
 
-setup_tracks : (books : Books) (i number setup : ℕ) (success : Bool) (said : Option (List ℕ)) (tracks : List Track) → IsHeldFor books i false setup → AreHeld books i tracks
-    → AreHeld (settles (Some (record { number = number; conn = i; kind = sets_up (books.pair_of i setup); success = success; id = said })) books) i tracks
-setup_tracks books i number setup success said [] s h = tt
-setup_tracks books i number setup success said (track ∷ tracks) s h =
-    ((track_stays books i number track.pair setup success said h.0 s, h.0.1), setup_tracks books i number setup success said tracks s h.1)
+-- a place with a session is one of the places
+pub filled_within : (place : ℕ) (id : List ℕ) (sessions : List PlayerSession) → (session_at place sessions).id ≡ Some id → place < length sessions
+filled_within place id [] e = cc
+filled_within zero id (one ∷ more) e = omega arith
+filled_within (suc place) id (one ∷ more) e = omega (arith, filled_within place id more e)
 
-more_tracks : (books : Books) (i : ℕ) (tracks : List Track) (track : Track) → AreHeld books i tracks → IsHeldFor books i true track.pair → AreHeld books i (tracks ++ track ∷ [])
-more_tracks books i [] track h one = (one, tt)
-more_tracks books i (first ∷ tracks) track h one = (h.0, more_tracks books i tracks track h.1 one)
+-- What is so of a session that changed, and of each other one, is so of each then.
+pub each_changed : (P : ℕ → PlayerSession → Type 0) (k : ℕ) (change : PlayerSession → PlayerSession) (sessions : List PlayerSession) → k < length sessions → P k (change (session_at k sessions))
+    → ((place : ℕ) → place ≢ k → P place (session_at place sessions)) → (place : ℕ) → P place (session_at place (changed_at k change sessions))
+each_changed P k change sessions within here others place = by (place == k) refl
+  where
+    by : (t : Bool) → (place == k) ≡ t → P place (session_at place (changed_at k change sessions))
+    by true e =
+        let same : place ≡ k = eqb-true place k e in
+        subst (λ (at : ℕ). P at (session_at at (changed_at k change sessions))) (sym same) (subst (λ (one : PlayerSession). P k one) (sym (changed_here k change sessions within)) here)
+    by false e = subst (λ (one : PlayerSession). P place one) (sym (changed_other k place change sessions (eqb-false place k e))) (others place (eqb-false place k e))
 
--- the pair of the SETUP is granted
-granted_held : (books : Books) (i number setup : ℕ) (said : Option (List ℕ)) → IsHeldFor books i false setup
-    → IsHeldFor (settles (Some (record { number = number; conn = i; kind = sets_up (books.pair_of i setup); success = true; id = said })) books) i true setup
-granted_held books i number setup said s = (
-  ap (λ t. cond t (granted_now (books.held (books.pair_of i setup))) (kept Nothing (books.held (books.pair_of i setup)))) (eq-eqb (books.pair_of i setup) (books.pair_of i setup) refl)
-      ∙ ap granted_now s.0,
-  s.1,
-)
-
--- a reply that frees and grants nothing
-idle_tracks : (books : Books) (i number : ℕ) (said : Option (List ℕ)) (success : Bool) (tracks : List Track) → AreHeld books i tracks
-    → AreHeld (settles (Some (record { number = number; conn = i; kind = plain; success = success; id = said })) books) i tracks
-idle_tracks books i number said success [] h = tt
-idle_tracks books i number said success (track ∷ tracks) h = ((ap (kept Nothing) h.0.0, h.0.1), idle_tracks books i number said success tracks h.1)
-
-refused_tracks : (books : Books) (i number : ℕ) (said : Option (List ℕ)) (tracks : List Track) → AreHeld books i tracks
-    → AreHeld (settles (Some (record { number = number; conn = i; kind = tears_down; success = false; id = said })) books) i tracks
-refused_tracks books i number said [] h = tt
-refused_tracks books i number said (track ∷ tracks) h = ((ap (kept Nothing) h.0.0, h.0.1), refused_tracks books i number said tracks h.1)
+-- The places have the same sessions and streams.
+abbrev pub AreAlike : List PlayerSession → List PlayerSession → Type 0
+AreAlike sessions others = (place : ℕ) → ((session_at place others).id ≡ (session_at place sessions).id) × ((session_at place others).tracks ≡ (session_at place sessions).tracks)
 
 -- No other request of the connection was open.
 none_open : (books : Books) (i number : ℕ) (final : Final) (pending : Option Purpose) → final.number ≡ number → IsOnlyOpen books i number pending → IsOnlyOpen (settles (Some final) books) i number None
@@ -102,193 +52,289 @@ none_open books i number final pending same last = λ g opened here conn.
     let is : g ≡ final.number = (last g opened was.1 conn).0 ∙ sym same in
     absurd (false_is_true (sym was.0 ∙ eq-eqb g final.number is))
 
-same_id : (one id : List ℕ) → bytes_eq id one ≡ true → id ≡ one
-same_id one id e = (bytes_eq-Decides id one).0 e
+-- A final reply to what is open.
+pub record IsOwnFinal (books : Books) (i number : ℕ) (final : Final) : Type 0 where
+  pub number_is : final.number ≡ number
+  pub conn : final.conn ≡ i
+  pub held : IsHeldKind books final.conn final.kind
 
-is_own_id : (id : List ℕ) → bytes_eq id id ≡ true
-is_own_id id = (bytes_eq-Decides id id).1 refl
+-- What is held for a session that does not end stays held for it.
+tracks_stay : (books : Books) (i : ℕ) (final : Final) (id : List ℕ) (tracks : List Track) → IsHeldKind books final.conn final.kind → is_id (torn_by final.kind final.success) id ≡ false
+    → AreHeld books i (Some id) tracks → AreHeld (settles (Some final) books) i (Some id) tracks
+tracks_stay books i final id [] held left h = tt
+tracks_stay books i final id (track ∷ tracks) held left h =
+    ((held_stays books final (books.pair_of i track.pair) (record { conn = i; session = Some id }) held h.0.0 (λ same. let none : Some id ≡ None = ap (λ (one : HeldPair). one.session) same in cc) left, h.0.1), tracks_stay books i final id tracks held left h.1)
 
--- of a reply that binds nothing and frees no session
-idle_holds : (books : Books) (i : ℕ) (final : Final) (session : Option (List ℕ)) → bound_by final.kind final.success final.id ≡ None → frees_session (freed_by final.conn final.kind final.success) i ≡ false
-    → IfSome session (λ id. books.holder id ≡ Some i) → IfSome session (λ id. (settles (Some final) books).holder id ≡ Some i)
-idle_holds books i final None none free h = tt
-idle_holds books i final (Some id) none free h =
-    ap (λ (bound : Option (List ℕ)). cond (is_id bound id) (Some final.conn) (holder_left (freed_by final.conn final.kind final.success) (books.holder id))) none
-    ∙ ap (holder_left (freed_by final.conn final.kind final.success)) h
-    ∙ ap (λ t. cond {A = Option ℕ} t None (Some i)) free
+holding_stays : (books : Books) (i : ℕ) (final : Final) (session : Option (List ℕ)) (tracks : List Track) → IsHeldKind books final.conn final.kind
+    → ((id : List ℕ) → session ≡ Some id → is_id (torn_by final.kind final.success) id ≡ false) → IsHolding books i session tracks → IsHolding (settles (Some final) books) i session tracks
+holding_stays books i final None tracks held left h = h
+holding_stays books i final (Some id) tracks held left h = tracks_stay books i final id tracks held (left id refl) h
 
-idle_session : (books : Books) (i : ℕ) (final : Final) (session : Option (List ℕ)) → bound_by final.kind final.success final.id ≡ None
-    → ((id : List ℕ) → books.holder id ≡ Some i → session ≡ Some id) → (id : List ℕ) → (settles (Some final) books).holder id ≡ Some i → session ≡ Some id
-idle_session books i final session none h id here =
-    h id (left_was (freed_by final.conn final.kind final.success) (books.holder id) i
-    (sym (ap (λ (bound : Option (List ℕ)). cond (is_id bound id) (Some final.conn) (holder_left (freed_by final.conn final.kind final.success) (books.holder id))) none) ∙ here)).0
+-- a pair that is granted is granted for the session that is bound
+pub granted_bound : (kind : RequestKind) (success : Bool) (said : Option (List ℕ)) (p : ℕ) → is_pair (pair_asked kind) p ≡ true → success ≡ true → bound_by kind success said ≡ said
+granted_bound (sets_up pair) true said p asks e = refl
+granted_bound (sets_up pair) false said p asks e = cc
+granted_bound (tears_down id) success said p asks e = cc
+granted_bound (closes id) success said p asks e = cc
+granted_bound plain success said p asks e = cc
 
--- of one that frees all
-freed_session : (books : Books) (i : ℕ) (final : Final) → bound_by final.kind final.success final.id ≡ None → frees_session (freed_by final.conn final.kind final.success) i ≡ true
-    → (id : List ℕ) → (settles (Some final) books).holder id ≡ Some i → {session : Option (List ℕ)} → session ≡ Some id
-freed_session books i final none free id here =
-    let left : frees_session (freed_by final.conn final.kind final.success) i ≡ false =
-    (left_was (freed_by final.conn final.kind final.success) (books.holder id) i
-    (sym (ap (λ (bound : Option (List ℕ)). cond (is_id bound id) (Some final.conn) (holder_left (freed_by final.conn final.kind final.success) (books.holder id))) none) ∙ here)).1 in
-    cc
-
--- of one that binds
-bound_holds : (books : Books) (i number pair : ℕ) (said : Option (List ℕ)) (id : List ℕ) → said ≡ Some id
-    → (settles (Some (record { number = number; conn = i; kind = sets_up pair; success = true; id = said })) books).holder id ≡ Some i
-bound_holds books i number pair said id e =
-    ap (λ (bound : Option (List ℕ)). cond (is_id bound id) (Some i) (holder_left Nothing (books.holder id))) e
-    ∙ ap (λ t. cond t (Some i) (holder_left Nothing (books.holder id))) (is_own_id id)
-
-bound_session : (books : Books) (i number pair : ℕ) (said session : Option (List ℕ)) (one : List ℕ) → said ≡ Some one → (session ≡ Some one) ⊎ (session ≡ None)
-    → ((id : List ℕ) → books.holder id ≡ Some i → session ≡ Some id) → (id : List ℕ)
-    → (settles (Some (record { number = number; conn = i; kind = sets_up pair; success = true; id = said })) books).holder id ≡ Some i → one ≡ id
-bound_session books i number pair said session one e was h id here =
-    by (bytes_eq id one) refl (sym (ap (λ (bound : Option (List ℕ)). cond (is_id bound id) (Some i) (holder_left Nothing (books.holder id))) e) ∙ here)
+-- Where nothing is bound, what is held for a session was held for it, and does not end.
+kept_pair : (books : Books) (i : ℕ) (final : Final) (p : ℕ) (id : List ℕ) → bound_by final.kind final.success final.id ≡ None → (settles (Some final) books).held p ≡ Some (record { conn = i; session = Some id })
+    → (books.held p ≡ Some (record { conn = i; session = Some id })) × (is_id (torn_by final.kind final.success) id ≡ false)
+kept_pair books i final p id none here = by (was_held books final p (record { conn = i; session = Some id }) here)
   where
-    from : (session ≡ Some one) ⊎ (session ≡ None) → session ≡ Some id → one ≡ id
-    from (inl same) e = cc
-    from (inr none) e = cc
+    by : WasHeld books final p (record { conn = i; session = Some id }) → (books.held p ≡ Some (record { conn = i; session = Some id })) × (is_id (torn_by final.kind final.success) id ≡ false)
+    by was = cases was.session
+      where
+        cases : ((is_pair (pair_asked final.kind) p ≡ true) × (final.success ≡ true) × (Some id ≡ final.id)) ⊎ ((was.before ≡ record { conn = i; session = Some id }) × (is_id (torn_by final.kind final.success) id ≡ false))
+            → (books.held p ≡ Some (record { conn = i; session = Some id })) × (is_id (torn_by final.kind final.success) id ≡ false)
+        cases (inl granted) = let some : Some id ≡ None = granted.2 ∙ sym (granted_bound final.kind final.success final.id p granted.0 granted.1) ∙ none in cc
+        cases (inr same) = (was.was ∙ ap (λ (one : HeldPair). Some one) same.0, same.1)
 
-    by : (t : Bool) → bytes_eq id one ≡ t → cond t (Some i) (holder_left Nothing (books.holder id)) ≡ Some i → one ≡ id
-    by true same e = sym (same_id one id same)
-    by false other e = from was (h id (left_was Nothing (books.holder id) i e).0)
+-- Where nothing is bound, who has a session had it, and it does not end.
+kept_holder : (books : Books) (i : ℕ) (final : Final) (id : List ℕ) → bound_by final.kind final.success final.id ≡ None → (settles (Some final) books).holder id ≡ Some i
+    → (is_id (torn_by final.kind final.success) id ≡ false) × (books.holder id ≡ Some i)
+kept_holder books i final id none here = by (holder_was books final id i here)
+  where
+    by : ((is_id (bound_by final.kind final.success final.id) id ≡ true) × (final.conn ≡ i)) ⊎ ((is_id (torn_by final.kind final.success) id ≡ false) × (books.holder id ≡ Some i))
+        → (is_id (torn_by final.kind final.success) id ≡ false) × (books.holder id ≡ Some i)
+    by (inl bound) = absurd (false_is_true (sym (ap (λ (one : Option (List ℕ)). is_id one id) none) ∙ bound.0))
+    by (inr was) = was
 
--- what the reply does to the streams and to the id
-setup_left : (method : Method) (number : ℕ) (uri : List ℕ) (track : Track) (id : Option (List ℕ)) (session : PlayerSession) → method ≡ methods.Setup
-    → IsLeft (when_granted method number uri (Some track) id session) (session.tracks ++ track ∷ []) (option_or id session.id)
-setup_left method number uri track id session e = subst (λ (m : Method). IsLeft (when_granted m number uri (Some track) id session) (session.tracks ++ track ∷ []) (option_or id session.id)) (sym e) (refl, refl)
+unbound : (final : Final) (id : List ℕ) → bound_by final.kind final.success final.id ≡ None → is_id (bound_by final.kind final.success final.id) id ≡ false
+unbound final id none = ap (λ (one : Option (List ℕ)). is_id one id) none
 
-plain_left : (method : Method) (number : ℕ) (uri : List ℕ) (id : Option (List ℕ)) (session : PlayerSession) → is_setup method ≡ false → same_method method methods.Teardown ≡ false
-    → IsLeft (when_granted method number uri None id session) session.tracks session.id
-plain_left methods.Options number uri id session s t = (refl, refl)
-plain_left methods.Describe number uri id session s t = (refl, refl)
-plain_left methods.Setup number uri id session s t = cc
-plain_left methods.Play number uri id session s t = (refl, refl)
-plain_left methods.Pause number uri id session s t = (refl, refl)
-plain_left methods.Teardown number uri id session s t = cc
-plain_left methods.GetParameter number uri id session s t = (refl, refl)
-plain_left methods.SetParameter number uri id session s t = (refl, refl)
-
-torn_left : (method : Method) (number : ℕ) (uri : List ℕ) (id : Option (List ℕ)) (session : PlayerSession) → same_method method methods.Teardown ≡ true
-    → IsLeft (when_granted method number uri None id session) [] None
-torn_left methods.Options number uri id session t = cc
-torn_left methods.Describe number uri id session t = cc
-torn_left methods.Setup number uri id session t = cc
-torn_left methods.Play number uri id session t = cc
-torn_left methods.Pause number uri id session t = cc
-torn_left methods.Teardown number uri id session t = (refl, refl)
-torn_left methods.GetParameter number uri id session t = cc
-torn_left methods.SetParameter number uri id session t = cc
-
--- Joined by what is left.
-joined_left : (books : Books) (i count : ℕ) (client : Client) (session : PlayerSession) (tracks : List Track) (id : Option (List ℕ)) → IsLeft session tracks id → count ≡ books.counts i
-    → AreHeld books i tracks → IsOnlyOpen books i (books.number_of i count) None → IfSome id (λ one. books.holder one ≡ Some i) → ((one : List ℕ) → books.holder one ≡ Some i → id ≡ Some one)
-    → IsJoined books i (record client { session = session; pending = None }) count
-joined_left books i count client session tracks id is counted held last holds only = record {
-  counted = counted;
-  tracks = subst (λ (all : List Track). AreHeld books i all) (sym is.0) held;
-  pending = tt;
-  last = last;
-  holds = subst (λ (one : Option (List ℕ)). IfSome one (λ some. books.holder some ≡ Some i)) (sym is.1) holds;
-  session = λ one here. is.1 ∙ only one here;
+-- A reply that binds and ends nothing, after which each place has what it had.
+pub alike_settled : (books : Books) (i count : ℕ) (client after : Client) (final : Final) → IsOwnFinal books i (books.number_of i count) final → IsJoined books i client count
+    → bound_by final.kind final.success final.id ≡ None → torn_by final.kind final.success ≡ None → AreAlike client.sessions after.sessions → after.pending ≡ None → IsJoined (settles (Some final) books) i after count
+alike_settled books i count client after final own joined none left alike idle = record {
+  counted = joined.counted;
+  tracks = λ place.
+      subst (λ (session : Option (List ℕ)). IsHolding (settles (Some final) books) i session (session_at place after.sessions).tracks) (sym (alike place).0)
+      (subst (λ (tracks : List Track). IsHolding (settles (Some final) books) i (session_at place client.sessions).id tracks) (sym (alike place).1)
+      (holding_stays books i final (session_at place client.sessions).id (session_at place client.sessions).tracks own.held (λ id e. untorn id) (joined.tracks place)));
+  granted = λ p id here.
+      let was : IsStreamPair (books.pair_of i) client.sessions id p = joined.granted p id (kept_pair books i final p id none here).0 in
+      record { place = was.place; named = (alike was.place).0 ∙ was.named; has = subst (λ (tracks : List Track). HasPair (books.pair_of i) p tracks) (sym (alike was.place).1) was.has };
+  pending = subst (λ (pending : Option Purpose). IsOpenFor (settles (Some final) books) i (books.number_of i count) after.sessions pending) (sym idle) tt;
+  last = subst (λ (pending : Option Purpose). IsOnlyOpen (settles (Some final) books) i (books.number_of i count) pending) (sym idle) (none_open books i (books.number_of i count) final client.pending own.number_is joined.last);
+  holds = λ place id here. holder_stays books final id (unbound final id none) (untorn id) ∙ joined.holds place id (sym (alike place).0 ∙ here);
+  session = λ id here. let (place, is) = joined.session id (kept_holder books i final id none here).1 in (place, (alike place).0 ∙ is);
+  once = λ a b id at_a at_b. joined.once a b id (sym (alike a).0 ∙ at_a) (sym (alike b).0 ∙ at_b);
 }
-
--- The success of a SETUP.
-abbrev granting : Books → ℕ → ℕ → Track → Option (List ℕ) → Final
-granting books i count track said = record { number = books.number_of i count; conn = i; kind = sets_up (books.pair_of i track.pair); success = true; id = said }
-
-setup_granted : (books : Books) (i count : ℕ) (client : Client) (asked : Asked) (track : Track) (session : PlayerSession) (said new : Option (List ℕ)) → IsJoined books i client count
-    → IsHeldFor books i false track.pair → SaysSession client.session.id said new → IsLeft session (client.session.tracks ++ track ∷ []) (option_or new client.session.id)
-    → IsJoined (settles (Some (record { number = books.number_of i count; conn = i; kind = sets_up (books.pair_of i track.pair); success = true; id = said })) books) i (record client { session = session; pending = None }) count
-setup_granted books i count client asked track session said new joined held says is =
-    let final : Final = granting books i count track said in
-    joined_left (settles (Some final) books) i count client session (client.session.tracks ++ track ∷ []) (option_or new client.session.id) is joined.counted
-    (more_tracks (settles (Some final) books) i client.session.tracks track (setup_tracks books i (books.number_of i count) track.pair true said client.session.tracks held joined.tracks) (granted_held books i (books.number_of i count) track.pair said held))
-    (none_open books i (books.number_of i count) final client.pending refl joined.last)
-    (holds client.session.id says)
-    (only client.session.id says joined.session)
   where
-    holds : (session : Option (List ℕ)) → SaysSession session said new → IfSome (option_or new session) (λ one. (settles (Some (granting books i count track said)) books).holder one ≡ Some i)
-    holds None (id, is_said, is_new) = subst (λ (one : Option (List ℕ)). IfSome (option_or one None) (λ some. (settles (Some (granting books i count track said)) books).holder some ≡ Some i)) (sym is_new) (bound_holds books i (books.number_of i count) (books.pair_of i track.pair) said id is_said)
-    holds (Some session) (is_said, is_new) = subst (λ (one : Option (List ℕ)). IfSome (option_or one (Some session)) (λ some. (settles (Some (granting books i count track said)) books).holder some ≡ Some i)) (sym is_new) (bound_holds books i (books.number_of i count) (books.pair_of i track.pair) said session is_said)
+    untorn : (id : List ℕ) → is_id (torn_by final.kind final.success) id ≡ false
+    untorn id = ap (λ (one : Option (List ℕ)). is_id one id) left
 
-    only : (session : Option (List ℕ)) → SaysSession session said new → ((id : List ℕ) → books.holder id ≡ Some i → session ≡ Some id) → (one : List ℕ) → (settles (Some (granting books i count track said)) books).holder one ≡ Some i → option_or new session ≡ Some one
-    only None (id, is_said, is_new) h one here =
-        ap (λ (n : Option (List ℕ)). option_or n None) is_new ∙ ap (λ n. Some n) (bound_session books i (books.number_of i count) (books.pair_of i track.pair) said None id is_said (inr refl) h one here)
-    only (Some session) (is_said, is_new) h one here =
-        ap (λ (n : Option (List ℕ)). option_or n (Some session)) is_new ∙ ap (λ n. Some n) (bound_session books i (books.number_of i count) (books.pair_of i track.pair) said (Some session) session is_said (inl refl) h one here)
-
--- A reply that grants, binds and frees nothing of the session.
-nothing_settled : (books : Books) (i count : ℕ) (client : Client) (session : PlayerSession) (final : Final) → final.number ≡ books.number_of i count → IsJoined books i client count
-    → IsLeft session client.session.tracks client.session.id → AreHeld (settles (Some final) books) i client.session.tracks
-    → bound_by final.kind final.success final.id ≡ None → frees_session (freed_by final.conn final.kind final.success) i ≡ false
-    → IsJoined (settles (Some final) books) i (record client { session = session; pending = None }) count
-nothing_settled books i count client session final number joined is held none free =
-    joined_left (settles (Some final) books) i count client session client.session.tracks client.session.id is joined.counted held
-    (none_open books i (books.number_of i count) final client.pending number joined.last)
-    (idle_holds books i final client.session.id none free joined.holds)
-    (idle_session books i final client.session.id none joined.session)
-
--- A reply that frees all that the connection has.
-all_freed : (books : Books) (i count : ℕ) (client : Client) (session : PlayerSession) (final : Final) → final.number ≡ books.number_of i count → IsJoined books i client count
-    → IsLeft session [] None → bound_by final.kind final.success final.id ≡ None → frees_session (freed_by final.conn final.kind final.success) i ≡ true
-    → IsJoined (settles (Some final) books) i (record client { session = session; pending = None }) count
-all_freed books i count client session final number joined is none free =
-    joined_left (settles (Some final) books) i count client session [] None is joined.counted tt
-    (none_open books i (books.number_of i count) final client.pending number joined.last)
-    tt
-    (λ id here. freed_session books i final none free id here)
-
-own_number : (i : ℕ) → (i == i) ≡ true
-own_number i = eq-eqb i i refl
-
--- The reply to the open request, by what that is for, and by whether it is a success.
-client_settled : (books : Books) (i count code : ℕ) (client : Client) (asked : Asked) (said new : Option (List ℕ)) (teardown success : Bool) → IsJoined books i client count
-    → is_setup asked.method ≡ false → same_method asked.method methods.Teardown ≡ teardown
-    → IsJoined (settles (Some (record { number = books.number_of i count; conn = i; kind = cond teardown tears_down plain; success = success; id = said })) books) i
-    (record client { session = cond success (when_granted asked.method count asked.uri None new (when_moved asked.method code client.session)) client.session; pending = None }) count
-client_settled books i count code client asked said new true true joined setup teardown =
-    all_freed books i count client _ (record { number = books.number_of i count; conn = i; kind = tears_down; success = true; id = said }) refl joined
-    (torn_left asked.method count asked.uri new (when_moved asked.method code client.session) teardown) refl (own_number i)
-client_settled books i count code client asked said new true false joined setup teardown =
-    nothing_settled books i count client client.session (record { number = books.number_of i count; conn = i; kind = tears_down; success = false; id = said }) refl joined (refl, refl)
-    (refused_tracks books i (books.number_of i count) said client.session.tracks joined.tracks) refl refl
-client_settled books i count code client asked said new false true joined setup teardown =
-    nothing_settled books i count client _ (record { number = books.number_of i count; conn = i; kind = plain; success = true; id = said }) refl joined
-    (plain_left asked.method count asked.uri new (when_moved asked.method code client.session) setup teardown)
-    (idle_tracks books i (books.number_of i count) said true client.session.tracks joined.tracks) refl refl
-client_settled books i count code client asked said new false false joined setup teardown =
-    nothing_settled books i count client client.session (record { number = books.number_of i count; conn = i; kind = plain; success = false; id = said }) refl joined (refl, refl)
-    (idle_tracks books i (books.number_of i count) said false client.session.tracks joined.tracks) refl refl
-
-setup_settled : (books : Books) (i count code : ℕ) (client : Client) (asked : Asked) (track : Track) (said new : Option (List ℕ)) (success : Bool) → IsJoined books i client count
-    → IsPurpose books i (purposes.Client asked (Some track)) → SaysFor (purposes.Client asked (Some track)) success client.session.id said new
-    → IsJoined (settles (Some (record { number = books.number_of i count; conn = i; kind = sets_up (books.pair_of i track.pair); success = success; id = said })) books) i
-    (record client { session = cond success (when_granted asked.method count asked.uri (Some track) new (when_moved asked.method code client.session)) client.session; pending = None }) count
-setup_settled books i count code client asked track said new true joined purpose says =
-    setup_granted books i count client asked track _ said new joined purpose.0 says (setup_left asked.method count asked.uri track new (when_moved asked.method code client.session) purpose.1)
-setup_settled books i count code client asked track said new false joined purpose says =
-    nothing_settled books i count client client.session (record { number = books.number_of i count; conn = i; kind = sets_up (books.pair_of i track.pair); success = false; id = said }) refl joined (refl, refl)
-    (setup_tracks books i (books.number_of i count) track.pair false said client.session.tracks purpose.0 joined.tracks) refl refl
-
-released_left : (number : ℕ) (uri : List ℕ) (success : Bool) (code : ℕ) (session : PlayerSession) → is_success code ≡ success → IsLeft (when_released number code uri session) session.tracks session.id
-released_left number uri success code session e = by (is_success code)
+-- A session at a place with an id, and the same at another one, are not there.
+other_id : (books : Books) (i count : ℕ) (client : Client) (k place : ℕ) (torn id : List ℕ) → IsJoined books i client count → (session_at k client.sessions).id ≡ Some torn → (session_at place client.sessions).id ≡ Some id → place ≢ k → bytes_eq id torn ≡ false
+other_id books i count client k place torn id joined at_k here apart = by (bytes_eq id torn) refl
   where
-    by : (t : Bool) → IsLeft (cond t (record session { control = Some uri; running = Some number }) (record session { state = Ready; running = None; queue = [] })) session.tracks session.id
-    by true = (refl, refl)
-    by false = (refl, refl)
+    by : (t : Bool) → bytes_eq id torn ≡ t → t ≡ false
+    by false e = refl
+    by true e = absurd (apart (joined.once place k id here (at_k ∙ ap (λ one. Some one) (sym (same_id torn id e)))))
 
--- The connection that asked is joined with the books after the reply.
-pub own_settled : (books : Books) (i count code : ℕ) (client : Client) (purpose : Purpose) (said new : Option (List ℕ)) → IsJoined books i client count → IsPurpose books i purpose
-    → SaysFor purpose (is_success code) client.session.id said new
-    → IsJoined (settles (Some (final_to books i (books.number_of i count) purpose (is_success code) said)) books) i
-    (record client { session = session_after (Some purpose) count code new client.session; pending = None }) count
-own_settled books i count code client (purposes.Client asked (Some track)) said new joined purpose says = setup_settled books i count code client asked track said new (is_success code) joined purpose says
-own_settled books i count code client (purposes.Client asked None) said new joined purpose says =
-    client_settled books i count code client asked said new (same_method asked.method methods.Teardown) (is_success code) joined purpose refl
-own_settled books i count code client (purposes.Released play) said new joined purpose says =
-    nothing_settled books i count client _ (record { number = books.number_of i count; conn = i; kind = plain; success = is_success code; id = said }) refl joined
-    (released_left count play.uri (is_success code) code client.session refl)
-    (idle_tracks books i (books.number_of i count) said (is_success code) client.session.tracks joined.tracks) refl refl
-own_settled books i count code client purposes.Closing said new joined purpose says =
-    all_freed books i count client _ (record { number = books.number_of i count; conn = i; kind = closes; success = is_success code; id = said }) refl joined (refl, refl) refl (own_number i)
+-- A reply that ends the session at a place, which is empty then.
+pub torn_settled : (books : Books) (i count k : ℕ) (client after : Client) (change : PlayerSession → PlayerSession) (torn : List ℕ) (final : Final) → IsOwnFinal books i (books.number_of i count) final → IsJoined books i client count
+    → bound_by final.kind final.success final.id ≡ None → torn_by final.kind final.success ≡ Some torn → (session_at k client.sessions).id ≡ Some torn
+    → after.sessions ≡ changed_at k change client.sessions → (change (session_at k client.sessions)).id ≡ None → (change (session_at k client.sessions)).tracks ≡ [] → after.pending ≡ None
+    → IsJoined (settles (Some final) books) i after count
+torn_settled books i count k client after change torn final own joined none ends at_k is no_id no_tracks idle = record {
+  counted = joined.counted;
+  tracks = subst (λ (sessions : List PlayerSession). (place : ℕ) → IsHolding (settles (Some final) books) i (session_at place sessions).id (session_at place sessions).tracks) (sym is)
+      (each_changed (λ place session. IsHolding (settles (Some final) books) i session.id session.tracks) k change client.sessions within
+      (subst (λ (session : Option (List ℕ)). IsHolding (settles (Some final) books) i session (change (session_at k client.sessions)).tracks) (sym no_id) no_tracks)
+      (λ place apart. holding_stays books i final (session_at place client.sessions).id (session_at place client.sessions).tracks own.held (λ id e. untorn place id e apart) (joined.tracks place)));
+  granted = λ p id here.
+      let kept = kept_pair books i final p id none here in
+      let was : IsStreamPair (books.pair_of i) client.sessions id p = joined.granted p id kept.0 in
+      let apart : was.place ≢ k = not_torn was.place id was.named kept.1 in
+      record {
+        place = was.place;
+        named = at_other was.place apart (λ session. session.id) ∙ was.named;
+        has = subst (λ (tracks : List Track). HasPair (books.pair_of i) p tracks) (sym (at_other was.place apart (λ session. session.tracks))) was.has;
+      };
+  pending = subst (λ (pending : Option Purpose). IsOpenFor (settles (Some final) books) i (books.number_of i count) after.sessions pending) (sym idle) tt;
+  last = subst (λ (pending : Option Purpose). IsOnlyOpen (settles (Some final) books) i (books.number_of i count) pending) (sym idle) (none_open books i (books.number_of i count) final client.pending own.number_is joined.last);
+  holds = λ place id here.
+      let apart : place ≢ k = filled_apart place id here in
+      let was : (session_at place client.sessions).id ≡ Some id = sym (at_other place apart (λ session. session.id)) ∙ here in
+      holder_stays books final id (unbound final id none) (untorn place id was apart) ∙ joined.holds place id was;
+  session = λ id here.
+      let kept = kept_holder books i final id none here in
+      let (place, named) = joined.session id kept.1 in
+      (place, at_other place (not_torn place id named kept.0) (λ session. session.id) ∙ named);
+  once = λ a b id at_a at_b. joined.once a b id (sym (at_other a (filled_apart a id at_a) (λ session. session.id)) ∙ at_a) (sym (at_other b (filled_apart b id at_b) (λ session. session.id)) ∙ at_b);
+}
+  where
+    within : k < length client.sessions
+    within = filled_within k torn client.sessions at_k
+
+    untorn : (place : ℕ) (id : List ℕ) → (session_at place client.sessions).id ≡ Some id → place ≢ k → is_id (torn_by final.kind final.success) id ≡ false
+    untorn place id here apart = ap (λ (one : Option (List ℕ)). is_id one id) ends ∙ other_id books i count client k place torn id joined at_k here apart
+
+    not_torn : (place : ℕ) (id : List ℕ) → (session_at place client.sessions).id ≡ Some id → is_id (torn_by final.kind final.success) id ≡ false → place ≢ k
+    not_torn place id named left same =
+        let both : Some id ≡ Some torn = sym named ∙ ap (λ at. (session_at at client.sessions).id) same ∙ at_k in
+        let one : id ≡ torn = cc in
+        false_is_true (sym left ∙ ap (λ (ended : Option (List ℕ)). is_id ended id) ends ∙ ap (bytes_eq id) (sym one) ∙ is_own_id id)
+
+    at_other : {A : Type 0} (place : ℕ) → place ≢ k → (part : PlayerSession → A) → part (session_at place after.sessions) ≡ part (session_at place client.sessions)
+    at_other place apart part = ap (λ sessions. part (session_at place sessions)) is ∙ ap part (changed_other k place change client.sessions apart)
+
+    filled_apart : (place : ℕ) (id : List ℕ) → (session_at place after.sessions).id ≡ Some id → place ≢ k
+    filled_apart place id here same =
+        let empty : None ≡ Some id = sym no_id ∙ ap (λ (session : PlayerSession). session.id) (sym (changed_here k change client.sessions within)) ∙ ap (λ sessions. (session_at k sessions).id) (sym is) ∙ ap (λ at. (session_at at after.sessions).id) (sym same) ∙ here in
+        cc
+
+-- One stream more.
+more_tracks : (books : Books) (i : ℕ) (session : Option (List ℕ)) (tracks : List Track) (track : Track) → AreHeld books i session tracks → IsHeldFor books i session track.pair → AreHeld books i session (tracks ++ track ∷ [])
+more_tracks books i session [] track h one = (one, tt)
+more_tracks books i session (first ∷ tracks) track h one = (h.0, more_tracks books i session tracks track h.1 one)
+
+had_pair : (pairs : ℕ → ℕ) (p : ℕ) (tracks : List Track) (track : Track) → HasPair pairs p tracks → HasPair pairs p (tracks ++ track ∷ [])
+had_pair pairs p [] track has = absurd has
+had_pair pairs p (first ∷ tracks) track (inl here) = inl here
+had_pair pairs p (first ∷ tracks) track (inr later) = inr (had_pair pairs p tracks track later)
+
+last_pair : (pairs : ℕ → ℕ) (tracks : List Track) (track : Track) → HasPair pairs (pairs track.pair) (tracks ++ track ∷ [])
+last_pair pairs [] track = inl refl
+last_pair pairs (first ∷ tracks) track = inr (last_pair pairs tracks track)
+
+-- The session of a SETUP that succeeds: the one that was named, or a new one at an empty place.
+abbrev pub IsSessionSet : Books → Option (List ℕ) → List ℕ → Type 0
+IsSessionSet books None id = books.holder id ≡ None
+IsSessionSet books (Some session) id = session ≡ id
+
+held_before : (books : Books) (i : ℕ) (session : Option (List ℕ)) (id : List ℕ) (tracks : List Track) → IsSessionSet books session id → IsHolding books i session tracks → AreHeld books i (Some id) tracks
+held_before books i None id [] set h = tt
+held_before books i None id (track ∷ tracks) set h = cc
+held_before books i (Some session) id tracks set h = subst (λ (one : List ℕ). AreHeld books i (Some one) tracks) set h
+
+-- The success of a SETUP, for the session at a place, which has one stream more then.
+pub granted_settled : (books : Books) (i count k : ℕ) (client after : Client) (change : PlayerSession → PlayerSession) (track : Track) (id : List ℕ) (final : Final) → IsOwnFinal books i (books.number_of i count) final → IsJoined books i client count
+    → IsHeldFor books i None track.pair → final.kind ≡ sets_up (books.pair_of i track.pair) → final.success ≡ true → final.id ≡ Some id → IsSessionSet books (session_at k client.sessions).id id → k < length client.sessions
+    → after.sessions ≡ changed_at k change client.sessions → (change (session_at k client.sessions)).id ≡ Some id → (change (session_at k client.sessions)).tracks ≡ (session_at k client.sessions).tracks ++ track ∷ [] → after.pending ≡ None
+    → IsJoined (settles (Some final) books) i after count
+granted_settled books i count k client after change track id final own joined setup kind success said set within is new_id new_tracks idle = record {
+  counted = joined.counted;
+  tracks = subst (λ (sessions : List PlayerSession). (place : ℕ) → IsHolding (settles (Some final) books) i (session_at place sessions).id (session_at place sessions).tracks) (sym is)
+      (each_changed (λ place session. IsHolding (settles (Some final) books) i session.id session.tracks) k change client.sessions within
+      (subst (λ (session : Option (List ℕ)). IsHolding (settles (Some final) books) i session (change (session_at k client.sessions)).tracks) (sym new_id)
+      (subst (λ (tracks : List Track). AreHeld (settles (Some final) books) i (Some id) tracks) (sym new_tracks)
+      (more_tracks (settles (Some final) books) i (Some id) (session_at k client.sessions).tracks track
+      (tracks_stay books i final id (session_at k client.sessions).tracks own.held (untorn id) (held_before books i (session_at k client.sessions).id id (session_at k client.sessions).tracks set (joined.tracks k)))
+      (granted_now, setup.1))))
+      (λ place apart. holding_stays books i final (session_at place client.sessions).id (session_at place client.sessions).tracks own.held (λ one e. untorn one) (joined.tracks place)));
+  granted = λ p one here. granted_by p one (was_held books final p (record { conn = i; session = Some one }) here);
+  pending = subst (λ (pending : Option Purpose). IsOpenFor (settles (Some final) books) i (books.number_of i count) after.sessions pending) (sym idle) tt;
+  last = subst (λ (pending : Option Purpose). IsOnlyOpen (settles (Some final) books) i (books.number_of i count) pending) (sym idle) (none_open books i (books.number_of i count) final client.pending own.number_is joined.last);
+  holds = λ place one here. holds_by place one here (place == k) refl;
+  session = λ one here. session_by one (holder_was books final one i here);
+  once = λ a b one at_a at_b. once_by a b one at_a at_b (a == k) (b == k) refl refl;
+}
+  where
+    bound : bound_by final.kind final.success final.id ≡ Some id
+    bound = ap (λ k. bound_by k final.success final.id) kind ∙ ap (λ t. bound_by (sets_up (books.pair_of i track.pair)) t final.id) success ∙ said
+
+    untorn : (one : List ℕ) → is_id (torn_by final.kind final.success) one ≡ false
+    untorn one = ap (λ k. is_id (torn_by k final.success) one) kind
+
+    at_k : {A : Type 0} (part : PlayerSession → A) → part (session_at k after.sessions) ≡ part (change (session_at k client.sessions))
+    at_k part = ap (λ sessions. part (session_at k sessions)) is ∙ ap part (changed_here k change client.sessions within)
+
+    at_other : {A : Type 0} (place : ℕ) → place ≢ k → (part : PlayerSession → A) → part (session_at place after.sessions) ≡ part (session_at place client.sessions)
+    at_other place apart part = ap (λ sessions. part (session_at place sessions)) is ∙ ap part (changed_other k place change client.sessions apart)
+
+    id_at_k : (session_at k after.sessions).id ≡ Some id
+    id_at_k = at_k (λ session. session.id) ∙ new_id
+
+    tracks_at_k : (session_at k after.sessions).tracks ≡ (session_at k client.sessions).tracks ++ track ∷ []
+    tracks_at_k = at_k (λ session. session.tracks) ∙ new_tracks
+
+    granted_now : (settles (Some final) books).held (books.pair_of i track.pair) ≡ Some (record { conn = i; session = Some id })
+    granted_now =
+        ap (λ k. cond (is_pair (pair_asked k) (books.pair_of i track.pair)) (granted_to final.success final.id (books.held (books.pair_of i track.pair))) (held_left (torn_by k final.success) (books.held (books.pair_of i track.pair)))) kind
+        ∙ ap (λ t. cond t (granted_to final.success final.id (books.held (books.pair_of i track.pair))) (held_left None (books.held (books.pair_of i track.pair)))) (eq-eqb (books.pair_of i track.pair) (books.pair_of i track.pair) refl)
+        ∙ ap (granted_to final.success final.id) setup.0
+        ∙ ap (λ t. granted_to t final.id (Some (record { conn = i; session = None }))) success
+        ∙ ap (λ one. Some (record { conn = i; session = one })) said
+
+    -- who was there with an id that k has is there
+    was_id : (one : List ℕ) (session : Option (List ℕ)) → IsSessionSet books session id → session ≡ Some one → id ≡ one
+    was_id one None same e = cc
+    was_id one (Some session) same e = let here : session ≡ one = cc in sym same ∙ here
+
+    moved : (one : List ℕ) (p place : ℕ) → (session_at place client.sessions).id ≡ Some one → HasPair (books.pair_of i) p (session_at place client.sessions).tracks → (t : Bool) → (place == k) ≡ t → IsStreamPair (books.pair_of i) after.sessions one p
+    moved one p place named has false e = record { place = place; named = at_other place (eqb-false place k e) (λ session. session.id) ∙ named; has = subst (λ (tracks : List Track). HasPair (books.pair_of i) p tracks) (sym (at_other place (eqb-false place k e) (λ session. session.tracks))) has }
+    moved one p place named has true e =
+        let same : place ≡ k = eqb-true place k e in
+        let here : (session_at k client.sessions).id ≡ Some one = ap (λ at. (session_at at client.sessions).id) (sym same) ∙ named in
+        record {
+          place = k;
+          named = id_at_k ∙ ap (λ one. Some one) (was_id one (session_at k client.sessions).id set here);
+          has = subst (λ (tracks : List Track). HasPair (books.pair_of i) p tracks) (sym tracks_at_k) (had_pair (books.pair_of i) p (session_at k client.sessions).tracks track (subst (λ (at : ℕ). HasPair (books.pair_of i) p (session_at at client.sessions).tracks) same has));
+        }
+
+    granted_by : (p : ℕ) (one : List ℕ) → WasHeld books final p (record { conn = i; session = Some one }) → IsStreamPair (books.pair_of i) after.sessions one p
+    granted_by p one was = cases was.session
+      where
+        cases : ((is_pair (pair_asked final.kind) p ≡ true) × (final.success ≡ true) × (Some one ≡ final.id)) ⊎ ((was.before ≡ record { conn = i; session = Some one }) × (is_id (torn_by final.kind final.success) one ≡ false))
+            → IsStreamPair (books.pair_of i) after.sessions one p
+        cases (inl granted) =
+            let pair : books.pair_of i track.pair ≡ p = eqb-true (books.pair_of i track.pair) p (sym (ap (λ k. is_pair (pair_asked k) p) kind) ∙ granted.0) in
+            let some : Some id ≡ Some one = sym said ∙ sym granted.2 in
+            record {
+              place = k;
+              named = id_at_k ∙ some;
+              has = subst (λ (tracks : List Track). HasPair (books.pair_of i) p tracks) (sym tracks_at_k) (subst (λ (q : ℕ). HasPair (books.pair_of i) q ((session_at k client.sessions).tracks ++ track ∷ [])) pair (last_pair (books.pair_of i) (session_at k client.sessions).tracks track));
+            }
+        cases (inr same) =
+            let stream : IsStreamPair (books.pair_of i) client.sessions one p = joined.granted p one (was.was ∙ ap (λ (held : HeldPair). Some held) same.0) in
+            moved one p stream.place stream.named stream.has (stream.place == k) refl
+
+    holder_now : (one : List ℕ) → books.holder one ≡ Some i → (settles (Some final) books).holder one ≡ Some i
+    holder_now one was = by (is_id (bound_by final.kind final.success final.id) one)
+      where
+        by : (t : Bool) → cond t (Some final.conn) (cond (is_id (torn_by final.kind final.success) one) None (books.holder one)) ≡ Some i
+        by true = ap (λ n. Some n) own.conn
+        by false = ap (λ t. cond {A = Option ℕ} t None (books.holder one)) (untorn one) ∙ was
+
+    holder_set : (settles (Some final) books).holder id ≡ Some i
+    holder_set =
+        ap (λ t. cond t (Some final.conn) (cond (is_id (torn_by final.kind final.success) id) None (books.holder id))) (ap (λ (one : Option (List ℕ)). is_id one id) bound ∙ is_own_id id)
+        ∙ ap (λ n. Some n) own.conn
+
+    holds_by : (place : ℕ) (one : List ℕ) → (session_at place after.sessions).id ≡ Some one → (t : Bool) → (place == k) ≡ t → (settles (Some final) books).holder one ≡ Some i
+    holds_by place one here false e = holder_now one (joined.holds place one (sym (at_other place (eqb-false place k e) (λ session. session.id)) ∙ here))
+    holds_by place one here true e =
+        let some : Some id ≡ Some one = sym id_at_k ∙ ap (λ at. (session_at at after.sessions).id) (sym (eqb-true place k e)) ∙ here in
+        let same : id ≡ one = cc in
+        ap (settles (Some final) books).holder (sym same) ∙ holder_set
+
+    session_at_place : (one : List ℕ) (place : ℕ) → (session_at place client.sessions).id ≡ Some one → (t : Bool) → (place == k) ≡ t → (at : ℕ) × ((session_at at after.sessions).id ≡ Some one)
+    session_at_place one place named false e = (place, at_other place (eqb-false place k e) (λ session. session.id) ∙ named)
+    session_at_place one place named true e =
+        (k, id_at_k ∙ ap (λ one. Some one) (was_id one (session_at k client.sessions).id set (ap (λ at. (session_at at client.sessions).id) (sym (eqb-true place k e)) ∙ named)))
+
+    session_by : (one : List ℕ) → ((is_id (bound_by final.kind final.success final.id) one ≡ true) × (final.conn ≡ i)) ⊎ ((is_id (torn_by final.kind final.success) one ≡ false) × (books.holder one ≡ Some i)) → (place : ℕ) × ((session_at place after.sessions).id ≡ Some one)
+    session_by one (inl is_bound) = (k, id_at_k ∙ ap (λ one. Some one) (sym (same_id id one (sym (ap (λ (some : Option (List ℕ)). is_id some one) bound) ∙ is_bound.0))))
+    session_by one (inr was) = let (place, named) = joined.session one was.1 in session_at_place one place named (place == k) refl
+
+    -- the id of the new session stands at no other place
+    not_elsewhere : (place : ℕ) (session : Option (List ℕ)) → (session_at k client.sessions).id ≡ session → IsSessionSet books session id → place ≢ k → (session_at place client.sessions).id ≡ Some id → ⊥
+    not_elsewhere place None e free apart here = let some : None ≡ Some i = sym free ∙ joined.holds place id here in cc
+    not_elsewhere place (Some session) e same apart here = apart (joined.once place k id here (e ∙ ap (λ one. Some one) same))
+
+    alone : (place : ℕ) (one : List ℕ) → place ≢ k → id ≡ one → (session_at place after.sessions).id ≡ Some one → ⊥
+    alone place one apart same here =
+        not_elsewhere place (session_at k client.sessions).id refl set apart (sym (at_other place apart (λ session. session.id)) ∙ here ∙ ap (λ one. Some one) (sym same))
+
+    id_here : (place : ℕ) (one : List ℕ) → (place == k) ≡ true → (session_at place after.sessions).id ≡ Some one → id ≡ one
+    id_here place one e here = let some : Some id ≡ Some one = sym id_at_k ∙ ap (λ at. (session_at at after.sessions).id) (sym (eqb-true place k e)) ∙ here in cc
+
+    once_by : (a b : ℕ) (one : List ℕ) → (session_at a after.sessions).id ≡ Some one → (session_at b after.sessions).id ≡ Some one → (t u : Bool) → (a == k) ≡ t → (b == k) ≡ u → a ≡ b
+    once_by a b one at_a at_b true true e f = eqb-true a k e ∙ sym (eqb-true b k f)
+    once_by a b one at_a at_b true false e f = absurd (alone b one (eqb-false b k f) (id_here a one e at_a) at_b)
+    once_by a b one at_a at_b false true e f = absurd (alone a one (eqb-false a k e) (id_here b one f at_b) at_a)
+    once_by a b one at_a at_b false false e f = joined.once a b one (sym (at_other a (eqb-false a k e) (λ session. session.id)) ∙ at_a) (sym (at_other b (eqb-false b k f) (λ session. session.id)) ∙ at_b)

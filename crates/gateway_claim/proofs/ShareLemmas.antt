@@ -1,18 +1,19 @@
 -- The step of the connection whose turn it is, in the numbers and the pairs of the server's one connection.
-use Rattle.std.proofs.Common.{◌≡◌, ◌≢◌, ◌∙◌, ℕ, ◌+◌, ◌≤◌, ◌==◌, Bool, true, false, cond, List, [], ◌∷◌, Option, Some, None, refl, sym, ap, subst, arith}
+use Rattle.std.proofs.Common.{◌≡◌, ◌≢◌, ◌∙◌, ℕ, zero, suc, ◌+◌, ◌≤◌, ◌==◌, Bool, true, false, cond, List, [], ◌∷◌, ◌++◌, Option, Some, None, refl, sym, ap, subst, arith}
 use Rattle.std.proofs.lemmas.Bool.{eq-eqb, eqb-true}
 use Rattle.session_one.specs.declared.parts.Track.{Track}
 use Rattle.session_two.specs.declared.names.Names.{Names}
 use Rattle.session_two.specs.declared.names.Names.TheVariants.{Unsaid, This}
 use Rattle.client_slot.specs.Renumber.{names_under, AreToldApart}
-use Rattle.channel_map.specs.declared.map.Held.{Held}
-use Rattle.client_machine.specs.Bounds.{IsNumberBelow, ArePairsBelow}
+use Rattle.client_slot.specs.Session.{PlayerSession}
+use Rattle.client_slot.specs.Places.{session_at, session_where, tracks_of}
+use Rattle.client_machine.specs.Bounds.{IsNumberBelow, ArePairsBelow, AreSessionsBelow}
 use Rattle.client_machine.specs.Events.{PrivateEvent, arrive, answer, note, media, end, slow, up_end}
 use Rattle.client_machine.specs.Renumber.{IsTrackApart, AreTracksApart}
 use Rattle.client_machine.proofs.BelowLemmas.{Agree}
-use Rattle.gateway_claim.specs.Books.{Books}
+use Rattle.gateway_claim.specs.Books.{HeldPair, Books}
 use Rattle.gateway_claim.specs.OwnEvents.{is_turn, own_name}
-use Rattle.gateway_claim.specs.BooksAndSlots.{IsHeldFor, AreHeld, AreSound}
+use Rattle.gateway_claim.specs.BooksAndSlots.{IsHeldFor, AreHeld, IsHolding, AreSound}
 use Rattle.gateway_claim.proofs.OtherLemmas.{differs}
 use Rattle.gateway_claim.proofs.LendLemmas.{below_differs}
 
@@ -55,9 +56,6 @@ pairs_agree books i n free = next_agrees n free (books.pair_of i)
 abbrev pub other_in : Names → ℕ
 other_in Unsaid = 0
 other_in (This number) = number
-
-name_none : (other : ℕ) (numbers : ℕ → ℕ) → with_none other numbers 0 ≡ other
-name_none other numbers = refl
 
 name_here : (books : Books) (i count number : ℕ) (giver : Option ℕ) → AreSound books → count ≡ books.counts i → books.giver number ≡ giver
     → numbers_at books i (count + 1) number (cond (is_turn i giver) (books.own_number number) 0) ≡ number
@@ -127,15 +125,15 @@ names_apart books i count (Some running) Unsaid sound counted below = tt
 names_apart books i count (Some running) (This number) sound counted below = running_apart books i count number running (books.giver number) sound counted below.0 below.1 refl
 
 -- A pair on which a frame comes is told apart from those of the other streams.
-track_apart : (books : Books) (i count free p : ℕ) (held : Held) (track : Track) → AreSound books → count ≡ books.counts i → books.held p ≡ Some held → held.conn ≡ i → IsHeldFor books i true track.pair → 1 ≤ track.pair → track.pair ≤ count
+track_apart : (books : Books) (i count free p : ℕ) (held : HeldPair) (session : Option (List ℕ)) (track : Track) → AreSound books → count ≡ books.counts i → books.held p ≡ Some held → held.conn ≡ i → IsHeldFor books i session track.pair → 1 ≤ track.pair → track.pair ≤ count
     → pairs_at books i (count + 1) free (books.own_pair p) ≡ p → IsTrackApart (pairs_at books i (count + 1) free) (books.own_pair p) track
-track_apart books i count free p held track sound counted here conn has low high same =
+track_apart books i count free p held session track sound counted here conn has low high same =
     ap (λ n. n == pairs_at books i (count + 1) free (books.own_pair p)) (pairs_agree books i count free track.pair low high)
     ∙ ap (λ n. books.pair_of i track.pair == n) same
     ∙ by (track.pair == books.own_pair p) refl
   where
     back : books.pair_of i (books.own_pair p) ≡ p
-    back = ap (λ n. books.pair_of n (books.own_pair p)) (sym conn) ∙ (sound.pairs p held here).1
+    back = ap (λ n. books.pair_of n (books.own_pair p)) (sym conn) ∙ (sound.pairs p held here).0
 
     by : (t : Bool) → (track.pair == books.own_pair p) ≡ t → (books.pair_of i track.pair == p) ≡ t
     by true s = eq-eqb (books.pair_of i track.pair) p (ap (books.pair_of i) (eqb-true track.pair (books.own_pair p) s) ∙ back)
@@ -144,25 +142,53 @@ track_apart books i count free p held track sound counted here conn has low high
         true_is_false : true ≡ false → ⊥
         true_is_false e = cc
 
-pub tracks_apart : (books : Books) (i count free p : ℕ) (held : Held) (tracks : List Track) → AreSound books → count ≡ books.counts i → books.held p ≡ Some held → held.conn ≡ i → AreHeld books i tracks → ArePairsBelow count tracks
+tracks_apart : (books : Books) (i count free p : ℕ) (held : HeldPair) (session : Option (List ℕ)) (tracks : List Track) → AreSound books → count ≡ books.counts i → books.held p ≡ Some held → held.conn ≡ i → AreHeld books i session tracks → ArePairsBelow count tracks
     → pairs_at books i (count + 1) free (books.own_pair p) ≡ p → AreTracksApart (pairs_at books i (count + 1) free) (books.own_pair p) tracks
-tracks_apart books i count free p held [] sound counted here conn has below same = tt
-tracks_apart books i count free p held (track ∷ tracks) sound counted here conn has below same =
-    (track_apart books i count free p held track sound counted here conn has.0 below.0.0 below.0.1 same, tracks_apart books i count free p held tracks sound counted here conn has.1 below.1 same)
+tracks_apart books i count free p held session [] sound counted here conn has below same = tt
+tracks_apart books i count free p held session (track ∷ tracks) sound counted here conn has below same =
+    (track_apart books i count free p held session track sound counted here conn has.0 below.0.0 below.0.1 same, tracks_apart books i count free p held session tracks sound counted here conn has.1 below.1 same)
+
+both_apart : (pairs : ℕ → ℕ) (own : ℕ) (first second : List Track) → AreTracksApart pairs own first → AreTracksApart pairs own second → AreTracksApart pairs own (first ++ second)
+both_apart pairs own [] second a b = b
+both_apart pairs own (track ∷ first) second a b = (a.0, both_apart pairs own first second a.1 b)
+
+holding_apart : (books : Books) (i count free p : ℕ) (held : HeldPair) (session : Option (List ℕ)) (tracks : List Track) → AreSound books → count ≡ books.counts i → books.held p ≡ Some held → held.conn ≡ i → IsHolding books i session tracks → ArePairsBelow count tracks
+    → pairs_at books i (count + 1) free (books.own_pair p) ≡ p → AreTracksApart (pairs_at books i (count + 1) free) (books.own_pair p) tracks
+holding_apart books i count free p held None tracks sound counted here conn has below same = subst (λ (all : List Track). AreTracksApart (pairs_at books i (count + 1) free) (books.own_pair p) all) (sym has) tt
+holding_apart books i count free p held (Some id) tracks sound counted here conn has below same = tracks_apart books i count free p held (Some id) tracks sound counted here conn has below same
+
+pub sessions_apart : (books : Books) (i count free p : ℕ) (held : HeldPair) (sessions : List PlayerSession) → AreSound books → count ≡ books.counts i → books.held p ≡ Some held → held.conn ≡ i
+    → ((place : ℕ) → IsHolding books i (session_at place sessions).id (session_at place sessions).tracks) → AreSessionsBelow count sessions
+    → pairs_at books i (count + 1) free (books.own_pair p) ≡ p → AreTracksApart (pairs_at books i (count + 1) free) (books.own_pair p) (tracks_of sessions)
+sessions_apart books i count free p held [] sound counted here conn has below same = tt
+sessions_apart books i count free p held (one ∷ more) sound counted here conn has below same =
+    both_apart (pairs_at books i (count + 1) free) (books.own_pair p) one.tracks (tracks_of more)
+    (holding_apart books i count free p held one.id one.tracks sound counted here conn (has 0) below.0.tracks same)
+    (sessions_apart books i count free p held more sound counted here conn (λ place. has (suc place)) below.1 same)
+
+-- the PLAY that runs at a place
+pub running_at : (n : ℕ) (place : Option ℕ) (sessions : List PlayerSession) → AreSessionsBelow n sessions → IsNumberBelow n (session_where place sessions).running
+running_at n None sessions below = tt
+running_at n (Some place) sessions below = by place sessions below
+  where
+    by : (place : ℕ) (sessions : List PlayerSession) → AreSessionsBelow n sessions → IsNumberBelow n (session_at place sessions).running
+    by place [] below = tt
+    by zero (one ∷ more) below = below.0.running
+    by (suc place) (one ∷ more) below = by place more below.1
 
 -- the pair on which it comes is the connection's own
-pub own_back : (books : Books) (i count free p : ℕ) (held : Held) → AreSound books → count ≡ books.counts i → books.held p ≡ Some held → held.conn ≡ i → pairs_at books i (count + 1) free (books.own_pair p) ≡ p
+pub own_back : (books : Books) (i count free p : ℕ) (held : HeldPair) → AreSound books → count ≡ books.counts i → books.held p ≡ Some held → held.conn ≡ i → pairs_at books i (count + 1) free (books.own_pair p) ≡ p
 own_back books i count free p held sound counted here conn =
     let kept = sound.pairs p held here in
-    let small : books.own_pair p ≤ count = subst (λ (n : ℕ). books.own_pair p ≤ n) (ap books.counts conn ∙ sym counted) kept.2 in
-    ap (λ t. cond t free (books.pair_of i (books.own_pair p))) (below_differs (books.own_pair p) count small) ∙ ap (λ n. books.pair_of n (books.own_pair p)) (sym conn) ∙ kept.1
+    let small : books.own_pair p ≤ count = subst (λ (n : ℕ). books.own_pair p ≤ n) (ap books.counts conn ∙ sym counted) kept.1 in
+    ap (λ t. cond t free (books.pair_of i (books.own_pair p))) (below_differs (books.own_pair p) count small) ∙ ap (λ n. books.pair_of n (books.own_pair p)) (sym conn) ∙ kept.0
 
 -- What an event names, and the connection in which it happens, as one has them in own numbers and in those of all.
 abbrev pub IsRaw : Books → ℕ → PrivateEvent → PrivateEvent → Type 0
 IsRaw books i (arrive shape full) raw = raw ≡ arrive shape false
 IsRaw books i (answer told ssrc full) raw = raw ≡ answer told ssrc false
-IsRaw books i (note reason names) raw = (named : Names) × (raw ≡ note reason named) × (names ≡ own_name books i named)
-IsRaw books i (media pair half rest) raw = (p : ℕ) × (held : Held) × (raw ≡ media p half rest) × (pair ≡ books.own_pair p) × (books.held p ≡ Some held) × (held.conn ≡ i)
+IsRaw books i (note id reason names) raw = (named : Names) × (raw ≡ note id reason named) × (names ≡ own_name books i named)
+IsRaw books i (media pair half rest) raw = (p : ℕ) × (held : HeldPair) × (raw ≡ media p half rest) × (pair ≡ books.own_pair p) × (books.held p ≡ Some held) × (held.conn ≡ i)
 IsRaw books i end raw = raw ≡ end
 IsRaw books i slow raw = raw ≡ slow
 IsRaw books i up_end raw = ⊥

@@ -1,58 +1,60 @@
 -- What was given can be found back in the books of every history.
-use Rattle.std.proofs.Common.{◌≡◌, ◌≢◌, ℕ, ◌+◌, ◌≤◌, ◌==◌, ◌&&◌, Bool, true, false, cond, Option, None, Some, refl, sym, ◌∙◌, ap, subst, arith}
+use Rattle.std.proofs.Common.{◌≡◌, ◌≢◌, ℕ, ◌+◌, ◌≤◌, ◌==◌, ◌&&◌, Bool, true, false, cond, Option, None, Some, ◌⊎◌, inl, inr, List, refl, sym, ◌∙◌, ap, subst, arith}
 use Rattle.std.proofs.lemmas.Bool.{eq-eqb, eqb-true}
-use Rattle.channel_map.specs.declared.map.Held.{Held}
-use Rattle.channel_map.specs.declared.map.Freed.{Freed}
-use Rattle.channel_map.specs.Pairs.{frees, kept, granted_now}
-use Rattle.gateway_claim.specs.Kinds.{RequestKind}
-use Rattle.gateway_claim.specs.Books.{Opened, Books, new_books, pair_asked, is_pair, pair_else, lends}
-use Rattle.gateway_claim.specs.Settlement.{Final, freed_by, granted_by, held_then, settles}
+use Rattle.gateway_claim.specs.Kinds.{RequestKind, sets_up, tears_down, closes, plain}
+use Rattle.gateway_claim.specs.Books.{Opened, HeldPair, Books, new_books, pair_asked, is_pair, pair_else, lends}
+use Rattle.gateway_claim.specs.Settlement.{Final, torn_by, bound_by, is_id, is_torn_with, settles}
 use Rattle.gateway_claim.specs.BooksAndSlots.{AreSound}
-use Rattle.gateway_claim.proofs.OtherLemmas.{was_open}
-use Rattle.gateway_claim.proofs.LendLemmas.{below_differs, new_pair, new_number}
-
--- a pair that is held after a reply was held by the same connection
-abbrev WasHeld : Option Held → Held → Type 0
-WasHeld before held = (was : Held) × (before ≡ Some was) × (held.conn ≡ was.conn) × (held.pair ≡ was.pair)
-
-granted_was : (before : Option Held) (held : Held) → granted_now before ≡ Some held → WasHeld before held
-granted_was None held e = cc
-granted_was (Some was) held e = (was, refl, ap (λ (one : Held). one.conn) (sym same), ap (λ (one : Held). one.pair) (sym same))
-  where
-    same : record { conn = was.conn; pair = was.pair; granted = true } ≡ held
-    same = cc
-
-kept_was : (freed : Freed) (before : Option Held) (held : Held) → kept freed before ≡ Some held → WasHeld before held
-kept_was freed None held e = cc
-kept_was freed (Some was) held e = by (frees freed was) e
-  where
-    by : (t : Bool) → cond {A = Option Held} t None (Some was) ≡ Some held → WasHeld (Some was) held
-    by true e = cc
-    by false e = let same : was ≡ held = cc in (was, refl, ap (λ (one : Held). one.conn) (sym same), ap (λ (one : Held). one.pair) (sym same))
-
-then_was : (final : Final) (p : ℕ) (before : Option Held) (held : Held) → held_then (Some final) p before ≡ Some held → WasHeld before held
-then_was final p before held e = by (is_pair (granted_by final.kind final.success) p) e
-  where
-    by : (t : Bool) → cond t (granted_now before) (kept (freed_by final.conn final.kind final.success) before) ≡ Some held → WasHeld before held
-    by true e = granted_was before held e
-    by false e = kept_was (freed_by final.conn final.kind final.success) before held e
+use Rattle.gateway_claim.proofs.OtherLemmas.{IsHeldKind, IsFinal, WasHeld, was_held, was_open}
+use Rattle.gateway_claim.proofs.SettleLemmas.{granted_bound, is_own_id}
+use Rattle.gateway_claim.proofs.LendLemmas.{below_differs, granted_was, new_pair, new_number}
 
 -- A reply keeps them.
-pub sound_settled : (books : Books) (final : Final) → AreSound books → AreSound (settles (Some final) books)
-sound_settled books final sound = record {
+pub sound_settled : (books : Books) (final : Final) → IsFinal books final → AreSound books → AreSound (settles (Some final) books)
+sound_settled books final is_final sound = record {
   low = λ g opened here. sound.low g opened (was_open books final g opened here).1;
   given = sound.given;
   numbers = sound.numbers;
-  pairs = λ p held here. pairs p held (then_was final p (books.held p) held here);
+  pairs = λ p held here. pairs p held (was_held books final p held here);
+  bound = λ p held id here named. bound_by_was p held id named (was_held books final p held here);
 }
   where
-    pairs : (p : ℕ) (held : Held) → WasHeld (books.held p) held → (held.pair ≡ p) × (books.pair_of held.conn (books.own_pair p) ≡ p) × (books.own_pair p ≤ books.counts held.conn)
-    pairs p held (was, before, conn, pair) =
-        let old = sound.pairs p was before in (
-          pair ∙ old.0,
-          ap (λ i. books.pair_of i (books.own_pair p)) conn ∙ old.1,
-          subst (λ (i : ℕ). books.own_pair p ≤ books.counts i) (sym conn) old.2,
+    pairs : (p : ℕ) (held : HeldPair) → WasHeld books final p held → (books.pair_of held.conn (books.own_pair p) ≡ p) × (books.own_pair p ≤ books.counts held.conn)
+    pairs p held was =
+        let old = sound.pairs p was.before was.was in (
+          ap (λ i. books.pair_of i (books.own_pair p)) (sym was.conn) ∙ old.0,
+          subst (λ (i : ℕ). books.own_pair p ≤ books.counts i) was.conn old.1,
         )
+
+    holder_now : (id : List ℕ) (i : ℕ) → books.holder id ≡ Some i → is_id (torn_by final.kind final.success) id ≡ false → (settles (Some final) books).holder id ≡ Some i
+    holder_now id i here left = by (is_id (bound_by final.kind final.success final.id) id) refl
+      where
+        by : (t : Bool) → is_id (bound_by final.kind final.success final.id) id ≡ t → cond t (Some final.conn) (cond (is_id (torn_by final.kind final.success) id) None (books.holder id)) ≡ Some i
+        by true e = ap (λ n. Some n) (sym (is_final.bound id i e here))
+        by false e = ap (λ t. cond {A = Option ℕ} t None (books.holder id)) left ∙ here
+
+    granted_conn : (kind : RequestKind) (before : HeldPair) (p : ℕ) → IsHeldKind books final.conn kind → is_pair (pair_asked kind) p ≡ true → books.held p ≡ Some before → final.conn ≡ before.conn
+    granted_conn (sets_up pair) before p is_held asks was =
+        let both : Some (record { conn = final.conn; session = None }) ≡ Some before = sym is_held ∙ ap books.held (eqb-true pair p asks) ∙ was in
+        let one : record { conn = final.conn; session = None } ≡ before = cc in
+        ap (λ (held : HeldPair). held.conn) one
+    granted_conn (tears_down id) before p is_held asks was = cc
+    granted_conn (closes id) before p is_held asks was = cc
+    granted_conn plain before p is_held asks was = cc
+
+    bound_by_was : (p : ℕ) (held : HeldPair) (id : List ℕ) → held.session ≡ Some id → WasHeld books final p held → (settles (Some final) books).holder id ≡ Some held.conn
+    bound_by_was p held id named was = cases was.session
+      where
+        cases : ((is_pair (pair_asked final.kind) p ≡ true) × (final.success ≡ true) × (held.session ≡ final.id)) ⊎ ((was.before ≡ held) × (is_torn_with (torn_by final.kind final.success) held.session ≡ false))
+            → (settles (Some final) books).holder id ≡ Some held.conn
+        cases (inl granted) =
+            let binds : is_id (bound_by final.kind final.success final.id) id ≡ true =
+            ap (λ (one : Option (List ℕ)). is_id one id) (granted_bound final.kind final.success final.id p granted.0 granted.1 ∙ sym granted.2 ∙ named) ∙ is_own_id id in
+            ap (λ t. cond t (Some final.conn) (cond (is_id (torn_by final.kind final.success) id) None (books.holder id))) binds
+            ∙ ap (λ n. Some n) (granted_conn final.kind was.before p is_final.held granted.0 was.was ∙ was.conn)
+        cases (inr same) =
+            holder_now id held.conn (sound.bound p was.before id was.was (ap (λ (one : HeldPair). one.session) same.0 ∙ named) ∙ ap (λ n. Some n) was.conn)
+            (subst (λ (session : Option (List ℕ)). is_torn_with (torn_by final.kind final.success) session ≡ false) named same.1)
 
 -- A request that goes up keeps them.
 yes : (n : ℕ) → (n == n) ≡ true
@@ -145,29 +147,29 @@ numbers_lent books i kind sound j own low le = by (j == i) (own == books.counts 
     by true false es et le = old (subst (λ (n : ℕ). own ≤ books.counts n) (sym (eqb-true j i es)) (smaller et le))
     by false t es et le = old le
 
-abbrev IsPaired : Books → ℕ → Held → ℕ → Type 0
-IsPaired books p held own = (held.pair ≡ p) × (books.pair_of held.conn own ≡ p) × (own ≤ books.counts held.conn)
+abbrev IsPaired : Books → ℕ → HeldPair → ℕ → Type 0
+IsPaired books p held own = (books.pair_of held.conn own ≡ p) × (own ≤ books.counts held.conn)
 
-pairs_lent : (books : Books) (i : ℕ) (kind : RequestKind) → AreSound books → (p : ℕ) (held : Held) → (lends i kind books).held p ≡ Some held → IsPaired (lends i kind books) p held ((lends i kind books).own_pair p)
+pairs_lent : (books : Books) (i : ℕ) (kind : RequestKind) → AreSound books → (p : ℕ) (held : HeldPair) → (lends i kind books).held p ≡ Some held → IsPaired (lends i kind books) p held ((lends i kind books).own_pair p)
 pairs_lent books i kind sound p held here = by (pair_asked kind) refl here
   where
-    new : pair_asked kind ≡ Some p → record { conn = i; pair = p; granted = false } ≡ held → IsPaired (lends i kind books) p held (books.counts i + 1)
-    new asks is = subst (λ (one : Held). IsPaired (lends i kind books) p one (books.counts i + 1)) is
-        ((refl, new_pair books i kind p asks, subst (λ (n : ℕ). books.counts i + 1 ≤ n) (sym (counts_new books i kind)) (grind arith)))
+    new : pair_asked kind ≡ Some p → record { conn = i; session = None } ≡ held → IsPaired (lends i kind books) p held (books.counts i + 1)
+    new asks is = subst (λ (one : HeldPair). IsPaired (lends i kind books) p one (books.counts i + 1)) is
+        ((new_pair books i kind p asks, subst (λ (n : ℕ). books.counts i + 1 ≤ n) (sym (counts_new books i kind)) (grind arith)))
 
     old : books.held p ≡ Some held → IsPaired (lends i kind books) p held (books.own_pair p)
     old here =
         let was = sound.pairs p held here in
-        let le : books.own_pair p ≤ books.counts held.conn = was.2 in
+        let le : books.own_pair p ≤ books.counts held.conn = was.1 in
         let more : books.counts held.conn ≤ (lends i kind books).counts held.conn = counts_more books i held.conn kind in
-        (was.0, old_pair books i held.conn (books.own_pair p) kind le ∙ was.1, grind arith)
+        (old_pair books i held.conn (books.own_pair p) kind le ∙ was.0, grind arith)
 
-    some : (q : ℕ) (t : Bool) → pair_asked kind ≡ Some q → (q == p) ≡ t → cond t (Some (record { conn = i; pair = p; granted = false })) (books.held p) ≡ Some held
+    some : (q : ℕ) (t : Bool) → pair_asked kind ≡ Some q → (q == p) ≡ t → cond t (Some (record { conn = i; session = None })) (books.held p) ≡ Some held
         → IsPaired (lends i kind books) p held (cond t (books.counts i + 1) (books.own_pair p))
-    some q true asks e h = let is : record { conn = i; pair = p; granted = false } ≡ held = cc in new (asks ∙ ap (λ n. Some n) (eqb-true q p e)) is
+    some q true asks e h = let is : record { conn = i; session = None } ≡ held = cc in new (asks ∙ ap (λ n. Some n) (eqb-true q p e)) is
     some q false asks e h = old h
 
-    by : (asked : Option ℕ) → pair_asked kind ≡ asked → cond (is_pair asked p) (Some (record { conn = i; pair = p; granted = false })) (books.held p) ≡ Some held
+    by : (asked : Option ℕ) → pair_asked kind ≡ asked → cond (is_pair asked p) (Some (record { conn = i; session = None })) (books.held p) ≡ Some held
         → IsPaired (lends i kind books) p held (cond (is_pair asked p) (books.counts i + 1) (books.own_pair p))
     by None asks h = old h
     by (Some q) asks h = some q (q == p) asks refl h
@@ -178,7 +180,11 @@ sound_lent books i kind sound = record {
   given = given_lent books i kind sound;
   numbers = numbers_lent books i kind sound;
   pairs = pairs_lent books i kind sound;
+  bound = λ p held id here named. sound.bound p held id (subst (λ (one : HeldPair). books.held p ≡ Some one) (held_is held id named) (granted_was books i kind held.conn p id (here ∙ ap (λ (one : HeldPair). Some one) (sym (held_is held id named))))) named;
 }
+  where
+    held_is : (held : HeldPair) (id : List ℕ) → held.session ≡ Some id → record { conn = held.conn; session = Some id } ≡ held
+    held_is held id named = ap (λ one. record { conn = held.conn; session = one }) (sym named)
 
 -- Nothing was given at first.
 pub sound_new : AreSound new_books
@@ -187,4 +193,5 @@ sound_new = record {
   given = λ g i here. cc;
   numbers = λ i own low le. grind arith;
   pairs = λ p held here. cc;
+  bound = λ p held id here named. cc;
 }

@@ -3,6 +3,7 @@ use Rattle.std.proofs.Common.{◌≡◌, ◌∙◌, ℕ, ◌+◌, ◌≤◌, Opt
 use Rattle.std.specs.Option.{option_map}
 use Rattle.rtsp_uri.specs.declared.base.Bases.{Bases}
 use Rattle.session_two.specs.declared.names.Names.{Names}
+use Rattle.client_slot.specs.Places.{session_where, place_with}
 use Rattle.client_slot.specs.Client.{Client}
 use Rattle.client_slot.specs.Renumber.{client_under, names_under}
 use Rattle.client_machine.specs.Bounds.{IsBelow}
@@ -15,13 +16,13 @@ use Rattle.gateway_claim.specs.Books.{Books}
 use Rattle.gateway_claim.specs.BooksAndSlots.{IsJoined, AreSound}
 use Rattle.gateway_claim.specs.SharedEvents.{shared}
 use Rattle.gateway_claim.proofs.MarkLemmas.{pair_where}
-use Rattle.gateway_claim.proofs.ShareLemmas.{numbers_at, pairs_at, numbers_agree, pairs_agree, next_is, other_in, names_same, names_apart, tracks_apart, own_back, IsRaw}
+use Rattle.gateway_claim.proofs.ShareLemmas.{numbers_at, pairs_at, numbers_agree, pairs_agree, next_is, other_in, names_same, names_apart, sessions_apart, running_at, own_back, IsRaw}
 
 -- the number that a notify names, where the event is one
 abbrev pub other_of : PrivateEvent → ℕ
 other_of (arrive shape full) = 0
 other_of (answer told ssrc full) = 0
-other_of (note reason names) = other_in names
+other_of (note id reason names) = other_in names
 other_of (media pair half rest) = 0
 other_of end = 0
 other_of slow = 0
@@ -40,7 +41,7 @@ free_same books i next (Some p) = ap (λ q. Some q) (next_is next p (books.pair_
 abbrev pub IsOpenNumber : ℕ → ℕ → PrivateEvent → Type 0
 IsOpenNumber number own (answer told ssrc full) = number ≡ own
 IsOpenNumber number own (arrive shape full) = Unit {0}
-IsOpenNumber number own (note reason names) = Unit {0}
+IsOpenNumber number own (note id reason names) = Unit {0}
 IsOpenNumber number own (media pair half rest) = Unit {0}
 IsOpenNumber number own end = Unit {0}
 IsOpenNumber number own slow = Unit {0}
@@ -49,7 +50,7 @@ IsOpenNumber number own up_end = Unit {0}
 number_free : (bases : Bases) (number own : ℕ) (pair : Option ℕ) (client : Client) (raw : PrivateEvent) → IsOpenNumber number own raw → step bases number pair client raw ≡ step bases own pair client raw
 number_free bases number own pair client (answer told ssrc full) e = ap (λ n. step bases n pair client (answer told ssrc full)) e
 number_free bases number own pair client (arrive shape full) e = refl
-number_free bases number own pair client (note reason names) e = refl
+number_free bases number own pair client (note id reason names) e = refl
 number_free bases number own pair client (media pair_of half rest) e = refl
 number_free bases number own pair client end e = refl
 number_free bases number own pair client slow e = refl
@@ -60,10 +61,10 @@ raw_same : (bases : Bases) (books : Books) (i count own : ℕ) (free : Option �
     → step bases own pair client (event_under (numbers_at books i (count + 1) (other_of raw)) (pairs_at books i (count + 1) (free_or free)) event) ≡ step bases own pair client raw
 raw_same bases books i count own free pair client (arrive shape full) raw sound counted is = ap (step bases own pair client) (sym is)
 raw_same bases books i count own free pair client (answer told ssrc full) raw sound counted is = ap (step bases own pair client) (sym is)
-raw_same bases books i count own free pair client (note reason names) raw sound counted (named, is, same) =
-    ap (λ one. step bases own pair client (note reason (names_under (numbers_at books i (count + 1) (other_of one)) names))) is
-    ∙ ap (λ one. step bases own pair client (note reason (names_under (numbers_at books i (count + 1) (other_in named)) one))) same
-    ∙ ap (λ one. step bases own pair client (note reason one)) (names_same books i count named sound counted)
+raw_same bases books i count own free pair client (note id reason names) raw sound counted (named, is, same) =
+    ap (λ one. step bases own pair client (note id reason (names_under (numbers_at books i (count + 1) (other_of one)) names))) is
+    ∙ ap (λ one. step bases own pair client (note id reason (names_under (numbers_at books i (count + 1) (other_in named)) one))) same
+    ∙ ap (λ one. step bases own pair client (note id reason one)) (names_same books i count named sound counted)
     ∙ ap (step bases own pair client) (sym is)
 raw_same bases books i count own free pair client (media pair_own half rest) raw sound counted (p, held, is, same, here, conn) =
     ap (λ one. step bases own pair client (media (pairs_at books i (count + 1) (free_or free) one) half rest)) same
@@ -77,13 +78,13 @@ raw_apart : (books : Books) (i count : ℕ) (free : Option ℕ) (client : Client
     → IsToldApart (numbers_at books i (count + 1) (other_of raw)) (pairs_at books i (count + 1) (free_or free)) client event
 raw_apart books i count free client (arrive shape full) raw sound joined below is = tt
 raw_apart books i count free client (answer told ssrc full) raw sound joined below is = tt
-raw_apart books i count free client (note reason names) raw sound joined below (named, is, same) =
-    subst (λ (one : PrivateEvent). IsToldApart (numbers_at books i (count + 1) (other_of one)) (pairs_at books i (count + 1) (free_or free)) client (note reason names)) (sym is)
-    (subst (λ (one : Names). IsToldApart (numbers_at books i (count + 1) (other_in named)) (pairs_at books i (count + 1) (free_or free)) client (note reason one)) (sym same)
-    (names_apart books i count client.session.running named sound joined.counted below.running))
+raw_apart books i count free client (note id reason names) raw sound joined below (named, is, same) =
+    subst (λ (one : PrivateEvent). IsToldApart (numbers_at books i (count + 1) (other_of one)) (pairs_at books i (count + 1) (free_or free)) client (note id reason names)) (sym is)
+    (subst (λ (one : Names). IsToldApart (numbers_at books i (count + 1) (other_in named)) (pairs_at books i (count + 1) (free_or free)) client (note id reason one)) (sym same)
+    (names_apart books i count (session_where (place_with id client.sessions) client.sessions).running named sound joined.counted (running_at count (place_with id client.sessions) client.sessions below.sessions)))
 raw_apart books i count free client (media pair half rest) raw sound joined below (p, held, is, same, here, conn) =
     subst (λ (one : ℕ). IsToldApart (numbers_at books i (count + 1) (other_of raw)) (pairs_at books i (count + 1) (free_or free)) client (media one half rest)) (sym same)
-    (tracks_apart books i count (free_or free) p held client.session.tracks sound joined.counted here conn joined.tracks below.tracks (own_back books i count (free_or free) p held sound joined.counted here conn))
+    (sessions_apart books i count (free_or free) p held client.sessions sound joined.counted here conn joined.tracks below.sessions (own_back books i count (free_or free) p held sound joined.counted here conn))
 raw_apart books i count free client end raw sound joined below is = tt
 raw_apart books i count free client slow raw sound joined below is = tt
 raw_apart books i count free client up_end raw sound joined below is = absurd is
@@ -92,7 +93,7 @@ raw_apart books i count free client up_end raw sound joined below is = absurd is
 abbrev pub IsOpened : ℕ → PrivateEvent → Type 0
 IsOpened count (answer told ssrc full) = 1 ≤ count
 IsOpened count (arrive shape full) = Unit {0}
-IsOpened count (note reason names) = Unit {0}
+IsOpened count (note id reason names) = Unit {0}
 IsOpened count (media pair half rest) = Unit {0}
 IsOpened count end = Unit {0}
 IsOpened count slow = Unit {0}
@@ -101,7 +102,7 @@ IsOpened count up_end = Unit {0}
 open_number : (books : Books) (i count number other : ℕ) (raw : PrivateEvent) → IsOpened count raw → IsOpenNumber number (books.number_of i count) raw → IsOpenNumber number (numbers_at books i (count + 1) other count) raw
 open_number books i count number other (answer told ssrc full) opened e = e ∙ sym (numbers_agree books i count other count opened (grind arith))
 open_number books i count number other (arrive shape full) opened e = tt
-open_number books i count number other (note reason names) opened e = tt
+open_number books i count number other (note id reason names) opened e = tt
 open_number books i count number other (media pair half rest) opened e = tt
 open_number books i count number other end opened e = tt
 open_number books i count number other slow opened e = tt

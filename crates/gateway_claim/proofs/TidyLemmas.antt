@@ -1,59 +1,221 @@
 -- What is so of every connection alone: while it is alive, no PLAY is due after an event, since one that is due goes up at
 -- once; and none of its requests waits any longer once it is closed.
-use Rattle.std.proofs.Common.{◌≡◌, ◌∙◌, ℕ, ◌^◌, Bool, true, false, cond, List, [], ◌∷◌, ◌++◌, drop, length, Option, Some, None, Result, slice_get, is_none, refl, sym, ap, subst}
-use Rattle.std.proofs.lemmas.Bool.{ltb-true}
+use Rattle.std.proofs.Common.{◌≡◌, ◌≢◌, ◌∙◌, ℕ, zero, suc, ◌+◌, ◌==◌, ◌^◌, ◌&&◌, not, Bool, true, false, cond, List, [], ◌∷◌, ◌++◌, map, drop, length, Option, Some, None, Result, Ok, Err, slice_get, is_none, ◌⊎◌, inl, inr, refl, sym, ap, subst, unwrap_or}
+use Rattle.std.specs.Prelude.{is_some, slice_index_or}
+use Rattle.std.proofs.lemmas.Bool.{ltb-true, eq-eqb, eqb-true, eqb-false}
+use Rattle.std.proofs.lemmas.List.{nil_from_length}
 use Rattle.rtsp_head.specs.Items.{Shape}
+use Rattle.rtsp_small.specs.declared.method.Method.{Method}
+use Rattle.rtsp_small.specs.declared.method.Method.TheVariants as methods
 use Rattle.rtsp_uri.specs.declared.base.Bases.{Bases}
 use Rattle.head_one.specs.declared.request.Request1.{Request1}
 use Rattle.head_one.specs.declared.refusal.Refusal.{Refusal}
 use Rattle.head_one.specs.Requests.{request_of_item}
+use Rattle.session_one.specs.declared.parts.Asked.{Asked}
 use Rattle.session_one.specs.declared.parts.Play.{Play}
 use Rattle.session_one.specs.declared.table.State.{State}
 use Rattle.session_one.specs.declared.table.State.TheVariants.{Init, Ready, Playing}
-use Rattle.translate_up.specs.Views.{Given}
-use Rattle.translate_up.specs.Decisions.{decide}
+use Rattle.session_one.specs.Table.{next_of, is_success}
+use Rattle.session_two.specs.Ends.{end_counts}
+use Rattle.translate_up.specs.Views.{SeenSession, no_session, Given, session_in}
+use Rattle.translate_up.specs.Decisions.{judged_read, judged_of, decide}
 use Rattle.translate_up.specs.declared.decision.Decision.{Decision}
 use Rattle.translate_up.specs.declared.decision.Decision.TheVariants.{Answer, Forward, Queue, Setup}
-use Rattle.translate_up.proofs.StateLemmas.{IsValidId, IsDecided, decided}
+use Rattle.translate_up.specs.Sound.{AreFit}
+use Rattle.translate_up.proofs.DecisionLemmas.{IsPlacedAs, decide_placed}
+use Rattle.translate_up.proofs.JudgedLemmas.{judged_fit}
+use Rattle.translate_up.proofs.StateLemmas.{IsDecided, decided}
 use Rattle.client_slot.specs.declared.purpose.Purpose.{Purpose}
 use Rattle.client_slot.specs.declared.purpose.Purpose.TheVariants as purposes
-use Rattle.client_slot.specs.Session.{PlayerSession}
+use Rattle.client_slot.specs.declared.session_turn.SessionTurn.{SessionTurn}
+use Rattle.client_slot.specs.Session.{PlayerSession, new_session}
+use Rattle.client_slot.specs.SessionChanges.{when_ended, when_next, when_queued}
+use Rattle.client_slot.specs.SessionTurns.{moved_turn, granted_turn, released_turn, part_then, queue_then}
+use Rattle.client_slot.specs.Places.{new_sessions, session_at, changed_at, changed_where, first_place, place_with, has_due, queued_at}
 use Rattle.client_slot.specs.Client.{Client}
 use Rattle.client_slot.specs.Changes as changes
-use Rattle.client_machine.specs.Treatment.{given, fits_memory, decision_on, Going, Treated, treated_first, treated}
+use Rattle.client_slot.proofs.PlaceLemmas.{changed_other, kept_each, IsAtPlace, place_is}
+use Rattle.client_machine.specs.Alone.{pair_alone, private_after}
+use Rattle.client_machine.specs.Events.{PrivateEvent}
+use Rattle.client_machine.specs.Treatment.{session_seen, given, queued_more_where, one_queued, fits_memory, decision_on, Going, Treated, treated_first, treated}
 use Rattle.client_machine.specs.Releases as going
-use Rattle.client_machine.specs.ServerItems.{NextPart, rests, releases, goes_on}
+use Rattle.client_machine.specs.ServerItems.{NextPart, rests, releases, goes_on, new_id, hear}
 use Rattle.client_machine.specs.Step.{going_on}
+use Rattle.client_machine.proofs.PlacedLemmas.{calm_in, seen_at}
+use Rattle.client_machine.proofs.WayLemmas.{hear_as, going_as, alone_as}
+use Rattle.client_machine.proofs.HoldLemmas.{going_steady}
+use Rattle.gateway_claim.specs.Books.{is_pair}
+use Rattle.gateway_claim.proofs.FitLemmas.{IsFitClient, given_fit, queued_fit, hear_fit, alone_fit}
 
--- While streams play, a PLAY runs, or one waits, or one that waited has gone up; by what is open, what runs and what waits.
-abbrev pub PlaysOn : Option Purpose → Option ℕ → List Play → Type 0
-PlaysOn pending (Some number) queue = Unit {0}
-PlaysOn pending None (play ∷ plays) = Unit {0}
-PlaysOn None None [] = ⊥
-PlaysOn (Some (purposes.Client asked track)) None [] = ⊥
-PlaysOn (Some (purposes.Released play)) None [] = Unit {0}
-PlaysOn (Some purposes.Closing) None [] = ⊥
+-- While streams play, a PLAY runs, or one waits, or one that waited has gone up; by whether that is open, what runs and what
+-- waits.
+abbrev PlaysOn : Bool → Option ℕ → List Play → Type 0
+PlaysOn released (Some number) queue = Unit {0}
+PlaysOn released None (play ∷ plays) = Unit {0}
+PlaysOn true None [] = Unit {0}
+PlaysOn false None [] = ⊥
 
 -- In another state no PLAY waits.
-abbrev pub IsInOrder : State → Option Purpose → Option ℕ → List Play → Type 0
-IsInOrder Init pending running queue = queue ≡ []
-IsInOrder Ready pending running queue = queue ≡ []
-IsInOrder Playing pending running queue = PlaysOn pending running queue
+abbrev IsInOrder : State → Bool → Option ℕ → List Play → Type 0
+IsInOrder Init released running queue = queue ≡ []
+IsInOrder Ready released running queue = queue ≡ []
+IsInOrder Playing released running queue = PlaysOn released running queue
 
-abbrev pub QueueInOrder : Option Purpose → PlayerSession → Type 0
-QueueInOrder pending session = IsInOrder session.state pending session.running session.queue
+abbrev IsOrdered : Bool → PlayerSession → Type 0
+IsOrdered released session = IsInOrder session.state released session.running session.queue
 
--- The id of the session is in the grammar besides, as what becomes of a request is known of such ones.
-abbrev pub PlaysInOrder : Option Purpose → PlayerSession → Type 0
-PlaysInOrder pending session = QueueInOrder pending session × IsValidId session.id
+-- whether the PLAY that waited at a place is open
+abbrev is_released : Option Purpose → ℕ → Bool
+is_released None place = false
+is_released (Some (purposes.Client asked track)) place = false
+is_released (Some (purposes.Released play)) place = is_pair play.place place
+is_released (Some (purposes.Closing at)) place = false
+
+abbrev AreOrdered : (ℕ → Bool) → List PlayerSession → Type 0
+AreOrdered released sessions = (place : ℕ) → IsOrdered (released place) (session_at place sessions)
+
+abbrev PlaysInOrder : Client → Type 0
+PlaysInOrder client = AreOrdered (is_released client.pending) client.sessions
 
 -- By whether it is alive.
 abbrev pub IsTidyBy : Bool → Client → Type 0
-IsTidyBy true client = PlaysInOrder client.pending client.session × (changes.due_play client ≡ None)
+IsTidyBy true client = PlaysInOrder client × (changes.due_place client ≡ None)
 IsTidyBy false client = client.waiting ≡ []
 
 abbrev pub IsTidy : Client → Type 0
 IsTidy client = IsTidyBy client.alive client
+
+-- What is so of each place, once the session at one is changed.
+changed_or_new : (k : ℕ) (change : PlayerSession → PlayerSession) (sessions : List PlayerSession) → (session_at k (changed_at k change sessions) ≡ change (session_at k sessions)) ⊎ (session_at k (changed_at k change sessions) ≡ new_session)
+changed_or_new k change [] = inr refl
+changed_or_new zero change (one ∷ more) = inl refl
+changed_or_new (suc k) change (one ∷ more) = changed_or_new k change more
+
+each_place : (P : ℕ → PlayerSession → Type 0) (k : ℕ) (change : PlayerSession → PlayerSession) (sessions : List PlayerSession) → P k new_session → P k (change (session_at k sessions))
+    → ((place : ℕ) → place ≢ k → P place (session_at place sessions)) → (place : ℕ) → P place (session_at place (changed_at k change sessions))
+each_place P k change sessions empty here others place = by (place == k) refl
+  where
+    at_k : (session_at k (changed_at k change sessions) ≡ change (session_at k sessions)) ⊎ (session_at k (changed_at k change sessions) ≡ new_session) → P k (session_at k (changed_at k change sessions))
+    at_k (inl is) = subst (λ (one : PlayerSession). P k one) (sym is) here
+    at_k (inr is) = subst (λ (one : PlayerSession). P k one) (sym is) empty
+
+    by : (t : Bool) → (place == k) ≡ t → P place (session_at place (changed_at k change sessions))
+    by true e = subst (λ (at : ℕ). P at (session_at at (changed_at k change sessions))) (sym (eqb-true place k e)) (at_k (changed_or_new k change sessions))
+    by false e = subst (λ (one : PlayerSession). P place one) (sym (changed_other k place change sessions (eqb-false place k e))) (others place (eqb-false place k e))
+
+changed_order : (f g : ℕ → Bool) (at : Option ℕ) (change : PlayerSession → PlayerSession) (sessions : List PlayerSession) → AreOrdered f sessions → ((k : ℕ) (session : PlayerSession) → at ≡ Some k → IsOrdered (f k) session → IsOrdered (g k) (change session))
+    → ((place : ℕ) → at ≢ Some place → g place ≡ f place) → AreOrdered g (changed_where at change sessions)
+changed_order f g None change sessions order here others = λ place. subst (λ (t : Bool). IsOrdered t (session_at place sessions)) (sym (others place (λ (e : None ≡ Some place). cc))) (order place)
+changed_order f g (Some k) change sessions order here others =
+    each_place (λ place session. IsOrdered (g place) session) k change sessions refl (here k (session_at k sessions) refl (order k))
+    (λ place apart. subst (λ (t : Bool). IsOrdered t (session_at place sessions)) (sym (others place (λ (e : Some k ≡ Some place). apart (let same : k ≡ place = cc in sym same)))) (order place))
+
+-- The success of a player's request.
+abbrev IsTurnedSo : SessionTurn → ℕ → Option ℕ → List Play → Type 0
+IsTurnedSo turn number running queue = IsInOrder turn.state false (part_then turn.running running (Some number)) (queue_then turn.queue queue)
+
+granted_order : (method : Method) (made : Bool) (state : State) (number : ℕ) (running : Option ℕ) (queue : List Play) → IsInOrder state false running queue → IsTurnedSo (granted_turn method made (unwrap_or (next_of state method) state)) number running queue
+granted_order methods.Options made Init number running queue order = order
+granted_order methods.Options made Ready number running queue order = order
+granted_order methods.Options made Playing number running queue order = order
+granted_order methods.Describe made Init number running queue order = order
+granted_order methods.Describe made Ready number running queue order = order
+granted_order methods.Describe made Playing number running queue order = order
+granted_order methods.Setup made Init number running queue order = order
+granted_order methods.Setup made Ready number running queue order = order
+granted_order methods.Setup made Playing number running queue order = order
+granted_order methods.Play made Init number running queue order = order
+granted_order methods.Play made Ready number running queue order = tt
+granted_order methods.Play made Playing number running queue order = tt
+granted_order methods.Pause made Init number running queue order = refl
+granted_order methods.Pause made Ready number running queue order = refl
+granted_order methods.Pause made Playing number running queue order = refl
+granted_order methods.Teardown made state number running queue order = refl
+granted_order methods.GetParameter made Init number running queue order = order
+granted_order methods.GetParameter made Ready number running queue order = order
+granted_order methods.GetParameter made Playing number running queue order = order
+granted_order methods.SetParameter made Init number running queue order = order
+granted_order methods.SetParameter made Ready number running queue order = order
+granted_order methods.SetParameter made Playing number running queue order = order
+
+asked_order : (success : Bool) (asked : Asked) (made : Bool) (number : ℕ) (session : PlayerSession) → IsOrdered false session
+    → IsTurnedSo (cond success (granted_turn asked.method made (cond success (unwrap_or (next_of session.state asked.method) session.state) session.state)) (moved_turn session.state)) number session.running session.queue
+asked_order true asked made number session order = granted_order asked.method made session.state number session.running session.queue order
+asked_order false asked made number session order = order
+
+played_order : (success : Bool) (state : State) (number : ℕ) (running : Option ℕ) (queue : List Play) → IsInOrder state true running queue → IsTurnedSo (released_turn success state) number running queue
+played_order true Init number running queue order = order
+played_order true Ready number running queue order = order
+played_order true Playing number running queue order = tt
+played_order false state number running queue order = refl
+
+-- A final reply.
+at_pair : (place : Option ℕ) (k : ℕ) → place ≡ Some k → is_pair place k ≡ true
+at_pair None k e = cc
+at_pair (Some one) k e = let same : one ≡ k = cc in eq-eqb one k same
+
+off_pair : (place : Option ℕ) (k : ℕ) → place ≢ Some k → false ≡ is_pair place k
+off_pair None k apart = refl
+off_pair (Some one) k apart = by (one == k) refl
+  where
+    by : (t : Bool) → (one == k) ≡ t → false ≡ t
+    by false e = refl
+    by true e = absurd (apart (ap (λ n. Some n) (eqb-true one k e)))
+
+settled_order : (purpose : Purpose) (number code : ℕ) (id : Option (List ℕ)) (client : Client) → AreOrdered (is_released (Some purpose)) client.sessions → PlaysInOrder (changes.settle_with (Some purpose) number code id client)
+settled_order (purposes.Client asked track) number code id client order =
+    changed_order (λ place. false) (λ place. false) (changes.settled_place (purposes.Client asked track) id client.sessions) (changes.session_after (purposes.Client asked track) number code client.described id) client.sessions order
+    (λ k session at was. asked_order (is_success code) asked (is_some id) number session was) (λ place apart. refl)
+settled_order (purposes.Released play) number code id client order =
+    changed_order (is_pair play.place) (λ place. false) play.place (changes.session_after (purposes.Released play) number code client.described id) client.sessions order
+    (λ k session at was. played_order (is_success code) session.state number session.running session.queue (subst (λ (t : Bool). IsOrdered t session) (at_pair play.place k at) was)) (λ place apart. off_pair play.place place apart)
+settled_order (purposes.Closing place) number code id client order =
+    changed_order (λ place. false) (λ place. false) (Some place) (changes.session_after (purposes.Closing place) number code client.described id) client.sessions order (λ k session at was. refl) (λ place apart. refl)
+
+-- The end of what plays.
+none_left : (empty : Bool) (queue : List Play) (released : Bool) (running : Option ℕ) (state : State) → (length queue == 0) ≡ empty → IsInOrder state released running queue → IsInOrder (cond empty Ready state) released None queue
+none_left true queue released running state e order = nil_from_length queue (eqb-true (length queue) 0 e)
+none_left false [] released running state e order = cc
+none_left false (play ∷ plays) released running Init e order = order
+none_left false (play ∷ plays) released running Ready e order = order
+none_left false (play ∷ plays) released running Playing e order = tt
+
+ended_order : (counts : Bool) (released : Bool) (session : PlayerSession) → IsOrdered released session → IsOrdered released (cond counts (record session { state = cond (length session.queue == 0) Ready session.state; running = None }) session)
+ended_order true released session order = none_left (length session.queue == 0) session.queue released session.running session.state refl order
+ended_order false released session order = order
+
+-- What was heard, by whether the connection is alive, and by what may go up.
+abbrev IsHeardSo : Bool → NextPart → Client → Type 0
+IsHeardSo true rests client = IsTidyBy true client
+IsHeardSo true releases client = PlaysInOrder client
+IsHeardSo true goes_on client = PlaysInOrder client
+IsHeardSo false next client = client.waiting ≡ []
+
+rested : (alive : Bool) (client : Client) → IsTidyBy alive client → IsHeardSo alive rests client
+rested true client tidy = tidy
+rested false client tidy = tidy
+
+moved : (alive : Bool) (next : NextPart) (before after : Client) → IsTidyBy alive before → after.waiting ≡ before.waiting → (PlaysInOrder before → PlaysInOrder after) → (next ≢ rests) → IsHeardSo alive next after
+moved true rests before after tidy waits order other = absurd (other refl)
+moved true releases before after tidy waits order other = order tidy.0
+moved true goes_on before after tidy waits order other = order tidy.0
+moved false next before after tidy waits order other = waits ∙ tidy
+
+hear_tidy : (bases : Bases) (number : ℕ) (client : Client) (event : PrivateEvent) → IsTidy client → IsHeardSo (hear bases number client event).effect.client.alive (hear bases number client event).next (hear bases number client event).effect.client
+hear_tidy bases number client event tidy = hear_as (λ heard. IsHeardSo heard.effect.client.alive heard.next heard.effect.client) bases number client event (record {
+  idle = rested client.alive client tidy;
+  closing = λ reason alive. refl;
+  waits = λ shape full here is alive. subst (λ (b : Bool). IsHeardSo b goes_on (changes.after_waiting (shape ∷ []) client)) (sym alive) (subst (λ (b : Bool). IsTidyBy b client) alive tidy).0;
+  carrying = λ shape full half here is. rested client.alive client tidy;
+  settles = λ purpose told ssrc full here late is.
+      subst (λ (one : Option Purpose). IsHeardSo (changes.settle_with one number told.code (new_id purpose told) client).alive goes_on (changes.settle_with one number told.code (new_id purpose told) client)) (sym is)
+      (moved client.alive goes_on client (changes.settle_with (Some purpose) number told.code (new_id purpose told) client) tidy refl
+      (λ order. settled_order purpose number told.code (new_id purpose told) client (subst (λ (one : Option Purpose). AreOrdered (is_released one) client.sessions) is order)) (λ (e : goes_on ≡ rests). cc));
+  notes = λ id names here. moved client.alive releases client (changes.after_note (place_with id client.sessions) names client) tidy refl
+      (λ order. changed_order (is_released client.pending) (is_released client.pending) (place_with id client.sessions) (when_ended names) client.sessions order (λ k session at was. ended_order (end_counts session.running names) (is_released client.pending k) session was) (λ place apart. refl))
+      (λ (e : releases ≡ rests). cc);
+  gives = λ pair half channel rest here is alive. rested client.alive client tidy;
+})
 
 -- Where a request is treated, no PLAY is due, so one runs while streams play.
 abbrev IsRunning : State → Option ℕ → List Play → Type 0
@@ -63,175 +225,258 @@ IsRunning Playing (Some number) queue = Unit {0}
 IsRunning Playing None queue = ⊥
 
 abbrev Runs : PlayerSession → Type 0
-Runs session = IsRunning session.state session.running session.queue × IsValidId session.id
+Runs session = IsRunning session.state session.running session.queue
 
-runs_idle : (state : State) (pending : Option Purpose) (running : Option ℕ) (queue : List Play) → pending ≡ None → IsInOrder state pending running queue → changes.due_at pending running queue ≡ None → IsRunning state running queue
-runs_idle Init pending running queue idle order due = order
-runs_idle Ready pending running queue idle order due = order
-runs_idle Playing pending (Some number) queue idle order due = tt
-runs_idle Playing None None (play ∷ plays) idle order due = let some : Some play ≡ None = due in cc
-runs_idle Playing None None [] idle order due = order
-runs_idle Playing (Some purpose) None queue idle order due = cc
+abbrev AllRun : List PlayerSession → Type 0
+AllRun sessions = (place : ℕ) → Runs (session_at place sessions)
 
-order_kept : (state : State) (pending : Option Purpose) (running : Option ℕ) (queue : List Play) → IsRunning state running queue → IsInOrder state pending running queue
-order_kept Init pending running queue runs = runs
-order_kept Ready pending running queue runs = runs
-order_kept Playing pending (Some number) queue runs = tt
-order_kept Playing pending None queue runs = absurd runs
+runs_idle : (state : State) (running : Option ℕ) (queue : List Play) → IsInOrder state false running queue → (is_none running && not (length queue == 0)) ≡ false → IsRunning state running queue
+runs_idle Init running queue order none = order
+runs_idle Ready running queue order none = order
+runs_idle Playing (Some number) queue order none = tt
+runs_idle Playing None [] order none = order
+runs_idle Playing None (play ∷ queue) order none = by (length (play ∷ queue) == 0) refl none
+  where
+    by : (t : Bool) → (length (play ∷ queue) == 0) ≡ t → not t ≡ false → ⊥
+    by true e h = let no : length (play ∷ queue) ≡ 0 = eqb-true (length (play ∷ queue)) 0 e in cc
+    by false e h = cc
 
-none_due : (state : State) (pending : Option Purpose) (running : Option ℕ) (queue : List Play) → IsRunning state running queue → changes.due_at pending running queue ≡ None
-none_due state (Some purpose) running queue runs = refl
-none_due state None (Some number) queue runs = refl
-none_due Init None None queue runs = ap (λ (plays : List Play). slice_get plays 0) runs
-none_due Ready None None queue runs = ap (λ (plays : List Play). slice_get plays 0) runs
-none_due Playing None None queue runs = absurd runs
+order_kept : (state : State) (released : Bool) (running : Option ℕ) (queue : List Play) → IsRunning state running queue → IsInOrder state released running queue
+order_kept Init released running queue runs = runs
+order_kept Ready released running queue runs = runs
+order_kept Playing released (Some number) queue runs = tt
+order_kept Playing released None queue runs = absurd runs
+
+none_calm : (running : Option ℕ) (queue : List Play) → queue ≡ [] → (is_none running && not (length queue == 0)) ≡ false
+none_calm None queue none = ap (λ (plays : List Play). not (length plays == 0)) none
+none_calm (Some number) queue none = refl
+
+calm : (state : State) (running : Option ℕ) (queue : List Play) → IsRunning state running queue → (is_none running && not (length queue == 0)) ≡ false
+calm Init running queue runs = none_calm running queue runs
+calm Ready running queue runs = none_calm running queue runs
+calm Playing (Some number) queue runs = refl
+calm Playing None queue runs = absurd runs
+
+-- No PLAY is due where none is at any place, and back.
+none_due : (from : ℕ) (sessions : List PlayerSession) → ((place : ℕ) → has_due (session_at place sessions) ≡ false) → first_place has_due from sessions ≡ None
+none_due from [] none = refl
+none_due from (one ∷ more) none = ap (λ t. cond t (Some from) (first_place has_due (from + 1) more)) (none zero) ∙ none_due (from + 1) more (λ place. none (suc place))
+
+due_none : (from : ℕ) (sessions : List PlayerSession) → first_place has_due from sessions ≡ None → (place : ℕ) → has_due (session_at place sessions) ≡ false
+due_none from [] e place = refl
+due_none from (one ∷ more) e place = by place (has_due one) refl e (due_none (from + 1) more)
+  where
+    by : (place : ℕ) (t : Bool) → has_due one ≡ t → cond t (Some from) (first_place has_due (from + 1) more) ≡ None → (first_place has_due (from + 1) more ≡ None → (at : ℕ) → has_due (session_at at more) ≡ false) → has_due (session_at place (one ∷ more)) ≡ false
+    by place true is e later = cc
+    by zero false is e later = is
+    by (suc place) false is e later = later e place
 
 -- A PLAY waits only while streams play.
-abbrev IsQueueing : State → List Play → Type 0
-IsQueueing state [] = Unit {0}
-IsQueueing state (play ∷ plays) = state ≡ Playing
+abbrev AreQueueing : List SeenSession → List Play → Type 0
+AreQueueing sessions [] = Unit {0}
+AreQueueing sessions (play ∷ plays) = ((session_in play.place sessions).state ≡ Playing) × AreQueueing sessions plays
 
-queueing : (state : State) (plays : List Play) → state ≡ Playing → IsQueueing state plays
-queueing state [] playing = tt
-queueing state (play ∷ plays) playing = playing
+abbrev QueuesIn : List SeenSession → Decision → Type 0
+QueuesIn sessions (Answer text) = Unit {0}
+QueuesIn sessions (Queue play text) = (session_in play.place sessions).state ≡ Playing
+QueuesIn sessions (Forward request asked) = Unit {0}
+QueuesIn sessions (Setup request asked channels) = Unit {0}
 
-abbrev QueuesIn : State → Decision → Type 0
-QueuesIn state (Answer text) = Unit {0}
-QueuesIn state (Queue play text) = state ≡ Playing
-QueuesIn state (Forward request asked) = Unit {0}
-QueuesIn state (Setup request asked channels) = Unit {0}
+judged_state : (given : Given) (read : Result Request1 Refusal) → (session_in (judged_read given read).place given.sessions).state ≡ (judged_read given read).state
+judged_state given (Ok request) = refl
+judged_state given (Err refusal) = refl
 
-queues_so : (state : State) (found : Result Request1 Refusal) (decision : Decision) → IsDecided state found decision → QueuesIn state decision
-queues_so state found (Answer text) is = tt
-queues_so state found (Queue play text) is = is.1
-queues_so state found (Forward request asked) is = tt
-queues_so state found (Setup request asked channels) is = tt
+queues_so : (given : Given) (shape : Shape) (decision : Decision) → IsDecided (judged_of given shape).state (request_of_item shape) decision → IsPlacedAs (judged_of given shape) decision → QueuesIn given.sessions decision
+queues_so given shape (Answer text) is placed = tt
+queues_so given shape (Queue play text) is placed = ap (λ place. (session_in place given.sessions).state) placed ∙ judged_state given (request_of_item shape) ∙ is.1
+queues_so given shape (Forward request asked) is placed = tt
+queues_so given shape (Setup request asked channels) is placed = tt
 
-decision_queues : (fits : Bool) (given : Given) (shape : Shape) → fits_memory shape ≡ fits → IsValidId given.session → QueuesIn given.state (cond fits (decide given shape) (Answer []))
-decision_queues true given shape e valid = queues_so given.state (request_of_item shape) (decide given shape) (decided given shape valid (ltb-true (length shape.bytes) (2 ^ 64) e))
-decision_queues false given shape e valid = tt
+decision_queues : (given : Given) (shape : Shape) → AreFit given → QueuesIn given.sessions (decision_on given shape)
+decision_queues given shape fit = by (fits_memory shape) refl
+  where
+    by : (fits : Bool) → fits_memory shape ≡ fits → QueuesIn given.sessions (cond fits (decide given shape) (Answer []))
+    by true e = queues_so given shape (decide given shape) (decided given shape (judged_fit given (request_of_item shape) fit).session (ltb-true (length shape.bytes) (2 ^ 64) e)) (decide_placed given shape)
+    by false e = tt
 
-first_queues : (decision : Decision) (given : Given) (more : List Shape) (again : Given → Treated) → QueuesIn given.state decision → IsQueueing given.state (again given).plays
-    → IsQueueing given.state (treated_first decision given more again).plays
-first_queues (Answer text) given more again queues later = later
-first_queues (Queue play text) given more again queues later = queues
-first_queues (Forward request asked) given more again queues later = tt
-first_queues (Setup request asked channels) given more again queues later = tt
+still_queueing : (queued : Option ℕ) (sessions : List SeenSession) (plays : List Play) → AreQueueing (queued_more_where queued sessions) plays → AreQueueing sessions plays
+still_queueing queued sessions [] queues = tt
+still_queueing queued sessions (play ∷ plays) queues = (sym (calm_in (λ one. one.state) queued play.place sessions (λ one n. refl)) ∙ queues.0, still_queueing queued sessions plays queues.1)
 
-treated_queues : (shapes : List Shape) (given : Given) → IsValidId given.session → IsQueueing given.state (treated shapes given).plays
-treated_queues [] given valid = tt
-treated_queues (shape ∷ more) given valid =
-    first_queues (decision_on given shape) given more (treated more) (decision_queues (fits_memory shape) given shape refl valid) (treated_queues more given valid)
+first_queues : (decision : Decision) (given : Given) (more : List Shape) (again : Given → Treated) → QueuesIn given.sessions decision → AreFit given → ((one : Given) → AreFit one → AreQueueing one.sessions (again one).plays)
+    → AreQueueing given.sessions (treated_first decision given more again).plays
+first_queues (Answer text) given more again queues fit later = later given fit
+first_queues (Queue play text) given more again queues fit later = (queues, still_queueing play.place given.sessions (again (one_queued play given)).plays (later (one_queued play given) (queued_fit play given fit)))
+first_queues (Forward request asked) given more again queues fit later = tt
+first_queues (Setup request asked channels) given more again queues fit later = tt
+
+treated_queues : (shapes : List Shape) (given : Given) → AreFit given → AreQueueing given.sessions (treated shapes given).plays
+treated_queues [] given fit = tt
+treated_queues (shape ∷ more) given fit = first_queues (decision_on given shape) given more (treated more) (decision_queues given shape fit) fit (treated_queues more)
 
 -- PLAYs wait.
+seen_state : (place : ℕ) (sessions : List PlayerSession) → (slice_index_or (map session_seen sessions) place no_session).state ≡ (session_at place sessions).state
+seen_state place sessions = ap (λ (one : SeenSession). one.state) (seen_at place sessions)
+
 any_queue : (state : State) (running : Option ℕ) (queue other : List Play) → state ≡ Playing → IsRunning state running queue → IsRunning state running other
 any_queue Init running queue other playing runs = cc
 any_queue Ready running queue other playing runs = cc
 any_queue Playing (Some number) queue other playing runs = tt
 any_queue Playing None queue other playing runs = runs
 
-plays_run : (plays : List Play) (client : Client) → IsQueueing client.session.state plays → Runs client.session → Runs (going.after_plays plays client).session
+queue_runs : (place : Option ℕ) (play : Play) (sessions : List PlayerSession) → (session_in place (map session_seen sessions)).state ≡ Playing → AllRun sessions → AllRun (changed_where place (when_queued play) sessions)
+queue_runs None play sessions playing runs = cc
+queue_runs (Some k) play sessions playing runs =
+    each_place (λ place session. Runs session) k (when_queued play) sessions refl
+    (any_queue (session_at k sessions).state (session_at k sessions).running (session_at k sessions).queue ((session_at k sessions).queue ++ play ∷ []) (sym (seen_state k sessions) ∙ playing) (runs k)) (λ place apart. runs place)
+
+queued_still : (place at : Option ℕ) (play : Play) (sessions : List PlayerSession) → (session_in at (map session_seen (changed_where place (when_queued play) sessions))).state ≡ (session_in at (map session_seen sessions)).state
+queued_still None at play sessions = refl
+queued_still (Some place) None play sessions = refl
+queued_still (Some place) (Some at) play sessions = seen_state at (changed_at place (when_queued play) sessions) ∙ kept_each (λ session. session.state) place at (when_queued play) sessions refl ∙ sym (seen_state at sessions)
+
+later_queueing : (place : Option ℕ) (play : Play) (sessions : List PlayerSession) (plays : List Play) → AreQueueing (map session_seen sessions) plays → AreQueueing (map session_seen (changed_where place (when_queued play) sessions)) plays
+later_queueing place play sessions [] queues = tt
+later_queueing place play sessions (one ∷ plays) queues = (queued_still place one.place play sessions ∙ queues.0, later_queueing place play sessions plays queues.1)
+
+plays_run : (plays : List Play) (client : Client) → AreQueueing (map session_seen client.sessions) plays → AllRun client.sessions → AllRun (going.after_plays plays client).sessions
 plays_run [] client queues runs = runs
 plays_run (play ∷ plays) client queues runs =
-    plays_run plays (changes.after_queueing play client) (queueing client.session.state plays queues)
-    (any_queue client.session.state client.session.running client.session.queue (client.session.queue ++ play ∷ []) queues runs.0, runs.1)
+    plays_run plays (changes.after_queueing play client) (later_queueing play.place play client.sessions plays queues.1) (queue_runs play.place play client.sessions queues.0 runs)
 
 plays_alive : (plays : List Play) (client : Client) → (going.after_plays plays client).alive ≡ client.alive
 plays_alive [] client = refl
 plays_alive (play ∷ plays) client = plays_alive plays (changes.after_queueing play client)
 
 -- a connection that is alive, in which a PLAY runs while streams play
-alive_tidy : (client : Client) → client.alive ≡ true → Runs client.session → IsTidy client
+alive_tidy : (client : Client) → client.alive ≡ true → AllRun client.sessions → IsTidy client
 alive_tidy client alive runs =
     subst (λ (b : Bool). IsTidyBy b client) (sym alive) (
-      (order_kept client.session.state client.pending client.session.running client.session.queue runs.0, runs.1),
-      none_due client.session.state client.pending client.session.running client.session.queue runs.0,
+      λ place. order_kept (session_at place client.sessions).state (is_released client.pending place) (session_at place client.sessions).running (session_at place client.sessions).queue (runs place),
+      by client.pending,
     )
+  where
+    by : (pending : Option Purpose) → changes.due_place_at pending client.sessions ≡ None
+    by None = none_due 0 client.sessions (λ place. calm (session_at place client.sessions).state (session_at place client.sessions).running (session_at place client.sessions).queue (runs place))
+    by (Some purpose) = refl
 
-goes_tidy : (one : Option Going) (pair : Option ℕ) (hand : List ℕ) (client : Client) → client.alive ≡ true → Runs client.session → IsTidy (going.goes_at one pair hand client).client
-goes_tidy None pair hand client alive runs = alive_tidy client alive runs
-goes_tidy (Some one) pair hand client alive runs = alive_tidy (going.goes_at (Some one) pair hand client).client alive runs
+goes_tidy : (one : Option Going) (pair : Option ℕ) (text : List ℕ) (client : Client) → client.alive ≡ true → AllRun client.sessions → IsTidy (going.goes_at one pair text client).client
+goes_tidy None pair text client alive runs = alive_tidy client alive runs
+goes_tidy (Some one) pair text client alive runs = alive_tidy (going.goes_at (Some one) pair text client).client alive runs
 
-treat_tidy : (bases : Bases) (pair : Option ℕ) (client : Client) → client.alive ≡ true → Runs client.session → IsTidy (going.treat bases pair client).client
-treat_tidy bases pair client alive runs =
+treat_tidy : (bases : Bases) (pair : Option ℕ) (client : Client) → client.alive ≡ true → IsFitClient client → AllRun client.sessions → IsTidy (going.treat bases pair client).client
+treat_tidy bases pair client alive fit runs =
     let all : Treated = treated client.waiting (given bases (is_none pair) client) in
     let before : Client = record client { waiting = all.left } in
     goes_tidy all.going pair all.hand (going.after_plays all.plays before) (plays_alive all.plays before ∙ alive)
-    (plays_run all.plays before (treated_queues client.waiting (given bases (is_none pair) client) runs.1) runs)
-
--- What was heard, by whether the connection is alive, and by what may go up.
-abbrev pub IsHeardSo : Bool → NextPart → Client → Type 0
-IsHeardSo true rests client = IsTidyBy true client
-IsHeardSo true releases client = PlaysInOrder client.pending client.session
-IsHeardSo true goes_on client = PlaysInOrder client.pending client.session
-IsHeardSo false next client = client.waiting ≡ []
+    (plays_run all.plays before (treated_queues client.waiting (given bases (is_none pair) client) (given_fit bases (is_none pair) client fit)) runs)
 
 -- The PLAY that is due goes up.
-any_released : (play : Play) (running : Option ℕ) (queue : List Play) → PlaysOn (Some (purposes.Released play)) running queue
-any_released play (Some number) queue = tt
-any_released play None [] = tt
-any_released play None (first ∷ more) = tt
+any_released : (running : Option ℕ) (queue : List Play) → PlaysOn true running queue
+any_released (Some number) queue = tt
+any_released None [] = tt
+any_released None (first ∷ more) = tt
 
-release_order : (state : State) (pending : Option Purpose) (running : Option ℕ) (queue : List Play) (play : Play) → IsInOrder state pending running queue → IsInOrder state (Some (purposes.Released play)) running (drop 1 queue)
-release_order Init pending running queue play order = ap (drop 1) order
-release_order Ready pending running queue play order = ap (drop 1) order
-release_order Playing pending running queue play order = any_released play running (drop 1 queue)
+release_order : (state : State) (running : Option ℕ) (queue : List Play) → IsInOrder state false running queue → IsInOrder state true running (drop 1 queue)
+release_order Init running queue order = ap (drop 1) order
+release_order Ready running queue order = ap (drop 1) order
+release_order Playing running queue order = any_released running (drop 1 queue)
 
-released_tidy : (alive : Bool) (due : Option Play) (client : Client) → client.alive ≡ alive → changes.due_play client ≡ due → IsHeardSo alive releases client → IsTidyBy alive (going.released_with due client).client
-released_tidy true None client is due heard = (heard, due)
-released_tidy false None client is due heard = heard
-released_tidy true (Some play) client is due heard =
-    subst (λ (one : Option Play). IsTidyBy true (changes.release_at one client)) (sym due)
-    ((release_order client.session.state client.pending client.session.running client.session.queue play heard.0, heard.1), refl)
-released_tidy false (Some play) client is due heard = subst (λ (one : Option Play). IsTidyBy false (changes.release_at one client)) (sym due) heard
+has_first : (queue : List Play) (t : Bool) → (t && not (length queue == 0)) ≡ true → slice_get queue 0 ≢ None
+has_first [] true e = cc
+has_first [] false e = cc
+has_first (play ∷ queue) t e = λ (none : Some play ≡ None). cc
 
-release_alive : (due : Option Play) (client : Client) → (changes.release_at due client).alive ≡ client.alive
-release_alive None client = refl
-release_alive (Some play) client = refl
+idle_order : (pending : Option Purpose) (client : Client) → pending ≡ None → AreOrdered (is_released pending) client.sessions → AreOrdered (λ place. false) client.sessions
+idle_order None client idle order = order
+idle_order (Some purpose) client idle order = cc
 
-released_alive : (due : Option Play) (client : Client) → (going.released_with due client).client.alive ≡ client.alive
-released_alive None client = refl
-released_alive (Some play) client = release_alive (changes.due_play client) client
+released_order : (k : ℕ) (play : Play) (client : Client) → client.pending ≡ None → PlaysInOrder client → PlaysInOrder (changes.release_with (Some play) k client)
+released_order k play client idle order =
+    changed_order (λ place. false) (is_pair (Some k)) (Some k) when_next client.sessions (idle_order client.pending client idle order)
+    (λ at session is was. subst (λ (t : Bool). IsOrdered t (when_next session)) (sym (at_pair (Some k) at is)) (release_order session.state session.running session.queue was))
+    (λ place apart. sym (off_pair (Some k) place apart))
 
-released_so : (alive : Bool) (due : Option Play) (client : Client) → client.alive ≡ alive → changes.due_play client ≡ due → IsHeardSo alive releases client → IsTidy (going.released_with due client).client
-released_so alive due client is e heard = subst (λ (b : Bool). IsTidyBy b (going.released_with due client).client) (sym (released_alive due client ∙ is)) (released_tidy alive due client is e heard)
+due_idle : (pending : Option Purpose) (sessions : List PlayerSession) (k : ℕ) → changes.due_place_at pending sessions ≡ Some k → (pending ≡ None) × (first_place has_due 0 sessions ≡ Some k)
+due_idle None sessions k due = (refl, due)
+due_idle (Some purpose) sessions k due = cc
 
--- what goes up for one that is closed
-close_kept : (id : Option (List ℕ)) (client : Client) → ((changes.close_at id client).alive ≡ client.alive) × ((changes.close_at id client).waiting ≡ client.waiting)
-close_kept None client = (refl, refl)
-close_kept (Some id) client = (refl, refl)
+play_tidy : (alive : Bool) (k : ℕ) (play : Option Play) (client : Client) → client.alive ≡ alive → changes.due_place client ≡ Some k → queued_at k client.sessions ≡ play → IsHeardSo alive releases client → IsTidyBy alive (going.released_with play (session_at k client.sessions).id client).client
+play_tidy alive k None client is due none heard =
+    let there = due_idle client.pending client.sessions k due in
+    let at : IsAtPlace has_due k client.sessions = place_is has_due k client.sessions there.1 in
+    absurd (has_first (session_at k client.sessions).queue (is_none (session_at k client.sessions).running) at.passes none)
+play_tidy true k (Some play) client is due first heard =
+    let there = due_idle client.pending client.sessions k due in
+    subst (λ (after : Client). IsTidyBy true after) (sym (ap (λ one. changes.release_at one client) due ∙ ap (λ (one : Option Play). changes.release_with one k client) first))
+    (released_order k play client there.0 heard, refl)
+play_tidy false k (Some play) client is due first heard =
+    subst (λ (after : Client). IsTidyBy false after) (sym (ap (λ one. changes.release_at one client) due ∙ ap (λ (one : Option Play). changes.release_with one k client) first)) heard
 
-leave_kept : (id : Option (List ℕ)) (client : Client) → ((going.leave_at id client).client.alive ≡ client.alive) × ((going.leave_at id client).client.waiting ≡ client.waiting)
-leave_kept None client = (refl, refl)
-leave_kept (Some id) client = close_kept (changes.closing_session client) client
+due_tidy : (alive : Bool) (place : Option ℕ) (client : Client) → client.alive ≡ alive → changes.due_place client ≡ place → IsHeardSo alive releases client → IsTidyBy alive (going.released_at place client).client
+due_tidy true None client is due heard = (heard, due)
+due_tidy false None client is due heard = heard
+due_tidy alive (Some k) client is due heard = play_tidy alive k (queued_at k client.sessions) client is due refl heard
 
-leave_tidy : (client : Client) → client.alive ≡ false → client.waiting ≡ [] → IsTidy (going.leave client).client
-leave_tidy client closed none =
-    let kept = leave_kept client.session.id client in
-    subst (λ (b : Bool). IsTidyBy b (going.leave client).client) (sym (kept.0 ∙ closed)) (kept.1 ∙ none)
+kept_alive : (bases : Bases) (pair : Option ℕ) (next : NextPart) (client : Client) → (going_on bases pair next client).client.alive ≡ client.alive
+kept_alive bases pair next client = (going_steady bases pair next client).alive
 
-due_tidy : (bases : Bases) (pair : Option ℕ) (due : Option Play) (client : Client) → client.alive ≡ true → client.pending ≡ None → changes.due_play client ≡ due → PlaysInOrder client.pending client.session → IsTidy (going.go_due bases pair due client).client
-due_tidy bases pair (Some play) client alive idle due order = released_so true (Some play) client alive due order
-due_tidy bases pair None client alive idle due order =
-    treat_tidy bases pair client alive (runs_idle client.session.state client.pending client.session.running client.session.queue idle order.0 due, order.1)
+-- whatever may go up
+left_waiting : (bases : Bases) (pair : Option ℕ) (next : NextPart) (client : Client) → client.alive ≡ false → (going_on bases pair next client).client.waiting ≡ client.waiting
+left_waiting bases pair next client dead = going_as (λ effect. effect.client.waiting ≡ client.waiting) bases pair next client (record {
+  still = refl;
+  released = λ place play idle due is. refl;
+  treats = λ idle alive. let no : false ≡ true = sym dead ∙ alive in cc;
+  left = λ place id idle closed filled is. refl;
+})
 
-idle_tidy : (bases : Bases) (pair : Option ℕ) (alive : Bool) (client : Client) → client.alive ≡ alive → client.pending ≡ None → IsHeardSo alive goes_on client → IsTidy (going.go_idle bases pair alive client).client
-idle_tidy bases pair true client is idle heard = due_tidy bases pair (changes.due_play client) client is idle refl heard
-idle_tidy bases pair false client is idle heard = leave_tidy client is heard
+alive_on : (bases : Bases) (pair : Option ℕ) (next : NextPart) (client : Client) → client.alive ≡ true → IsFitClient client → IsHeardSo true next client → IsTidy (going_on bases pair next client).client
+alive_on bases pair rests client alive fit heard = subst (λ (b : Bool). IsTidyBy b client) (sym alive) heard
+alive_on bases pair releases client alive fit heard =
+    subst (λ (b : Bool). IsTidyBy b (going_on bases pair releases client).client) (sym (kept_alive bases pair releases client ∙ alive)) (due_tidy true (changes.due_place client) client alive refl heard)
+alive_on bases pair goes_on client alive fit heard =
+    subst (λ (b : Bool). IsTidyBy b (going_on bases pair goes_on client).client) (sym (kept_alive bases pair goes_on client ∙ alive)) (by client.pending refl)
+  where
+    treats : (place : Option ℕ) → client.pending ≡ None → changes.due_place client ≡ place → IsTidyBy true (going.go_due bases pair place client).client
+    treats (Some k) idle due = due_tidy true (Some k) client alive due heard
+    treats None idle due =
+        let none : first_place has_due 0 client.sessions ≡ None = ap (λ (pending : Option Purpose). changes.due_place_at pending client.sessions) (sym idle) ∙ due in
+        let tidy : IsTidy (going.treat bases pair client).client = treat_tidy bases pair client alive fit (λ place. runs_idle (session_at place client.sessions).state (session_at place client.sessions).running (session_at place client.sessions).queue
+        (idle_order client.pending client idle heard place) (due_none 0 client.sessions none place)) in
+        subst (λ (b : Bool). IsTidyBy b (going.treat bases pair client).client) (treat_alive ∙ alive) tidy
+      where
+        treat_alive : (going.treat bases pair client).client.alive ≡ client.alive
+        treat_alive =
+            let all : Treated = treated client.waiting (given bases (is_none pair) client) in
+            goes_alive all.going (going.after_plays all.plays (record client { waiting = all.left })) ∙ plays_alive all.plays (record client { waiting = all.left })
+          where
+            goes_alive : (one : Option Going) (after : Client) → (going.goes_at one pair (treated client.waiting (given bases (is_none pair) client)).hand after).client.alive ≡ after.alive
+            goes_alive None after = refl
+            goes_alive (Some one) after = refl
 
-busy_tidy : (alive : Bool) (purpose : Purpose) (client : Client) → client.pending ≡ Some purpose → IsHeardSo alive goes_on client → IsTidyBy alive client
-busy_tidy true purpose client is heard = (heard, ap (λ (pending : Option Purpose). changes.due_at pending client.session.running client.session.queue) is)
-busy_tidy false purpose client is heard = heard
+    by : (pending : Option Purpose) → client.pending ≡ pending → IsTidyBy true (going.go_at bases pair pending client).client
+    by (Some purpose) is = (heard, ap (λ (one : Option Purpose). changes.due_place_at one client.sessions) is)
+    by None is = subst (λ (b : Bool). IsTidyBy true (going.go_idle bases pair b client).client) (sym alive) (treats (changes.due_place client) is refl)
 
-go_tidy : (bases : Bases) (pair : Option ℕ) (pending : Option Purpose) (client : Client) → client.pending ≡ pending → IsHeardSo client.alive goes_on client → IsTidy (going.go_at bases pair pending client).client
-go_tidy bases pair (Some purpose) client is heard = busy_tidy client.alive purpose client is heard
-go_tidy bases pair None client is heard = idle_tidy bases pair client.alive client refl is heard
+going_tidy : (bases : Bases) (pair : Option ℕ) (next : NextPart) (client : Client) → IsFitClient client → IsHeardSo client.alive next client → IsTidy (going_on bases pair next client).client
+going_tidy bases pair next client fit heard = by client.alive refl heard
+  where
+    by : (alive : Bool) → client.alive ≡ alive → IsHeardSo alive next client → IsTidy (going_on bases pair next client).client
+    by true is heard = alive_on bases pair next client is fit heard
+    by false is heard = subst (λ (b : Bool). IsTidyBy b (going_on bases pair next client).client) (sym (kept_alive bases pair next client ∙ is)) (left_waiting bases pair next client is ∙ heard)
 
-resting : (alive : Bool) (client : Client) → IsHeardSo alive rests client → IsTidyBy alive client
-resting true client heard = heard
-resting false client heard = heard
-
-pub going_tidy : (bases : Bases) (pair : Option ℕ) (next : NextPart) (client : Client) → IsHeardSo client.alive next client → IsTidy (going_on bases pair next client).client
-going_tidy bases pair rests client heard = resting client.alive client heard
-going_tidy bases pair releases client heard = released_so client.alive (changes.due_play client) client refl refl heard
-going_tidy bases pair goes_on client heard = go_tidy bases pair client.pending client refl heard
+-- So it is for a connection alone.
+pub tidy_after : (bases : Bases) (events : List PrivateEvent) → IsTidy (private_after bases events).client
+tidy_after bases [] = (λ place. new_order place, refl)
+  where
+    new_order : (place : ℕ) → IsOrdered false (session_at place new_sessions)
+    new_order zero = refl
+    new_order (suc zero) = refl
+    new_order (suc (suc zero)) = refl
+    new_order (suc (suc (suc zero))) = refl
+    new_order (suc (suc (suc (suc place)))) = refl
+tidy_after bases (event ∷ events) =
+    let p = private_after bases events in
+    let heard = hear bases p.count p.client event in
+    alone_as (λ effect. IsTidy effect.client) bases p event (tidy_after bases events) (tidy_after bases events)
+    (going_tidy bases (pair_alone event (p.count + 1)) heard.next heard.effect.client (hear_fit bases p.count p.client event (alone_fit bases events)) (hear_tidy bases p.count p.client event (tidy_after bases events)))

@@ -1,5 +1,5 @@
 -- The books after the turn of a connection, and every connection by them.
-use Rattle.std.proofs.Common.{◌≡◌, ◌∙◌, ℕ, ◌+◌, Bool, cond, List, ◌∷◌, Option, Some, None, IsSome, refl, sym, ap}
+use Rattle.std.proofs.Common.{◌≡◌, ◌∙◌, ℕ, ◌+◌, cond, List, ◌∷◌, Option, Some, None, IsSome, refl, sym, ap}
 use Rattle.std.specs.Option.{option_map, option_or}
 use Rattle.rtsp_uri.specs.declared.base.Bases.{Bases}
 use Rattle.client_slot.specs.declared.purpose.Purpose.{Purpose}
@@ -8,12 +8,10 @@ use Rattle.client_slot.specs.Renumber.{purpose_under}
 use Rattle.client_machine.specs.Alone.{effect_alone}
 use Rattle.client_machine.specs.Effects.{Outgoing, asks, carries, Effect}
 use Rattle.client_machine.specs.Events.{PrivateEvent}
-use Rattle.head_two.specs.declared.request.Request2.{Request2}
 use Rattle.client_machine.specs.OpenRequests.{IsOpenAs, AsksBy}
 use Rattle.client_machine.specs.ServerItems.{NextPart, rests, releases, goes_on, hear}
 use Rattle.client_machine.specs.Step.{going_on, step}
 use Rattle.client_machine.proofs.AskLemmas.{going_asks}
-use Rattle.client_machine.specs.Renumber.{message_under}
 use Rattle.client_machine.proofs.BelowLemmas.{IsMute, hear_mute}
 use Rattle.gateway_claim.specs.Kinds.{RequestKind, plain, kind_of}
 use Rattle.gateway_claim.specs.Books.{Opened, Books, lends}
@@ -22,7 +20,7 @@ use Rattle.gateway_claim.specs.Happenings.{Happening, HistoryEntry}
 use Rattle.gateway_claim.specs.OwnEvents.{settled_by, lends_where, has_shut, books_of}
 use Rattle.gateway_claim.specs.BooksAndSlots.{kind_for, opened_for, IsOpenFor, IsJoined}
 use Rattle.gateway_claim.specs.Follows.{effect, message_up}
-use Rattle.gateway_claim.specs.SharedEvents.{shared, kind_pending, kind_gone}
+use Rattle.gateway_claim.specs.SharedEvents.{shared, kind_pending}
 use Rattle.gateway_claim.proofs.AgreeLemmas.{books_with, books_next}
 use Rattle.gateway_claim.proofs.HistoryLemmas.{same_number}
 use Rattle.gateway_claim.proofs.SlotLemmas.{alone}
@@ -48,20 +46,20 @@ kind_in (Some opened) = opened.kind
 
 -- The kind is that of what is open then.
 pub lent_kind : (books : Books) (i : ℕ) (kind : RequestKind) (count : ℕ) (client : Client) → count ≡ books.counts i + 1 → IsJoined (lends i kind books) i client count → IsSome client.pending
-    → kind ≡ kind_pending (shared (lends i kind books) i client).pending
+    → kind ≡ kind_pending (shared (lends i kind books) i client).sessions (shared (lends i kind books) i client).pending
 lent_kind books i kind count client counted is_joined some = by client.pending is_joined.pending some
   where
     number : (lends i kind books).number_of i count ≡ books.issued + 1
     number = ap ((lends i kind books).number_of i) counted ∙ new_number books i kind
 
-    by : (pending : Option Purpose) → IsOpenFor (lends i kind books) i ((lends i kind books).number_of i count) pending → IsSome pending
-        → kind ≡ kind_pending (option_map (purpose_under ((lends i kind books).pair_of i)) pending)
+    by : (pending : Option Purpose) → IsOpenFor (lends i kind books) i ((lends i kind books).number_of i count) client.sessions pending → IsSome pending
+        → kind ≡ kind_pending (shared (lends i kind books) i client).sessions (option_map (purpose_under ((lends i kind books).pair_of i)) pending)
     by None now some = cc
     by (Some purpose) now some =
         let here : (lends i kind books).opened (books.issued + 1) ≡ Some (record { conn = i; kind = kind }) = ap (λ t. cond t (Some (record { conn = i; kind = kind })) (books.opened (books.issued + 1))) (same_number (books.issued + 1)) in
-        let both : Some (record { conn = i; kind = kind }) ≡ Some (opened_for (lends i kind books) i purpose) = sym here ∙ ap (lends i kind books).opened (sym number) ∙ now.0 in
-        let same : kind ≡ kind_for ((lends i kind books).pair_of i) purpose = ap kind_in both in
-        same ∙ kind_same ((lends i kind books).pair_of i) purpose
+        let both : Some (record { conn = i; kind = kind }) ≡ Some (opened_for (lends i kind books) i client.sessions purpose) = sym here ∙ ap (lends i kind books).opened (sym number) ∙ now.0 in
+        let same : kind ≡ kind_for ((lends i kind books).pair_of i) client.sessions purpose = ap kind_in both in
+        same ∙ kind_same ((lends i kind books).number_of i) ((lends i kind books).pair_of i) client.sessions purpose
 
 -- A request that goes up is open then.
 abbrev pub AskedOpen : Option Outgoing → Option Purpose → Type 0
@@ -90,11 +88,3 @@ first_open next (Some (carries one half rest)) bases pair client mute = tt
 pub step_open : (bases : Bases) (number : ℕ) (pair : Option ℕ) (client : Client) (event : PrivateEvent) → AskedOpen (step bases number pair client event).message (step bases number pair client event).client.pending
 step_open bases number pair client event =
     first_open (hear bases number client event).next (hear bases number client event).effect.message bases pair (hear bases number client event).effect.client (hear_mute bases number client event)
-
--- the kind that goes up is told by the step in the numbers of all
-pub kind_told : (books settled : Books) (i : ℕ) (free : Option ℕ) (shut : Bool) (message : Option Outgoing) (p : ℕ → ℕ) (pending : Option Purpose)
-    → ((request : Request2) (named : Option ℕ) → message ≡ Some (asks request named) → (kind : RequestKind) → kind_of (option_map (message_up books settled i) message) free shut ≡ Some kind → kind ≡ kind_pending pending)
-    → kind_of (option_map (message_up books settled i) message) free shut ≡ kind_gone (option_map (message_under p) message) pending
-kind_told books settled i free shut None p pending told = refl
-kind_told books settled i free shut (Some (asks request named)) p pending told = ap (λ kind. Some kind) (told request named refl _ refl)
-kind_told books settled i free shut (Some (carries pair half rest)) p pending told = refl

@@ -4,11 +4,13 @@ use Rattle.std.specs.Option.{option_map}
 use Rattle.std.proofs.lemmas.Bool.{eq-eqb, eqb-true}
 use Rattle.client_slot.specs.declared.purpose.Purpose.{Purpose}
 use Rattle.client_slot.specs.declared.purpose.Purpose.TheVariants as purposes
+use Rattle.client_slot.specs.Session.{PlayerSession}
+use Rattle.client_slot.specs.Places.{tracks_of}
 use Rattle.client_slot.specs.Client.{Client}
 use Rattle.client_slot.specs.Renumber.{client_under, purpose_under}
 use Rattle.client_machine.specs.Bounds.{IsBelow, ArePairsBelow, IsPurposeBelow}
 use Rattle.client_machine.proofs.BelowLemmas.{Agree, under_agree, under_agree_each}
-use Rattle.gateway_claim.specs.Kinds.{RequestKind, plain, is_setup_text, is_teardown_text, setup_kind, teardown_kind, kind_of_text}
+use Rattle.gateway_claim.specs.Kinds.{RequestKind, plain, is_setup_text, is_teardown_text, setup_kind, teardown_kind, kind_of_text, id_in_text}
 use Rattle.gateway_claim.specs.Books.{Books, pair_asked, lends}
 use Rattle.gateway_claim.specs.SharedEvents.{shared, kind_pending}
 use Rattle.gateway_claim.proofs.LendLemmas.{old_pair, new_pair, old_number, new_number}
@@ -18,23 +20,21 @@ use Rattle.gateway_claim.proofs.StepLemmas.{free_or}
 
 -- a SETUP asks for the pair that is free
 pub asked_is_free : (text : List ℕ) (free : Option ℕ) (shut : Bool) (q : ℕ) → pair_asked (kind_of_text text free shut) ≡ Some q → free ≡ Some q
-asked_is_free text free shut q = by (is_setup_text text) (is_teardown_text text)
+asked_is_free text free shut q = by (is_setup_text text) (is_teardown_text text) (id_in_text text)
   where
     setup : (free : Option ℕ) → pair_asked (setup_kind free) ≡ Some q → free ≡ Some q
     setup None e = cc
     setup (Some p) e = e
 
-    teardown : (shut : Bool) → pair_asked (teardown_kind shut) ≡ Some q → free ≡ Some q
-    teardown true e = cc
-    teardown false e = cc
+    teardown : (shut : Bool) (id : Option (List ℕ)) → pair_asked (teardown_kind shut id) ≡ Some q → free ≡ Some q
+    teardown shut None e = cc
+    teardown true (Some id) e = cc
+    teardown false (Some id) e = cc
 
-    by : (s t : Bool) → pair_asked (cond s (setup_kind free) (cond t (teardown_kind shut) plain)) ≡ Some q → free ≡ Some q
-    by true t e = setup free e
-    by false true e = teardown shut e
-    by false false e = cc
-
-pub sym_agree : (n : ℕ) (f g : ℕ → ℕ) → Agree n f g → Agree n g f
-sym_agree n f g agree k low high = sym (agree k low high)
+    by : (s t : Bool) (id : Option (List ℕ)) → pair_asked (cond s (setup_kind free) (cond t (teardown_kind shut id) plain)) ≡ Some q → free ≡ Some q
+    by true t id e = setup free e
+    by false true id e = teardown shut id e
+    by false false id e = cc
 
 -- the numbers after a request
 lent_numbers : (books settled : Books) (i count other : ℕ) (kind : RequestKind) → count ≡ settled.counts i → settled.issued ≡ books.issued → ((k : ℕ) → settled.number_of i k ≡ books.number_of i k)
@@ -89,27 +89,27 @@ old_pairs books settled i count free kind counted same k low high =
     old_pair settled i kind k (subst (λ (n : ℕ). k ≤ n) counted high) ∙ same k ∙ sym (pairs_agree books i count free k low high)
 
 -- what is open has no stream where no pair was asked for
-no_track : (n : ℕ) (pairs : ℕ → ℕ) (kind : RequestKind) (pending : Option Purpose) → pair_asked kind ≡ None → kind ≡ kind_pending (option_map (purpose_under pairs) pending) → IsPurposeBelow n pending
-no_track n pairs kind None none same = tt
-no_track n pairs kind (Some (purposes.Client asked None)) none same = tt
-no_track n pairs kind (Some (purposes.Client asked (Some track))) none same = absurd (some_none (sym (ap pair_asked same) ∙ none))
+no_track : (n : ℕ) (pairs : ℕ → ℕ) (kind : RequestKind) (sessions : List PlayerSession) (pending : Option Purpose) → pair_asked kind ≡ None → kind ≡ kind_pending sessions (option_map (purpose_under pairs) pending) → IsPurposeBelow n pending
+no_track n pairs kind sessions None none same = tt
+no_track n pairs kind sessions (Some (purposes.Client asked None)) none same = tt
+no_track n pairs kind sessions (Some (purposes.Client asked (Some track))) none same = absurd (some_none (sym (ap pair_asked same) ∙ none))
   where
     some_none : Some (pairs track.pair) ≡ None → ⊥
     some_none e = cc
-no_track n pairs kind (Some (purposes.Released play)) none same = tt
-no_track n pairs kind (Some purposes.Closing) none same = tt
+no_track n pairs kind sessions (Some (purposes.Released play)) none same = tt
+no_track n pairs kind sessions (Some (purposes.Closing place)) none same = tt
 
 -- The connection by the books after its request, as the step has it.
 pub lent_client : (books settled : Books) (i count other : ℕ) (free : Option ℕ) (kind : RequestKind) (client : Client) → count ≡ settled.counts i → settled.issued ≡ books.issued
-    → ((k : ℕ) → settled.number_of i k ≡ books.number_of i k) → ((k : ℕ) → settled.pair_of i k ≡ books.pair_of i k) → IsBelow (count + 1) client → ArePairsBelow count client.session.tracks
-    → kind ≡ kind_pending (shared (lends i kind settled) i client).pending → ((q : ℕ) → pair_asked kind ≡ Some q → free ≡ Some q)
+    → ((k : ℕ) → settled.number_of i k ≡ books.number_of i k) → ((k : ℕ) → settled.pair_of i k ≡ books.pair_of i k) → IsBelow (count + 1) client → ArePairsBelow count (tracks_of client.sessions)
+    → kind ≡ kind_pending (shared (lends i kind settled) i client).sessions (shared (lends i kind settled) i client).pending → ((q : ℕ) → pair_asked kind ≡ Some q → free ≡ Some q)
     → shared (lends i kind settled) i client ≡ client_under (numbers_at books i (count + 1) other) (pairs_at books i (count + 1) (free_or free)) client
 lent_client books settled i count other free kind client counted issued numbers pairs below tracks is_kind asks_free = by (pair_asked kind) refl
   where
     by : (asked : Option ℕ) → pair_asked kind ≡ asked → shared (lends i kind settled) i client ≡ client_under (numbers_at books i (count + 1) other) (pairs_at books i (count + 1) (free_or free)) client
     by None e =
         under_agree_each (count + 1) count ((lends i kind settled).number_of i) (numbers_at books i (count + 1) other) ((lends i kind settled).pair_of i) (pairs_at books i (count + 1) (free_or free)) client
-        below.running tracks (no_track count ((lends i kind settled).pair_of i) kind client.pending e is_kind)
+        below.sessions tracks (no_track count ((lends i kind settled).pair_of i) kind (shared (lends i kind settled) i client).sessions client.pending e is_kind)
         (lent_numbers books settled i count other kind counted issued numbers) (old_pairs books settled i count (free_or free) kind counted pairs)
     by (Some q) e =
         under_agree (count + 1) ((lends i kind settled).number_of i) (numbers_at books i (count + 1) other) ((lends i kind settled).pair_of i) (pairs_at books i (count + 1) (free_or free)) client below

@@ -2,7 +2,9 @@
 use Rattle.std.proofs.Common.{◌≡◌, ◌≢◌, ◌∙◌, ℕ, ◌+◌, List, ◌∷◌, ◌++◌, Option, Some, None, refl, sym, ap, subst, arith}
 use Rattle.std.specs.Option.{option_map, option_to_list}
 use Rattle.rtsp_uri.specs.declared.base.Bases.{Bases}
+use Rattle.client_slot.specs.Places.{tracks_of}
 use Rattle.client_slot.specs.Client.{Client}
+use Rattle.client_machine.specs.Step.{going_on}
 use Rattle.client_slot.specs.Renumber.{client_under}
 use Rattle.client_machine.specs.Alone.{Private, private_after, asked_in, effect_alone}
 use Rattle.client_machine.specs.Bounds.{IsBelow, ArePairsBelow}
@@ -11,8 +13,8 @@ use Rattle.client_machine.specs.Events.{PrivateEvent}
 use Rattle.client_machine.specs.ServerItems.{hear}
 use Rattle.client_machine.specs.Renumber.{message_under}
 use Rattle.client_machine.specs.UpTexts.{text_up}
-use Rattle.client_machine.proofs.BelowLemmas.{alone_below, alone_numbered, hear_numbered, under_agree}
-use Rattle.client_machine.proofs.HoldLemmas.{going_steady}
+use Rattle.client_machine.proofs.BelowLemmas.{alone_below, alone_numbered, hear_numbered, under_agree, tracks_below}
+use Rattle.client_machine.proofs.HoldLemmas.{going_steady, same_tracks}
 use Rattle.gateway_claim.specs.Kinds.{RequestKind, kind_of_text, kind_of}
 use Rattle.gateway_claim.specs.Books.{Books, lends}
 use Rattle.gateway_claim.specs.Settlement.{free_in}
@@ -39,16 +41,17 @@ use Rattle.gateway_claim.proofs.TurnStandLemmas.{IsTurn, renumbered, entry_next,
 abbrev pub IsAfter : Bases → List HistoryEntry → ℕ → Happening → PrivateEvent → Type 0
 IsAfter bases T i h raw =
     (shared (books_of (entry_next bases T h ∷ T)) i (alone bases (entry_next bases T h ∷ T) i).client ≡ (raw_step_of bases T i h raw).client)
-    × (books_of (entry_next bases T h ∷ T) ≡ lends_where (Some i) (kind_gone (raw_step_of bases T i h raw).message (raw_step_of bases T i h raw).client.pending) (settled_by (books_of T) h))
+    × (books_of (entry_next bases T h ∷ T) ≡ lends_where (Some i) (kind_gone (raw_step_of bases T i h raw).message (raw_step_of bases T i h raw).client) (settled_by (books_of T) h))
 
 -- The streams after a step are those after it was heard.
-step_tracks : (bases : Bases) (T : List HistoryEntry) (i : ℕ) (h : Happening) (event raw : PrivateEvent) → IsTurn bases T i h event raw → ArePairsBelow (alone bases T i).count (effect_alone bases (alone bases T i) event).client.session.tracks
+step_tracks : (bases : Bases) (T : List HistoryEntry) (i : ℕ) (h : Happening) (event raw : PrivateEvent) → IsTurn bases T i h event raw → ArePairsBelow (alone bases T i).count (tracks_of (effect_alone bases (alone bases T i) event).client.sessions)
 step_tracks bases T i h event raw is =
     let pair : Option ℕ = pair_where (free_in (settled_by (books_of T) h)) ((alone bases T i).count + 1) in
-    subst (λ (done : Effect). ArePairsBelow (alone bases T i).count done.client.session.tracks) (sym (step_is bases (books_of T) (final_in (books_of T) h) i (alone bases T i) event (not_over bases T is.standing i) is.made))
+    subst (λ (done : Effect). ArePairsBelow (alone bases T i).count (tracks_of done.client.sessions)) (sym (step_is bases (books_of T) (final_in (books_of T) h) i (alone bases T i) event (not_over bases T is.standing i) is.made))
     (subst (λ tracks. ArePairsBelow (alone bases T i).count tracks)
-    (sym (going_steady bases (pair_where (free_in (settled_by (books_of T) h)) ((alone bases T i).count + 1)) (hear bases (alone bases T i).count (alone bases T i).client event).next (hear bases (alone bases T i).count (alone bases T i).client event).effect.client).tracks)
-    (hear_numbered bases (alone bases T i).count (alone bases T i).client event (alone_numbered bases (own bases i T))).0.tracks)
+    (sym (same_tracks (hear bases (alone bases T i).count (alone bases T i).client event).effect.client.sessions (going_on bases (pair_where (free_in (settled_by (books_of T) h)) ((alone bases T i).count + 1)) (hear bases (alone bases T i).count (alone bases T i).client event).next (hear bases (alone bases T i).count (alone bases T i).client event).effect.client).client.sessions
+    (going_steady bases (pair_where (free_in (settled_by (books_of T) h)) ((alone bases T i).count + 1)) (hear bases (alone bases T i).count (alone bases T i).client event).next (hear bases (alone bases T i).count (alone bases T i).client event).effect.client).sessions))
+    (tracks_below (alone bases T i).count (hear bases (alone bases T i).count (alone bases T i).client event).effect.client.sessions (hear_numbered bases (alone bases T i).count (alone bases T i).client event (alone_numbered bases (own bases i T))).0.sessions))
 
 step_asked : (bases : Bases) (T : List HistoryEntry) (i : ℕ) (h : Happening) (event raw : PrivateEvent) → IsTurn bases T i h event raw → AskedOpen (effect_alone bases (alone bases T i) event).message (effect_alone bases (alone bases T i) event).client.pending
 step_asked bases T i h event raw is =
@@ -67,17 +70,17 @@ plus_zero : (n : ℕ) (client : Client) → IsBelow (n + 0) client → IsBelow n
 plus_zero n client below = subst (λ (m : ℕ). IsBelow m client) (grind arith) below
 
 after_by : (bases : Bases) (T : List HistoryEntry) (i : ℕ) (h : Happening) (event raw : PrivateEvent) (made : Effect) (after : Books) (p : ℕ) → (alone bases T i).count ≡ (books_of T).counts i
-    → IsBelow ((alone bases T i).count + asked_in made.message) made.client → ArePairsBelow (alone bases T i).count made.client.session.tracks → AskedOpen made.message made.client.pending
+    → IsBelow ((alone bases T i).count + asked_in made.message) made.client → ArePairsBelow (alone bases T i).count (tracks_of made.client.sessions) → AskedOpen made.message made.client.pending
     → IsJoined after i made.client ((alone bases T i).count + asked_in made.message)
     → after ≡ lends_where (Some i) (kind_of (option_map (message_up (books_of T) (settled_by (books_of T) h) i) made.message) (free_in (settled_by (books_of T) h)) (has_shut (Some i) (entry_next bases T h ∷ T))) (settled_by (books_of T) h)
     → (shared after i made.client ≡ client_under (numbers_at (books_of T) i ((alone bases T i).count + 1) (other_of raw)) (pairs_at (books_of T) i ((alone bases T i).count + 1) (free_or (free_in (settled_by (books_of T) h)))) made.client)
-    × (after ≡ lends_where (Some i) (kind_gone (option_map (message_under (pairs_at (books_of T) i ((alone bases T i).count + 1) (free_or (free_in (settled_by (books_of T) h))))) made.message) (shared after i made.client).pending) (settled_by (books_of T) h))
+    × (after ≡ lends_where (Some i) (kind_gone (option_map (message_under (pairs_at (books_of T) i ((alone bases T i).count + 1) (free_or (free_in (settled_by (books_of T) h))))) made.message) (shared after i made.client)) (settled_by (books_of T) h))
 after_by bases T i h event raw made after p counted below tracks asked is_joined books = by made.message below asked is_joined books
   where
     by : (message : Option Outgoing) → IsBelow ((alone bases T i).count + asked_in message) made.client → AskedOpen message made.client.pending → IsJoined after i made.client ((alone bases T i).count + asked_in message)
         → after ≡ lends_where (Some i) (kind_of (option_map (message_up (books_of T) (settled_by (books_of T) h) i) message) (free_in (settled_by (books_of T) h)) (has_shut (Some i) (entry_next bases T h ∷ T))) (settled_by (books_of T) h)
         → (shared after i made.client ≡ client_under (numbers_at (books_of T) i ((alone bases T i).count + 1) (other_of raw)) (pairs_at (books_of T) i ((alone bases T i).count + 1) (free_or (free_in (settled_by (books_of T) h)))) made.client)
-        × (after ≡ lends_where (Some i) (kind_gone (option_map (message_under (pairs_at (books_of T) i ((alone bases T i).count + 1) (free_or (free_in (settled_by (books_of T) h))))) message) (shared after i made.client).pending) (settled_by (books_of T) h))
+        × (after ≡ lends_where (Some i) (kind_gone (option_map (message_under (pairs_at (books_of T) i ((alone bases T i).count + 1) (free_or (free_in (settled_by (books_of T) h))))) message) (shared after i made.client)) (settled_by (books_of T) h))
     by None below asked is_joined books = (
       quiet_after (books_of T) (settled_by (books_of T) h) after i (alone bases T i).count (other_of raw) (free_in (settled_by (books_of T) h)) made.client books (λ k. refl) (λ k. refl)
           (plus_zero (alone bases T i).count made.client below),
@@ -91,13 +94,13 @@ after_by bases T i h event raw made after p counted below tracks asked is_joined
     by (Some (asks request named)) below asked is_joined books =
         let kind : RequestKind = kind_of_text (text_up ((books_of T).issued + 1) (free_in (settled_by (books_of T) h)) named request) (free_in (settled_by (books_of T) h)) (has_shut (Some i) (entry_next bases T h ∷ T)) in
         let joined_lent : IsJoined (lends i kind (settled_by (books_of T) h)) i made.client ((alone bases T i).count + 1) = subst (λ (one : Books). IsJoined one i made.client ((alone bases T i).count + 1)) books is_joined in
-        let same_kind : kind ≡ kind_pending (shared (lends i kind (settled_by (books_of T) h)) i made.client).pending =
+        let same_kind : kind ≡ kind_pending (shared (lends i kind (settled_by (books_of T) h)) i made.client).sessions (shared (lends i kind (settled_by (books_of T) h)) i made.client).pending =
         lent_kind (settled_by (books_of T) h) i kind ((alone bases T i).count + 1) made.client (ap (λ n. n + 1) counted) joined_lent asked in (
           ap (λ one. shared one i made.client) books
               ∙ lent_client (books_of T) (settled_by (books_of T) h) i (alone bases T i).count (other_of raw) (free_in (settled_by (books_of T) h)) kind made.client counted refl (λ k. refl) (λ k. refl) below tracks same_kind
               (asked_is_free (text_up ((books_of T).issued + 1) (free_in (settled_by (books_of T) h)) named request) (free_in (settled_by (books_of T) h)) (has_shut (Some i) (entry_next bases T h ∷ T))),
           books
-              ∙ ap (λ one. lends i one (settled_by (books_of T) h)) (same_kind ∙ ap (λ one. kind_pending (shared one i made.client).pending) (sym books)),
+              ∙ ap (λ one. lends i one (settled_by (books_of T) h)) (same_kind ∙ ap (λ one. kind_pending (shared one i made.client).sessions (shared one i made.client).pending) (sym books)),
         )
 
 pub turn_after : (bases : Bases) (T : List HistoryEntry) (i : ℕ) (h : Happening) (event raw : PrivateEvent) → IsTurn bases T i h event raw → IsAfter bases T i h raw
@@ -113,9 +116,9 @@ turn_after bases T i h event raw is =
     ap (λ (one : Private). shared (books_of (entry_next bases T h ∷ T)) i one.client) alone_is ∙ both.0 ∙ sym (ap (λ (done : Effect). done.client) (renumbered bases T i h event raw is)) in (
       client,
       both.1
-          ∙ ap (λ (one : Client). lends_where (Some i) (kind_gone (option_map (message_under (pairs_at (books_of T) i ((alone bases T i).count + 1) (free_or (free_in (settled_by (books_of T) h))))) (effect_alone bases (alone bases T i) event).message) one.pending) (settled_by (books_of T) h))
+          ∙ ap (λ (one : Client). lends_where (Some i) (kind_gone (option_map (message_under (pairs_at (books_of T) i ((alone bases T i).count + 1) (free_or (free_in (settled_by (books_of T) h))))) (effect_alone bases (alone bases T i) event).message) one) (settled_by (books_of T) h))
           (both.0 ∙ sym (ap (λ (done : Effect). done.client) (renumbered bases T i h event raw is)))
-          ∙ ap (λ (message : Option Outgoing). lends_where (Some i) (kind_gone message (raw_step_of bases T i h raw).client.pending) (settled_by (books_of T) h)) (sym (ap (λ (done : Effect). done.message) (renumbered bases T i h event raw is))),
+          ∙ ap (λ (message : Option Outgoing). lends_where (Some i) (kind_gone message (raw_step_of bases T i h raw).client) (settled_by (books_of T) h)) (sym (ap (λ (done : Effect). done.message) (renumbered bases T i h event raw is))),
     )
 
 -- Every other connection is as it was.

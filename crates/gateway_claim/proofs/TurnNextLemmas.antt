@@ -1,34 +1,31 @@
 -- The next entry at the turn of a connection, by its step in the numbers of all players.
-use Rattle.std.proofs.Common.{◌≡◌, ◌∙◌, ℕ, ◌+◌, ◌*◌, nat_lt, Bool, true, false, cond, List, [], ◌∷◌, Option, Some, None, IfSome, refl, sym, ap, subst}
+use Rattle.std.proofs.Common.{◌≡◌, ◌∙◌, ℕ, zero, suc, ◌+◌, ◌*◌, true, false, cond, map, List, [], ◌∷◌, Option, Some, None, IfSome, refl, sym, ap, subst}
 use Rattle.std.specs.Option.{option_map, option_or}
-use Rattle.rtsp_head.specs.Items.{Shape}
-use Rattle.rtsp_head.specs.declared.item.ItemKind.{ItemKind}
-use Rattle.rtsp_head.specs.declared.item.ItemKind.TheVariants as item
 use Rattle.rtsp_uri.specs.declared.base.Bases.{Bases}
 use Rattle.session_one.specs.declared.parts.Track.{Track}
 use Rattle.client_slot.specs.declared.purpose.Purpose.{Purpose}
 use Rattle.client_slot.specs.declared.purpose.Purpose.TheVariants as purposes
+use Rattle.client_slot.specs.Session.{PlayerSession}
+use Rattle.client_slot.specs.Places.{session_at, session_where, tracks_of}
 use Rattle.client_slot.specs.Client.{Client}
-use Rattle.client_slot.specs.Renumber.{purpose_under}
+use Rattle.client_slot.specs.Renumber.{purpose_under, session_under}
 use Rattle.client_machine.specs.Alone.{effect_alone}
 use Rattle.client_machine.specs.OpenRequests.{AsksBy}
 use Rattle.client_machine.specs.Bounds.{ArePairsBelow, IsWithin}
 use Rattle.client_machine.specs.Effects.{Outgoing, asks, carries, Effect}
-use Rattle.client_machine.specs.Events.{PrivateEvent, arrive, answer, note, media, end, slow, up_end}
-use Rattle.client_machine.specs.Frames.{channel_in, behind_channel, frame_text, Half, half_on, half_for, channel_for}
-use Rattle.rtsp_small.specs.declared.notify.NotifyReason.{NotifyReason}
-use Rattle.rtsp_small.specs.declared.notify.NotifyReason.TheVariants.{EndOfStream, MediaProperties, ScaleChange}
-use Rattle.session_two.specs.declared.names.Names.{Names}
-use Rattle.translate_down.specs.Replies.{Told}
-use Rattle.client_machine.specs.declared.why.CloseWhy.{CloseWhy}
-use Rattle.client_machine.specs.declared.why.CloseWhy.TheVariants as why
-use Rattle.client_machine.specs.ServerItems.{Hearing, idles, closes, carry, take_item, take, settle_at, take_note, give, take_media, hear}
+use Rattle.client_machine.specs.Events.{PrivateEvent}
+use Rattle.client_machine.specs.Frames.{channel_in, frame_text, Half, half_on, half_for}
+use Rattle.rtsp_small.specs.declared.method.Method.TheVariants as methods
+use Rattle.session_one.specs.Table.{same_method}
+use Rattle.client_machine.specs.ServerItems.{hear}
 use Rattle.client_machine.specs.Renumber.{message_under, effect_under}
 use Rattle.client_machine.specs.UpTexts.{text_up}
 use Rattle.client_machine.specs.Step.{step, going_on}
 use Rattle.client_machine.proofs.AskLemmas.{going_asks}
 use Rattle.client_machine.proofs.BelowLemmas.{alone_below, alone_numbered}
 use Rattle.gateway_claim.specs.declared.event.UpMessage.TheVariants.{Request, Frame}
+use Rattle.client_machine.proofs.WayLemmas.{hear_as}
+use Rattle.gateway_claim.specs.Kinds.{plain, teardown_kind}
 use Rattle.gateway_claim.specs.Books.{Books}
 use Rattle.gateway_claim.specs.Settlement.{free_in}
 use Rattle.gateway_claim.specs.Happenings.{Happening, HistoryEntry}
@@ -70,64 +67,32 @@ message_is books settled i n free (Some (carries pair half rest)) below =
     ap (λ p. Some (Frame (frame_text (2 * p + half) rest))) (sym (pairs_agree books i n free pair below.0 below.1))
 
 -- The kind of what goes up is that of what is open then.
-pub kind_same : (pairs : ℕ → ℕ) (purpose : Purpose) → kind_for pairs purpose ≡ kind_pending (Some (purpose_under pairs purpose))
-kind_same pairs (purposes.Client asked None) = refl
-kind_same pairs (purposes.Client asked (Some track)) = refl
-kind_same pairs (purposes.Released play) = refl
-kind_same pairs purposes.Closing = refl
+pub under_at : (numbers pairs : ℕ → ℕ) (place : ℕ) (sessions : List PlayerSession) → (session_at place (map (session_under numbers pairs) sessions)).id ≡ (session_at place sessions).id
+under_at numbers pairs place [] = refl
+under_at numbers pairs zero (one ∷ more) = refl
+under_at numbers pairs (suc place) (one ∷ more) = under_at numbers pairs place more
 
-carry_below : (n : ℕ) (half : Option Half) (rest : List ℕ) (client : Client) → IfSome half (λ one. IsWithin n one.pair) → CarriesBelow n (carry half rest client).effect.message
-carry_below n None rest client below = tt
-carry_below n (Some half) rest client below = below
+pub under_where : (numbers pairs : ℕ → ℕ) (place : Option ℕ) (sessions : List PlayerSession) → (session_where place (map (session_under numbers pairs) sessions)).id ≡ (session_where place sessions).id
+under_where numbers pairs None sessions = refl
+under_where numbers pairs (Some place) sessions = under_at numbers pairs place sessions
 
-item_below : (n : ℕ) (kind : ItemKind) (shape : Shape) (client : Client) → ArePairsBelow n client.session.tracks → CarriesBelow n (take_item kind shape client).effect.message
-item_below n item.Request shape client below = tt
-item_below n item.Response shape client below = tt
-item_below n item.Frame shape client below = carry_below n (half_for (channel_in shape) client.session.tracks) (behind_channel shape) client (half_below n (channel_in shape) client.session.tracks below)
-item_below n (item.Bad kind) shape client below = tt
+pub kind_same : (numbers pairs : ℕ → ℕ) (sessions : List PlayerSession) (purpose : Purpose) → kind_for pairs sessions purpose ≡ kind_pending (map (session_under numbers pairs) sessions) (Some (purpose_under pairs purpose))
+kind_same numbers pairs sessions (purposes.Client asked None) = ap (λ id. cond (same_method asked.method methods.Teardown) (teardown_kind false id) plain) (sym (under_where numbers pairs asked.place sessions))
+kind_same numbers pairs sessions (purposes.Client asked (Some track)) = refl
+kind_same numbers pairs sessions (purposes.Released play) = refl
+kind_same numbers pairs sessions (purposes.Closing place) = ap (teardown_kind true) (sym (under_at numbers pairs place sessions))
 
-take_below : (n : ℕ) (alive : Bool) (shape : Shape) (client : Client) → ArePairsBelow n client.session.tracks → CarriesBelow n (take alive shape client).effect.message
-take_below n true shape client below = item_below n shape.kind shape client below
-take_below n false shape client below = tt
-
--- no other event sends a frame up
-pub closes_none : (alive : Bool) (reason : CloseWhy) (client : Client) → (closes alive reason client).effect.message ≡ None
-closes_none true reason client = refl
-closes_none false reason client = refl
-
-pub answer_none : (early : Bool) (client : Client) (heard : Hearing) → heard.effect.message ≡ None → (cond early (idles client) heard).effect.message ≡ None
-answer_none true client heard none = refl
-answer_none false client heard none = none
-
-pub settle_none : (bases : Bases) (n : ℕ) (pending : Option Purpose) (told : Told) (ssrc : Option ℕ) (client : Client) → (settle_at bases n pending told ssrc client).effect.message ≡ None
-settle_none bases n None told ssrc client = refl
-settle_none bases n (Some purpose) told ssrc client = refl
-
-pub note_none : (reason : NotifyReason) (names : Names) (client : Client) → (take_note reason names client).effect.message ≡ None
-note_none EndOfStream names client = refl
-note_none MediaProperties names client = refl
-note_none ScaleChange names client = refl
-
-give_none : (channel : Option ℕ) (rest : List ℕ) (client : Client) → (give channel rest client).effect.message ≡ None
-give_none None rest client = refl
-give_none (Some channel) rest client = refl
-
-media_none : (alive : Bool) (pair half : ℕ) (rest : List ℕ) (client : Client) → (take_media alive pair half rest client).effect.message ≡ None
-media_none true pair half rest client = give_none (channel_for pair half client.session.tracks) rest client
-media_none false pair half rest client = refl
-
-none_below : (n : ℕ) (message : Option Outgoing) → message ≡ None → CarriesBelow n message
-none_below n message none = subst (λ (one : Option Outgoing). CarriesBelow n one) (sym none) tt
-
-hear_below : (bases : Bases) (n : ℕ) (client : Client) (event : PrivateEvent) → ArePairsBelow n client.session.tracks → CarriesBelow n (hear bases n client event).effect.message
-hear_below bases n client (arrive shape full) below = take_below n client.alive shape client below
-hear_below bases n client (answer told ssrc full) below =
-    none_below n _ (answer_none (nat_lt told.code 200) client (settle_at bases n client.pending told ssrc client) (settle_none bases n client.pending told ssrc client))
-hear_below bases n client (note reason names) below = none_below n _ (note_none reason names client)
-hear_below bases n client (media pair half rest) below = none_below n _ (media_none client.alive pair half rest client)
-hear_below bases n client end below = none_below n _ (closes_none client.alive why.Ended client)
-hear_below bases n client slow below = none_below n _ (closes_none client.alive why.Slow client)
-hear_below bases n client up_end below = tt
+-- A frame alone goes up at an event by itself, on a pair of a stream.
+hear_below : (bases : Bases) (n : ℕ) (client : Client) (event : PrivateEvent) → ArePairsBelow n (tracks_of client.sessions) → CarriesBelow n (hear bases n client event).effect.message
+hear_below bases n client event below = hear_as (λ heard. CarriesBelow n heard.effect.message) bases n client event (record {
+  idle = tt;
+  closing = λ reason alive. tt;
+  waits = λ shape full here is alive. tt;
+  carrying = λ shape full half here is. subst (λ (one : Option Half). IfSome one (λ found. IsWithin n found.pair)) is (half_below n (channel_in shape) (tracks_of client.sessions) below);
+  settles = λ purpose told ssrc full here late is. tt;
+  notes = λ id names here. tt;
+  gives = λ pair half channel rest here is alive. tt;
+})
 
 either_below : (n : ℕ) (first second : Option Outgoing) → CarriesBelow n first → CarriesBelow n second → CarriesBelow n (option_or first second)
 either_below n None second a b = b
@@ -138,7 +103,7 @@ going_below n free old None new h = tt
 going_below n free old (Some (asks request named)) new h = tt
 going_below n free old (Some (carries pair half rest)) new h = absurd h
 
-pub step_below : (bases : Bases) (n : ℕ) (pair : Option ℕ) (client : Client) (event : PrivateEvent) → ArePairsBelow n client.session.tracks → CarriesBelow n (step bases n pair client event).message
+pub step_below : (bases : Bases) (n : ℕ) (pair : Option ℕ) (client : Client) (event : PrivateEvent) → ArePairsBelow n (tracks_of client.sessions) → CarriesBelow n (step bases n pair client event).message
 step_below bases n pair client event below =
     either_below n (hear bases n client event).effect.message (going_on bases pair (hear bases n client event).next (hear bases n client event).effect.client).message
     (hear_below bases n client event below)

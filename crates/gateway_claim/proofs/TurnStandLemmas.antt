@@ -7,7 +7,7 @@ use Rattle.client_machine.specs.Alone.{private_after, effect_alone}
 use Rattle.client_machine.specs.Effects.{Outgoing, asks, carries, Effect}
 use Rattle.client_machine.specs.Events.{PrivateEvent}
 use Rattle.client_machine.specs.Renumber.{message_under, effect_under}
-use Rattle.client_machine.proofs.BelowLemmas.{alone_below}
+use Rattle.client_machine.proofs.BelowLemmas.{alone_below, tracks_below}
 use Rattle.gateway_claim.specs.declared.event.UpMessage.{UpMessage}
 use Rattle.gateway_claim.specs.declared.event.UpCause.{UpCause}
 use Rattle.gateway_claim.specs.declared.event.Outcome.{Outcome}
@@ -68,7 +68,7 @@ nothing_wrong bases T i h event raw is =
 carried : (bases : Bases) (T : List HistoryEntry) (i : ℕ) (h : Happening) (event raw : PrivateEvent) → IsTurn bases T i h event raw → CarriesBelow (alone bases T i).count (effect_alone bases (alone bases T i) event).message
 carried bases T i h event raw is =
     subst (λ (done : Effect). CarriesBelow (alone bases T i).count done.message) (sym (step_is bases (books_of T) (final_in (books_of T) h) i (alone bases T i) event (not_over bases T is.standing i) is.made))
-    (step_below bases (alone bases T i).count (pair_where (free_in (settled_by (books_of T) h)) ((alone bases T i).count + 1)) (alone bases T i).client event (alone_below bases (own bases i T)).tracks)
+    (step_below bases (alone bases T i).count (pair_where (free_in (settled_by (books_of T) h)) ((alone bases T i).count + 1)) (alone bases T i).client event (tracks_below (alone bases T i).count (alone bases T i).client.sessions (alone_below bases (own bases i T)).sessions))
 
 -- What is handed out is what the step in the numbers of all hands out.
 pub turn_outcome : (bases : Bases) (T : List HistoryEntry) (i : ℕ) (h : Happening) (event raw : PrivateEvent) → IsTurn bases T i h event raw → next bases T h ≡ outcome_by (books_of T) h i (raw_step_of bases T i h raw)

@@ -1,34 +1,28 @@
 -- Where no request waits, none waits after an event but an item of a busy client: a request that comes while none is open
 -- is treated at once.
-use Rattle.std.proofs.Common.{◌≡◌, ◌∙◌, ℕ, ◌+◌, ◌&&◌, ◌||◌, not, nat_lt, Bool, true, false, cond, List, [], ◌∷◌, ◌++◌, length, Option, Some, None, Result, Ok, Err, is_some, is_none, refl, sym, ap, subst}
+use Rattle.std.proofs.Common.{◌≡◌, ◌∙◌, ℕ, ◌+◌, ◌&&◌, ◌||◌, not, Bool, true, false, cond, List, [], ◌∷◌, ◌++◌, length, Option, Some, None, Result, Ok, Err, is_some, is_none, refl, sym, ap, subst}
 use Rattle.std.specs.Option.{option_or, option_to_list}
 use Rattle.std.proofs.lemmas.Bool.{eqb-true}
 use Rattle.std.proofs.lemmas.List.{nil_from_length}
 use Rattle.rtsp_head.specs.Items.{Shape}
-use Rattle.rtsp_head.specs.declared.item.ItemKind.{ItemKind}
-use Rattle.rtsp_head.specs.declared.item.ItemKind.TheVariants.{Request, Response, Frame, Bad}
-use Rattle.rtsp_small.specs.declared.notify.NotifyReason.{NotifyReason}
-use Rattle.rtsp_small.specs.declared.notify.NotifyReason.TheVariants.{EndOfStream, MediaProperties, ScaleChange}
 use Rattle.rtsp_uri.specs.declared.base.Bases.{Bases}
 use Rattle.session_one.specs.declared.parts.Play.{Play}
-use Rattle.session_two.specs.declared.names.Names.{Names}
 use Rattle.translate_up.specs.Views.{Given}
 use Rattle.translate_up.specs.declared.decision.Decision.{Decision}
 use Rattle.translate_up.specs.declared.decision.Decision.TheVariants.{Answer, Forward, Queue, Setup}
-use Rattle.translate_down.specs.Replies.{Told}
 use Rattle.client_slot.specs.declared.purpose.Purpose.{Purpose}
+use Rattle.client_slot.specs.Places.{place_with}
 use Rattle.client_slot.specs.Client.{Client}
 use Rattle.client_slot.specs.Changes as changes
-use Rattle.client_machine.specs.declared.why.CloseWhy.{CloseWhy}
-use Rattle.client_machine.specs.declared.why.CloseWhy.TheVariants as why
-use Rattle.client_machine.specs.Alone.{Private, pair_alone, effect_while, private_after}
+use Rattle.client_machine.specs.Alone.{Private, pair_alone, effect_alone, private_after}
+use Rattle.client_machine.specs.Effects.{Effect}
 use Rattle.client_machine.specs.Events.{PrivateEvent, arrive, answer, note, media, end, slow, up_end}
-use Rattle.client_machine.specs.Frames.{channel_in, behind_channel, Half, half_for, channel_for}
 use Rattle.client_machine.specs.Treatment.{given, decision_on, Going, Treated, treated_first, treated}
 use Rattle.client_machine.specs.Releases as going
-use Rattle.client_machine.specs.ServerItems.{NextPart, rests, releases, goes_on, Hearing, idles, closes, carry, take_item, take, settle_at, take_note, give, take_media, hear}
+use Rattle.client_machine.specs.ServerItems.{NextPart, releases, goes_on, new_id}
 use Rattle.client_machine.specs.Step.{going_on, heard_step, step}
-use Rattle.client_machine.proofs.KeepLemmas.{over_client, end_client}
+use Rattle.client_machine.proofs.KeepLemmas.{over_stays, over_client, end_client}
+use Rattle.client_machine.proofs.WayLemmas.{hear_as, going_as, alone_as}
 use Rattle.gateway_claim.specs.declared.event.UpCause.{UpCause}
 use Rattle.gateway_claim.specs.ServerItems.{Heard, replies, requests, frames, faults, heard}
 use Rattle.gateway_claim.specs.Notices.{HeardNotice, notice_of}
@@ -41,8 +35,7 @@ use Rattle.gateway_claim.specs.Tells.{is_busy_private, is_busy, waiting_private,
 use Rattle.gateway_claim.proofs.CaseLemmas.{own_absent}
 use Rattle.gateway_claim.proofs.SlotLemmas.{alone}
 use Rattle.gateway_claim.proofs.OverLemmas.{own_event, own_quiet, own_ended, enters_quiet, quiet_after, faults_over}
-use Rattle.gateway_claim.proofs.TidyLemmas.{IsTidyBy, IsTidy}
-use Rattle.gateway_claim.proofs.TidyStepLemmas.{tidy_after}
+use Rattle.gateway_claim.proofs.TidyLemmas.{IsTidyBy, IsTidy, tidy_after}
 
 -- Of one request that is treated none is left, and of none.
 abbrev IsOneAtMost : List Shape → Type 0
@@ -77,106 +70,34 @@ treat_waiting bases pair client one =
     ∙ plays_waiting all.plays before
     ∙ none_left client.waiting (given bases (is_none pair) client) one
 
-release_waiting : (due : Option Play) (client : Client) → (changes.release_at due client).waiting ≡ client.waiting
-release_waiting None client = refl
-release_waiting (Some play) client = refl
-
-released_waiting : (due : Option Play) (client : Client) → (going.released_with due client).client.waiting ≡ client.waiting
-released_waiting None client = refl
-released_waiting (Some play) client = release_waiting (changes.due_play client) client
-
-close_waiting : (id : Option (List ℕ)) (client : Client) → (changes.close_at id client).waiting ≡ client.waiting
-close_waiting None client = refl
-close_waiting (Some id) client = refl
-
-leave_waiting : (id : Option (List ℕ)) (client : Client) → (going.leave_at id client).client.waiting ≡ client.waiting
-leave_waiting None client = refl
-leave_waiting (Some id) client = close_waiting (changes.closing_session client) client
-
 one_of_none : (waiting : List Shape) → waiting ≡ [] → IsOneAtMost waiting
 one_of_none waiting none = subst IsOneAtMost (sym none) tt
 
-due_waiting : (bases : Bases) (pair : Option ℕ) (due : Option Play) (client : Client) → client.waiting ≡ [] → (going.go_due bases pair due client).client.waiting ≡ []
-due_waiting bases pair (Some play) client none = released_waiting (Some play) client ∙ none
-due_waiting bases pair None client none = treat_waiting bases pair client (one_of_none client.waiting none)
-
-idle_waiting : (bases : Bases) (pair : Option ℕ) (alive : Bool) (client : Client) → client.waiting ≡ [] → (going.go_idle bases pair alive client).client.waiting ≡ []
-idle_waiting bases pair true client none = due_waiting bases pair (changes.due_play client) client none
-idle_waiting bases pair false client none = leave_waiting client.session.id client ∙ none
-
-go_waiting : (bases : Bases) (pair : Option ℕ) (pending : Option Purpose) (client : Client) → client.waiting ≡ [] → (going.go_at bases pair pending client).client.waiting ≡ []
-go_waiting bases pair (Some purpose) client none = none
-go_waiting bases pair None client none = idle_waiting bases pair client.alive client none
-
 going_waiting : (bases : Bases) (pair : Option ℕ) (next : NextPart) (client : Client) → client.waiting ≡ [] → (going_on bases pair next client).client.waiting ≡ []
-going_waiting bases pair rests client none = none
-going_waiting bases pair releases client none = released_waiting (changes.due_play client) client ∙ none
-going_waiting bases pair goes_on client none = go_waiting bases pair client.pending client none
+going_waiting bases pair next client none = going_as (λ effect. effect.client.waiting ≡ []) bases pair next client (record {
+  still = none;
+  released = λ place play idle due is. none;
+  treats = λ idle alive. treat_waiting bases pair client (one_of_none client.waiting none);
+  left = λ place id idle dead filled is. none;
+})
 
 -- A request of a connection that is alive, has none open, and has no PLAY that is due.
-one_treated : (bases : Bases) (pair : Option ℕ) (client : Client) → client.alive ≡ true → client.pending ≡ None → changes.due_play client ≡ None → IsOneAtMost client.waiting → (going.go bases pair client).client.waiting ≡ []
+one_treated : (bases : Bases) (pair : Option ℕ) (client : Client) → client.alive ≡ true → client.pending ≡ None → changes.due_place client ≡ None → IsOneAtMost client.waiting → (going.go bases pair client).client.waiting ≡ []
 one_treated bases pair client alive idle due one =
     ap (λ (pending : Option Purpose). (going.go_at bases pair pending client).client.waiting) idle
     ∙ ap (λ (b : Bool). (going.go_idle bases pair b client).client.waiting) alive
-    ∙ ap (λ (play : Option Play). (going.go_due bases pair play client).client.waiting) due
+    ∙ ap (λ (place : Option ℕ). (going.go_due bases pair place client).client.waiting) due
     ∙ treat_waiting bases pair client one
 
--- What an event does by itself leaves none waiting, where it is no request.
-carry_waiting : (half : Option Half) (rest : List ℕ) (client : Client) → (carry half rest client).effect.client.waiting ≡ client.waiting
-carry_waiting None rest client = refl
-carry_waiting (Some half) rest client = refl
-
-closes_waiting : (alive : Bool) (reason : CloseWhy) (client : Client) → client.waiting ≡ [] → (closes alive reason client).effect.client.waiting ≡ []
-closes_waiting true reason client none = refl
-closes_waiting false reason client none = none
-
-settle_waiting : (bases : Bases) (number : ℕ) (pending : Option Purpose) (told : Told) (ssrc : Option ℕ) (client : Client) → (settle_at bases number pending told ssrc client).effect.client.waiting ≡ client.waiting
-settle_waiting bases number None told ssrc client = refl
-settle_waiting bases number (Some purpose) told ssrc client = refl
-
-answer_waiting : (early : Bool) (client : Client) (heard : Hearing) → heard.effect.client.waiting ≡ client.waiting → (cond early (idles client) heard).effect.client.waiting ≡ client.waiting
-answer_waiting true client heard same = refl
-answer_waiting false client heard same = same
-
-note_waiting : (reason : NotifyReason) (names : Names) (client : Client) → (take_note reason names client).effect.client.waiting ≡ client.waiting
-note_waiting EndOfStream names client = refl
-note_waiting MediaProperties names client = refl
-note_waiting ScaleChange names client = refl
-
-give_waiting : (channel : Option ℕ) (rest : List ℕ) (client : Client) → (give channel rest client).effect.client.waiting ≡ client.waiting
-give_waiting None rest client = refl
-give_waiting (Some channel) rest client = refl
-
-media_waiting : (alive : Bool) (pair half : ℕ) (rest : List ℕ) (client : Client) → (take_media alive pair half rest client).effect.client.waiting ≡ client.waiting
-media_waiting true pair half rest client = give_waiting (channel_for pair half client.session.tracks) rest client
-media_waiting false pair half rest client = refl
-
--- Nor does an item of a client that is not busy.
 unopened : (pending : Option Purpose) → is_some pending ≡ false → pending ≡ None
 unopened None e = refl
 unopened (Some purpose) e = cc
-
-item_step : (bases : Bases) (pair : Option ℕ) (kind : ItemKind) (shape : Shape) (client : Client) → client.alive ≡ true → client.pending ≡ None → changes.due_play client ≡ None → client.waiting ≡ []
-    → (heard_step bases pair (take_item kind shape client)).client.waiting ≡ []
-item_step bases pair Request shape client alive idle due none =
-    one_treated bases pair (changes.after_waiting (shape ∷ []) client) alive idle due
-    (subst (λ (waiting : List Shape). IsOneAtMost (waiting ++ shape ∷ [])) (sym none) refl)
-item_step bases pair Response shape client alive idle due none = none
-item_step bases pair Frame shape client alive idle due none =
-    let heard : Hearing = carry (half_for (channel_in shape) client.session.tracks) (behind_channel shape) client in
-    going_waiting bases pair heard.next heard.effect.client (carry_waiting (half_for (channel_in shape) client.session.tracks) (behind_channel shape) client ∙ none)
-item_step bases pair (Bad kind) shape client alive idle due none = go_waiting bases pair client.pending (changes.after_close client) refl
-
-take_step : (bases : Bases) (pair : Option ℕ) (alive : Bool) (shape : Shape) (client : Client) → client.alive ≡ alive → (alive && is_some client.pending) ≡ false → IsTidyBy alive client → client.waiting ≡ []
-    → (heard_step bases pair (take alive shape client)).client.waiting ≡ []
-take_step bases pair true shape client is timely tidy none = item_step bases pair shape.kind shape client is (unopened client.pending timely) tidy.1 none
-take_step bases pair false shape client is timely tidy none = none
 
 -- An event of a connection is no item of it while it is busy.
 abbrev IsTimelyFor : Bool → PrivateEvent → Type 0
 IsTimelyFor busy (arrive shape full) = busy ≡ false
 IsTimelyFor busy (answer told ssrc full) = Unit {0}
-IsTimelyFor busy (note reason names) = Unit {0}
+IsTimelyFor busy (note id reason names) = Unit {0}
 IsTimelyFor busy (media pair half rest) = Unit {0}
 IsTimelyFor busy end = Unit {0}
 IsTimelyFor busy slow = Unit {0}
@@ -184,40 +105,32 @@ IsTimelyFor busy up_end = Unit {0}
 
 step_waiting : (bases : Bases) (number : ℕ) (pair : Option ℕ) (client : Client) (event : PrivateEvent) → IsTidy client → IsTimelyFor (client.alive && is_some client.pending) event → client.waiting ≡ []
     → (step bases number pair client event).client.waiting ≡ []
-step_waiting bases number pair client (arrive shape full) tidy timely none = take_step bases pair client.alive shape client refl timely tidy none
-step_waiting bases number pair client (answer told ssrc full) tidy timely none =
-    let heard : Hearing = hear bases number client (answer told ssrc full) in
-    going_waiting bases pair heard.next heard.effect.client
-    (answer_waiting (nat_lt told.code 200) client (settle_at bases number client.pending told ssrc client) (settle_waiting bases number client.pending told ssrc client) ∙ none)
-step_waiting bases number pair client (note reason names) tidy timely none =
-    let heard : Hearing = take_note reason names client in
-    going_waiting bases pair heard.next heard.effect.client (note_waiting reason names client ∙ none)
-step_waiting bases number pair client (media channels half rest) tidy timely none =
-    let heard : Hearing = take_media client.alive channels half rest client in
-    going_waiting bases pair heard.next heard.effect.client (media_waiting client.alive channels half rest client ∙ none)
-step_waiting bases number pair client end tidy timely none =
-    let heard : Hearing = closes client.alive why.Ended client in
-    going_waiting bases pair heard.next heard.effect.client (closes_waiting client.alive why.Ended client none)
-step_waiting bases number pair client slow tidy timely none =
-    let heard : Hearing = closes client.alive why.Slow client in
-    going_waiting bases pair heard.next heard.effect.client (closes_waiting client.alive why.Slow client none)
-step_waiting bases number pair client up_end tidy timely none = none
+step_waiting bases number pair client event tidy timely none = hear_as (λ heard. (heard_step bases pair heard).client.waiting ≡ []) bases number client event (record {
+  idle = none;
+  closing = λ reason alive. going_waiting bases pair goes_on (changes.after_close client) refl;
+  waits = λ shape full here is alive.
+      let free : is_some client.pending ≡ false = ap (λ b. b && is_some client.pending) (sym alive) ∙ subst (IsTimelyFor (client.alive && is_some client.pending)) here timely in
+      one_treated bases pair (changes.after_waiting (shape ∷ []) client) alive (unopened client.pending free) (subst (λ (b : Bool). IsTidyBy b client) alive tidy).1
+      (subst (λ (waiting : List Shape). IsOneAtMost (waiting ++ shape ∷ [])) (sym none) refl);
+  carrying = λ shape full half here is. none;
+  settles = λ purpose told ssrc full here late is.
+      going_waiting bases pair goes_on (changes.settle_with client.pending number told.code (new_id purpose told) client)
+      (ap (λ (one : Option Purpose). (changes.settle_with one number told.code (new_id purpose told) client).waiting) is ∙ none);
+  notes = λ id names here. going_waiting bases pair releases (changes.after_note (place_with id client.sessions) names client) none;
+  gives = λ channels half channel rest here is alive. none;
+})
 
 -- So it is for a connection alone.
-while_waiting : (over : Bool) (bases : Bases) (p : Private) (event : PrivateEvent) → IsTidy p.client → IsTimelyFor (not over && (p.client.alive && is_some p.client.pending)) event → p.client.waiting ≡ []
-    → (effect_while over bases p event).client.waiting ≡ []
-while_waiting true bases p event tidy timely none = none
-while_waiting false bases p (arrive shape full) tidy timely none = step_waiting bases p.count (pair_alone (arrive shape full) (p.count + 1)) p.client (arrive shape full) tidy timely none
-while_waiting false bases p (answer told ssrc full) tidy timely none = step_waiting bases p.count (pair_alone (answer told ssrc full) (p.count + 1)) p.client (answer told ssrc full) tidy timely none
-while_waiting false bases p (note reason names) tidy timely none = step_waiting bases p.count (pair_alone (note reason names) (p.count + 1)) p.client (note reason names) tidy timely none
-while_waiting false bases p (media pair half rest) tidy timely none = step_waiting bases p.count (pair_alone (media pair half rest) (p.count + 1)) p.client (media pair half rest) tidy timely none
-while_waiting false bases p end tidy timely none = step_waiting bases p.count (pair_alone end (p.count + 1)) p.client end tidy timely none
-while_waiting false bases p slow tidy timely none = step_waiting bases p.count (pair_alone slow (p.count + 1)) p.client slow tidy timely none
-while_waiting false bases p up_end tidy timely none = none
-
 after_waiting : (bases : Bases) (events : List PrivateEvent) (event : PrivateEvent) → IsTimelyFor (is_busy_private (Some (private_after bases events))) event → (private_after bases events).client.waiting ≡ []
     → (private_after bases (event ∷ events)).client.waiting ≡ []
-after_waiting bases events event timely none = while_waiting (private_after bases events).over bases (private_after bases events) event (tidy_after bases events) timely none
+after_waiting bases events event timely none = by (private_after bases events).over refl
+  where
+    by : (over : Bool) → (private_after bases events).over ≡ over → (effect_alone bases (private_after bases events) event).client.waiting ≡ []
+    by true is = ap (λ (done : Effect). done.client.waiting) (over_stays bases (private_after bases events) event is) ∙ none
+    by false is =
+        let p = private_after bases events in
+        alone_as (λ effect. effect.client.waiting ≡ []) bases p event none none
+        (step_waiting bases p.count (pair_alone event (p.count + 1)) p.client event (tidy_after bases events) (subst (λ (b : Bool). IsTimelyFor (not b && (p.client.alive && is_some p.client.pending)) event) is timely) none)
 
 -- The event of a connection in a history, where it has one.
 abbrev AreTimely : Bool → List PrivateEvent → Type 0

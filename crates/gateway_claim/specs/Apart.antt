@@ -4,6 +4,7 @@ use Rattle.std.specs.List.{Contains}
 use Rattle.rtsp_head.specs.Items.{Shape}
 use Rattle.rtsp_uri.specs.declared.base.Bases.{Bases}
 use Rattle.session_one.specs.declared.parts.Track.{Track}
+use Rattle.client_slot.specs.Places.{session_at, tracks_of}
 use Rattle.client_machine.specs.Apart.{streams_of}
 use Rattle.client_machine.specs.Frames.{channel_in, behind_channel, frame_text, half_on, player_channel}
 use Rattle.gateway_claim.specs.declared.event.ToClient.{ToClient}
@@ -18,13 +19,13 @@ use Rattle.gateway_claim.specs.Turns.{client_alone}
 abbrev pub pairs_held : Bases → List HistoryEntry → ℕ → List ℕ
 pairs_held bases history i = map (λ track. (books_of history).pair_of i track.pair) (streams_of (client_alone bases history i))
 
--- the id of the session that connection i has, where it has one
-abbrev pub session_held : Bases → List HistoryEntry → ℕ → Option (List ℕ)
-session_held bases history i = (client_alone bases history i).session.id
+-- the id of the session that connection i has at a place, where it has one
+abbrev pub session_held : Bases → List HistoryEntry → ℕ → ℕ → Option (List ℕ)
+session_held bases history i place = (session_at place (client_alone bases history i).sessions).id
 
 -- A stream of connection i has this pair of channels on the server's connection, which granted it to no other connection.
 pub record IsStreamOn (bases : Bases) (history : List HistoryEntry) (i pair : ℕ) (track : Track) : Type 0 where
-  pub stream : Contains (client_alone bases history i).session.tracks track
+  pub stream : Contains (tracks_of (client_alone bases history i).sessions) track
   pub named : (books_of history).pair_of i track.pair ≡ pair
   pub owner : owner_of ((books_of history).held pair) ≡ Some i
 

@@ -1,13 +1,18 @@
 -- What a history keeps of the numbers, the pairs of channels and the sessions of the one connection to the server (this
 -- project's own). Each book is a function.
 use Rattle.std.specs.Prelude.{ℕ, ◌+◌, ◌==◌, ◌&&◌, Bool, false, List, Option, Some, None, if◌then◌else◌}
-use Rattle.channel_map.specs.declared.map.Held.{Held}
-use Rattle.gateway_claim.specs.Kinds.{RequestKind, sets_up, tears_down, closes, plain}
+use Rattle.gateway_claim.specs.Kinds.{RequestKind, sets_up}
 
 -- an open request: the connection that asked it, and what it is for
 pub record Opened : Type 0 where
   pub conn : ℕ
   pub kind : RequestKind
+
+-- a pair of channels that is held: by which connection, and for which session, by its id; for none yet while the SETUP is
+-- open
+pub record HeldPair : Type 0 where
+  pub conn : ℕ
+  pub session : Option (List ℕ)
 
 -- The open request with a number; who holds a pair of channels; which connection has a session's id. And, of all that was
 -- ever given: the connection that a number was given to; the own number of the request with a number; the own number of
@@ -15,7 +20,7 @@ pub record Opened : Type 0 where
 -- pair of its SETUP; how many requests of a connection went up; and how many in all.
 pub record Books : Type 0 where
   pub opened : ℕ → Option Opened
-  pub held : ℕ → Option Held
+  pub held : ℕ → Option HeldPair
   pub holder : List ℕ → Option ℕ
   pub giver : ℕ → Option ℕ
   pub own_number : ℕ → ℕ
@@ -43,9 +48,7 @@ new_books = record {
 -- the pair that a request of this kind asks for
 abbrev pub pair_asked : RequestKind → Option ℕ
 pair_asked (sets_up pair) = Some pair
-pair_asked tears_down = None
-pair_asked closes = None
-pair_asked plain = None
+pair_asked kind = None
 
 -- whether a pair of channels is given, and is this one
 abbrev pub is_pair : Option ℕ → ℕ → Bool
@@ -61,7 +64,7 @@ pair_else (Some pair) other = pair
 abbrev pub lends : ℕ → RequestKind → Books → Books
 lends conn kind books = record {
   opened = λ number. if number == books.issued + 1 then Some (record { conn = conn; kind = kind }) else books.opened number;
-  held = λ pair. if is_pair (pair_asked kind) pair then Some (record { conn = conn; pair = pair; granted = false }) else books.held pair;
+  held = λ pair. if is_pair (pair_asked kind) pair then Some (record { conn = conn; session = None }) else books.held pair;
   holder = books.holder;
   giver = λ number. if number == books.issued + 1 then Some conn else books.giver number;
   own_number = λ number. if number == books.issued + 1 then books.counts conn + 1 else books.own_number number;

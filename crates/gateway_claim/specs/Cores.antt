@@ -4,7 +4,7 @@ use Rattle.std.specs.Prelude.{◌≡◌, ℕ, Bool, false, ◌||◌, ◌&&◌, �
 use Rattle.rtsp_uri.specs.declared.base.Bases.{Bases}
 use Rattle.gateway_claim.specs.declared.event.Closed.{Closed}
 use Rattle.gateway_claim.specs.declared.event.Closed.TheVariants.{Nobody, One, All}
-use Rattle.gateway_claim.specs.Happenings.{Happening, enters, takes, ends, lags, hears, up_ends, HistoryEntry, enters_here}
+use Rattle.gateway_claim.specs.Happenings.{Happening, takes, HistoryEntry, enters_here}
 
 -- each entry follows those before it
 abbrev pub IsCoreHistory : (Bases → List HistoryEntry → HistoryEntry → Type 0) → Bases → List HistoryEntry → Type 0
@@ -34,9 +34,5 @@ NoneWaits waits history = (i : ℕ) → waits i history ≡ 0
 
 -- This is no item of a client that is busy, whose request would wait.
 abbrev pub IsTimely : (ℕ → List HistoryEntry → Bool) → List HistoryEntry → Happening → Type 0
-IsTimely busy history (enters conn) = Unit {0}
 IsTimely busy history (takes conn shape) = busy conn history ≡ false
-IsTimely busy history (ends conn) = Unit {0}
-IsTimely busy history (lags conn) = Unit {0}
-IsTimely busy history (hears shape) = Unit {0}
-IsTimely busy history (up_ends cause) = Unit {0}
+IsTimely busy history happening = Unit {0}

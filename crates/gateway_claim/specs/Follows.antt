@@ -10,6 +10,10 @@ use Rattle.rtsp_transport.specs.declared.channels.Pair.{Pair}
 use Rattle.rtsp_transport.specs.Grants.{grant_of}
 use Rattle.head_two.specs.declared.reply.Reply2.{Reply2}
 use Rattle.session_one.specs.Table.{is_success}
+use Rattle.client_slot.specs.declared.purpose.Purpose.{Purpose}
+use Rattle.client_slot.specs.declared.purpose.Purpose.TheVariants as purposes
+use Rattle.client_slot.specs.Session.{PlayerSession}
+use Rattle.client_slot.specs.Places.{session_where}
 use Rattle.client_machine.specs.Frames.{frame_text}
 use Rattle.client_machine.specs.Effects.{Outgoing, asks, carries, Effect, stays}
 use Rattle.client_machine.specs.Events.{PrivateEvent}
@@ -20,13 +24,13 @@ use Rattle.gateway_claim.specs.declared.event.UpMessage.{UpMessage}
 use Rattle.gateway_claim.specs.declared.event.UpMessage.TheVariants.{Request, Frame}
 use Rattle.gateway_claim.specs.declared.event.UpCause.{UpCause}
 use Rattle.gateway_claim.specs.declared.event.UpCause.TheVariants.{Framing, UnknownReply, BadGrant, SessionTaken, CseqSpent}
-use Rattle.gateway_claim.specs.ServerItems.{Heard, replies, requests, frames, faults, heard}
+use Rattle.gateway_claim.specs.ServerItems.{Heard, replies, requests, faults, heard}
 use Rattle.gateway_claim.specs.Notices.{notice_of, answer_to}
-use Rattle.gateway_claim.specs.Kinds.{RequestKind, sets_up, tears_down, closes, plain}
+use Rattle.gateway_claim.specs.Kinds.{RequestKind, sets_up}
 use Rattle.gateway_claim.specs.Cores.{IsCoreHistory}
 use Rattle.gateway_claim.specs.Books.{Opened, Books}
 use Rattle.gateway_claim.specs.Settlement.{id_said, free_in}
-use Rattle.gateway_claim.specs.Happenings.{Happening, enters, takes, ends, lags, hears, up_ends, cause_of, HistoryEntry, fault_in, entered, sent, shut, is_all, nothing_up}
+use Rattle.gateway_claim.specs.Happenings.{Happening, hears, up_ends, cause_of, HistoryEntry, fault_in, entered, sent, shut, is_all, nothing_up}
 use Rattle.gateway_claim.specs.OwnEvents.{turn, settled_by, books_of, event_of, own}
 
 -- connection i as the private machine has it, where it entered
@@ -39,7 +43,7 @@ effect_at bases None event = stays new_private.client
 effect_at bases (Some private) None = stays private.client
 effect_at bases (Some private) (Some event) = effect_alone bases private event
 
--- what the machine of the connection whose turn it is does
+-- what happens, as an event of a connection that entered
 abbrev pub event_in : Books → ℕ → Option Private → Happening → Option PrivateEvent
 event_in books i None happening = None
 event_in books i (Some private) happening = event_of books i private.client.waiting happening
@@ -53,8 +57,7 @@ effect_of_turn bases earlier (Some i) happening = effect_at bases (private_in ba
 abbrev pub effect : Bases → List HistoryEntry → Happening → Effect
 effect bases earlier happening = effect_of_turn bases earlier (turn (books_of earlier) happening) happening
 
--- The grant of a reply is that of a pair, and it says a session, which is that of its connection where that has one
--- (RFC 7826, 13.3).
+-- whether a Transport value grants this pair (RFC 7826, 18.54)
 abbrev pub grants : ℕ → Option (List ℕ) → Bool
 grants pair None = false
 grants pair (Some value) = grants_pair pair (option_map (λ grant. grant.pair) (result_ok (grant_of value)))
@@ -63,64 +66,59 @@ grants pair (Some value) = grants_pair pair (option_map (λ grant. grant.pair) (
     grants_pair pair None = false
     grants_pair pair (Some granted) = granted.rtp == 2 * pair && granted.rtcp == 2 * pair + 1
 
--- whether a reply's session is the player's, or a first one
+-- whether a reply says the session that its request named, or any where that named none
 abbrev pub is_session_for : Option (List ℕ) → Option (List ℕ) → Bool
 is_session_for session None = false
 is_session_for None (Some id) = true
 is_session_for (Some session) (Some id) = bytes_eq session id
 
--- whether a reply to SETUP grants this pair, and names a session that may be
+-- Whether a reply to SETUP grants this pair, and says the session that the SETUP named, or any where it named none
+-- (RFC 7826, 13.3).
 abbrev pub is_granted : ℕ → Option (List ℕ) → Reply2 → Bool
 is_granted pair session reply = grants pair (field_of reply.head.headers (codes "Transport")) && is_session_for session (id_said reply)
 
--- The session is another connection's.
-abbrev pub is_others : ℕ → Option ℕ → Bool
-is_others i None = false
-is_others i (Some conn) = not (conn == i)
+-- whether a session is some connection's
+abbrev pub is_bound : Books → Option (List ℕ) → Bool
+is_bound books None = false
+is_bound books (Some id) = is_some (books.holder id)
 
--- whether a session is another connection's
-abbrev pub is_held_elsewhere : Books → ℕ → Option (List ℕ) → Bool
-is_held_elsewhere books i None = false
-is_held_elsewhere books i (Some id) = is_others i (books.holder id)
-
--- What is wrong with the success of a SETUP.
-abbrev pub grant_breach : Books → ℕ → ℕ → Option (List ℕ) → Reply2 → Option UpCause
-grant_breach books i pair session reply =
+-- What is wrong with the success of a SETUP, by the session that it named.
+abbrev pub grant_breach : Books → ℕ → Option (List ℕ) → Reply2 → Option UpCause
+grant_breach books pair session reply =
     if not (is_granted pair session reply) then Some (BadGrant reply.cseq)
-    else (if is_none session && is_held_elsewhere books i (id_said reply) then Some (SessionTaken reply.cseq) else None)
+    else (if is_none session && is_bound books (id_said reply) then Some (SessionTaken reply.cseq) else None)
 
 -- what is wrong with a final reply, by what its request was for; only a success of SETUP can be a breach
-abbrev pub kind_breach : Books → RequestKind → ℕ → Option (List ℕ) → Reply2 → Option UpCause
-kind_breach books (sets_up pair) i session reply = if is_success reply.code then grant_breach books i pair session reply else None
-kind_breach books tears_down i session reply = None
-kind_breach books closes i session reply = None
-kind_breach books plain i session reply = None
+abbrev pub kind_breach : Books → RequestKind → Option (List ℕ) → Reply2 → Option UpCause
+kind_breach books (sets_up pair) session reply = if is_success reply.code then grant_breach books pair session reply else None
+kind_breach books kind session reply = None
 
--- the session of a connection alone
+-- the id of the session at the place that a player's open request named
+abbrev pub session_asked : List PlayerSession → Option Purpose → Option (List ℕ)
+session_asked sessions (Some (purposes.Client asked track)) = (session_where asked.place sessions).id
+session_asked sessions pending = None
+
+-- the same of a connection alone
 abbrev pub session_of_private : Option Private → Option (List ℕ)
 session_of_private None = None
-session_of_private (Some private) = private.client.session.id
+session_of_private (Some private) = session_asked private.client.sessions private.client.pending
 
 -- what is wrong with a reply: nobody asked for it, or it grants what it may not
 abbrev pub reply_breach : Bases → List HistoryEntry → Reply2 → Option Opened → Option UpCause
 reply_breach bases earlier reply None = Some (UnknownReply reply.cseq)
-reply_breach bases earlier reply (Some opened) = kind_breach (books_of earlier) opened.kind opened.conn (session_of_private (private_in bases opened.conn earlier)) reply
+reply_breach bases earlier reply (Some opened) = kind_breach (books_of earlier) opened.kind (session_of_private (private_in bases opened.conn earlier)) reply
 
 -- What is wrong with what the server says: an item can't be taken, a reply is nobody's, or a grant is a wrong one.
 abbrev pub heard_breach : Bases → List HistoryEntry → Heard → Option UpCause
 heard_breach bases earlier (replies reply) = reply_breach bases earlier reply ((books_of earlier).opened reply.cseq)
-heard_breach bases earlier (requests request) = None
-heard_breach bases earlier (frames channel rest) = None
 heard_breach bases earlier (faults fault) = Some (Framing fault)
+heard_breach bases earlier said = None
 
 -- why an event ends the connection to the server
 abbrev pub said_breach : Bases → List HistoryEntry → Happening → Option UpCause
-said_breach bases earlier (enters conn) = None
-said_breach bases earlier (takes conn shape) = None
-said_breach bases earlier (ends conn) = None
-said_breach bases earlier (lags conn) = None
 said_breach bases earlier (hears shape) = heard_breach bases earlier (heard shape)
 said_breach bases earlier (up_ends cause) = Some (cause_of cause)
+said_breach bases earlier happening = None
 
 -- a request is due, and all numbers were used
 abbrev pub spent : ℕ → Option Outgoing → Option UpCause
@@ -136,19 +134,13 @@ breach bases earlier happening =
 
 -- the answer that is due to the server
 abbrev pub heard_answer : Books → Heard → Option (List ℕ)
-heard_answer books (replies reply) = None
 heard_answer books (requests request) = Some (answer_to request (notice_of books.holder request))
-heard_answer books (frames channel rest) = None
-heard_answer books (faults fault) = None
+heard_answer books said = None
 
 -- the answer that the server gets to its own request
 abbrev pub answer_due : Books → Happening → Option (List ℕ)
-answer_due books (enters conn) = None
-answer_due books (takes conn shape) = None
-answer_due books (ends conn) = None
-answer_due books (lags conn) = None
 answer_due books (hears shape) = heard_answer books (heard shape)
-answer_due books (up_ends cause) = None
+answer_due books happening = None
 
 -- A message of a connection as it goes up: a request with the next number, and a SETUP with the lowest pair that is free;
 -- a frame on the pair that the connection's own pair stands for.

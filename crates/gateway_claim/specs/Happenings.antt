@@ -66,11 +66,7 @@ standing (entry ∷ earlier) = if is_some (fault_in (entry ∷ earlier)) then st
 -- whether this connection enters
 abbrev pub enters_here : ℕ → Happening → Bool
 enters_here i (enters conn) = conn == i
-enters_here i (takes conn shape) = false
-enters_here i (ends conn) = false
-enters_here i (lags conn) = false
-enters_here i (hears shape) = false
-enters_here i (up_ends cause) = false
+enters_here i happening = false
 
 -- Whether connection i takes part: it entered while the connection to the server stood.
 abbrev pub entered : ℕ → List HistoryEntry → Bool

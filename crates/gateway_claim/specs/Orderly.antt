@@ -6,7 +6,7 @@ use Rattle.gateway_claim.specs.declared.event.Closed.{Closed}
 use Rattle.gateway_claim.specs.declared.event.Closed.TheVariants.{Nobody, One, All}
 use Rattle.gateway_claim.specs.declared.event.ToClient.{ToClient}
 use Rattle.gateway_claim.specs.declared.event.UpCause.{UpCause}
-use Rattle.gateway_claim.specs.declared.event.UpCause.TheVariants.{Framing, UnknownReply, BadGrant, SessionTaken, CseqSpent, UpFull, Ended, ReadFault, WriteFault}
+use Rattle.gateway_claim.specs.declared.event.UpCause.TheVariants.{UpFull, Ended, ReadFault, WriteFault}
 use Rattle.gateway_claim.specs.declared.event.Outcome.{Outcome}
 use Rattle.gateway_claim.specs.Happenings.{Happening, enters, takes, ends, lags, hears, up_ends, cause_of, HistoryEntry, fault_in, is_alive, nothing_up, silent}
 
@@ -43,24 +43,17 @@ closing_all cause = record { to_client = None; to_up = nothing_up; closed = All;
 
 -- the causes that no item has: the connection to the server ended by itself, or took its bytes too slowly
 abbrev pub is_from_outside : UpCause → Bool
-is_from_outside (Framing fault) = false
-is_from_outside (UnknownReply number) = false
-is_from_outside (BadGrant number) = false
-is_from_outside (SessionTaken number) = false
-is_from_outside CseqSpent = false
 is_from_outside UpFull = true
 is_from_outside Ended = true
 is_from_outside ReadFault = true
 is_from_outside WriteFault = true
+is_from_outside cause = false
 
 -- Why an event may end the connection to the server. The end of that connection has its reason as the cause.
 abbrev pub MayEndServer : Happening → UpCause → Type 0
 MayEndServer (enters conn) cause = ⊥
-MayEndServer (takes conn shape) cause = is_from_outside cause ≡ false
-MayEndServer (ends conn) cause = is_from_outside cause ≡ false
-MayEndServer (lags conn) cause = is_from_outside cause ≡ false
-MayEndServer (hears shape) cause = is_from_outside cause ≡ false
 MayEndServer (up_ends why) cause = cause ≡ cause_of why
+MayEndServer happening cause = is_from_outside cause ≡ false
 
 -- an entry while the connection to the server stands, by whether it ends it
 abbrev pub IsOrderlyBy : Option UpCause → List HistoryEntry → HistoryEntry → Type 0

@@ -6,7 +6,6 @@ use Rattle.rtsp_uri.specs.declared.base.Bases.{Bases}
 use Rattle.session_two.specs.declared.names.Names.{Names}
 use Rattle.session_two.specs.declared.names.Names.TheVariants.{Unsaid, This}
 use Rattle.translate_down.specs.Replies.{told_by}
-use Rattle.channel_map.specs.declared.map.Held.{Held}
 use Rattle.client_machine.specs.Events.{PrivateEvent, arrive, answer, note, media, end, slow, up_end}
 use Rattle.client_machine.specs.Alone.{private_after, is_empty_list}
 use Rattle.client_machine.specs.OpenRequests.{has_setup}
@@ -15,17 +14,16 @@ use Rattle.gateway_claim.specs.declared.event.UpCause.{UpCause}
 use Rattle.gateway_claim.specs.ServerItems.{Heard, replies, requests, frames, faults, heard}
 use Rattle.gateway_claim.specs.Notices.{HeardNotice, notice_of}
 use Rattle.gateway_claim.specs.Kinds.{RequestKind, kind_of}
-use Rattle.gateway_claim.specs.Books.{Books, new_books, lends}
+use Rattle.gateway_claim.specs.Books.{HeldPair, Books, new_books, lends}
 use Rattle.gateway_claim.specs.Settlement.{Final, final_of, settles, free_in}
-use Rattle.gateway_claim.specs.Happenings.{Happening, enters, takes, ends, lags, hears, up_ends, HistoryEntry, fault_in, entered, shut}
+use Rattle.gateway_claim.specs.Happenings.{Happening, takes, ends, lags, hears, HistoryEntry, fault_in, entered, shut}
 
 -- the connection that a pair was granted to
-abbrev pub owner_of : Option Held → Option ℕ
+abbrev pub owner_of : Option HeldPair → Option ℕ
 owner_of None = None
-owner_of (Some held) = if held.granted then Some held.conn else None
+owner_of (Some held) = if is_some held.session then Some held.conn else None
 
--- Whose event it is: that of the connection whose client sent the item, ended or lagged; of the one that asked for the
--- reply; of the one that has the session of the notify; or of the one that the frame's pair was granted to.
+-- whose turn a notify is: that of the connection that has its session
 abbrev pub notice_turn : Result HeardNotice ℕ → Option ℕ
 notice_turn (Ok notice) = Some notice.conn
 notice_turn (Err code) = None
@@ -37,14 +35,14 @@ heard_turn books (requests request) = notice_turn (notice_of books.holder reques
 heard_turn books (frames channel rest) = owner_of (books.held (channel / 2))
 heard_turn books (faults fault) = None
 
--- whose turn it is at an event
+-- Whose event it is: that of the connection whose client sent the item, ended or lagged; of the one that asked for the
+-- reply; of the one that has the session of the notify; or of the one that the frame's pair was granted to.
 abbrev pub turn : Books → Happening → Option ℕ
-turn books (enters conn) = None
 turn books (takes conn shape) = Some conn
 turn books (ends conn) = Some conn
 turn books (lags conn) = Some conn
 turn books (hears shape) = heard_turn books (heard shape)
-turn books (up_ends cause) = None
+turn books happening = None
 
 -- whether it is this connection's turn
 abbrev pub is_turn : ℕ → Option ℕ → Bool
@@ -54,18 +52,12 @@ is_turn i (Some conn) = conn == i
 -- the final reply that comes, where one does
 abbrev pub heard_final : Books → Heard → Option Final
 heard_final books (replies reply) = final_of reply (books.opened reply.cseq)
-heard_final books (requests request) = None
-heard_final books (frames channel rest) = None
-heard_final books (faults fault) = None
+heard_final books said = None
 
 -- the final reply that an event brings, where it is one
 abbrev pub final_in : Books → Happening → Option Final
-final_in books (enters conn) = None
-final_in books (takes conn shape) = None
-final_in books (ends conn) = None
-final_in books (lags conn) = None
 final_in books (hears shape) = heard_final books (heard shape)
-final_in books (up_ends cause) = None
+final_in books happening = None
 
 -- The books after what happened, and then after the request that went up for it.
 abbrev pub settled_by : Books → Happening → Books
@@ -104,10 +96,9 @@ own_name books i (This number) = This (if is_turn i (books.giver number) then bo
 abbrev pub is_full : Books → List Shape → Bool
 is_full books waiting = is_none (free_in books) && has_setup waiting
 
--- The event of connection i, whose turn it is, by the requests that wait. No number and no channel of the server's
--- connection is a part of it.
+-- a notify, as the event of the connection whose turn it is
 abbrev pub notice_event : Books → ℕ → Result HeardNotice ℕ → Option PrivateEvent
-notice_event books i (Ok notice) = Some (note notice.reason (own_name books i notice.names))
+notice_event books i (Ok notice) = Some (note notice.id notice.reason (own_name books i notice.names))
 notice_event books i (Err code) = None
 
 -- what the server says, as the event of the connection whose turn it is
@@ -117,16 +108,16 @@ heard_event books settled i waiting (requests request) = notice_event books i (n
 heard_event books settled i waiting (frames channel rest) = Some (media (books.own_pair (channel / 2)) (channel % 2) rest)
 heard_event books settled i waiting (faults fault) = None
 
--- an event in a connection's own numbers, between two books
+-- the same, by the books before it and those that it settled
 abbrev pub event_by : Books → Books → ℕ → List Shape → Happening → Option PrivateEvent
-event_by books settled i waiting (enters conn) = None
 event_by books settled i waiting (takes conn shape) = Some (arrive shape (is_full settled (waiting ++ shape ∷ [])))
 event_by books settled i waiting (ends conn) = Some end
 event_by books settled i waiting (lags conn) = Some slow
 event_by books settled i waiting (hears shape) = heard_event books settled i waiting (heard shape)
-event_by books settled i waiting (up_ends cause) = None
+event_by books settled i waiting happening = None
 
--- an event in a connection's own numbers
+-- The event of connection i, whose turn it is, by the requests that wait. No number and no channel of the server's
+-- connection is a part of it.
 abbrev pub event_of : Books → ℕ → List Shape → Happening → Option PrivateEvent
 event_of books i waiting happening = event_by books (settled_by books happening) i waiting happening
 

@@ -1,17 +1,14 @@
 -- What a final reply of the server settles (RFC 7826, 13.3 and 13.7; the rest is this project's own).
-use Rattle.std.specs.Prelude.{ℕ, ◌==◌, nat_lt, codes, Bool, true, false, List, Option, Some, None, if◌then◌else◌}
+use Rattle.std.specs.Prelude.{ℕ, ◌==◌, nat_lt, codes, Bool, true, false, List, Option, Some, None, is_none, if◌then◌else◌}
 use Rattle.std.specs.Option.{option_and_then, option_map}
 use Rattle.std.specs.Str.{bytes_eq}
 use Rattle.rtsp_head.specs.Headers.{field_of}
 use Rattle.rtsp_small.specs.Sessions.{session_of}
 use Rattle.head_two.specs.declared.reply.Reply2.{Reply2}
 use Rattle.session_one.specs.Table.{is_success}
-use Rattle.channel_map.specs.declared.map.Held.{Held}
-use Rattle.channel_map.specs.declared.map.Freed.{Freed}
-use Rattle.channel_map.specs.declared.map.Freed.TheVariants.{Nothing, Pair, Granted}
-use Rattle.channel_map.specs.Pairs.{kept, granted_now, is_free, lowest_free}
-use Rattle.gateway_claim.specs.Kinds.{RequestKind, sets_up, tears_down, closes, plain}
-use Rattle.gateway_claim.specs.Books.{Opened, Books, is_pair}
+use Rattle.channel_map.specs.Pairs.{lowest_free}
+use Rattle.gateway_claim.specs.Kinds.{RequestKind, sets_up, tears_down, closes}
+use Rattle.gateway_claim.specs.Books.{Opened, HeldPair, Books, pair_asked, is_pair}
 
 -- the id in a reply's field Session
 abbrev pub id_said : Reply2 → Option (List ℕ)
@@ -33,59 +30,48 @@ final_of reply (Some opened) =
     if nat_lt reply.code 200 then None
     else Some (record { number = reply.cseq; conn = opened.conn; kind = opened.kind; success = is_success reply.code; id = id_said reply })
 
--- A SETUP that fails frees its pair. The success of a TEARDOWN, and any reply to that of a connection that closed, frees
--- what was granted to the connection.
-abbrev pub freed_by : ℕ → RequestKind → Bool → Freed
-freed_by conn (sets_up pair) true = Nothing
-freed_by conn (sets_up pair) false = Pair pair
-freed_by conn tears_down true = Granted conn
-freed_by conn tears_down false = Nothing
-freed_by conn closes success = Granted conn
-freed_by conn plain success = Nothing
-
--- the pair that is granted
-abbrev pub granted_by : RequestKind → Bool → Option ℕ
-granted_by (sets_up pair) true = Some pair
-granted_by (sets_up pair) false = None
-granted_by tears_down success = None
-granted_by closes success = None
-granted_by plain success = None
+-- The session that ends with a reply: that of a TEARDOWN with a success, and that of a connection that closed with any.
+abbrev pub torn_by : RequestKind → Bool → Option (List ℕ)
+torn_by (tears_down id) true = Some id
+torn_by (closes id) success = Some id
+torn_by kind success = None
 
 -- the session that is bound
 abbrev pub bound_by : RequestKind → Bool → Option (List ℕ) → Option (List ℕ)
 bound_by (sets_up pair) true id = id
-bound_by (sets_up pair) false id = None
-bound_by tears_down success id = None
-bound_by closes success id = None
-bound_by plain success id = None
-
--- who holds a pair then
-abbrev pub held_then : Option Final → ℕ → Option Held → Option Held
-held_then None pair held = held
-held_then (Some final) pair held =
-    if is_pair (granted_by final.kind final.success) pair then granted_now held else kept (freed_by final.conn final.kind final.success) held
+bound_by kind success id = None
 
 -- whether this is the id of a session
 abbrev pub is_id : Option (List ℕ) → List ℕ → Bool
 is_id None id = false
 is_id (Some one) id = bytes_eq id one
 
--- whether what is freed is all that a connection holds
-abbrev pub frees_session : Freed → ℕ → Bool
-frees_session Nothing conn = false
-frees_session (Pair pair) conn = false
-frees_session (Granted owner) conn = owner == conn
+-- whether a pair is held for a session that ends
+abbrev pub is_torn_with : Option (List ℕ) → Option (List ℕ) → Bool
+is_torn_with torn None = false
+is_torn_with torn (Some id) = is_id torn id
 
--- who has a session once this was freed
-abbrev pub holder_left : Freed → Option ℕ → Option ℕ
-holder_left freed None = None
-holder_left freed (Some conn) = if frees_session freed conn then None else Some conn
+-- who holds a pair once a session has ended
+abbrev pub held_left : Option (List ℕ) → Option HeldPair → Option HeldPair
+held_left torn held = option_and_then (λ one. if is_torn_with torn one.session then None else Some one) held
+
+-- who holds the pair of a SETUP: a success grants it for the session that the reply says, and any other reply frees it
+abbrev pub granted_to : Bool → Option (List ℕ) → Option HeldPair → Option HeldPair
+granted_to true id held = option_map (λ one. record { conn = one.conn; session = id }) held
+granted_to false id held = None
+
+-- who holds a pair then
+abbrev pub held_then : Option Final → ℕ → Option HeldPair → Option HeldPair
+held_then None pair held = held
+held_then (Some final) pair held =
+    if is_pair (pair_asked final.kind) pair then granted_to final.success final.id held else held_left (torn_by final.kind final.success) held
 
 -- which connection has a session's id then
 abbrev pub holder_then : Option Final → List ℕ → Option ℕ → Option ℕ
 holder_then None id holder = holder
 holder_then (Some final) id holder =
-    if is_id (bound_by final.kind final.success final.id) id then Some final.conn else holder_left (freed_by final.conn final.kind final.success) holder
+    if is_id (bound_by final.kind final.success final.id) id then Some final.conn
+    else (if is_id (torn_by final.kind final.success) id then None else holder)
 
 -- who asked a number once a final reply has settled it
 abbrev pub opened_then : Option Final → ℕ → Option Opened → Option Opened
@@ -102,4 +88,4 @@ settles final books = record books {
 
 -- the lowest pair of channels that is free
 abbrev pub free_in : Books → Option ℕ
-free_in books = lowest_free (λ pair. is_free (books.held pair))
+free_in books = lowest_free (λ pair. is_none (books.held pair))

@@ -5,6 +5,7 @@ use Rattle.std.specs.Option.{option_map}
 use Rattle.rtsp_uri.specs.declared.base.Bases.{Bases}
 use Rattle.translate_down.specs.Replies.{told_by}
 use Rattle.client_slot.specs.declared.purpose.Purpose.{Purpose}
+use Rattle.client_slot.specs.Session.{PlayerSession}
 use Rattle.client_slot.specs.Client.{Client}
 use Rattle.client_slot.specs.Renumber.{client_under}
 use Rattle.client_machine.specs.Effects.{Outgoing, asks, carries, Effect}
@@ -16,7 +17,7 @@ use Rattle.gateway_claim.specs.declared.event.UpMessage.TheVariants.{Request, Fr
 use Rattle.gateway_claim.specs.ServerItems.{Heard, replies, requests, frames, faults, heard}
 use Rattle.gateway_claim.specs.Notices.{HeardNotice, notice_of}
 use Rattle.gateway_claim.specs.Books.{Books}
-use Rattle.gateway_claim.specs.Happenings.{Happening, enters, takes, ends, lags, hears, up_ends, HistoryEntry}
+use Rattle.gateway_claim.specs.Happenings.{Happening, takes, ends, lags, hears, HistoryEntry}
 use Rattle.gateway_claim.specs.Kinds.{RequestKind, plain}
 use Rattle.gateway_claim.specs.BooksAndSlots.{kind_for}
 use Rattle.gateway_claim.specs.Settlement.{free_in}
@@ -36,7 +37,7 @@ shared_in bases i history = option_map (λ private. shared (books_of history) i 
 -- What happens to the connection whose turn it is, in the numbers of the one connection. A step does not look at the
 -- mark.
 abbrev pub notice_raw : Result HeardNotice ℕ → Option PrivateEvent
-notice_raw (Ok notice) = Some (note notice.reason notice.names)
+notice_raw (Ok notice) = Some (note notice.id notice.reason notice.names)
 notice_raw (Err code) = None
 
 -- what the server says, as an event in the shared numbers
@@ -48,12 +49,11 @@ heard_raw books (faults fault) = None
 
 -- an event in the shared numbers
 abbrev pub raw_event : Books → Happening → Option PrivateEvent
-raw_event books (enters conn) = None
 raw_event books (takes conn shape) = Some (arrive shape false)
 raw_event books (ends conn) = Some end
 raw_event books (lags conn) = Some slow
 raw_event books (hears shape) = heard_raw books (heard shape)
-raw_event books (up_ends cause) = None
+raw_event books happening = None
 
 -- a message of a connection in those numbers, as it goes up
 abbrev pub raw_up : ℕ → Option ℕ → Outgoing → UpMessage
@@ -63,29 +63,22 @@ raw_up number free (carries pair half rest) = Frame (frame_text (2 * pair + half
 -- the number of the open request that a reply names
 abbrev pub heard_number : Heard → ℕ
 heard_number (replies reply) = reply.cseq
-heard_number (requests request) = 0
-heard_number (frames channel rest) = 0
-heard_number (faults fault) = 0
+heard_number said = 0
 
 -- the number that the server names in what it says; else 0
 abbrev pub number_heard : Happening → ℕ
-number_heard (enters conn) = 0
-number_heard (takes conn shape) = 0
-number_heard (ends conn) = 0
-number_heard (lags conn) = 0
 number_heard (hears shape) = heard_number (heard shape)
-number_heard (up_ends cause) = 0
+number_heard happening = 0
 
 -- the kind of a connection's open request
-abbrev pub kind_pending : Option Purpose → RequestKind
-kind_pending None = plain
-kind_pending (Some purpose) = kind_for (λ pair. pair) purpose
+abbrev pub kind_pending : List PlayerSession → Option Purpose → RequestKind
+kind_pending sessions None = plain
+kind_pending sessions (Some purpose) = kind_for (λ pair. pair) sessions purpose
 
 -- the kind of the request that goes up, where one does, by what is open then
-abbrev pub kind_gone : Option Outgoing → Option Purpose → Option RequestKind
-kind_gone None pending = None
-kind_gone (Some (asks request named)) pending = Some (kind_pending pending)
-kind_gone (Some (carries pair half rest)) pending = None
+abbrev pub kind_gone : Option Outgoing → Client → Option RequestKind
+kind_gone (Some (asks request named)) client = Some (kind_pending client.sessions client.pending)
+kind_gone message client = None
 
 -- what the step of a connection hands out, by its turn
 abbrev pub outcome_by : Books → Happening → ℕ → Effect → Outcome

@@ -2,11 +2,11 @@
 -- dropped (this project's own).
 use Rattle.std.specs.Prelude.{◌≡◌, ℕ, ◌+◌, ◌-◌, ◌^◌, ◌≤◌, ◌<◌, min, Bool, true, false, ◌&&◌, not, is_some, is_none, List, [], ◌∷◌, length, Option, Some, None, if◌then◌else◌}
 use Rattle.rtsp_head.specs.declared.item.ItemKind.{ItemKind}
-use Rattle.rtsp_head.specs.declared.item.ItemKind.TheVariants.{Request, Response, Frame, Bad}
+use Rattle.rtsp_head.specs.declared.item.ItemKind.TheVariants.{Frame}
 use Rattle.rtsp_uri.specs.declared.base.Bases.{Bases}
 use Rattle.client_machine.specs.Alone.{Private}
 use Rattle.gateway_claim.specs.declared.event.Outcome.{Outcome}
-use Rattle.gateway_claim.specs.Happenings.{Happening, enters, takes, ends, lags, hears, up_ends, HistoryEntry, fault_in, is_alive}
+use Rattle.gateway_claim.specs.Happenings.{Happening, takes, hears, HistoryEntry, fault_in, is_alive}
 use Rattle.gateway_claim.specs.Follows.{private_in}
 
 -- the first number from this one on of a connection that is alive; none where there is none of 32 bits
@@ -34,19 +34,14 @@ requests_waiting bases i earlier = waiting_private (private_in bases i earlier)
 
 -- whether an item is a frame
 abbrev pub is_frame : ItemKind → Bool
-is_frame Request = false
-is_frame Response = false
 is_frame Frame = true
-is_frame (Bad kind) = false
+is_frame kind = false
 
 -- whether an event brings a frame
 abbrev pub is_frame_item : Happening → Bool
-is_frame_item (enters conn) = false
 is_frame_item (takes conn shape) = is_frame shape.kind
-is_frame_item (ends conn) = false
-is_frame_item (lags conn) = false
 is_frame_item (hears shape) = is_frame shape.kind
-is_frame_item (up_ends cause) = false
+is_frame_item happening = false
 
 -- Whether a frame came of which nothing was handed out.
 abbrev pub is_dropped : Happening → Outcome → Bool

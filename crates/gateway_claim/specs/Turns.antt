@@ -45,4 +45,4 @@ pub record IsSteppedBy (bases : Bases) (history : List HistoryEntry) (i : ℕ) (
   pub client : shared (books_of (with_next_entry bases history happening)) i (client_alone bases (with_next_entry bases history happening) i) ≡ (step_by_books bases history i happening raw).client
   pub others : (j : ℕ) → j ≢ i → shared (books_of (with_next_entry bases history happening)) j (client_alone bases (with_next_entry bases history happening) j) ≡ shared (books_of history) j (client_alone bases history j)
   pub books : books_of (with_next_entry bases history happening)
-      ≡ lends_where (Some i) (kind_gone (step_by_books bases history i happening raw).message (step_by_books bases history i happening raw).client.pending) (settled_by (books_of history) happening)
+      ≡ lends_where (Some i) (kind_gone (step_by_books bases history i happening raw).message (step_by_books bases history i happening raw).client) (settled_by (books_of history) happening)

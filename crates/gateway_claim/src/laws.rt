@@ -7,7 +7,6 @@ ghost use Rattle.rtsp_small.specs.declared.cseq.TheConstants.{CSEQ_TWO_DIGITS, L
 ghost use Rattle.client_machine.specs.Alone.{private_after, sent_up};
 ghost use Rattle.client_machine.specs.Apart.{streams_of, AreAllStreamsApart};
 ghost use Rattle.client_machine.specs.Events.{PrivateEvent};
-ghost use Rattle.client_machine.specs.SeenRun.{AreShortPieces};
 ghost use Rattle.gateway_claim.specs.declared.event.Closed.TheVariants.{Nobody};
 ghost use Rattle.gateway_claim.specs.Apart.{pairs_held, session_held, IsFrameDown, IsFrameUp};
 ghost use Rattle.gateway_claim.specs.UpRequests.{asked_up, spelled_up};
@@ -21,7 +20,7 @@ ghost use Rattle.gateway_claim.specs.Next.{next};
 ghost use Rattle.gateway_claim.specs.Turns.{client_alone, IsItsTurn, IsSteppedBy};
 ghost use Rattle.gateway_claim.specs.OnePlayer.{IsOnlyPlayer, HasAll};
 ghost use Rattle.gateway_claim.specs.Orderly.{IsOrderly};
-ghost use Rattle.gateway_claim.specs.SeenRun.{IsSeenRun};
+ghost use Rattle.gateway_claim.specs.SeenRun.{AreItemsHeard, IsSeenRun};
 
 use crate::cores::Core;
 
@@ -76,7 +75,7 @@ pub fn one_player_has_all_that_is_handed_out()
 
 /// While the connection to the server stands, the books of a history and what each connection alone
 /// has agree: each of its streams has a pair of channels that it holds and nobody else does, its open
-/// request is owed to it and is its only one, and its session is bound to it.
+/// request is owed to it and is its only one, and its sessions are bound to it.
 pub fn books_and_connections_agree()
     ensures sound { (bases : Bases) (history : List HistoryEntry) → IsHistory bases history
         → fault_in history ≡ None
@@ -101,14 +100,15 @@ pub fn no_two_streams_share_channels()
         → AreAllStreamsApart (streams_of (client_alone bases history i)) }
 {}
 
-/// While the connection to the server stands, no two connections have one session.
+/// While the connection to the server stands, no session is there twice: no two connections have it,
+/// and none has it at two places.
 pub fn no_two_connections_have_one_session()
-    ensures { (bases : Bases) (history : List HistoryEntry) (i j : ℕ) (id : List ℕ)
+    ensures { (bases : Bases) (history : List HistoryEntry) (i j a b : ℕ) (id : List ℕ)
         → IsHistory bases history
         → fault_in history ≡ None
-        → session_held bases history i ≡ Some id
-        → session_held bases history j ≡ Some id
-        → i ≡ j }
+        → session_held bases history i a ≡ Some id
+        → session_held bases history j b ≡ Some id
+        → (i ≡ j) × (a ≡ b) }
 {}
 
 /// A frame of the server is handed to no player but the one whose stream has its channel, as that
@@ -161,14 +161,14 @@ pub fn a_turn_is_one_step_by_the_books()
         → IsSteppedBy bases history i happening raw }
 {}
 
-/// What a player sees is a run of the table of states (RFC 2326, A.2), where memory can hold each
-/// piece that it was handed. The replies that are read from the pieces answer the first of its
-/// requests, each one request in order, and have its number. A walk from Init goes through them: a
-/// success goes by the row for the method of its request, and any other reply leaves the state;
-/// before each of them what played may have ended.
+/// What a player sees is a run of the table of states (RFC 2326, A.2). The replies that are read from
+/// the pieces answer the first of its requests, each one request in order, and have its number. For each
+/// session's id a walk from Init goes through its replies: a success goes by the row for the method of
+/// its request, and any other reply leaves the state; before each of them what played may have ended.
+/// What comes of the server are items, as each event of a core is one by its type.
 pub fn replies_walk_the_table()
     ensures { (bases : Bases) (history : List HistoryEntry) (i : ℕ) → IsHistory bases history
-        → AreShortPieces (sent i history)
+        → AreItemsHeard history
         → IsSeenRun i history }
 {}
 
