@@ -170,7 +170,7 @@ impl ConnectionTable {
 fn is_over(slot: &Slot) -> bool
     ensures { result ≡ is_over slot.now }
 {
-    !slot.alive() && !slot.busy() && slot.session().is_none()
+    !slot.alive() && !slot.busy() && slot.closing_place().is_none()
 }
 
 /// Nothing is kept under a key any longer.

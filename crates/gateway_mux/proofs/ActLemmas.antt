@@ -5,6 +5,7 @@ use Rattle.std.proofs.lemmas.List.{append-nil}
 use Rattle.rtsp_head.specs.Items.{Shape}
 use Rattle.rtsp_head.specs.declared.item.ItemKind.TheVariants as kinds
 use Rattle.rtsp_uri.specs.declared.base.Bases.{Bases}
+use Rattle.client_slot.specs.Places.{tracks_of}
 use Rattle.client_slot.specs.Client.{Client}
 use Rattle.client_machine.specs.declared.parts.Done.{Done}
 use Rattle.client_machine.specs.Effects.{carries, Effect}
@@ -28,12 +29,13 @@ use Rattle.gateway_claim.proofs.OtherLemmas.{differs}
 use Rattle.gateway_mux.specs.declared.turn.PlannedTurn.{PlannedTurn}
 use Rattle.gateway_mux.specs.Acts.{IsPlannedTurn, IsRise, IsFall}
 use Rattle.gateway_mux.specs.Moves.{wrong_heard, wrong_in, step_in, TakesTurn, IsAfterStep, IsIdle, IsEndAt, handed_by, answering, risen_by, fallen_by, ended_by, IsNext, IsCommitted}
-use Rattle.gateway_mux.specs.Pictures.{Picture, opened_in, books_in, IsPictureOf}
+use Rattle.gateway_mux.specs.Pictures.{Picture, opened_in, bare_held, books_in, IsPictureOf}
 use Rattle.gateway_mux.specs.Turn.{kind_open}
 use Rattle.gateway_mux.proofs.CommitLemmas.{IsTurned, turn_is_after, turn_hands}
 use Rattle.gateway_mux.proofs.EndLemmas.{ends_so}
 use Rattle.gateway_mux.proofs.FollowLemmas.{turn_follows}
 use Rattle.gateway_mux.proofs.IdleLemmas.{idle_follows}
+use Rattle.gateway_mux.proofs.PictureLemmas.{same_books}
 use Rattle.gateway_mux.proofs.StandLemmas.{standing_open, standing_ended}
 
 -- the next entry, where the connection to the server stands after it
@@ -51,7 +53,7 @@ pub turn_committed : (bases : Bases) (one after : Picture) (h : Happening) (answ
     → IsCommitted bases one after h (handed_by it.conn answer done)
 turn_committed bases one after h answer it done its turned T is =
     let (outcome, there) = turn_follows bases one after T h it.conn its.client its.raw is its.its_turn (turn_is_after bases one after T h answer it done is its turned) in
-    stands_next bases after T h (handed_by it.conn answer done) (turn_hands bases one after h answer it done its turned ∙ sym outcome) there
+    stands_next bases after T h (handed_by it.conn answer done) (turn_hands bases one after T h answer it done is its turned ∙ sym outcome) there
 
 -- Nothing comes of an event, but an answer to the server.
 pub idle_committed : (bases : Bases) (one : Picture) (h : Happening) (answer : Option (List ℕ)) → ((i : ℕ) → enters_here i h ≡ false) → IsIdle bases one h answer → IsCommitted bases one one h (answering answer)
@@ -74,8 +76,11 @@ opened_again one n = by (one.asker n)
     by None = refl
     by (Some conn) = refl
 
+held_again : (bases : Bases) (one : Picture) (T : List HistoryEntry) → IsPictureOf bases one T → (p : ℕ) → one.held p ≡ option_map (bare_held p) ((books_in one).held p)
+held_again bases one T is p = is.held p ∙ ap (option_map (bare_held p)) (sym ((same_books bases one T is).held p))
+
 -- A frame of a player goes up.
-rise_step : (bases : Bases) (one : Picture) (i : ℕ) (shape : Shape) (client : Client) (half : Half) → shape.kind ≡ kinds.Frame → client.alive ≡ true → half_for (channel_in shape) client.session.tracks ≡ Some half
+rise_step : (bases : Bases) (one : Picture) (i : ℕ) (shape : Shape) (client : Client) (half : Half) → shape.kind ≡ kinds.Frame → client.alive ≡ true → half_for (channel_in shape) (tracks_of client.sessions) ≡ Some half
     → step_in bases one (takes i shape) client (arrive shape false) ≡ record { client = client; hand = []; message = Some (carries half.pair half.half (behind_channel shape)); close = None }
 rise_step bases one i shape client half kind alive found =
     ap (λ t. heard_step bases (free_in (settled_by (books_in one) (takes i shape))) (take t shape client)) alive
@@ -83,7 +88,7 @@ rise_step bases one i shape client half kind alive found =
     ∙ ap (λ (there : Option Half). heard_step bases (free_in (settled_by (books_in one) (takes i shape))) (carry there (behind_channel shape) client)) found
 
 rise_at : (bases : Bases) (one : Picture) (i channel : ℕ) (shape : Shape) (client : Client) (half : Half) → shape.kind ≡ kinds.Frame → one.clients i ≡ Some client → client.alive ≡ true
-    → half_for (channel_in shape) client.session.tracks ≡ Some half → channel ≡ 2 * half.pair + half.half → IsCommitted bases one one (takes i shape) (risen_by (frame_text channel (behind_channel shape)))
+    → half_for (channel_in shape) (tracks_of client.sessions) ≡ Some half → channel ≡ 2 * half.pair + half.half → IsCommitted bases one one (takes i shape) (risen_by (frame_text channel (behind_channel shape)))
 rise_at bases one i channel shape client half kind here alive found is_channel T is =
     let (outcome, there) = turn_follows bases one one T (takes i shape) i client (arrive shape false) is its_turn now in
     stands_next bases one T (takes i shape) (risen_by (frame_text channel (behind_channel shape)))
@@ -97,7 +102,7 @@ rise_at bases one i channel shape client half kind here alive found is_channel T
 
     now : IsAfterStep one one (takes i shape) i (step_in bases one (takes i shape) client (arrive shape false))
     now = subst (λ (effect : Effect). IsAfterStep one one (takes i shape) i effect) (sym steps)
-        (record { is_client = here; others = λ j ne. refl; asker = opened_again one; held = λ p. refl; holder = λ id. refl; issued = refl })
+        (record { is_client = here; others = λ j ne. refl; asker = opened_again one; held = held_again bases one T is; holder = λ id. refl; issued = refl })
 
 pub rise_committed : (bases : Bases) (one : Picture) (h : Happening) (i channel : ℕ) (shape : Shape) → h ≡ takes i shape → IsRise one h channel → IsCommitted bases one one h (risen_by (frame_text channel (behind_channel shape)))
 rise_committed bases one h i channel shape comes rise =
@@ -110,7 +115,7 @@ rise_committed bases one h i channel shape comes rise =
     taken_shape e = cc
 
 -- A frame of the server goes to a player.
-fall_step : (bases : Bases) (one : Picture) (h : Happening) (pair half channel : ℕ) (rest : List ℕ) (client : Client) → client.alive ≡ true → channel_for pair half client.session.tracks ≡ Some channel
+fall_step : (bases : Bases) (one : Picture) (h : Happening) (pair half channel : ℕ) (rest : List ℕ) (client : Client) → client.alive ≡ true → channel_for pair half (tracks_of client.sessions) ≡ Some channel
     → step_in bases one h client (media pair half rest) ≡ record { client = client; hand = frame_text channel rest; message = None; close = None }
 fall_step bases one h pair half channel rest client alive found =
     ap (λ t. heard_step bases (free_in (settled_by (books_in one) h)) (take_media t pair half rest client)) alive
@@ -120,8 +125,8 @@ fall_step bases one h pair half channel rest client alive found =
 heard_frame : (shape : Shape) → shape.kind ≡ kinds.Frame → heard shape ≡ frames (channel_in shape) (behind_channel shape)
 heard_frame shape kind = ap (λ k. heard_at k shape) kind
 
-fall_at : (bases : Bases) (one : Picture) (conn channel : ℕ) (shape : Shape) (client : Client) → shape.kind ≡ kinds.Frame → owner_of (one.held (channel_in shape / 2)) ≡ Some conn → one.clients conn ≡ Some client → client.alive ≡ true
-    → channel_for (channel_in shape / 2) (channel_in shape % 2) client.session.tracks ≡ Some channel → IsCommitted bases one one (hears shape) (fallen_by conn (frame_text channel (behind_channel shape)))
+fall_at : (bases : Bases) (one : Picture) (conn channel : ℕ) (shape : Shape) (client : Client) → shape.kind ≡ kinds.Frame → owner_of ((books_in one).held (channel_in shape / 2)) ≡ Some conn → one.clients conn ≡ Some client → client.alive ≡ true
+    → channel_for (channel_in shape / 2) (channel_in shape % 2) (tracks_of client.sessions) ≡ Some channel → IsCommitted bases one one (hears shape) (fallen_by conn (frame_text channel (behind_channel shape)))
 fall_at bases one conn channel shape client kind owner here alive found T is =
     let (outcome, there) = turn_follows bases one one T (hears shape) conn client raw is its_turn now in
     stands_next bases one T (hears shape) (fallen_by conn (frame_text channel (behind_channel shape)))
@@ -154,7 +159,7 @@ fall_at bases one conn channel shape client kind owner here alive found T is =
           is_client = here;
           others = λ j ne. refl;
           asker = λ n. opened_again one n ∙ ap (λ (b : Books). option_map (λ (opened : Opened). opened.conn) (b.opened n)) (sym settled);
-          held = λ p. ap (λ (b : Books). b.held p) (sym settled);
+          held = λ p. held_again bases one T is p ∙ ap (λ (b : Books). option_map (bare_held p) (b.held p)) (sym settled);
           holder = λ id. ap (λ (b : Books). b.holder id) (sym settled);
           issued = refl;
         })

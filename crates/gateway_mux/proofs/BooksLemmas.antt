@@ -1,13 +1,11 @@
 -- Books that have the same at each place tell the same of an event.
-use Rattle.std.proofs.Common.{◌≡◌, ◌∙◌, ℕ, ◌+◌, ◌/◌, ◌==◌, false, cond, List, Option, Some, None, Result, Err, refl, ap}
-use Rattle.std.specs.Prelude.{codes}
+use Rattle.std.proofs.Common.{◌≡◌, ◌∙◌, ℕ, ◌+◌, ◌/◌, ◌==◌, cond, List, Option, Some, None, Result, Err, refl, ap}
+use Rattle.std.specs.Prelude.{codes, is_none}
 use Rattle.std.specs.Option.{option_map}
 use Rattle.std.specs.Str.{bytes_eq}
-use Rattle.channel_map.specs.declared.map.Held.{Held}
-use Rattle.channel_map.specs.Pairs.{is_free}
 use Rattle.head_two.specs.declared.ask.Ask2.{Ask2}
 use Rattle.gateway_claim.specs.Kinds.{RequestKind}
-use Rattle.gateway_claim.specs.Books.{Opened, Books, lends, pair_asked, is_pair}
+use Rattle.gateway_claim.specs.Books.{Opened, HeldPair, Books, lends, pair_asked, is_pair}
 use Rattle.gateway_claim.specs.ServerItems.{Heard, replies, requests, frames, faults, heard}
 use Rattle.gateway_claim.specs.Notices.{HeardNotice, session_named, held_session, named_session, notice_of, answer_to}
 use Rattle.gateway_claim.specs.Settlement.{Final, final_of, opened_then, held_then, holder_then, settles, free_in}
@@ -104,13 +102,13 @@ pub settled_same : (a b : Books) (h : Happening) → AreSame a b → AreSame (se
 settled_same a b h same = settles_same a b (final_in a h) (final_in b h) (final_same a b h same) same
 
 pub free_same : (a b : Books) → AreSame a b → free_in a ≡ free_in b
-free_same a b same = lowest_free_same (λ pair. is_free (a.held pair)) (λ pair. is_free (b.held pair)) (λ pair. ap is_free (same.held pair))
+free_same a b same = lowest_free_same (λ pair. is_none (a.held pair)) (λ pair. is_none (b.held pair)) (λ pair. ap is_none (same.held pair))
 
 lent_same : (a b : Books) (i : ℕ) (kind : RequestKind) → AreSame a b → AreSame (lends i kind a) (lends i kind b)
 lent_same a b i kind same = record {
   opened = λ number. ap (λ n. let none : Option Opened = Some (record { conn = i; kind = kind }) in cond (number == n + 1) none (a.opened number)) same.issued
       ∙ ap (λ (o : Option Opened). let none : Option Opened = Some (record { conn = i; kind = kind }) in cond (number == b.issued + 1) none o) (same.opened number);
-  held = λ pair. ap (λ (held : Option Held). cond (is_pair (pair_asked kind) pair) (Some (record { conn = i; pair = pair; granted = false })) held) (same.held pair);
+  held = λ pair. ap (λ (held : Option HeldPair). cond (is_pair (pair_asked kind) pair) (Some (record { conn = i; session = None })) held) (same.held pair);
   holder = same.holder;
   issued = ap (λ n. n + 1) same.issued;
 }

@@ -2,7 +2,8 @@
 use Rattle.std.proofs.Common.{◌≡◌, ◌≢◌, ◌∙◌, ◌≤◌, ◌+◌, ◌==◌, nat_lt, ℕ, Bool, true, false, cond, List, Option, Some, None, Result, Ok, Err, IsSome, IfSome, OnOk, OnErr, refl, sym, ap, subst, arith}
 use Rattle.std.specs.Prelude.{is_some}
 use Rattle.std.proofs.lemmas.Bool.{eqb-true}
-use Rattle.std.proofs.Math.Logic.{∥∥₁_map}
+use Rattle.std.proofs.Math.Logic.{∥∥₁_map, ∥∥₁_elim}
+use Rattle.std.proofs.Props.{props}
 use Rattle.rtsp_uri.specs.declared.base.Bases.{Bases}
 use Rattle.up_books.specs.declared.cseq.TheConstants.{LAST_NUMBER}
 use Rattle.up_books.specs.Ids.{Ids}
@@ -17,6 +18,9 @@ use Rattle.gateway_claim.specs.declared.event.Event.{Event}
 use Rattle.gateway_claim.specs.declared.event.Event.TheVariants.{Client, Up, End, Slow, UpEnd}
 use Rattle.gateway_claim.specs.declared.event.Outcome.{Outcome}
 use Rattle.gateway_claim.specs.declared.event.UpCause.TheVariants.{CseqSpent}
+use Rattle.client_machine.specs.Step.{heard_step}
+use Rattle.gateway_claim.specs.OwnEvents.{settled_by}
+use Rattle.gateway_claim.specs.Settlement.{free_in}
 use Rattle.gateway_claim.specs.Follows.{spent}
 use Rattle.gateway_claim.specs.Happenings.{Happening, happening_of, enters_here}
 use Rattle.gateway_mux.specs.declared.turn.PlannedTurn.{PlannedTurn}
@@ -24,11 +28,12 @@ use Rattle.gateway_mux.specs.Acts.{IsPlannedTurn, IsTurnOfSome}
 use Rattle.connection_table.specs.CarryOut.{IsCarriedAt}
 use Rattle.gateway_mux.specs.Enter.{IsAsBefore}
 use Rattle.gateway_mux.specs.Moves.{IsCommitted}
-use Rattle.gateway_mux.specs.Pictures.{Picture, IsKept}
-use Rattle.gateway_mux.specs.Settlements.{asker_settled, held_settled, holder_settled, binds, unbinds}
-use Rattle.gateway_mux.specs.Turn.{free_once, session_of_client, asks_pair, asker_lent, issued_then, one_if}
+use Rattle.gateway_mux.specs.Pictures.{Picture, books_in, IsKept}
+use Rattle.gateway_mux.specs.Settlements.{torn_of, asker_settled, held_settled, holder_settled, binds, unbinds}
+use Rattle.gateway_mux.specs.Turn.{free_once, asks_pair, asker_lent, issued_then, one_if}
 use Rattle.gateway_mux.specs.Upstream.{held_lent}
-use Rattle.gateway_mux.proofs.CommitLemmas.{IsTurned, effect_is, goes}
+use Rattle.gateway_mux.proofs.CommitLemmas.{IsTurned, settled_turn, goes}
+use Rattle.gateway_mux.proofs.SettlementLemmas.{settled_free}
 use Rattle.gateway_mux.proofs.UpkeepLemmas.{keeps_turn, keeps_more}
 use Rattle.gateway_mux.proofs.AfterTurnLemmas.{effect_asks}
 
@@ -57,13 +62,19 @@ number_left issued free old pending (Some (asks request named)) by_it left some 
     by false low left t e = absurd (spent_is_none left)
 number_left issued free old pending (Some (carries pair half rest)) by_it left some = absurd by_it
 
-pub left_for : (bases : Bases) (one : Picture) (answer : Option (List ℕ)) (it : PlannedTurn) → IsTurnOfSome bases one answer it → it.asks ≡ true → IsSome (next_number one.issued)
-left_for bases one answer it its asks_it =
+free_now : (bases : Bases) (one : Picture) (a b : ℕ) (answer : Option (List ℕ)) (it : PlannedTurn) → ∥ IsKept bases one a b ∥₁ → (its : IsTurnOfSome bases one answer it) → free_once it.settled one.held ≡ free_in (settled_by (books_in one) its.happening)
+free_now bases one a b answer it merely its =
+    ∥∥₁_elim merely (Prim.hlevel props)
+    (λ keeps. settled_free bases one keeps.history its.happening it.conn its.is_planned.client it.settled keeps.is_of (settled_turn bases one its.happening answer it its.is_planned))
+
+pub left_for : (bases : Bases) (one : Picture) (a b : ℕ) (answer : Option (List ℕ)) (it : PlannedTurn) → ∥ IsKept bases one a b ∥₁ → IsTurnOfSome bases one answer it → it.asks ≡ true → IsSome (next_number one.issued)
+left_for bases one a b answer it merely its asks_it =
     let planned : IsPlannedTurn bases one its.happening answer it = its.is_planned in
     number_left one.issued (free_once it.settled one.held) (heard_by bases it.number planned.client planned.comes).effect.client.pending (effect_by bases it.number (free_once it.settled one.held) planned.client planned.comes).client.pending
     (effect_by bases it.number (free_once it.settled one.held) planned.client planned.comes).message
     (effect_asks bases it.number (free_once it.settled one.held) planned.client planned.comes planned.is_sound)
-    (ap (λ effect. spent one.issued effect.message) (effect_is bases one its.happening answer it planned) ∙ planned.its_turn.left)
+    (ap (λ free. spent one.issued (heard_step bases free (heard_by bases it.number planned.client planned.comes)).message) (free_now bases one a b answer it merely its)
+    ∙ ap (λ said. spent one.issued (heard_step bases (free_in (settled_by (books_in one) its.happening)) said).message) planned.says ∙ planned.its_turn.left)
     (sym (goes bases one its.happening answer it planned) ∙ asks_it)
 
 -- The connection whose turn it is entered.
@@ -75,13 +86,13 @@ pub turned_result : (one after : Picture) (it : PlannedTurn) (result : Option Do
     → ((i : ℕ) → it.conn ≢ i → after.clients i ≡ one.clients i) → (IsSome result → after.issued ≡ issued_then it.asks one.issued)
     → (IsSome result → (n : ℕ) → after.asker n ≡ asker_lent it.asks it.conn (one.issued + 1) n (asker_settled it.settled n (one.asker n)))
     → (IsSome result → (p : ℕ) → after.held p ≡ held_lent it.asks (asks_pair (after.clients it.conn)) it.conn (free_once it.settled one.held) p (held_settled it.settled p (one.held p)))
-    → (IsSome result → (id : List ℕ) → after.holder id ≡ holder_settled it.settled it.conn id (one.holder id)) → IfSome result (λ done. IsTurned one after it done)
+    → (IsSome result → (id : List ℕ) → after.holder id ≡ holder_settled it.settled (torn_of it.settled (one.clients it.conn)) it.conn id (one.holder id)) → IfSome result (λ done. IsTurned one after it done)
 turned_result one after it None carried others issued asker held holder = tt
 turned_result one after it (Some done) carried others issued asker held holder = record { carried = carried; others = others; issued = issued refl; asker = asker refl; held = held refl; holder = holder refl }
 
 pub keeps_result : (bases : Bases) (one after : Picture) (answer : Option (List ℕ)) (it : PlannedTurn) (result : Option Done) (requests sessions requests_now sessions_now : ℕ) → IsTurnOfSome bases one answer it → IsSome result
     → IfSome result (λ done. IsTurned one after it done) → (IsSome result → requests_now + one_if it.asks ≡ requests + one_if (is_some it.settled))
-    → (IsSome result → sessions_now + one_if (binds it.settled) ≡ sessions + one_if (unbinds it.settled (session_of_client (one.clients it.conn))))
+    → (IsSome result → sessions_now + one_if (binds it.settled) ≡ sessions + one_if (unbinds it.settled (torn_of it.settled (one.clients it.conn))))
     → ∥ IsKept bases one requests sessions ∥₁ → ∥ IsKept bases after requests_now sessions_now ∥₁
 keeps_result bases one after answer it None requests sessions requests_now sessions_now its some turned room spare keeps = cc
 keeps_result bases one after answer it (Some done) requests sessions requests_now sessions_now its some turned room spare keeps =

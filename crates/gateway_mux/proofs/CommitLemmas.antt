@@ -3,7 +3,6 @@ use Rattle.std.proofs.Common.{◌≡◌, ◌≢◌, ◌∙◌, ℕ, ◌+◌, Lis
 use Rattle.std.specs.Prelude.{is_some}
 use Rattle.std.specs.Option.{option_map}
 use Rattle.rtsp_uri.specs.declared.base.Bases.{Bases}
-use Rattle.channel_map.specs.Pairs.{is_free}
 use Rattle.client_slot.specs.declared.purpose.Purpose.{Purpose}
 use Rattle.client_slot.specs.Client.{Client}
 use Rattle.client_machine.specs.declared.parts.Done.{Done}
@@ -16,26 +15,22 @@ use Rattle.client_machine.specs.UpTexts.{spelled}
 use Rattle.client_machine.specs.Step.{heard_step}
 use Rattle.gateway_claim.specs.declared.event.UpMessage.{UpMessage}
 use Rattle.gateway_claim.specs.declared.event.UpMessage.TheVariants.{Request}
-use Rattle.gateway_claim.specs.Books.{Opened, Books}
+use Rattle.gateway_claim.specs.Books.{Books}
 use Rattle.gateway_claim.specs.Happenings.{Happening, HistoryEntry}
 use Rattle.gateway_claim.specs.Next.{client_piece, one_closed}
 use Rattle.gateway_claim.specs.Settlement.{free_in}
-use Rattle.gateway_claim.specs.OwnEvents.{final_in, settled_by}
+use Rattle.gateway_claim.specs.OwnEvents.{settled_by}
 use Rattle.gateway_claim.specs.Follows.{answer_due}
 use Rattle.gateway_claim.specs.SharedEvents.{raw_up, number_heard, outcome_by}
-use Rattle.gateway_mux.specs.declared.settlement.Settlement.{Settlement}
 use Rattle.gateway_mux.specs.declared.turn.PlannedTurn.{PlannedTurn}
 use Rattle.gateway_mux.specs.Acts.{IsPlannedTurn}
 use Rattle.connection_table.specs.CarryOut.{IsCarriedAt}
 use Rattle.gateway_mux.specs.Moves.{step_in, IsAfterStep, IsAfterTurn, handed_by}
 use Rattle.gateway_mux.specs.Pictures.{Picture, books_in, IsPictureOf}
-use Rattle.gateway_mux.specs.Settlements.{AreSettled, asker_settled, held_settled, holder_settled}
-use Rattle.gateway_mux.specs.Turn.{free_once, session_of_client, kind_open, asks_pair, asker_lent, issued_then}
+use Rattle.gateway_mux.specs.Settlements.{torn_of, asker_settled, held_settled, holder_settled}
+use Rattle.gateway_mux.specs.Turn.{free_once, asks_pair, asker_lent, issued_then}
 use Rattle.gateway_mux.specs.Upstream.{held_lent}
-use Rattle.gateway_mux.proofs.FinalLemmas.{final_here, names_own}
-use Rattle.gateway_mux.proofs.SettleableLemmas.{session_bound}
-use Rattle.gateway_mux.proofs.SettlementLemmas.{settled_held, settled_asker, NamesOwn, settled_holder}
-use Rattle.gateway_mux.proofs.TurnLemmas.{lowest_free_same}
+use Rattle.gateway_mux.proofs.SettlementLemmas.{IsSettledTurn, settled_asker, settled_held, settled_holder, settled_free}
 use Rattle.gateway_mux.proofs.AfterTurnLemmas.{effect_asks, asker_by, issued_by, holder_by_message, held_by_message}
 
 -- what was done, by what there was before and after it
@@ -45,22 +40,20 @@ pub record IsTurned (one after : Picture) (it : PlannedTurn) (done : Done) : Typ
   pub issued : after.issued ≡ issued_then it.asks one.issued
   pub asker : (n : ℕ) → after.asker n ≡ asker_lent it.asks it.conn (one.issued + 1) n (asker_settled it.settled n (one.asker n))
   pub held : (p : ℕ) → after.held p ≡ held_lent it.asks (asks_pair (after.clients it.conn)) it.conn (free_once it.settled one.held) p (held_settled it.settled p (one.held p))
-  pub holder : (id : List ℕ) → after.holder id ≡ holder_settled it.settled it.conn id (one.holder id)
+  pub holder : (id : List ℕ) → after.holder id ≡ holder_settled it.settled (torn_of it.settled (one.clients it.conn)) it.conn id (one.holder id)
 
--- The lowest pair that is free then.
-pub free_by : (one : Picture) (h : Happening) (session : Option (List ℕ)) (settled : Option Settlement) → AreSettled (final_in (books_in one) h) session settled → free_once settled one.held ≡ free_in (settled_by (books_in one) h)
-free_by one h session settled is =
-    lowest_free_same (λ pair. is_free (held_settled settled pair (one.held pair))) (λ pair. is_free ((settled_by (books_in one) h).held pair))
-    (λ pair. ap is_free (settled_held (final_in (books_in one) h) session settled pair (one.held pair) is))
+-- what it settles
+pub settled_turn : (bases : Bases) (one : Picture) (h : Happening) (answer : Option (List ℕ)) (it : PlannedTurn) → (its : IsPlannedTurn bases one h answer it) → IsSettledTurn one h it.conn its.client it.settled
+settled_turn bases one h answer it its = record { turns = its.its_turn.turns; here = its.its_turn.here; said = its.its_turn.said; settles = its.settles }
 
 -- what the machine does at it
 abbrev pub effect_of : Bases → Picture → PlannedTurn → Client → Comes → Effect
 effect_of bases one it client comes = effect_by bases it.number (free_once it.settled one.held) client comes
 
-pub effect_is : (bases : Bases) (one : Picture) (h : Happening) (answer : Option (List ℕ)) (it : PlannedTurn) → (its : IsPlannedTurn bases one h answer it) → effect_of bases one it its.client its.comes ≡ step_in bases one h its.client its.raw
-effect_is bases one h answer it its =
+pub effect_is : (bases : Bases) (one : Picture) (T : List HistoryEntry) (h : Happening) (answer : Option (List ℕ)) (it : PlannedTurn) → IsPictureOf bases one T → (its : IsPlannedTurn bases one h answer it) → effect_of bases one it its.client its.comes ≡ step_in bases one h its.client its.raw
+effect_is bases one T h answer it is its =
     ap (λ said. heard_step bases (free_once it.settled one.held) said) its.says
-    ∙ ap (λ free. heard_step bases free (hear bases (number_heard h) its.client its.raw)) (free_by one h its.client.session.id it.settled its.settles)
+    ∙ ap (λ free. heard_step bases free (hear bases (number_heard h) its.client its.raw)) (settled_free bases one T h it.conn its.client it.settled is (settled_turn bases one h answer it its))
 
 -- whether a request goes up
 pub goes : (bases : Bases) (one : Picture) (h : Happening) (answer : Option (List ℕ)) (it : PlannedTurn) → (its : IsPlannedTurn bases one h answer it) → it.asks ≡ is_some (effect_of bases one it its.client its.comes).message
@@ -84,7 +77,7 @@ done_is bases one after h answer it done its turned =
 pub turn_is_after : (bases : Bases) (one after : Picture) (T : List HistoryEntry) (h : Happening) (answer : Option (List ℕ)) (it : PlannedTurn) (done : Done) → IsPictureOf bases one T → (its : IsPlannedTurn bases one h answer it)
     → IsTurned one after it done → IsAfterTurn bases one after h it.conn its.client its.raw
 turn_is_after bases one after T h answer it done is its turned =
-    subst (λ (effect : Effect). IsAfterStep one after h it.conn effect) (effect_is bases one h answer it its) by_effect
+    subst (λ (effect : Effect). IsAfterStep one after h it.conn effect) (effect_is bases one T h answer it is its) by_effect
   where
     effect : Effect
     effect = effect_of bases one it its.client its.comes
@@ -92,8 +85,8 @@ turn_is_after bases one after T h answer it done is its turned =
     settled : Books
     settled = settled_by (books_in one) h
 
-    session : Option (List ℕ)
-    session = its.client.session.id
+    at : IsSettledTurn one h it.conn its.client it.settled
+    at = settled_turn bases one h answer it its
 
     then_is : after.clients it.conn ≡ Some effect.client
     then_is = let (then, there, does) = done_is bases one after h answer it done its turned in there ∙ ap (λ (c : Client). Some c) does.client
@@ -104,32 +97,22 @@ turn_is_after bases one after T h answer it done is its turned =
     is_going : it.asks ≡ is_some effect.message
     is_going = goes bases one h answer it its
 
-    named : NamesOwn (final_in (books_in one) h) session
-    named = subst (λ (s : Option (List ℕ)). NamesOwn (final_in (books_in one) h) s) (ap session_of_client its.its_turn.here) (names_own one h it.conn its.its_turn.turns its.its_turn.said)
-
     by_effect : IsAfterStep one after h it.conn effect
     by_effect = record {
       is_client = then_is;
       others = λ j ne. turned.others j (λ same. ne (sym same));
       asker = λ n. turned.asker n
-          ∙ asker_by it.conn n settled (free_once it.settled one.held) (heard_by bases it.number its.client its.comes).effect.client.pending effect.client.pending effect.message it.asks (asker_settled it.settled n (one.asker n)) is_going asks_it
-          (opened_was n ∙ settled_asker (final_in (books_in one) h) session it.settled n ((books_in one).opened n) its.settles);
+          ∙ asker_by it.conn n settled (free_once it.settled one.held) (heard_by bases it.number its.client its.comes).effect.client.pending effect.client effect.message it.asks (asker_settled it.settled n (one.asker n)) is_going asks_it
+          (settled_asker bases one T h it.conn its.client it.settled is at n);
       held = λ p. turned.held p
-          ∙ held_by_message it.conn p settled (free_once it.settled one.held) (heard_by bases it.number its.client its.comes).effect.client.pending effect.client.pending effect.message it.asks (asks_pair (after.clients it.conn)) (held_settled it.settled p (one.held p)) is_going
-          (ap asks_pair then_is) asks_it (settled_held (final_in (books_in one) h) session it.settled p (one.held p) its.settles);
+          ∙ held_by_message it.conn p settled (free_once it.settled one.held) (heard_by bases it.number its.client its.comes).effect.client.pending effect.client effect.message it.asks (asks_pair (after.clients it.conn)) (held_settled it.settled p (one.held p)) is_going
+          (ap asks_pair then_is) asks_it (settled_held bases one T h it.conn its.client it.settled is at p);
       holder = λ id. turned.holder id
-          ∙ settled_holder (final_in (books_in one) h) it.conn session it.settled id (one.holder id) its.settles (final_here (books_in one) h it.conn its.its_turn.turns) named
-          (λ has. session_bound bases one T is it.conn its.client its.its_turn.here id has)
-          ∙ holder_by_message it.conn settled effect.client.pending effect.message id;
-      issued = turned.issued ∙ issued_by it.conn settled (free_once it.settled one.held) (heard_by bases it.number its.client its.comes).effect.client.pending effect.client.pending effect.message it.asks is_going asks_it;
+          ∙ ap (λ (client : Option Client). holder_settled it.settled (torn_of it.settled client) it.conn id (one.holder id)) its.its_turn.here
+          ∙ settled_holder bases one T h it.conn its.client it.settled is at id
+          ∙ holder_by_message it.conn settled effect.client effect.message id;
+      issued = turned.issued ∙ issued_by it.conn settled (free_once it.settled one.held) (heard_by bases it.number its.client its.comes).effect.client.pending effect.client effect.message it.asks is_going asks_it;
     }
-      where
-        opened_was : (n : ℕ) → asker_settled it.settled n (one.asker n) ≡ asker_settled it.settled n (option_map (λ (opened : Opened). opened.conn) ((books_in one).opened n))
-        opened_was n = ap (asker_settled it.settled n) (by (one.asker n))
-          where
-            by : (asker : Option ℕ) → asker ≡ option_map (λ (opened : Opened). opened.conn) (option_map (λ conn. record { conn = conn; kind = kind_open (one.clients conn) }) asker)
-            by None = refl
-            by (Some conn) = refl
 
 -- The text that goes up is that of the message.
 spelled_is : (number : ℕ) (free pair : Option ℕ) (old pending : Option Purpose) (message : Option Outgoing) → AsksBy pair old message pending → option_map Request (spelled number free message) ≡ option_map (raw_up number free) message
@@ -138,19 +121,19 @@ spelled_is number free pair old pending (Some (asks request named)) by_it = refl
 spelled_is number free pair old pending (Some (carries one half rest)) by_it = absurd by_it
 
 -- What it hands out.
-pub turn_hands : (bases : Bases) (one after : Picture) (h : Happening) (answer : Option (List ℕ)) (it : PlannedTurn) (done : Done) → (its : IsPlannedTurn bases one h answer it) → IsTurned one after it done
+pub turn_hands : (bases : Bases) (one after : Picture) (T : List HistoryEntry) (h : Happening) (answer : Option (List ℕ)) (it : PlannedTurn) (done : Done) → IsPictureOf bases one T → (its : IsPlannedTurn bases one h answer it) → IsTurned one after it done
     → handed_by it.conn answer done ≡ outcome_by (books_in one) h it.conn (step_in bases one h its.client its.raw)
-turn_hands bases one after h answer it done its turned =
+turn_hands bases one after T h answer it done is its turned =
     let (then, there, does) = done_is bases one after h answer it done its turned in
     ap (λ said. record (handed_by it.conn answer done) { to_up = record { answer = said; message = option_map Request done.request } }) its.answers
     ∙ ap (λ bytes. record (handed_by it.conn (answer_due (books_in one) h) done) { to_client = client_piece (Some it.conn) bytes }) does.hand
     ∙ ap (λ why. record (handed_by it.conn (answer_due (books_in one) h) done) { to_client = client_piece (Some it.conn) effect.hand; closed = one_closed (Some it.conn) why }) does.close
     ∙ ap (λ (message : Option UpMessage). record { to_client = client_piece (Some it.conn) effect.hand; to_up = record { answer = answer_due (books_in one) h; message = message }; closed = one_closed (Some it.conn) effect.close; fault = None })
     (ap (option_map Request) does.request ∙ ap (λ number. option_map Request (spelled number (free_once it.settled one.held) effect.message)) its.next
-    ∙ ap (λ free. option_map Request (spelled (one.issued + 1) free effect.message)) (free_by one h its.client.session.id it.settled its.settles)
+    ∙ ap (λ free. option_map Request (spelled (one.issued + 1) free effect.message)) (settled_free bases one T h it.conn its.client it.settled is (settled_turn bases one h answer it its))
     ∙ spelled_is (one.issued + 1) (free_in (settled_by (books_in one) h)) (free_once it.settled one.held) (heard_by bases it.number its.client its.comes).effect.client.pending effect.client.pending effect.message
     (effect_asks bases it.number (free_once it.settled one.held) its.client its.comes its.is_sound))
-    ∙ ap (outcome_by (books_in one) h it.conn) (effect_is bases one h answer it its)
+    ∙ ap (outcome_by (books_in one) h it.conn) (effect_is bases one T h answer it is its)
   where
     effect : Effect
     effect = effect_of bases one it its.client its.comes

@@ -15,7 +15,7 @@ use Rattle.gateway_claim.specs.SharedEvents.{shared, shared_in}
 use Rattle.gateway_claim.proofs.CaseLemmas.{own_absent}
 use Rattle.gateway_claim.proofs.SlotLemmas.{alone}
 use Rattle.gateway_claim.proofs.TurnStandLemmas.{entry_next, next_history}
-use Rattle.gateway_mux.specs.Pictures.{Picture, IsPictureOf}
+use Rattle.gateway_mux.specs.Pictures.{Picture, bare_held, IsPictureOf}
 use Rattle.gateway_mux.proofs.IdleLemmas.{IsStill, still_nobody, shared_still, stands_still}
 use Rattle.gateway_mux.specs.Departure.{IsKeptUnlessGone}
 use Rattle.gateway_mux.proofs.OverLemmas.{kept_along}
@@ -55,7 +55,7 @@ enter_follows bases one after T conn is never clients asker held holder issued =
       standing = stands_still bases T (enters conn) is.standing still;
       clients = λ i. kept_along (clients i) (entered_clients bases one T conn i (conn == i) is never refl) refl;
       asker = λ number. asker number ∙ is.asker number ∙ ap (λ (b : Books). option_map (λ (opened : Opened). opened.conn) (b.opened number)) (sym still.books);
-      held = λ pair. held pair ∙ is.held pair ∙ ap (λ (b : Books). b.held pair) (sym still.books);
+      held = λ pair. held pair ∙ is.held pair ∙ ap (λ (b : Books). option_map (bare_held pair) (b.held pair)) (sym still.books);
       holder = λ id. holder id ∙ is.holder id ∙ ap (λ (b : Books). b.holder id) (sym still.books);
       issued = issued ∙ is.issued ∙ ap (λ (b : Books). b.issued) (sym still.books);
     })

@@ -4,7 +4,6 @@ use Rattle.std.specs.Prelude.{is_none, ◌&&◌}
 use Rattle.std.specs.Option.{option_map}
 use Rattle.head_two.specs.declared.reply.Reply2.{Reply2}
 use Rattle.session_one.specs.Table.{is_success}
-use Rattle.gateway_claim.specs.declared.event.UpCause.{UpCause}
 use Rattle.gateway_claim.specs.declared.event.UpCause.TheVariants.{BadGrant, SessionTaken}
 use Rattle.gateway_claim.specs.Kinds.{RequestKind, sets_up}
 use Rattle.gateway_claim.specs.Books.{Opened, Books}
@@ -12,11 +11,10 @@ use Rattle.gateway_claim.specs.ServerItems.{Heard, replies, requests, frames, fa
 use Rattle.gateway_claim.specs.Happenings.{Happening, enters, takes, ends, lags, hears, up_ends}
 use Rattle.gateway_claim.specs.Settlement.{Final, final_of, id_said}
 use Rattle.gateway_claim.specs.OwnEvents.{heard_turn, turn, heard_final, final_in}
-use Rattle.gateway_claim.specs.Follows.{is_session_for, is_granted, is_held_elsewhere, grant_breach, kind_breach}
+use Rattle.gateway_claim.specs.Follows.{is_session_for, is_granted, is_bound, grant_breach, kind_breach}
 use Rattle.gateway_mux.specs.Moves.{wrong_reply, wrong_heard, wrong_in}
 use Rattle.gateway_mux.specs.Pictures.{Picture, books_in}
-use Rattle.gateway_mux.specs.Turn.{session_of_client}
-use Rattle.gateway_mux.proofs.SettlementLemmas.{NamesOwn}
+use Rattle.gateway_mux.specs.Turn.{named_by_client}
 
 -- the final reply is to a request of the connection whose turn it is
 asked_here : (reply : Reply2) (opened : Option Opened) (i : ℕ) → option_map (λ (one : Opened). one.conn) opened ≡ Some i → IfSome (final_of reply opened) (λ final. final.conn ≡ i)
@@ -44,48 +42,53 @@ final_here books (lags conn) i turns = tt
 final_here books (hears shape) i turns = heard_here books (heard shape) i turns
 final_here books (up_ends cause) i turns = tt
 
--- The success of a SETUP names the session of its connection, where nothing is wrong with it.
+-- The success of a SETUP says the session that it named; and where it named none, one that nobody has.
+abbrev pub IsRight : Books → Final → Option (List ℕ) → Type 0
+IsRight books final session = (pair : ℕ) → final.kind ≡ sets_up pair → final.success ≡ true → (is_session_for session final.id ≡ true) × ((is_none session && is_bound books final.id) ≡ false)
+
 both_true : (a b : Bool) → (a && b) ≡ true → b ≡ true
 both_true true b e = e
 both_true false b e = cc
 
-wrong_is_none : (cause : UpCause) → Some cause ≡ None → ⊥
-wrong_is_none cause e = cc
+granted_right : (books : Books) (pair : ℕ) (session : Option (List ℕ)) (reply : Reply2) → grant_breach books pair session reply ≡ None
+    → (is_session_for session (id_said reply) ≡ true) × ((is_none session && is_bound books (id_said reply)) ≡ false)
+granted_right books pair session reply right = by (is_granted pair session reply) (is_none session && is_bound books (id_said reply)) refl refl right
+  where
+    by : (g t : Bool) → is_granted pair session reply ≡ g → (is_none session && is_bound books (id_said reply)) ≡ t → cond (not g) (Some (BadGrant reply.cseq)) (cond t (Some (SessionTaken reply.cseq)) None) ≡ None
+        → (is_session_for session (id_said reply) ≡ true) × ((is_none session && is_bound books (id_said reply)) ≡ false)
+    by false t g e right = cc
+    by true true g e right = cc
+    by true false g e right = (both_true _ (is_session_for session (id_said reply)) g, e)
 
-granted_names : (books : Books) (pair i : ℕ) (session : Option (List ℕ)) (reply : Reply2) (t : Bool) → is_granted pair session reply ≡ t → grant_breach books i pair session reply ≡ None → is_session_for session (id_said reply) ≡ true
-granted_names books pair i session reply true e right = both_true _ (is_session_for session (id_said reply)) e
-granted_names books pair i session reply false e right =
-    absurd (wrong_is_none (BadGrant reply.cseq)
-    (sym (ap (λ t. cond (not t) (Some (BadGrant reply.cseq)) (cond (is_none session && is_held_elsewhere books i (id_said reply)) (Some (SessionTaken reply.cseq)) None)) e) ∙ right))
+kind_right : (books : Books) (kind : RequestKind) (session : Option (List ℕ)) (reply : Reply2) → kind_breach books kind session reply ≡ None
+    → (pair : ℕ) → kind ≡ sets_up pair → is_success reply.code ≡ true → (is_session_for session (id_said reply) ≡ true) × ((is_none session && is_bound books (id_said reply)) ≡ false)
+kind_right books kind session reply right pair is success =
+    granted_right books pair session reply
+    (sym (ap (λ t. cond t (grant_breach books pair session reply) None) success) ∙ ap (λ one. kind_breach books one session reply) (sym is) ∙ right)
 
-kind_names : (books : Books) (kind : RequestKind) (i : ℕ) (session : Option (List ℕ)) (reply : Reply2) → kind_breach books kind i session reply ≡ None
-    → (pair : ℕ) → kind ≡ sets_up pair → is_success reply.code ≡ true → is_session_for session (id_said reply) ≡ true
-kind_names books kind i session reply right pair is success =
-    granted_names books pair i session reply (is_granted pair session reply) refl
-    (sym (ap (λ t. cond t (grant_breach books i pair session reply) None) success) ∙ ap (λ one. kind_breach books one i session reply) (sym is) ∙ right)
-
-reply_names : (one : Picture) (reply : Reply2) (opened : Option Opened) (i : ℕ) → option_map (λ (two : Opened). two.conn) opened ≡ Some i → wrong_reply one reply opened ≡ None → NamesOwn (final_of reply opened) (session_of_client (one.clients i))
-reply_names one reply None i turns right = cc
-reply_names one reply (Some opened) i turns right = by (nat_lt reply.code 200)
+reply_right : (one : Picture) (reply : Reply2) (opened : Option Opened) (i : ℕ) → option_map (λ (two : Opened). two.conn) opened ≡ Some i → wrong_reply one reply opened ≡ None
+    → IfSome (final_of reply opened) (λ final. IsRight (books_in one) final (named_by_client (one.clients i)))
+reply_right one reply None i turns right = cc
+reply_right one reply (Some opened) i turns right = by (nat_lt reply.code 200)
   where
     conn_is : (a b : ℕ) → Some a ≡ Some b → a ≡ b
     conn_is a b e = cc
 
-    by : (t : Bool) → NamesOwn (cond t None (Some (record { number = reply.cseq; conn = opened.conn; kind = opened.kind; success = is_success reply.code; id = id_said reply }))) (session_of_client (one.clients i))
+    by : (t : Bool) → IfSome (cond t None (Some (record { number = reply.cseq; conn = opened.conn; kind = opened.kind; success = is_success reply.code; id = id_said reply }))) (λ (final : Final). IsRight (books_in one) final (named_by_client (one.clients i)))
     by true = tt
-    by false = λ pair is success. subst (λ (who : ℕ). is_session_for (session_of_client (one.clients who)) (id_said reply) ≡ true) (conn_is opened.conn i turns)
-        (kind_names (books_in one) opened.kind opened.conn (session_of_client (one.clients opened.conn)) reply right pair is success)
+    by false = λ pair is success. subst (λ (who : ℕ). (is_session_for (named_by_client (one.clients who)) (id_said reply) ≡ true) × ((is_none (named_by_client (one.clients who)) && is_bound (books_in one) (id_said reply)) ≡ false)) (conn_is opened.conn i turns)
+        (kind_right (books_in one) opened.kind (named_by_client (one.clients opened.conn)) reply right pair is success)
 
-heard_names : (one : Picture) (said : Heard) (i : ℕ) → heard_turn (books_in one) said ≡ Some i → wrong_heard one said ≡ None → NamesOwn (heard_final (books_in one) said) (session_of_client (one.clients i))
-heard_names one (replies reply) i turns right = reply_names one reply ((books_in one).opened reply.cseq) i turns right
-heard_names one (requests request) i turns right = tt
-heard_names one (frames channel rest) i turns right = tt
-heard_names one (faults fault) i turns right = tt
+heard_right : (one : Picture) (said : Heard) (i : ℕ) → heard_turn (books_in one) said ≡ Some i → wrong_heard one said ≡ None → IfSome (heard_final (books_in one) said) (λ final. IsRight (books_in one) final (named_by_client (one.clients i)))
+heard_right one (replies reply) i turns right = reply_right one reply ((books_in one).opened reply.cseq) i turns right
+heard_right one (requests request) i turns right = tt
+heard_right one (frames channel rest) i turns right = tt
+heard_right one (faults fault) i turns right = tt
 
-pub names_own : (one : Picture) (h : Happening) (i : ℕ) → turn (books_in one) h ≡ Some i → wrong_in one h ≡ None → NamesOwn (final_in (books_in one) h) (session_of_client (one.clients i))
-names_own one (enters conn) i turns right = tt
-names_own one (takes conn shape) i turns right = tt
-names_own one (ends conn) i turns right = tt
-names_own one (lags conn) i turns right = tt
-names_own one (hears shape) i turns right = heard_names one (heard shape) i turns right
-names_own one (up_ends cause) i turns right = tt
+pub final_right : (one : Picture) (h : Happening) (i : ℕ) → turn (books_in one) h ≡ Some i → wrong_in one h ≡ None → IfSome (final_in (books_in one) h) (λ final. IsRight (books_in one) final (named_by_client (one.clients i)))
+final_right one (enters conn) i turns right = tt
+final_right one (takes conn shape) i turns right = tt
+final_right one (ends conn) i turns right = tt
+final_right one (lags conn) i turns right = tt
+final_right one (hears shape) i turns right = heard_right one (heard shape) i turns right
+final_right one (up_ends cause) i turns right = tt

@@ -24,7 +24,7 @@ use Rattle.gateway_claim.specs.Turns.{client_alone, step_by_books, IsItsTurn, Is
 use Rattle.gateway_claim.proofs.SlotLemmas.{alone}
 use Rattle.gateway_claim.proofs.TurnLawLemmas.{stepped}
 use Rattle.gateway_claim.proofs.TurnStandLemmas.{entry_next, next_history}
-use Rattle.gateway_mux.specs.Pictures.{Picture, books_in, IsPictureOf}
+use Rattle.gateway_mux.specs.Pictures.{Picture, bare_held, books_in, IsPictureOf}
 use Rattle.gateway_mux.specs.Moves.{step_in, TakesTurn, books_stepped, IsAfterTurn}
 use Rattle.gateway_mux.proofs.BooksLemmas.{AreSame, turn_same, raw_same, answer_same, settled_same, free_same, lends_same}
 use Rattle.gateway_mux.specs.Departure.{IsKeptUnlessGone}
@@ -142,8 +142,8 @@ turn_follows bases one after T h i client raw is comes now = (outcome, is_after)
 
     books : AreSame (books_stepped one h i (step_in bases one h client raw)) (books_of (entry_next bases T h ∷ T))
     books = subst (λ (b : Books). AreSame (books_stepped one h i (step_in bases one h client raw)) b) (sym law.books)
-        (subst (λ (effect : Effect). AreSame (books_stepped one h i (step_in bases one h client raw)) (lends_where (Some i) (kind_gone effect.message effect.client.pending) (settled_by (books_of T) h))) steps
-        (lends_same (settled_by (books_in one) h) (settled_by (books_of T) h) i (kind_gone (step_in bases one h client raw).message (step_in bases one h client raw).client.pending)
+        (subst (λ (effect : Effect). AreSame (books_stepped one h i (step_in bases one h client raw)) (lends_where (Some i) (kind_gone effect.message effect.client) (settled_by (books_of T) h))) steps
+        (lends_same (settled_by (books_in one) h) (settled_by (books_of T) h) i (kind_gone (step_in bases one h client raw).message (step_in bases one h client raw).client)
         (settled_same (books_in one) (books_of T) h same)))
 
     none : (j : ℕ) → enters_here j h ≡ false
@@ -165,7 +165,7 @@ turn_follows bases one after T h i client raw is comes now = (outcome, is_after)
       standing = ap (λ was. option_or was (next bases T h).fault) is.standing ∙ ap (λ (out : Outcome). out.fault) outcome;
       clients = λ j. clients j (j == i) refl;
       asker = λ n. now.asker n ∙ ap (option_map (λ (opened : Opened). opened.conn)) (books.opened n);
-      held = λ p. now.held p ∙ books.held p;
+      held = λ p. now.held p ∙ ap (option_map (bare_held p)) (books.held p);
       holder = λ id. now.holder id ∙ books.holder id;
       issued = now.issued ∙ books.issued;
     }

@@ -13,14 +13,14 @@ use Rattle.gateway_mux.specs.Moves.{IsNext, IsCommitted}
 use Rattle.connection_table.specs.Over.{is_over, unless_over}
 use Rattle.gateway_mux.specs.Departure.{IsKeptUnlessGone}
 use Rattle.gateway_mux.specs.Pictures.{Picture, picture, IsPictureOf, IsKept}
-use Rattle.gateway_mux.specs.Room.{is_in, is_idle, is_unbound, HasRoom}
+use Rattle.gateway_mux.specs.Room.{is_in, idle_count, unbound_count, HasRoom}
 use Rattle.connection_table.specs.Tables.{client_at, is_ready}
 use Rattle.gateway_mux.specs.Spare.{left}
-use Rattle.gateway_mux.specs.Turn.{one_if}
+use Rattle.session_one.specs.declared.parts.TheConstants.{MOST_SESSIONS}
 use Rattle.gateway_mux.proofs.KeepLemmas.{room_same}
 use Rattle.gateway_mux.proofs.OverLemmas.{kept_along, kept_unless_over}
 use Rattle.gateway_mux.proofs.ReadyLemmas.{IsKeptReady}
-use Rattle.gateway_mux.proofs.RoomLemmas.{without, in_without, once_without, count_without}
+use Rattle.gateway_mux.proofs.RoomLemmas.{without, in_without, once_without, sum_without}
 
 -- One connection is kept no longer, where it is over.
 pub record IsForgotten (conn : ℕ) (before after : ℕ → Option Client) : Type 0 where
@@ -66,8 +66,8 @@ forgotten_room conn before after a b forgets room = by (after conn) (before conn
       roster = without conn room.roster;
       once = once_without conn room.roster room.once;
       all = λ k. in_without conn k room.roster ∙ all k (conn == k) refl;
-      for_requests = low (count_without (λ i. is_idle (before i)) (λ i. is_idle (after i)) conn room.roster (λ k ne. ap is_idle (other k ne))) room.for_requests;
-      for_sessions = low (count_without (λ i. is_unbound (before i)) (λ i. is_unbound (after i)) conn room.roster (λ k ne. ap is_unbound (other k ne))) room.for_sessions;
+      for_requests = low (sum_without (λ i. idle_count (before i)) (λ i. idle_count (after i)) conn room.roster (λ k ne. ap idle_count (other k ne))) room.for_requests;
+      for_sessions = low (sum_without (λ i. unbound_count (before i)) (λ i. unbound_count (after i)) conn room.roster (λ k ne. ap unbound_count (other k ne))) room.for_sessions;
     }
       where
         all : (k : ℕ) (t : Bool) → (conn == k) ≡ t → (not t && is_in k room.roster) ≡ is_some (after k)
@@ -106,8 +106,8 @@ forgotten_kept bases conn seats after upstream a b forgets keeps = record {
 
 pub forgotten_ready : (bases : Bases) (conn : ℕ) (seats after : ConnectionTable) (upstream : UpstreamBooks) → IsForgotten conn (client_at seats) (client_at after) → is_ready after ≡ is_ready seats → IsKeptReady bases seats upstream → IsKeptReady bases after upstream
 forgotten_ready bases conn seats after upstream forgets ready keeps = record {
-  kept = subst (λ (b : Bool). ∥ IsKept bases (picture after upstream) (upstream.requests.spare - one_if b) (upstream.sessions.spare - one_if b) ∥₁) (sym ready)
-      (∥∥₁_map keeps.kept (forgotten_kept bases conn seats after upstream (left upstream.requests.spare seats) (left upstream.sessions.spare seats) forgets));
+  kept = subst (λ (b : Bool). ∥ IsKept bases (picture after upstream) (upstream.requests.spare - cond b 1 0) (upstream.sessions.spare - cond b MOST_SESSIONS 0) ∥₁) (sym ready)
+      (∥∥₁_map keeps.kept (forgotten_kept bases conn seats after upstream (left 1 upstream.requests.spare seats) (left MOST_SESSIONS upstream.sessions.spare seats) forgets));
   spare = λ is. keeps.spare (sym ready ∙ is);
   spare_session = λ is. keeps.spare_session (sym ready ∙ is);
 }

@@ -28,7 +28,7 @@ use Rattle.gateway_claim.proofs.OverLemmas.{own_event, breach_standing}
 use Rattle.gateway_claim.proofs.TurnLawLemmas.{stepped}
 use Rattle.gateway_claim.proofs.TurnNextLemmas.{raw_step_of}
 use Rattle.gateway_claim.proofs.TurnStandLemmas.{entry_next, next_history}
-use Rattle.gateway_mux.specs.Pictures.{Picture, books_in, IsPictureOf}
+use Rattle.gateway_mux.specs.Pictures.{Picture, bare_held, books_in, IsPictureOf}
 use Rattle.gateway_mux.specs.Moves.{IsIdleAt, IsIdleTurn, IsIdle, answering}
 use Rattle.gateway_mux.proofs.BooksLemmas.{AreSame, turn_same, raw_same, final_same, answer_same}
 use Rattle.connection_table.specs.Over.{is_over}
@@ -117,7 +117,7 @@ still_heard bases T h i raw history standing said settles_none turns en is_raw i
     }) in
     let same : books_of (entry_next bases T h ∷ T) ≡ books_of T =
     law.books
-    ∙ ap (λ (done : Effect). lends_where (Some i) (kind_gone done.message done.client.pending) (settled_by (books_of T) h)) made
+    ∙ ap (λ (done : Effect). lends_where (Some i) (kind_gone done.message done.client) (settled_by (books_of T) h)) made
     ∙ ap (λ final. settles final (books_of T)) settles_none in
     record {
       outcome = law.outcome ∙ ap (λ (done : Effect). outcome_by (books_of T) h i done) made;
@@ -166,7 +166,7 @@ same_picture bases one T h is nobody still = record {
   standing = stands_still bases T h is.standing still;
   clients = λ i. kept_along refl (is.clients i) (sym (shared_still bases T h i still (ap (λ t. (t && is_none (fault_in T)) || entered i T) (nobody i))));
   asker = λ number. is.asker number ∙ ap (λ (b : Books). option_map (λ (opened : Opened). opened.conn) (b.opened number)) (sym still.books);
-  held = λ pair. is.held pair ∙ ap (λ (b : Books). b.held pair) (sym still.books);
+  held = λ pair. is.held pair ∙ ap (λ (b : Books). option_map (bare_held pair) (b.held pair)) (sym still.books);
   holder = λ id. is.holder id ∙ ap (λ (b : Books). b.holder id) (sym still.books);
   issued = is.issued ∙ ap (λ (b : Books). b.issued) (sym still.books);
 }

@@ -28,3 +28,7 @@ pub mod TurnLemmas
 pub mod AfterTurnLemmas
 pub mod OpenLemmas
 pub mod UpstreamLemmas
+pub mod HeldLemmas
+pub mod LowLemmas
+pub mod OwnLemmas
+pub mod EmptyLemmas

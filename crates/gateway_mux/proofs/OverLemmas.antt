@@ -1,6 +1,7 @@
 -- What is known of connections that are over, and of those that are kept.
-use Rattle.std.proofs.Common.{◌≡◌, ◌∙◌, ◌&&◌, not, Bool, true, false, cond, ℕ, List, Option, Some, None, IsSome, is_some, refl, sym, ap, subst}
+use Rattle.std.proofs.Common.{◌≡◌, ◌∙◌, ◌&&◌, not, Bool, true, false, cond, Option, Some, None, IsSome, is_some, refl, sym, ap, subst}
 use Rattle.client_slot.specs.declared.purpose.Purpose.{Purpose}
+use Rattle.client_slot.specs.Places.{filled_place}
 use Rattle.client_slot.specs.Client.{Client}
 use Rattle.connection_table.specs.Over.{is_over, unless_over}
 use Rattle.gateway_mux.specs.Departure.{is_gone, IsKeptUnlessGone}
@@ -14,7 +15,7 @@ over_dead client over = by client.alive refl
   where
     by : (t : Bool) → client.alive ≡ t → t ≡ false
     by false e = refl
-    by true e = absurd (true_is_false (sym over ∙ ap (λ a. not a && (not (is_some client.pending) && not (is_some client.session.id))) e))
+    by true e = absurd (true_is_false (sym over ∙ ap (λ a. not a && (not (is_some client.pending) && not (is_some (filled_place client.sessions)))) e))
 
 both_true : (a b : Bool) → (a && b) ≡ true → (a ≡ true) × (b ≡ true)
 both_true true true e = (refl, refl)
@@ -26,10 +27,10 @@ none_by None e = refl
 none_by (Some a) e = cc
 
 pub over_idle : (client : Client) → is_over client ≡ true → client.pending ≡ None
-over_idle client over = none_by client.pending (both_true (not (is_some client.pending)) (not (is_some client.session.id)) (both_true (not client.alive) (not (is_some client.pending) && not (is_some client.session.id)) over).1).0
+over_idle client over = none_by client.pending (both_true (not (is_some client.pending)) (not (is_some (filled_place client.sessions))) (both_true (not client.alive) (not (is_some client.pending) && not (is_some (filled_place client.sessions))) over).1).0
 
-pub over_unbound : (client : Client) → is_over client ≡ true → client.session.id ≡ None
-over_unbound client over = none_by client.session.id (both_true (not (is_some client.pending)) (not (is_some client.session.id)) (both_true (not client.alive) (not (is_some client.pending) && not (is_some client.session.id)) over).1).1
+pub over_unbound : (client : Client) → is_over client ≡ true → filled_place client.sessions ≡ None
+over_unbound client over = none_by (filled_place client.sessions) (both_true (not (is_some client.pending)) (not (is_some (filled_place client.sessions))) (both_true (not client.alive) (not (is_some client.pending) && not (is_some (filled_place client.sessions))) over).1).1
 
 -- one with a request open is not over
 pub busy_stays : (client : Client) → IsSome client.pending → is_over client ≡ false
@@ -70,10 +71,10 @@ pub kept_alive : (one : Option Client) (its : Client) → IsKeptUnlessGone one (
 kept_alive None its is told none of same dead = dead its (over_dead its is) ∙ sym none
 kept_alive (Some client) its is told none of same dead = ap of (some_is its client is) ∙ sym (same client)
 
-pub kept_id : (one its : Option Client) → IsKeptUnlessGone one its → (told : Option Client → Option (List ℕ)) → told None ≡ None → ((client : Client) → told (Some client) ≡ client.session.id) → told one ≡ told its
-kept_id None None is told none some = refl
-kept_id None (Some its) is told none some = none ∙ sym (some its ∙ over_unbound its is)
-kept_id (Some client) its is told none some = ap told (sym is)
+pub kept_told : {A : Type 0} (one its : Option Client) → IsKeptUnlessGone one its → (told : Option Client → A) → ((client : Client) → is_over client ≡ true → told (Some client) ≡ told None) → told one ≡ told its
+kept_told None None is told over = refl
+kept_told None (Some its) is told over = sym (over its is)
+kept_told (Some client) its is told over = ap told (sym is)
 
 -- Where one that is over is forgotten, nothing is kept of it.
 pub kept_unless_over : (one its : Option Client) → IsKeptUnlessGone one its → IsKeptUnlessGone (unless_over one) its

@@ -3,6 +3,8 @@ use Rattle.std.proofs.Common.{◌≡◌, ◌∙◌, ℕ, ◌+◌, ◌≤◌, ◌
 use Rattle.std.specs.Prelude.{is_some}
 use Rattle.std.specs.Option.{option_map}
 use Rattle.std.proofs.lemmas.Bool.{eqb-true}
+use Rattle.std.proofs.Math.Logic.{∥∥₁_elim}
+use Rattle.std.proofs.Props.{props}
 use Rattle.rtsp_head.specs.Items.{Shape}
 use Rattle.rtsp_head.specs.declared.item.ItemKind.{ItemKind}
 use Rattle.rtsp_head.specs.declared.item.ItemKind.TheVariants as kinds
@@ -10,6 +12,7 @@ use Rattle.rtsp_uri.specs.declared.base.Bases.{Bases}
 use Rattle.up_books.specs.declared.cseq.TheConstants.{LAST_NUMBER}
 use Rattle.up_books.specs.Numbers.{next_number}
 use Rattle.client_slot.specs.declared.purpose.Purpose.{Purpose}
+use Rattle.client_slot.specs.Places.{tracks_of}
 use Rattle.client_slot.specs.Client.{Client}
 use Rattle.client_machine.specs.declared.parts.Plan.{Plan}
 use Rattle.client_machine.specs.declared.why.CloseWhy.{CloseWhy}
@@ -26,14 +29,16 @@ use Rattle.client_machine.specs.Step.{heard_step}
 use Rattle.gateway_claim.specs.declared.event.UpCause.{UpCause}
 use Rattle.gateway_claim.specs.declared.event.UpCause.TheVariants.{CseqSpent}
 use Rattle.gateway_claim.specs.Happenings.{Happening, enters, takes, ends, lags, hears, up_ends}
+use Rattle.gateway_claim.specs.OwnEvents.{settled_by}
+use Rattle.gateway_claim.specs.Settlement.{free_in}
 use Rattle.gateway_claim.specs.Follows.{spent}
 use Rattle.gateway_claim.specs.SharedEvents.{number_heard}
 use Rattle.gateway_mux.specs.declared.turn_facts.TurnFacts.{TurnFacts}
 use Rattle.gateway_mux.specs.Acts.{IsPlannedTurn, IsSaid, IsClosing, IsBadKind, IsAct, answers_alone}
 use Rattle.gateway_mux.specs.Moves.{wrong_in, step_in, IsIdleAt, IsIdleTurn, IsIdle, IsEndAt}
-use Rattle.gateway_mux.specs.Pictures.{Picture}
+use Rattle.gateway_mux.specs.Pictures.{Picture, books_in, IsKept}
 use Rattle.gateway_mux.specs.Turn.{free_once}
-use Rattle.gateway_mux.proofs.CommitLemmas.{free_by}
+use Rattle.gateway_mux.proofs.SettlementLemmas.{IsSettledTurn, settled_free}
 use Rattle.gateway_mux.proofs.AfterTurnLemmas.{effect_asks}
 
 -- An item of a connection that hears nothing in it.
@@ -52,7 +57,7 @@ idle_dead bases one conn shape client here dead =
     idle_item bases one conn shape (λ other there. ap (λ t. take t shape other) (ap (λ (c : Client). c.alive) (some_same client other (sym here ∙ there)) ∙ dead))
 
 pub idle_no_half : (bases : Bases) (one : Picture) (conn : ℕ) (shape : Shape) (client : Client) → one.clients conn ≡ Some client → client.alive ≡ true → shape.kind ≡ kinds.Frame
-    → half_for (channel_in shape) client.session.tracks ≡ None → IsIdle bases one (takes conn shape) None
+    → half_for (channel_in shape) (tracks_of client.sessions) ≡ None → IsIdle bases one (takes conn shape) None
 idle_no_half bases one conn shape client here alive kind none = idle_item bases one conn shape by
   where
     by : (other : Client) → one.clients conn ≡ Some other → take other.alive shape other ≡ idles other
@@ -60,7 +65,7 @@ idle_no_half bases one conn shape client here alive kind none = idle_item bases 
         let same : other ≡ client = some_same client other (sym here ∙ there) in
         ap (λ t. take t shape other) (ap (λ (c : Client). c.alive) same ∙ alive)
         ∙ ap (λ k. take_item k shape other) kind
-        ∙ ap (λ (half : Option Half). carry half (behind_channel shape) other) (ap (λ (c : Client). half_for (channel_in shape) c.session.tracks) same ∙ none)
+        ∙ ap (λ (half : Option Half). carry half (behind_channel shape) other) (ap (λ (c : Client). half_for (channel_in shape) (tracks_of c.sessions)) same ∙ none)
 
 pub idle_response : (bases : Bases) (one : Picture) (conn : ℕ) (shape : Shape) → shape.kind ≡ kinds.Response → IsIdle bases one (takes conn shape) None
 idle_response bases one conn shape kind = idle_item bases one conn shape (λ client here. by client client.alive)
@@ -148,12 +153,19 @@ absent_act bases one h it comes said none = by it.answer idle
     by None idle = idle
     by (Some answer) idle = idle
 
+-- The lowest pair that is free once that is settled is what the books have.
+pub free_kept : (bases : Bases) (one : Picture) (a b : ℕ) (h : Happening) (it : TurnFacts) (comes : Comes) (client : Client) → ∥ IsKept bases one a b ∥₁ → IsSaid bases one h it comes → one.clients it.conn ≡ Some client
+    → free_once it.settled one.held ≡ free_in (settled_by (books_in one) h)
+free_kept bases one a b h it comes client merely said here =
+    let at : IsSettledTurn one h it.conn client it.settled = record { turns = said.turns; here = here; said = said.right; settles = said.settles client here } in
+    ∥∥₁_elim merely (Prim.hlevel props) (λ keeps. settled_free bases one keeps.history h it.conn client it.settled keeps.is_of at)
+
 -- What the machine does at the turn of a connection.
-effect_said : (bases : Bases) (one : Picture) (h : Happening) (it : TurnFacts) (comes : Comes) (client : Client) → (said : IsSaid bases one h it comes) → one.clients it.conn ≡ Some client
+effect_said : (bases : Bases) (one : Picture) (h : Happening) (it : TurnFacts) (comes : Comes) (client : Client) → (said : IsSaid bases one h it comes) → one.clients it.conn ≡ Some client → free_once it.settled one.held ≡ free_in (settled_by (books_in one) h)
     → effect_by bases it.number (free_once it.settled one.held) client comes ≡ step_in bases one h client said.raw
-effect_said bases one h it comes client said here =
+effect_said bases one h it comes client said here free =
     ap (λ heard. heard_step bases (free_once it.settled one.held) heard) (said.says client)
-    ∙ ap (λ free. heard_step bases free (hear bases (number_heard h) client said.raw)) (free_by one h client.session.id it.settled (said.settles client here))
+    ∙ ap (λ pair. heard_step bases pair (hear bases (number_heard h) client said.raw)) free
 
 -- The numbers are spent, or one is left.
 spent_at : (issued : ℕ) (free : Option ℕ) (old pending : Option Purpose) (message : Option Outgoing) → AsksBy free old message pending → is_some message ≡ true → next_number issued ≡ None → spent issued message ≡ Some CseqSpent
@@ -177,9 +189,10 @@ left_at issued (Some (asks request named)) low left = by (issued == LAST_NUMBER)
         less issued low e = grind arith
 left_at issued (Some (carries pair half rest)) low left = refl
 
-pub spent_act : (bases : Bases) (one : Picture) (h : Happening) (it : TurnFacts) (comes : Comes) (client : Client) (plan : Plan) (goes : Bool) → IsSaid bases one h it comes → one.clients it.conn ≡ Some client
+pub spent_act : (bases : Bases) (one : Picture) (a b : ℕ) (h : Happening) (it : TurnFacts) (comes : Comes) (client : Client) (plan : Plan) (goes : Bool) → ∥ IsKept bases one a b ∥₁ → IsSaid bases one h it comes → one.clients it.conn ≡ Some client
     → IsPlan bases (one.issued + 1) (free_once it.settled one.held) client comes plan → goes ≡ is_some (effect_by bases it.number (free_once it.settled one.held) client comes).message → goes ≡ true → next_number one.issued ≡ None → IsEndAt bases one h (wrong_in one h) CseqSpent
-spent_act bases one h it comes client plan goes said here planned is up none =
+spent_act bases one a b h it comes client plan goes keeps said here planned is up none =
+    let free = free_kept bases one a b h it comes client keeps said here in
     subst (λ (wrong : Option UpCause). IsEndAt bases one h wrong CseqSpent) (sym said.right)
     (record {
       i = it.conn;
@@ -189,16 +202,16 @@ spent_act bases one h it comes client plan goes said here planned is up none =
       here = here;
       is_raw = said.is_raw;
       said = said.right;
-      spends = ap (λ (effect : Effect). spent one.issued effect.message) (sym (effect_said bases one h it comes client said here))
+      spends = ap (λ (effect : Effect). spent one.issued effect.message) (sym (effect_said bases one h it comes client said here free))
           ∙ spent_at one.issued (free_once it.settled one.held) (heard_by bases it.number client comes).effect.client.pending (effect_by bases it.number (free_once it.settled one.held) client comes).client.pending
           (effect_by bases it.number (free_once it.settled one.held) client comes).message (effect_asks bases it.number (free_once it.settled one.held) client comes said.is_sound)
           (sym is ∙ up) none;
     })
 
-pub turned_act : (bases : Bases) (one : Picture) (h : Happening) (it : TurnFacts) (comes : Comes) (client : Client) (plan : Plan) (goes : Bool) (key next : ℕ) → next ≡ one.issued + 1 → (said : IsSaid bases one h it comes) → one.clients it.conn ≡ Some client
+pub turned_act : (bases : Bases) (one : Picture) (a b : ℕ) (h : Happening) (it : TurnFacts) (comes : Comes) (client : Client) (plan : Plan) (goes : Bool) (key next : ℕ) → ∥ IsKept bases one a b ∥₁ → next ≡ one.issued + 1 → (said : IsSaid bases one h it comes) → one.clients it.conn ≡ Some client
     → IsPlan bases (one.issued + 1) (free_once it.settled one.held) client comes plan → goes ≡ is_some (effect_by bases it.number (free_once it.settled one.held) client comes).message → one.issued ≤ LAST_NUMBER → (goes ≡ true → IsSome (next_number one.issued))
     → IsPlannedTurn bases one h it.answer (record { conn = it.conn; key = key; number = it.number; next = next; settled = it.settled; plan = plan; asks = goes })
-turned_act bases one h it comes client plan goes key next is_next said here planned is low left = record {
+turned_act bases one a b h it comes client plan goes key next keeps is_next said here planned is low left = let free = free_kept bases one a b h it comes client keeps said here in record {
   client = client;
   raw = said.raw;
   comes = comes;
@@ -207,7 +220,7 @@ turned_act bases one h it comes client plan goes key next is_next said here plan
     here = here;
     is_raw = said.is_raw;
     said = said.right;
-    left = left_at one.issued (step_in bases one h client said.raw).message low (λ some. left (is ∙ ap (λ (effect : Effect). is_some effect.message) (effect_said bases one h it comes client said here) ∙ some));
+    left = left_at one.issued (step_in bases one h client said.raw).message low (λ some. left (is ∙ ap (λ (effect : Effect). is_some effect.message) (effect_said bases one h it comes client said here free) ∙ some));
   };
   answers = said.answers;
   is_sound = said.is_sound;

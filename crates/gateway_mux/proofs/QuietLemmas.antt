@@ -1,5 +1,5 @@
 -- A connection that is over hears nothing in what its history takes for its turn.
-use Rattle.std.proofs.Common.{◌≡◌, ◌∙◌, ℕ, ◌/◌, ◌%◌, Bool, true, false, cond, List, Option, Some, None, Result, Ok, Err, refl, sym, ap, subst}
+use Rattle.std.proofs.Common.{is_some, ◌≡◌, ◌∙◌, ℕ, ◌/◌, ◌%◌, Bool, true, false, cond, List, Option, Some, None, Result, Ok, Err, refl, sym, ap, subst}
 use Rattle.std.specs.Prelude.{codes}
 use Rattle.std.specs.Option.{option_map}
 use Rattle.std.specs.Str.{bytes_eq}
@@ -8,6 +8,7 @@ use Rattle.rtsp_small.specs.declared.notify.NotifyReason.{NotifyReason}
 use Rattle.rtsp_small.specs.Notices.{notify_reason_of}
 use Rattle.head_two.specs.declared.ask.Ask2.{Ask2}
 use Rattle.translate_down.specs.Replies.{told_by}
+use Rattle.client_slot.specs.Places.{filled_place}
 use Rattle.client_slot.specs.Client.{Client}
 use Rattle.client_machine.specs.declared.why.CloseWhy.TheVariants.{Ended, Slow}
 use Rattle.client_machine.specs.Events.{PrivateEvent, arrive, answer, media, end, slow}
@@ -22,7 +23,7 @@ use Rattle.gateway_claim.specs.SharedEvents.{shared, heard_raw, raw_event, heard
 use Rattle.gateway_claim.proofs.SlotLemmas.{alone, AreJoined}
 use Rattle.connection_table.specs.Over.{is_over}
 use Rattle.gateway_mux.proofs.OverLemmas.{over_dead, over_unbound}
-use Rattle.gateway_mux.proofs.PictureLemmas.{asker_stays}
+use Rattle.gateway_mux.proofs.PictureLemmas.{filled_under, asker_stays}
 
 -- The connection of a notice holds a session.
 pub record HoldsOne (holder : List ℕ → Option ℕ) (conn : ℕ) : Type 0 where
@@ -85,11 +86,13 @@ over_notice : (bases : Bases) (T : List HistoryEntry) (i number : ℕ) (request 
 over_notice bases T i number request coming all over (Err code) e turns = cc
 over_notice bases T i number request coming all over (Ok notice) e turns =
     let holds = notice_bound (books_of T).holder request notice e in
-    let has : (alone bases T i).client.session.id ≡ Some holds.id = (all.1 i).session holds.id (holds.bound ∙ turns) in
-    absurd (some_none holds.id (sym has ∙ over_unbound (shared (books_of T) i (alone bases T i).client) over))
+    let has = (all.1 i).session holds.id (holds.bound ∙ turns) in
+    let filled : is_some (filled_place (shared (books_of T) i (alone bases T i).client).sessions) ≡ true = filled_under ((books_of T).number_of i) ((books_of T).pair_of i) (alone bases T i).client.sessions has.0 holds.id has.1 in
+    absurd (none_some (filled_place (shared (books_of T) i (alone bases T i).client).sessions) (over_unbound (shared (books_of T) i (alone bases T i).client) over) filled)
   where
-    some_none : (id : List ℕ) → Some id ≡ None → ⊥
-    some_none id e = cc
+    none_some : (place : Option ℕ) → place ≡ None → is_some place ≡ true → ⊥
+    none_some None e s = cc
+    none_some (Some at) e s = cc
 
 over_heard : (bases : Bases) (T : List HistoryEntry) (i : ℕ) (said : Heard) → AreJoined bases T → is_over (shared (books_of T) i (alone bases T i).client) ≡ true → heard_turn (books_of T) said ≡ Some i
     → HearsNone bases (heard_number said) (shared (books_of T) i (alone bases T i).client) (heard_raw (books_of T) said)

@@ -5,9 +5,9 @@ use Rattle.channel_map.specs.declared.map.Held.{Held}
 use Rattle.channel_map.specs.Pairs.{is_free, first_free, lowest_free}
 use Rattle.client_slot.specs.Client.{Client}
 use Rattle.gateway_mux.specs.declared.settlement.Settlement.{Settlement}
-use Rattle.gateway_mux.specs.Settlements.{held_settled}
+use Rattle.gateway_mux.specs.Settlements.{held_settled, torn_of}
 use Rattle.gateway_mux.specs.Upstream.{reserved_by}
-use Rattle.gateway_mux.specs.Turn.{free_once, session_of_client}
+use Rattle.gateway_mux.specs.Turn.{free_once}
 
 first_free_same : (more at : ℕ) (f g : ℕ → Bool) → ((p : ℕ) → f p ≡ g p) → first_free more at f ≡ first_free more at g
 first_free_same zero at f g same = refl
@@ -27,6 +27,6 @@ reserved_settled old now new settled is_for reserves conn settles is reserved p 
     ∙ ap (λ (lowest : Option ℕ). reserved_by reserves conn lowest p (now p)) (lowest_free_same (λ q. is_free (now q)) (λ q. is_free (held_settled settled q (old q))) (λ q. ap is_free (settles q)))
     ∙ ap (λ (held : Option Held). reserved_by reserves conn (free_once settled old) p held) (settles p)
 
--- The session of the connection's slot is the connection's.
-pub with_session : (P : Option (List ℕ) → Type 0) (client : Option Client) (slot : Client) (copied : Option (List ℕ)) → client ≡ Some slot → copied ≡ slot.session.id → P (session_of_client client) → P copied
-with_session P client slot copied is same here = subst P (ap session_of_client is ∙ sym same) here
+-- The session that ends is that of the connection's slot.
+pub with_torn : (P : Option (List ℕ) → Type 0) (settled : Option Settlement) (client : Option Client) (slot : Client) (copied : Option (List ℕ)) → client ≡ Some slot → copied ≡ torn_of settled (Some slot) → P (torn_of settled client) → P copied
+with_torn P settled client slot copied is same here = subst P (ap (torn_of settled) is ∙ sym same) here

@@ -14,6 +14,8 @@ use Rattle.channel_map.proofs.PairLemmas.{lowest_free_below}
 use Rattle.client_slot.specs.Client.{Client}
 use Rattle.client_machine.specs.declared.parts.Done.{Done}
 use Rattle.client_machine.specs.Frames.{Half, half_for}
+use Rattle.session_one.specs.declared.parts.TheConstants.{MOST_SESSIONS}
+use Rattle.client_slot.specs.Places.{tracks_of}
 use Rattle.gateway_claim.specs.Happenings.{standing, entering}
 use Rattle.gateway_mux.specs.declared.settlement.Settlement.{Settlement}
 use Rattle.gateway_mux.specs.declared.turn.PlannedTurn.{PlannedTurn}
@@ -22,8 +24,8 @@ use Rattle.gateway_mux.specs.Enter.{IsNewIn, IsEntered, IsAsBefore}
 use Rattle.gateway_mux.specs.WrongGrants.{IsLowPurpose}
 use Rattle.gateway_mux.specs.Moves.{handed_by}
 use Rattle.gateway_mux.specs.Pictures.{Picture, IsPictureOf, IsKept}
-use Rattle.gateway_mux.specs.Settlements.{CanSettle, held_by, held_settled, binds, unbinds}
-use Rattle.gateway_mux.specs.Turn.{free_once, session_of_client, asks_pair, one_if}
+use Rattle.gateway_mux.specs.Settlements.{CanSettle, held_by, held_settled, torn_of, binds, unbinds}
+use Rattle.gateway_mux.specs.Turn.{free_once, asks_pair, one_if}
 use Rattle.gateway_mux.specs.Upstream.{taken_by, reserved_by, held_lent}
 use Rattle.gateway_mux.proofs.ActLemmas.{turn_committed}
 use Rattle.gateway_mux.proofs.AskLemmas.{asked_open, low_pending, low_pending_prop, low_tracks}
@@ -31,7 +33,7 @@ use Rattle.gateway_mux.proofs.CommitLemmas.{IsTurned}
 use Rattle.gateway_mux.proofs.EnterLemmas.{enter_follows}
 use Rattle.gateway_mux.proofs.OverLemmas.{kept_along}
 use Rattle.gateway_mux.proofs.KeepLemmas.{room_for, kept_after, kept_entering, room_more, room_same, room_none}
-use Rattle.gateway_mux.proofs.SettleableLemmas.{can_settle, can_settle_prop}
+use Rattle.gateway_mux.proofs.SettleableLemmas.{can_settle, can_settle_where}
 
 -- Pairs stay low.
 kept_was : (freed : Freed) (held : Option Held) → IsSome (kept freed held) → IsSome held
@@ -97,19 +99,19 @@ keeps_none bases one requests sessions is clients held = record {
 
 -- After a turn.
 pub keeps_turn : (bases : Bases) (one after : Picture) (answer : Option (List ℕ)) (it : PlannedTurn) (done : Done) (requests sessions requests_now sessions_now : ℕ) → (its : IsTurnOfSome bases one answer it) → IsTurned one after it done
-    → requests_now + one_if it.asks ≡ requests + one_if (is_some it.settled) → sessions_now + one_if (binds it.settled) ≡ sessions + one_if (unbinds it.settled (session_of_client (one.clients it.conn)))
+    → requests_now + one_if it.asks ≡ requests + one_if (is_some it.settled) → sessions_now + one_if (binds it.settled) ≡ sessions + one_if (unbinds it.settled (torn_of it.settled (one.clients it.conn)))
     → IsKept bases one requests sessions → IsKept bases after requests_now sessions_now
 keeps_turn bases one after answer it done requests sessions requests_now sessions_now its turned room spare keeps = record {
   history = standing (record { happening = its.happening; outcome = handed_by it.conn answer done } ∷ keeps.history);
   is_of = (turn_committed bases one after its.happening answer it done its.is_planned turned keeps.history keeps.is_of).is_after;
   room = kept_after bases one after keeps.history its.happening answer it done requests sessions requests_now sessions_now keeps.is_of keeps.room its.is_planned turned room
-      (spare ∙ ap (λ (client : Option Client). sessions + one_if (unbinds it.settled (session_of_client client))) its.is_planned.its_turn.here);
+      (spare ∙ ap (λ (client : Option Client). sessions + one_if (unbinds it.settled (torn_of it.settled client))) its.is_planned.its_turn.here);
   low = low_after one after it done turned keeps.low;
 }
 
 -- After an entering, and where more room was made.
 pub keeps_entering : (bases : Bases) (conn : ℕ) (one after : Picture) (requests sessions : ℕ) → one.clients conn ≡ None → IsEntered conn one after → IsNewIn bases one conn → IsKept bases one requests sessions
-    → IsKept bases after (requests + 1) (sessions + 1)
+    → IsKept bases after (requests + 1) (sessions + MOST_SESSIONS)
 keeps_entering bases conn one after requests sessions none entered new keeps = record {
   history = entering conn ∷ new.history;
   is_of = enter_follows bases one after new.history conn new.is_of new.never entered.clients entered.asker entered.held entered.holder entered.issued;
@@ -134,7 +136,7 @@ keeps_more bases one after a b c d same more_requests more_sessions keeps = reco
 }
 
 -- What is known where such a history merely is there.
-pub low_half : (bases : Bases) (one : Picture) (requests sessions conn channel : ℕ) (client : Client) (half : Half) → one.clients conn ≡ Some client → half_for channel client.session.tracks ≡ Some half
+pub low_half : (bases : Bases) (one : Picture) (requests sessions conn channel : ℕ) (client : Client) (half : Half) → one.clients conn ≡ Some client → half_for channel (tracks_of client.sessions) ≡ Some half
     → ∥ IsKept bases one requests sessions ∥₁ → (half.pair < PAIRS) × (half.half ≤ 1)
 low_half bases one requests sessions conn channel client half here found merely =
     ∥∥₁_elim merely (Prim.hlevel props) (λ keeps. low_tracks bases one keeps.history keeps.is_of keeps.low conn client here half channel found)
@@ -152,11 +154,11 @@ room_asked bases one answer it requests sessions its asks unsettled merely =
     ∥∥₁_elim merely (Prim.hlevel props) (λ keeps. room_for bases one keeps.history its.happening answer it requests sessions keeps.is_of keeps.room its.is_planned asks unsettled)
 
 pub settles_now : (bases : Bases) (one : Picture) (answer : Option (List ℕ)) (it : PlannedTurn) (requests sessions : ℕ) → IsTurnOfSome bases one answer it → ∥ IsKept bases one requests sessions ∥₁
-    → IfSome it.settled (CanSettle one.asker one.held one.holder sessions it.conn (session_of_client (one.clients it.conn)))
+    → IfSome it.settled (CanSettle one.asker one.held one.holder sessions it.conn (torn_of it.settled (one.clients it.conn)))
 settles_now bases one answer it requests sessions its merely =
-    ∥∥₁_elim merely (can_settle_prop one.asker one.held one.holder sessions it.conn (session_of_client (one.clients it.conn)) it.settled)
-    (λ keeps. subst (λ (client : Option Client). IfSome it.settled (CanSettle one.asker one.held one.holder sessions it.conn (session_of_client client))) (sym its.is_planned.its_turn.here) (by keeps it.settled refl))
+    ∥∥₁_elim merely (can_settle_where one.asker one.held one.holder sessions it.conn (torn_of it.settled (one.clients it.conn)) it.settled)
+    (λ keeps. subst (λ (client : Option Client). IfSome it.settled (CanSettle one.asker one.held one.holder sessions it.conn (torn_of it.settled client))) (sym its.is_planned.its_turn.here) (by keeps it.settled refl))
   where
-    by : IsKept bases one requests sessions → (settled : Option Settlement) → it.settled ≡ settled → IfSome settled (CanSettle one.asker one.held one.holder sessions it.conn its.is_planned.client.session.id)
+    by : IsKept bases one requests sessions → (settled : Option Settlement) → it.settled ≡ settled → IfSome settled (CanSettle one.asker one.held one.holder sessions it.conn (torn_of settled (Some its.is_planned.client)))
     by keeps None e = tt
     by keeps (Some settled) e = can_settle bases one keeps.history its.happening answer it requests sessions settled keeps.is_of keeps.room its.is_planned e

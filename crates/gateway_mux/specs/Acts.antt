@@ -4,6 +4,7 @@ use Rattle.rtsp_head.specs.Items.{Shape}
 use Rattle.rtsp_head.specs.declared.item.ItemKind.{ItemKind}
 use Rattle.rtsp_head.specs.declared.item.ItemKind.TheVariants as kinds
 use Rattle.rtsp_uri.specs.declared.base.Bases.{Bases}
+use Rattle.client_slot.specs.Places.{tracks_of}
 use Rattle.client_slot.specs.Client.{Client}
 use Rattle.client_machine.specs.declared.why.CloseWhy.{CloseWhy}
 use Rattle.client_machine.specs.declared.why.CloseWhy.TheVariants.{Ended, BadItem, Slow}
@@ -45,7 +46,7 @@ pub record IsPlannedTurn (bases : Bases) (one : Picture) (happening : Happening)
   pub is_sound : CanCome comes
   pub says : heard_by bases it.number client comes ≡ hear bases (number_heard happening) client raw
   pub next : it.next ≡ one.issued + 1
-  pub settles : AreSettled (final_in (books_in one) happening) client.session.id it.settled
+  pub settles : AreSettled (final_in (books_in one) happening) client it.settled
   pub plan : IsPlan bases it.next (free_once it.settled one.held) client comes it.plan
   pub asks : it.asks ≡ is_some (effect_by bases it.number (free_once it.settled one.held) client comes).message
 
@@ -63,7 +64,7 @@ pub record IsSaid (bases : Bases) (one : Picture) (happening : Happening) (it : 
   pub answers : it.answer ≡ answer_due (books_in one) happening
   pub is_sound : CanCome comes
   pub says : (client : Client) → heard_by bases it.number client comes ≡ hear bases (number_heard happening) client raw
-  pub settles : (client : Client) → one.clients it.conn ≡ Some client → AreSettled (final_in (books_in one) happening) client.session.id it.settled
+  pub settles : (client : Client) → one.clients it.conn ≡ Some client → AreSettled (final_in (books_in one) happening) client it.settled
   pub absent : one.clients it.conn ≡ None → final_in (books_in one) happening ≡ None
 
 -- An event closes a connection.
@@ -86,7 +87,7 @@ pub record IsRise (one : Picture) (happening : Happening) (channel : ℕ) : Type
   pub is_short : length shape.bytes < 2 ^ 31
   pub here : one.clients i ≡ Some client
   pub alive : client.alive ≡ true
-  pub found : half_for (channel_in shape) client.session.tracks ≡ Some half
+  pub found : half_for (channel_in shape) (tracks_of client.sessions) ≡ Some half
   pub is : channel ≡ 2 * half.pair + half.half
 
 -- A frame of the server goes to the connection that its pair was granted to, which is alive, on its player's channel.
@@ -96,10 +97,10 @@ pub record IsFall (one : Picture) (happening : Happening) (conn channel : ℕ) :
   pub comes : happening ≡ hears shape
   pub is_frame : shape.kind ≡ kinds.Frame
   pub is_short : length shape.bytes < 2 ^ 31
-  pub owner : owner_of (one.held (channel_in shape / 2)) ≡ Some conn
+  pub owner : owner_of ((books_in one).held (channel_in shape / 2)) ≡ Some conn
   pub here : one.clients conn ≡ Some client
   pub alive : client.alive ≡ true
-  pub found : channel_for (channel_in shape / 2) (channel_in shape % 2) client.session.tracks ≡ Some channel
+  pub found : channel_for (channel_in shape / 2) (channel_in shape % 2) (tracks_of client.sessions) ≡ Some channel
 
 -- the act is what the event does
 abbrev pub IsAct : Bases → Picture → Happening → Act → Type 0

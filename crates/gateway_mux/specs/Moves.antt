@@ -22,13 +22,13 @@ use Rattle.gateway_claim.specs.OwnEvents.{turn, final_in, settled_by, lends_wher
 use Rattle.gateway_claim.specs.Follows.{kind_breach, spent, answer_due}
 use Rattle.gateway_claim.specs.Next.{client_piece, one_closed, next}
 use Rattle.gateway_claim.specs.SharedEvents.{raw_event, number_heard, kind_gone}
-use Rattle.gateway_mux.specs.Pictures.{Picture, books_in, IsPictureOf}
-use Rattle.gateway_mux.specs.Turn.{session_of_client}
+use Rattle.gateway_mux.specs.Pictures.{Picture, bare_held, books_in, IsPictureOf}
+use Rattle.gateway_mux.specs.Turn.{named_by_client}
 
 -- What is wrong with what the server says.
 abbrev pub wrong_reply : Picture → Reply2 → Option Opened → Option UpCause
 wrong_reply one reply None = Some (UnknownReply reply.cseq)
-wrong_reply one reply (Some opened) = kind_breach (books_in one) opened.kind opened.conn (session_of_client (one.clients opened.conn)) reply
+wrong_reply one reply (Some opened) = kind_breach (books_in one) opened.kind (named_by_client (one.clients opened.conn)) reply
 
 -- what is wrong with what the server says
 abbrev pub wrong_heard : Picture → Heard → Option UpCause
@@ -60,14 +60,14 @@ pub record TakesTurn (bases : Bases) (one : Picture) (happening : Happening) (i 
 
 -- the books after the step of a connection
 abbrev pub books_stepped : Picture → Happening → ℕ → Effect → Books
-books_stepped one happening i effect = lends_where (Some i) (kind_gone effect.message effect.client.pending) (settled_by (books_in one) happening)
+books_stepped one happening i effect = lends_where (Some i) (kind_gone effect.message effect.client) (settled_by (books_in one) happening)
 
 -- What is after it: the connection is what the step leaves, the others are as before, and the books are those.
 pub record IsAfterStep (one after : Picture) (happening : Happening) (i : ℕ) (effect : Effect) : Type 0 where
   pub is_client : after.clients i ≡ Some effect.client
   pub others : (j : ℕ) → j ≢ i → after.clients j ≡ one.clients j
   pub asker : (number : ℕ) → after.asker number ≡ option_map (λ opened. opened.conn) ((books_stepped one happening i effect).opened number)
-  pub held : (pair : ℕ) → after.held pair ≡ (books_stepped one happening i effect).held pair
+  pub held : (pair : ℕ) → after.held pair ≡ option_map (bare_held pair) ((books_stepped one happening i effect).held pair)
   pub holder : (id : List ℕ) → after.holder id ≡ (books_stepped one happening i effect).holder id
   pub issued : after.issued ≡ (books_stepped one happening i effect).issued
 

@@ -9,6 +9,7 @@ use Rattle.client_machine.specs.declared.parts.Plan.{Plan}
 use Rattle.client_machine.specs.Plans.{Comes, IsPlan}
 use Rattle.gateway_claim.specs.Kinds.{RequestKind, plain}
 use Rattle.gateway_claim.specs.Books.{pair_asked}
+use Rattle.gateway_claim.specs.Follows.{session_asked}
 use Rattle.gateway_claim.specs.SharedEvents.{kind_pending}
 use Rattle.gateway_mux.specs.declared.settlement.Settlement.{Settlement}
 use Rattle.gateway_mux.specs.Settlements.{held_settled}
@@ -22,14 +23,14 @@ abbrev pub IsPlanAt : Bases → ℕ → Option ℕ → Option Client → Comes �
 IsPlanAt bases next pair None comes plan = ⊥
 IsPlanAt bases next pair (Some client) comes plan = IsPlan bases next pair client comes plan
 
--- the session of a connection
-abbrev pub session_of_client : Option Client → Option (List ℕ)
-session_of_client client = option_and_then (λ client. client.session.id) client
+-- the session that the open request of a connection named
+abbrev pub named_by_client : Option Client → Option (List ℕ)
+named_by_client client = option_and_then (λ client. session_asked client.sessions client.pending) client
 
 -- the kind of its open request
 abbrev pub kind_open : Option Client → RequestKind
 kind_open None = plain
-kind_open (Some client) = kind_pending client.pending
+kind_open (Some client) = kind_pending client.sessions client.pending
 
 -- whether its open request asks for a pair of channels
 abbrev pub asks_pair : Option Client → Bool

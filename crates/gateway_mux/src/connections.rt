@@ -1,13 +1,15 @@
 //! The connections of a gateway: those of its players, and the one to the server.
-ghost use Rattle.std.specs.Prelude.{◌≡◌, ◌<◌, [], true, false, IsOk, OnOk};
+ghost use Rattle.std.specs.Prelude.{◌≡◌, ◌<◌, ◌≤◌, [], true, false, IsOk, OnOk};
 ghost use Rattle.gateway_mux.specs.Pictures.{picture, IsKept, IsPictureOf};
 ghost use Rattle.connection_table.specs.Tables.{is_ready};
 ghost use Rattle.gateway_mux.specs.Spare.{left};
+ghost use Rattle.session_one.specs.declared.parts.TheConstants.{MOST_SESSIONS};
 
 use crate::upstream::UpstreamBooks;
 use connection_table::ConnectionTable;
 use gate_bytes::Memory;
 use gateway_claim::Bases;
+use session_one::MOST_SESSIONS;
 use std::alloc::Global;
 
 /// The connections of a gateway while its connection to the server stands: they are what some history has, and
@@ -17,10 +19,10 @@ pub(crate) struct Connections {
     pub bases: Bases,
     pub seats: ConnectionTable,
     pub upstream: UpstreamBooks,
-    ghost kept: { ∥ IsKept bases (picture seats upstream) (left upstream.requests.spare seats)
-        (left upstream.sessions.spare seats) ∥₁ },
+    ghost kept: { ∥ IsKept bases (picture seats upstream) (left 1 upstream.requests.spare seats)
+        (left MOST_SESSIONS upstream.sessions.spare seats) ∥₁ },
     ghost spare: { is_ready seats ≡ true → 0 < upstream.requests.spare },
-    ghost spare_session: { is_ready seats ≡ true → 0 < upstream.sessions.spare },
+    ghost spare_session: { is_ready seats ≡ true → MOST_SESSIONS ≤ upstream.sessions.spare },
 }
 
 impl Connections {
@@ -52,7 +54,9 @@ impl Connections {
             return Ok(());
         }
         self.upstream.requests.room()?;
-        self.upstream.sessions.room()?;
+        for _place in 0..MOST_SESSIONS {
+            self.upstream.sessions.room()?;
+        }
         self.seats.prepare(alloc)
     }
 

@@ -40,7 +40,7 @@ fn grants(pair: u8, grant: Option<Grant>) -> bool
     }
 }
 
-/// Whether what a reply says is the session of a connection, or a new one where it has none.
+/// Whether what a reply says is the session that a SETUP named, or a new one where it named none.
 fn is_session_for(session: Option<&[u8]>, said: Option<&[u8]>) -> bool
     ensures { result ≡ is_session_for (option_copied session.entry) (option_copied said.entry) }
 {
@@ -53,23 +53,20 @@ fn is_session_for(session: Option<&[u8]>, said: Option<&[u8]>) -> bool
     }
 }
 
-/// Whether a session is another connection's.
-fn is_others(sessions: &SessionBook, conn: u32, said: Option<&[u8]>) -> bool
-    ensures { result ≡ is_taken_by (λ id. holder_of sessions.now id) conn (option_copied said.entry) }
+/// Whether some connection has a session.
+fn is_taken(sessions: &SessionBook, said: Option<&[u8]>) -> bool
+    ensures { result ≡ is_taken_by (λ id. holder_of sessions.now id) (option_copied said.entry) }
 {
-    let Some(id) = said else {
-        return false;
-    };
-    match sessions.owner(id) {
-        Some(owner) => owner != conn,
+    match said {
+        Some(id) => sessions.owner(id).is_some(),
         None => false,
     }
 }
 
-/// What is wrong with the success of a connection's SETUP, where something is. The reply grants this.
+/// What is wrong with the success of a SETUP, where something is. It named this session, and the reply
+/// grants this.
 pub(crate) fn wrong_grant(
     sessions: &SessionBook,
-    conn: u32,
     pair: u8,
     session: Option<&[u8]>,
     grant: Option<Grant>,
@@ -78,13 +75,13 @@ pub(crate) fn wrong_grant(
     requires low { pair < PAIRS }
     requires grant { grant ≡ grant_said reply.now }
     ensures { result
-        ≡ wrong_grant (λ id. holder_of sessions.now id) conn pair (option_copied session.entry) reply.now }
+        ≡ wrong_grant (λ id. holder_of sessions.now id) pair (option_copied session.entry) reply.now }
 {
     let said = id_said(reply);
     if !grants(pair, grant) || !is_session_for(session, said) {
         return Some(UpCause::BadGrant(reply.cseq));
     }
-    if session.is_none() && is_others(sessions, conn, said) {
+    if session.is_none() && is_taken(sessions, said) {
         return Some(UpCause::SessionTaken(reply.cseq));
     }
     None

@@ -1,5 +1,5 @@
 //! What items of the server do.
-ghost use Rattle.std.specs.Prelude.{◌≡◌, true, false, Some, IsOk, IfOk};
+ghost use Rattle.std.specs.Prelude.{◌≡◌, true, false, List, Some, IsOk, IfOk};
 ghost use Rattle.gateway_mux.specs.Short.{IsShortAnswer};
 ghost use Rattle.std.specs.Option.{option_copied};
 ghost use Rattle.rtsp_head.specs.Items.{Shape};
@@ -8,6 +8,7 @@ ghost use Rattle.rtsp_head.specs.declared.item.ItemKind.TheVariants.{Frame};
 ghost use Rattle.rtsp_status.specs.Reasons.{has_reason};
 ghost use Rattle.client_slot.specs.Purposes.{purpose_seen};
 ghost use Rattle.head_two.specs.Answers.{answer_text};
+ghost use Rattle.gateway_claim.specs.Follows.{session_asked};
 ghost use Rattle.gateway_claim.specs.Happenings.{hears};
 ghost use Rattle.gateway_claim.specs.ServerItems.{replies, requests, heard};
 
@@ -20,7 +21,7 @@ use crate::server_item::{ServerItem, hear};
 use crate::settlement::what_settles;
 use crate::turn_facts::TurnFacts;
 use client_machine::{Incoming, ServerReply, channel_for, grant_said};
-use client_slot::Pending;
+use client_slot::{Pending, Slot};
 use gate_bytes::{Memory, Text};
 use gateway_claim::UpCause;
 use head_two::{Ask2, Reply2, write_answer};
@@ -33,6 +34,7 @@ use std::alloc::Global;
 const LONGEST_ANSWER: usize = 0x7fff_ffff;
 
 impl Connections {
+    ghost use Rattle.client_slot.specs.Session.{PlayerSession};
     ghost use Rattle.gateway_claim.specs.Follows.{kind_breach};
     ghost use Rattle.gateway_claim.specs.SharedEvents.{kind_pending};
     ghost use Rattle.client_machine.specs.UpTexts.{grant_said};
@@ -104,15 +106,14 @@ impl Connections {
         let Some(pending) = seat.slot.pending() else {
             unreachable!();
         };
-        let session = seat.slot.session();
         let grant = grant_said(reply);
-        if let Some(cause) = self.breach(conn, pending, session, grant, reply) {
+        if let Some(cause) = self.breach(pending, named_by(seat.slot, pending), grant, reply) {
             return Ok(Act::Ends(cause));
         }
         let settled = if reply.code < 200 {
             None
         } else {
-            Some(what_settles(alloc, conn, pending, session, reply)?)
+            Some(what_settles(alloc, seat.slot, pending, reply)?)
         };
         let said = TurnFacts {
             number: reply.cseq,
@@ -128,11 +129,10 @@ impl Connections {
         )
     }
 
-    /// What is wrong with a reply to the open request of a connection, which has this session. The
+    /// What is wrong with a reply to the open request of a connection, which named this session. The
     /// reply grants this.
     fn breach(
         &self,
-        conn: u32,
         pending: Pending<'_>,
         session: Option<&[u8]>,
         grant: Option<Grant>,
@@ -140,21 +140,14 @@ impl Connections {
     ) -> Option<UpCause>
         requires low { IsLowPurpose (purpose_seen pending) }
         requires grant { grant ≡ grant_said reply.now }
-        ensures { result
+        ensures { (sessions : List PlayerSession) → result
             ≡ kind_breach (books_in (picture self.now.seats self.now.upstream))
-            (kind_pending (Some (purpose_seen pending.entry))) conn (option_copied session.entry)
+            (kind_pending sessions (Some (purpose_seen pending.entry))) (option_copied session.entry)
             reply.now }
     {
         match pending {
             Pending::Client(_, Some(track)) if is_success(reply.code) => {
-                wrong_grant(
-                    &self.upstream.sessions,
-                    conn,
-                    track.pair,
-                    session,
-                    grant,
-                    reply,
-                )
+                wrong_grant(&self.upstream.sessions, track.pair, session, grant, reply)
             }
             _ => None,
         }
@@ -174,11 +167,23 @@ impl Connections {
                     ..TurnFacts::alone(notice.conn)
                 };
                 let seat = self.seats.seat(notice.conn);
-                let incoming = Incoming::Notice(notice.reason, notice.names);
+                let incoming = Incoming::Notice(notice.id, notice.reason, notice.names);
                 self.plan_turn(alloc, seat, said, &incoming)
             }
             Err(refusal) => Ok(Act::Answers(answer(alloc, refusal.code(), ask.cseq, None)?)),
         }
+    }
+}
+
+/// The id of the session that the open request of a player named.
+fn named_by<'a>(slot: &'a Slot, pending: Pending<'_>) -> Option<&'a [u8]>
+    requires { slot.now.pending ≡ Some (purpose_seen pending) }
+    ensures { option_copied result ≡ session_asked slot.entry.now.sessions slot.entry.now.pending }
+{
+    slot.keeps();
+    match pending {
+        Pending::Client(asked, _) => slot.session(asked.place?),
+        Pending::Released(_) | Pending::Closing(_) => None,
     }
 }
 

@@ -1,5 +1,7 @@
 //! The turn of a connection.
 ghost use Rattle.std.specs.Prelude.{◌≡◌, ◌≢◌, ◌+◌, ◌<◌, ℕ, true, List, Option, Some, None, is_some, IsSome, IfSome};
+ghost use Rattle.std.specs.Option.{option_copied};
+ghost use Rattle.session_one.specs.declared.parts.TheConstants.{MOST_SESSIONS};
 ghost use Rattle.channel_map.specs.Pairs.{held_at};
 ghost use Rattle.client_slot.specs.Client.{Client};
 ghost use Rattle.up_books.specs.Ids.{holder_of};
@@ -7,14 +9,14 @@ ghost use Rattle.up_books.specs.Numbers.{asker_of, next_number};
 ghost use Rattle.client_machine.specs.Plans.{IsReady, IsShortPlan, IsShortDone};
 ghost use Rattle.connection_table.specs.CarryOut.{IsCarriedAt};
 ghost use Rattle.connection_table.specs.Tables.{client_at, is_ready, IsKeyOf};
-ghost use Rattle.gateway_mux.specs.Settlements.{CanSettle, binds, unbinds, asker_settled, held_settled, holder_settled};
+ghost use Rattle.gateway_mux.specs.Settlements.{CanSettle, torn_of, binds, unbinds, asker_settled, held_settled, holder_settled};
 ghost use Rattle.gateway_mux.specs.Upstream.{held_lent};
-ghost use Rattle.gateway_mux.specs.Turn.{session_of_client, asks_pair, asker_lent, issued_then, one_if, free_once};
+ghost use Rattle.gateway_mux.specs.Turn.{asks_pair, asker_lent, issued_then, one_if, free_once};
 
 use crate::settlement::Settlement;
 use crate::upstream::UpstreamBooks;
 use client_machine::{Done, Plan};
-use client_slot::Pending;
+use client_slot::{Pending, Slot};
 use connection_table::ConnectionTable;
 
 /// What is planned for a connection: what the server's reply settles, and what the connection does.
@@ -48,7 +50,8 @@ pub(crate) fn commit_turn(
     requires settles { IfSome turn.settled
         (CanSettle (λ n. asker_of upstream.old.requests n) (λ p. held_at p upstream.old.channels)
         (λ id. holder_of upstream.old.sessions id) upstream.old.sessions.spare turn.conn
-        (session_of_client (client_at seats.old turn.conn))) }
+        (torn_of turn.settled (client_at seats.old turn.conn))) }
+    requires within { IfSome turn.settled (λ settled. IfSome settled.torn (λ place. place < MOST_SESSIONS)) }
     requires room { turn.asks ≡ true → turn.settled ≡ None → 0 < upstream.old.requests.spare }
     requires left { turn.asks ≡ true → IsSome (next_number upstream.old.requests.issued) }
     ensures done { IsSome (client_at seats.old turn.conn)
@@ -68,7 +71,7 @@ pub(crate) fn commit_turn(
     ensures spare { IsSome result
         → upstream.new.sessions.spare + one_if (binds turn.settled)
         ≡ upstream.old.sessions.spare
-        + one_if (unbinds turn.settled (session_of_client (client_at seats.old turn.conn))) }
+        + one_if (unbinds turn.settled (torn_of turn.settled (client_at seats.old turn.conn))) }
     ensures asked { IsSome result
         → (n : ℕ)
         → asker_of upstream.new.requests n
@@ -83,7 +86,7 @@ pub(crate) fn commit_turn(
     ensures holder { IsSome result
         → (id : List ℕ)
         → holder_of upstream.new.sessions id
-        ≡ holder_settled turn.settled turn.conn id (holder_of upstream.old.sessions id) }
+        ≡ holder_settled turn.settled (torn_of turn.settled (client_at seats.old turn.conn)) turn.conn id (holder_of upstream.old.sessions id) }
 {
     let PlannedTurn {
         conn,
@@ -95,12 +98,23 @@ pub(crate) fn commit_turn(
         asks,
     } = turn;
     let slot = seats.at(key)?;
-    upstream.settle_where(conn, slot.session(), settled);
+    upstream.settle_where(conn, torn_id(slot, &settled), settled);
     let done = seats.commit(conn, key, plan, number, next)?;
     if asks {
         upstream.issue(conn, is_for_a_pair(seats, conn, key));
     }
     Some(done)
+}
+
+/// The id of the session that ends with what is settled.
+fn torn_id<'a>(slot: &'a Slot, settled: &Option<Settlement>) -> Option<&'a [u8]>
+    requires { IfSome settled.now (λ one. IfSome one.torn (λ place. place < MOST_SESSIONS)) }
+    ensures { option_copied result ≡ torn_of settled.entry.now (Some slot.entry.now) }
+{
+    match settled {
+        Some(settled) => slot.session(settled.torn?),
+        None => None,
+    }
 }
 
 /// Whether the open request of a connection, which is kept under this key, asks for a pair of channels.

@@ -1,12 +1,12 @@
 //! The one connection to the server.
-ghost use Rattle.std.specs.Prelude.{◌≡◌, ◌==◌, ◌+◌, ◌<◌, ◌≤◌, ℕ, List, None, Some, is_some, is_none, IsSome, IfSome, if◌then◌else◌};
+ghost use Rattle.std.specs.Prelude.{◌≡◌, ◌==◌, ◌+◌, ◌<◌, ◌≤◌, ℕ, List, None, Some, is_some, is_none, true, IsSome, IfSome, if◌then◌else◌};
 ghost use Rattle.std.specs.Option.{option_copied};
 ghost use Rattle.channel_map.specs.declared.map.TheConstants.{PAIRS};
 ghost use Rattle.channel_map.specs.Pairs.{held_at, is_free, lowest_free};
 ghost use Rattle.up_books.specs.Ids.{holder_of};
 ghost use Rattle.up_books.specs.Numbers.{asker_of, next_number};
 ghost use Rattle.up_books.specs.declared.cseq.TheConstants.{LAST_NUMBER};
-ghost use Rattle.gateway_mux.specs.Settlements.{held_by, holder_by, IsOwnSession, CanSettle, is_freed, binds, unbinds, asker_settled, held_settled, holder_settled};
+ghost use Rattle.gateway_mux.specs.Settlements.{held_by, holder_by, CanSettle, gives_back, binds, unbinds, asker_settled, held_settled, holder_settled};
 ghost use Rattle.gateway_mux.specs.Turn.{free_once, one_if};
 ghost use Rattle.gateway_mux.specs.Upstream.{reserved_by};
 
@@ -42,10 +42,10 @@ impl UpstreamBooks {
         }
     }
 
-    /// Settles what the final reply to a request of a connection settles, which had this session.
-    pub fn settle(&mut self, conn: u32, session: Option<&[u8]>, settled: Settlement)
+    /// Settles what the final reply to a request of a connection settles. This is the session that ends.
+    pub fn settle(&mut self, conn: u32, torn: Option<&[u8]>, settled: Settlement)
         requires { CanSettle (λ n. asker_of self.old.requests n) (λ p. held_at p self.old.channels)
-            (λ id. holder_of self.old.sessions id) self.old.sessions.spare conn (option_copied session)
+            (λ id. holder_of self.old.sessions id) self.old.sessions.spare conn (option_copied torn)
             settled }
         ensures issued { self.new.requests.issued ≡ self.old.requests.issued }
         ensures open { (n : ℕ)
@@ -54,45 +54,39 @@ impl UpstreamBooks {
         ensures room { self.new.requests.spare ≡ self.old.requests.spare + 1 }
         ensures spare { self.new.sessions.spare + one_if (is_some settled.bound)
             ≡ self.old.sessions.spare
-            + one_if (is_freed settled.bound settled.freed (option_copied session.entry)) }
+            + one_if (gives_back settled.bound (option_copied torn.entry)) }
         ensures held { (p : ℕ)
             → held_at p self.new.channels
             ≡ held_by settled.granted settled.freed p (held_at p self.old.channels) }
         ensures holder { (id : List ℕ)
             → holder_of self.new.sessions id
-            ≡ holder_by settled.bound settled.freed conn id (holder_of self.old.sessions id) }
+            ≡ holder_by settled.bound (option_copied torn.entry) conn id (holder_of self.old.sessions id) }
     {
         let _ = self.requests.settle(settled.number);
         settle_channels(&mut self.channels, settled.granted, settled.freed);
-        settle_sessions(
-            &mut self.sessions,
-            conn,
-            session,
-            settled.bound,
-            settled.freed,
-        );
+        settle_sessions(&mut self.sessions, conn, settled.bound, torn);
     }
 
     /// Settles what the final reply to a request of a connection settles, where one came.
     #[inline(always)]
-    pub fn settle_where(&mut self, conn: u32, session: Option<&[u8]>, settled: Option<Settlement>)
+    pub fn settle_where(&mut self, conn: u32, torn: Option<&[u8]>, settled: Option<Settlement>)
         requires { IfSome settled
             (CanSettle (λ n. asker_of self.old.requests n) (λ p. held_at p self.old.channels)
-            (λ id. holder_of self.old.sessions id) self.old.sessions.spare conn (option_copied session)) }
+            (λ id. holder_of self.old.sessions id) self.old.sessions.spare conn (option_copied torn)) }
         ensures issued { self.new.requests.issued ≡ self.old.requests.issued }
         ensures open { (n : ℕ)
             → asker_of self.new.requests n ≡ asker_settled settled n (asker_of self.old.requests n) }
         ensures room { self.new.requests.spare
             ≡ (if is_some settled then self.old.requests.spare + 1 else self.old.requests.spare) }
         ensures spare { self.new.sessions.spare + one_if (binds settled)
-            ≡ self.old.sessions.spare + one_if (unbinds settled (option_copied session.entry)) }
+            ≡ self.old.sessions.spare + one_if (unbinds settled (option_copied torn.entry)) }
         ensures held { (p : ℕ)
             → held_at p self.new.channels ≡ held_settled settled p (held_at p self.old.channels) }
         ensures holder { (id : List ℕ)
-            → holder_of self.new.sessions id ≡ holder_settled settled conn id (holder_of self.old.sessions id) }
+            → holder_of self.new.sessions id ≡ holder_settled settled (option_copied torn.entry) conn id (holder_of self.old.sessions id) }
     {
         if let Some(settled) = settled {
-            self.settle(conn, session, settled);
+            self.settle(conn, torn, settled);
         }
     }
 
@@ -144,28 +138,22 @@ fn settle_channels(channels: &mut ChannelMap, granted: Option<u8>, freed: Freed)
     }
 }
 
-/// Settles the sessions: a new one is bound, or that of the connection goes with its pairs.
-fn settle_sessions(
-    sessions: &mut SessionBook,
-    conn: u32,
-    session: Option<&[u8]>,
-    bound: Option<Text>,
-    freed: Freed,
-)
+/// Settles the sessions: a new one is bound, or one ends.
+fn settle_sessions(sessions: &mut SessionBook, conn: u32, bound: Option<Text>, torn: Option<&[u8]>)
     requires spare { IsSome bound → 0 < sessions.old.spare }
     requires fresh { IfSome bound (λ id. holder_of sessions.old id ≡ None) }
-    requires owned { IsOwnSession (λ id. holder_of sessions.old id) freed conn (option_copied session) }
+    requires owned { IfSome torn (λ id. is_some (holder_of sessions.old id.now) ≡ true) }
     ensures spare { sessions.new.spare + one_if (is_some bound)
-        ≡ sessions.old.spare + one_if (is_freed bound freed (option_copied session.entry)) }
+        ≡ sessions.old.spare + one_if (gives_back bound (option_copied torn.entry)) }
     ensures holder { (id : List ℕ)
-        → holder_of sessions.new id ≡ holder_by bound freed conn id (holder_of sessions.old id) }
+        → holder_of sessions.new id ≡ holder_by bound (option_copied torn.entry) conn id (holder_of sessions.old id) }
 {
-    match (bound, freed, session) {
-        (Some(id), _, _) => match sessions.bind(id, conn) {
+    match (bound, torn) {
+        (Some(id), _) => match sessions.bind(id, conn) {
             Ok(()) => {}
             Err(_) => unreachable!(),
         },
-        (None, Freed::Granted(_), Some(id)) => sessions.free(id),
-        (None, _, _) => {}
+        (None, Some(id)) => sessions.free(id),
+        (None, None) => {}
     }
 }

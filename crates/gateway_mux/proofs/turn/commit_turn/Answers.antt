@@ -10,20 +10,20 @@ use Rattle.std.proofs.Common.{sym, ◌∙◌, ap}
 use Rattle.std.specs.Option.{option_copied}
 use Rattle.gateway_mux.specs.declared.upstream.UpstreamBooks.{UpstreamBooks}
 use Rattle.connection_table.proofs.SeatLemmas.{kept_at}
-use Rattle.gateway_mux.proofs.TurnLemmas.{reserved_settled, with_session}
+use Rattle.gateway_mux.proofs.TurnLemmas.{reserved_settled, with_torn}
 use Rattle.gateway_mux.proofs.turn.commit_turn.Goals.{then-asks, else-asks}
 use Rattle.gateway_mux.proofs.turn.commit_turn.Goals as goal
 
--- src/turn.rt:96:5
 pub settle_where-requires : goal.settle_where-requires
 settle_where-requires c =
-    with_session
-    (λ s. IfSome c.args.turn.settled (CanSettle (λ n. asker_of c.args.upstream.now.requests n) (λ p. held_at p c.args.upstream.now.channels) (λ id. holder_of c.args.upstream.now.sessions id) c.args.upstream.now.sessions.spare c.args.turn.conn s))
+    with_torn
+    (λ torn. IfSome c.args.turn.settled (CanSettle (λ n. asker_of c.args.upstream.now.requests n) (λ p. held_at p c.args.upstream.now.channels) (λ id. holder_of c.args.upstream.now.sessions id) c.args.upstream.now.sessions.spare c.args.turn.conn torn))
+    c.args.turn.settled
     (client_at c.args.seats.now c.args.turn.conn)
     c.in_ok-slot.slot.now
-    (option_copied c.session.result)
+    (option_copied c.torn_id.result)
     (kept_at c.args.seats.now c.args.turn.conn c.args.turn.key c.requires.key ∙ sym c.in_ok-slot.ensures)
-    c.session.ensures.id
+    c.torn_id.ensures
     c.requires.settles
 
 -- src/turn.rt:74:1

@@ -1,4 +1,5 @@
 use Rattle.std.proofs.Common.{◌≡◌, ◌∙◌, ◌+◌, ℕ, true, false, sym, refl, arith}
+use Rattle.session_one.specs.declared.parts.TheConstants.{MOST_SESSIONS}
 use Rattle.gateway_mux.specs.Pictures.{picture}
 use Rattle.gateway_mux.specs.Spare.{left}
 use Rattle.gateway_mux.proofs.UpkeepLemmas.{keeps_none}
@@ -10,7 +11,7 @@ none_issued n e = grind arith
 
 pub invariant_of-result : goal.invariant_of-result
 invariant_of-result c = record {
-  kept = ∣ keeps_none c.args.bases (picture c.new.result c.starting.result) (left c.starting.result.requests.spare c.new.result) (left c.starting.result.sessions.spare c.new.result)
+  kept = ∣ keeps_none c.args.bases (picture c.new.result c.starting.result) (left 1 c.starting.result.requests.spare c.new.result) (left MOST_SESSIONS c.starting.result.sessions.spare c.new.result)
       (record {
         is_history = tt;
         standing = refl;

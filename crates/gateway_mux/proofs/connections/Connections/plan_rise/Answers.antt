@@ -1,3 +1,5 @@
+use Rattle.client_slot.specs.Places.{tracks_of}
+use Rattle.session_one.specs.declared.parts.TheConstants.{MOST_SESSIONS}
 use Rattle.std.proofs.Common.{◌∙◌, ◌<◌, ◌≤◌, refl, sym, ap, arith}
 use Rattle.rtsp_head.specs.Shapes.{shape_of}
 use Rattle.channel_map.specs.declared.map.TheConstants.{PAIRS}
@@ -15,7 +17,7 @@ returns-then-not-alive-clause-act c =
 
 low : (c : goal.After-struct_known-1) → (c.in-Some-half_for.half.pair < PAIRS) × (c.in-Some-half_for.half.half ≤ 1)
 low c =
-    low_half c.args.self.now.bases (picture c.args.self.now.seats c.args.self.now.upstream) (left c.args.self.now.upstream.requests.spare c.args.self.now.seats) (left c.args.self.now.upstream.sessions.spare c.args.self.now.seats) c.args.conn c.channel_of.result c.in-Some.slot.now
+    low_half c.args.self.now.bases (picture c.args.self.now.seats c.args.self.now.upstream) (left 1 c.args.self.now.upstream.requests.spare c.args.self.now.seats) (left MOST_SESSIONS c.args.self.now.upstream.sessions.spare c.args.self.now.seats) c.args.conn c.channel_of.result c.in-Some.slot.now
     (half_of c.in-Some-half_for.half) (sym c.in-Some.ensures) (sym c.in-Some-half_for.ensures) c.args.self.now.kept
 
 pub overflow_mul-result : goal.overflow_mul-result
@@ -24,7 +26,7 @@ overflow_mul-result c = let both = low c in let small : c.in-Some-half_for.half.
 pub overflow_add-result : goal.overflow_add-result
 overflow_add-result c =
     let both =
-    low_half c.args.self.now.bases (picture c.args.self.now.seats c.args.self.now.upstream) (left c.args.self.now.upstream.requests.spare c.args.self.now.seats) (left c.args.self.now.upstream.sessions.spare c.args.self.now.seats) c.args.conn c.channel_of.result c.in-Some.slot.now
+    low_half c.args.self.now.bases (picture c.args.self.now.seats c.args.self.now.upstream) (left 1 c.args.self.now.upstream.requests.spare c.args.self.now.seats) (left MOST_SESSIONS c.args.self.now.upstream.sessions.spare c.args.self.now.seats) c.args.conn c.channel_of.result c.in-Some.slot.now
     (half_of c.in-Some-half_for.half) (sym c.in-Some.ensures) (sym c.in-Some-half_for.ensures) c.args.self.now.kept in
     let small : c.in-Some-half_for.half.pair < 128 = both.0 in
     let one : c.in-Some-half_for.half.half ≤ 1 = both.1 in omega arith
@@ -40,11 +42,11 @@ returns-in-Some-half_for-clause-act c = record {
   is_short = c.channel_of.ensures.short;
   here = sym c.in-Some.ensures;
   alive = sym c.alive.ensures ∙ c.if-not-alive.false;
-  found = ap (λ channel. half_for channel c.in-Some.slot.now.session.tracks) (sym c.channel_of.ensures.channel) ∙ sym c.in-Some-half_for.ensures;
+  found = ap (λ channel. half_for channel (tracks_of c.in-Some.slot.now.sessions)) (sym c.channel_of.ensures.channel) ∙ sym c.in-Some-half_for.ensures;
   is = refl;
 }
 
 pub returns-in-None-clause-act : goal.returns-in-None-clause-act
 returns-in-None-clause-act c =
     idle_no_half c.args.self.now.bases (picture c.args.self.now.seats c.args.self.now.upstream) c.args.conn (shape_of c.args.item.now) c.in-Some.slot.now (sym c.in-Some.ensures) (sym c.alive.ensures ∙ c.if-not-alive.false) c.requires
-    (ap (λ channel. half_for channel c.in-Some.slot.now.session.tracks) (sym c.channel_of.ensures.channel) ∙ half_none c.half_for.result (half_for c.channel_of.result c.in-Some.slot.now.session.tracks) c.half_for.ensures c.in-None.is)
+    (ap (λ channel. half_for channel (tracks_of c.in-Some.slot.now.sessions)) (sym c.channel_of.ensures.channel) ∙ half_none c.half_for.result (half_for c.channel_of.result (tracks_of c.in-Some.slot.now.sessions)) c.half_for.ensures c.in-None.is)

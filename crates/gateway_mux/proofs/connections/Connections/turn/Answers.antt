@@ -1,3 +1,5 @@
+use Rattle.gateway_mux.specs.Spare.{left}
+use Rattle.session_one.specs.declared.parts.TheConstants.{MOST_SESSIONS}
 use Rattle.std.proofs.Common.{Some}
 use Rattle.gateway_mux.specs.Moves.{handed_by}
 use Rattle.gateway_mux.specs.Pictures.{Picture, picture}
@@ -17,7 +19,7 @@ commit_turn-requires-clause-room c asks unsettled =
     room_asked c.args.self.now.bases (picture c.args.self.now.seats c.args.self.now.upstream) c.args.answer c.args.turn c.args.self.now.upstream.requests.spare c.args.self.now.upstream.sessions.spare c.requires.turn asks unsettled (kept_in_all c.args.self.now.bases c.args.self.now.seats c.args.self.now.upstream c.args.self.now.kept)
 
 pub commit_turn-requires-clause-left : goal.commit_turn-requires-clause-left
-commit_turn-requires-clause-left c asks = left_for c.args.self.now.bases (picture c.args.self.now.seats c.args.self.now.upstream) c.args.answer c.args.turn c.requires.turn asks
+commit_turn-requires-clause-left c asks = left_for c.args.self.now.bases (picture c.args.self.now.seats c.args.self.now.upstream) (left 1 c.args.self.now.upstream.requests.spare c.args.self.now.seats) (left MOST_SESSIONS c.args.self.now.upstream.sessions.spare c.args.self.now.seats) c.args.answer c.args.turn c.args.self.now.kept c.requires.turn asks
 
 pub invariant_of-self : goal.invariant_of-self
 invariant_of-self c =

@@ -1,3 +1,5 @@
+use Rattle.gateway_mux.specs.Spare.{left}
+use Rattle.session_one.specs.declared.parts.TheConstants.{MOST_SESSIONS}
 use Rattle.std.proofs.Common.{◌≡◌, ◌∙◌, ◌+◌, ◌≤◌, ℕ, true, false, sym, ap, subst}
 use Rattle.up_books.specs.declared.cseq.TheConstants.{LAST_NUMBER}
 use Rattle.up_books.specs.Numbers.{next_number}
@@ -9,14 +11,14 @@ use Rattle.gateway_mux.proofs.connections.Connections.turned.Goals as goal
 
 pub returns-then-is_none-clause-act : goal.returns-then-is_none-clause-act
 returns-then-is_none-clause-act c h comes client said here planned =
-    spent_act c.args.self.now.bases (picture c.args.self.now.seats c.args.self.now.upstream) h c.args.said comes client c.args.plan c.asks-asks.result said here planned
+    spent_act c.args.self.now.bases (picture c.args.self.now.seats c.args.self.now.upstream) (left 1 c.args.self.now.upstream.requests.spare c.args.self.now.seats) (left MOST_SESSIONS c.args.self.now.upstream.sessions.spare c.args.self.now.seats) h c.args.said comes client c.args.plan c.asks-asks.result c.args.self.now.kept said here planned
     (c.asks-asks.ensures c.args.self.now.bases c.args.said.number (c.args.self.now.upstream.requests.issued + 1) (free_once c.args.said.settled (picture c.args.self.now.seats c.args.self.now.upstream).held) client comes planned)
     c.if-asks.true
     (none_left (next_number c.args.self.now.upstream.requests.issued) c.next.result c.is_none.result c.next.ensures c.is_none.ensures c.if-is_none.true)
 
 pub returns-clause-act : goal.returns-clause-act
 returns-clause-act c h comes client said here planned =
-    turned_act c.args.self.now.bases (picture c.args.self.now.seats c.args.self.now.upstream) h c.args.said comes client c.args.plan c.asks-asks.result c.args.key (c.issued.result + 1) (ap (λ n. n + 1) c.issued.ensures.number) said here planned
+    turned_act c.args.self.now.bases (picture c.args.self.now.seats c.args.self.now.upstream) (left 1 c.args.self.now.upstream.requests.spare c.args.self.now.seats) (left MOST_SESSIONS c.args.self.now.upstream.sessions.spare c.args.self.now.seats) h c.args.said comes client c.args.plan c.asks-asks.result c.args.key (c.issued.result + 1) c.args.self.now.kept (ap (λ n. n + 1) c.issued.ensures.number) said here planned
     (c.asks-asks.ensures c.args.self.now.bases c.args.said.number (c.args.self.now.upstream.requests.issued + 1) (free_once c.args.said.settled (picture c.args.self.now.seats c.args.self.now.upstream).held) client comes planned)
     (subst (λ (n : ℕ). n ≤ LAST_NUMBER) c.issued.ensures.number c.issued.ensures.high)
     (elim c.else-asks.branch [
