@@ -28,7 +28,30 @@ fn said_by(speaker: Speaker, item: Item) -> Event
 
 /// Takes a piece of a speaker's bytes, whose framer is given, and all items that are whole then. A text that is done with
 /// is left in its place.
+#[inline(always)]
 fn take_piece<M: Core, K: Sink>(
+    alloc: Global,
+    framer: &mut Framer,
+    watched: &mut Watched<M>,
+    sink: &mut K,
+    speaker: Speaker,
+    piece: &mut Text,
+) -> Result<(), ProcessFault>
+    ensures takes { TakesPiece framer.old framer.new (IsCoreHistory M.follows)
+        (Watches M.stands M.bases watched.old.core watched.old.living)
+        (Watches M.stands M.bases watched.new.core watched.new.living) speaker piece.old (K.written sink.old)
+        (K.written sink.new) result }
+    ensures cause { SinkCause (K.faults sink.old) (K.faults sink.new) result }
+{
+    if framer.hold(piece.as_bytes())? {
+        return Ok(());
+    }
+    take_items(alloc, framer, watched, sink, speaker, piece)
+}
+
+/// The same for any piece. It is called apart, so that a piece in which no line ends costs nothing of it.
+#[inline(never)]
+fn take_items<M: Core, K: Sink>(
     alloc: Global,
     framer: &mut Framer,
     watched: &mut Watched<M>,
@@ -140,6 +163,7 @@ impl<M: Core> Run<M> {
     }
 
     /// Takes bytes of a speaker, and all items that are whole then.
+    #[inline(always)]
     fn take_bytes<K: Sink>(
         &mut self,
         alloc: Global,
@@ -165,6 +189,7 @@ impl<M: Core> Run<M> {
     }
 
     /// Takes the bytes that the spare text has as those of a client, whose framer is made where there is none.
+    #[inline(always)]
     fn take_client<K: Sink>(
         &mut self,
         alloc: Global,

@@ -2,7 +2,7 @@ use Rattle.std.proofs.Common.{◌≤◌}
 use Rattle.gateway_replay.specs.Framers.{left_with}
 use Rattle.gateway_replay.specs.Runs.{TakesSome}
 use Rattle.gateway_replay.specs.CoreRecords.{Watches}
-use Rattle.gateway_replay.proofs.run.take_piece.Given as goal
+use Rattle.gateway_replay.proofs.run.take_items.Given as goal
 
 -- some items were taken, and the sink's count of faults has not fallen
 abbrev pub invariant-loop-next : goal.invariant-loop-next
