@@ -2,7 +2,7 @@
 
 use crate::answer::{push_named, push_option};
 use crate::words::Words;
-use channel_map::{ChannelMap, Freed, PAIRS};
+use channel_map::{ChannelMap, Freed, PAIRS, PairSet};
 use test_text::CaseAnswer;
 
 /// Does a step with the table of pairs, and tells how many are held then.
@@ -38,17 +38,28 @@ pub fn step(map: &mut ChannelMap, words: &mut Words<'_>, answer: &mut CaseAnswer
     push_named(answer, b" held ", Some(map.held() as u64));
 }
 
-/// What a reply frees: `nothing`, a `pair`, or all that were `granted` to a connection.
+/// What a reply frees: `nothing`, a `pair`, or those of some pairs that were `granted`, whose bits a number has.
 fn freed_by(words: &mut Words<'_>, answer: &mut CaseAnswer) -> Freed {
     match words.name() {
         "pair" => Freed::Pair(words.byte(answer)),
-        "granted" => Freed::Granted(words.short(answer)),
+        "granted" => Freed::Granted(pairs_in(words.short(answer))),
         "nothing" => Freed::Nothing,
         _ => {
             answer.unreadable();
             Freed::Nothing
         }
     }
+}
+
+/// The pairs whose bits a number has, that of the pair 0 being the lowest.
+fn pairs_in(bits: u32) -> PairSet {
+    let mut pairs = PairSet::new();
+    for pair in 0..32 {
+        if (bits >> pair) & 1 == 1 {
+            pairs.insert(pair);
+        }
+    }
+    pairs
 }
 
 /// Grants a pair that is held.

@@ -2,16 +2,16 @@
 
 use crate::items::item_in;
 use crate::print::{tell, tell_written};
-use gate_bytes::{Memory, Text};
+use gate_bytes::{Memory, Text, split_once};
 use head_two::{Request2, write_request};
 use rtsp_frame::Item;
 use rtsp_transport::Pair;
 use rtsp_uri::Bases;
-use session_one::{MOST_TRACKS, State, Track};
+use session_one::{MOST_SESSIONS, MOST_TRACKS, State, Track};
 use std::alloc::Global;
 use std::str;
 use test_text::{CaseAnswer, CaseFault, first_number, first_word};
-use translate_up::{Decision, View, decide, with_transport};
+use translate_up::{Decision, SessionView, View, decide, with_transport};
 
 /// The number of what goes up.
 const NUMBER: u32 = 9;
@@ -32,70 +32,116 @@ pub fn tracks(alloc: Global) -> Result<Vec<Track>, Memory> {
     Ok(tracks)
 }
 
-/// The connection that the first words of a line are, with some of these streams, and the rest of the line.
-fn view_in<'a>(
-    bases: &'a Bases,
-    tracks: &'a [Track],
-    line: &'a [u8],
-) -> Option<(View<'a, 'a>, &'a [u8])> {
-    let (state, line) = first_word(line);
-    let (streams, line) = first_number(line)?;
-    let (plays, line) = first_number(line)?;
-    let (channels, request) = first_word(line);
-    let state = match str::from_utf8(state).unwrap_or("") {
-        "Init" => State::Init,
-        "Ready" => State::Ready,
-        "Playing" => State::Playing,
-        _ => return None,
-    };
-    let is_set_up = state != State::Init;
-    let view = View {
-        state,
-        session: is_set_up.then_some(b"abcd1234".as_slice()),
-        tracks: tracks.split_at((streams as usize).min(tracks.len())).0,
-        queued: plays as usize,
-        control: is_set_up.then_some(b"rtsp://media.example/m/".as_slice()),
-        full: channels == b"held".as_slice(),
-        bases,
-    };
-    Some((view, request))
-}
-
 /// A request, and the connection that it is judged by.
 #[derive(Drop)]
 struct Asking<'a> {
-    view: View<'a, 'a>,
+    sessions: [Option<SessionView<'a, 'a>>; MOST_SESSIONS],
+    described: Option<&'a [u8]>,
+    full: bool,
     item: Item,
 }
 
-/// The connection and the request of a line.
-fn asking_in<'a>(
+impl<'a> Asking<'a> {
+    /// The request of a line, and the connection that its first words are, with some of these streams.
+    fn read(alloc: Global, tracks: &'a [Track], line: &[u8]) -> Result<Asking<'a>, CaseFault> {
+        let (word, line) = first_word(line);
+        let (streams, line) = first_number(line).ok_or(CaseFault::Unreadable)?;
+        let (plays, line) = first_number(line).ok_or(CaseFault::Unreadable)?;
+        let (channels, request) = first_word(line);
+        let (state, others) = split_once(b'+', word).unwrap_or((word, b"0"));
+        let state = state_in(state).ok_or(CaseFault::Unreadable)?;
+        let (others, _) = first_number(others).ok_or(CaseFault::Unreadable)?;
+        let own = tracks.split_at((streams as usize).min(tracks.len())).0;
+        Ok(Asking {
+            sessions: [
+                first_session(state, own, plays as usize),
+                other_session(others > 0, b"efgh5678", tracks),
+                other_session(others > 1, b"ijkl9012", tracks),
+                other_session(others > 2, b"mnop3456", tracks),
+            ],
+            described: (others > 0).then_some(b"rtsp://media.example/d".as_slice()),
+            full: channels == b"held".as_slice(),
+            item: item_in(alloc, request)?,
+        })
+    }
+}
+
+/// The state that a word is.
+fn state_in(word: &[u8]) -> Option<State> {
+    match str::from_utf8(word).unwrap_or("") {
+        "Init" => Some(State::Init),
+        "Ready" => Some(State::Ready),
+        "Playing" => Some(State::Playing),
+        _ => None,
+    }
+}
+
+/// The session that has a state; none has Init.
+fn first_session<'a>(
+    state: State,
+    tracks: &'a [Track],
+    queued: usize,
+) -> Option<SessionView<'a, 'a>> {
+    if state == State::Init {
+        return None;
+    }
+    Some(SessionView {
+        id: b"abcd1234",
+        state,
+        tracks,
+        queued,
+        control: b"rtsp://media.example/m/",
+    })
+}
+
+/// Another session, where it is there: it is ready, with the last of these streams.
+fn other_session<'a>(
+    is_there: bool,
+    id: &'a [u8],
+    tracks: &'a [Track],
+) -> Option<SessionView<'a, 'a>> {
+    if !is_there {
+        return None;
+    }
+    Some(SessionView {
+        id,
+        state: State::Ready,
+        tracks: tracks.split_at(tracks.len().saturating_sub(1)).1,
+        queued: 0,
+        control: b"rtsp://media.example/n/",
+    })
+}
+
+/// Tells what becomes of the request of a line, and the text that the player is told or that goes up; or what is kept of it.
+pub fn tell_decision<'a>(
     alloc: Global,
     bases: &'a Bases,
     tracks: &'a [Track],
-    line: &'a [u8],
-) -> Result<Asking<'a>, CaseFault> {
-    let Some((view, request)) = view_in(bases, tracks, line) else {
-        return Err(CaseFault::Unreadable);
-    };
-    let item = item_in(alloc, request)?;
-    Ok(Asking { view, item })
-}
-
-/// Tells what becomes of the request of a line, and the text that the player is told or that goes up.
-pub fn tell_decision(
-    alloc: Global,
-    bases: &Bases,
-    tracks: &[Track],
     line: &[u8],
+    is_kept: bool,
     answer: &mut CaseAnswer,
 ) {
-    match asking_in(alloc, bases, tracks, line) {
-        Ok(asking) => {
-            let decided = decide(alloc, &asking.view, &asking.item);
-            push_decided(alloc, decided, answer)
-        }
-        Err(fault) => answer.fail(fault),
+    let asking = match Asking::read(alloc, tracks, line) {
+        Ok(asking) => asking,
+        Err(fault) => return answer.fail(fault),
+    };
+    let Asking {
+        sessions,
+        described,
+        full,
+        item,
+    } = asking;
+    let view = View {
+        sessions: &sessions,
+        described,
+        full,
+        bases,
+    };
+    let decided = decide(alloc, &view, &item);
+    if is_kept {
+        push_kept_of(decided, answer)
+    } else {
+        push_decided(alloc, decided, answer)
     }
 }
 
@@ -120,20 +166,11 @@ fn written_setup(alloc: Global, up: Request2<'_>) -> Result<Text, Memory> {
     write_request(alloc, &up, NUMBER)
 }
 
-/// Tells what is kept of the request of a line.
-pub fn tell_kept(
-    alloc: Global,
-    bases: &Bases,
-    tracks: &[Track],
-    line: &[u8],
-    answer: &mut CaseAnswer,
-) {
-    match asking_in(alloc, bases, tracks, line) {
-        Ok(asking) => match decide(alloc, &asking.view, &asking.item) {
-            Ok(decision) => push_kept(&decision, answer),
-            Err(Memory) => answer.fail(CaseFault::Memory),
-        },
-        Err(fault) => answer.fail(fault),
+/// Appends what is kept of a request.
+fn push_kept_of(decided: Result<Decision<'_>, Memory>, answer: &mut CaseAnswer) {
+    match decided {
+        Ok(decision) => push_kept(&decision, answer),
+        Err(Memory) => answer.fail(CaseFault::Memory),
     }
 }
 

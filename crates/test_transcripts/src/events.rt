@@ -1,4 +1,5 @@
 //! What events of a connection do.
+ghost use Rattle.std.specs.Prelude.{◌≤◌};
 ghost use Rattle.client_machine.specs.Plans.{incoming_seen, CanCome, IsReady};
 
 use crate::items::item_in;
@@ -16,8 +17,10 @@ use std::alloc::Global;
 use std::str;
 use test_text::{CaseAnswer, CaseFault, first_word};
 
-/// The pair of channels to the server that is free.
-const FREE_PAIR: u8 = 5;
+/// The pair of channels to the server that is free before there is a first session.
+const FIRST_PAIR: u8 = 5;
+/// The one that is free then.
+const NEXT_PAIR: u8 = 6;
 
 impl Trial {
     /// Has the event of a line happen to a connection, and tells what it does, and whether its channels agree then:
@@ -25,7 +28,7 @@ impl Trial {
     /// - `new`: the connection enters;
     /// - `ask REQUEST`: its player asks;
     /// - `tell REPLY`: the server replies to its open request;
-    /// - `end`: the server tells the end of what plays;
+    /// - `end ID`: the server tells the end of what plays in the session with this id, or in `abcd1234`;
     /// - `close`: the player's connection ends.
     pub fn event(&mut self, alloc: Global, line: &[u8], answer: &mut CaseAnswer) {
         answer.push(b"\n= ");
@@ -38,7 +41,8 @@ impl Trial {
             "ask" => self.ask(alloc, rest, answer),
             "tell" => self.hear(alloc, rest, answer),
             "end" => {
-                let end = Incoming::Notice(NotifyReason::EndOfStream, Names::Unsaid);
+                let id = if rest.is_empty() { b"abcd1234" } else { rest };
+                let end = Incoming::Notice(id, NotifyReason::EndOfStream, Names::Unsaid);
                 self.come(alloc, &end, answer);
             }
             "close" => self.close(alloc, answer),
@@ -95,7 +99,7 @@ impl Trial {
             &self.bases,
             &self.slot,
             next,
-            Some(FREE_PAIR),
+            Some(free_pair(&self.slot)),
             incoming,
         ) {
             Ok(plan) => self.carry_out(plan, answer),
@@ -115,6 +119,16 @@ impl Trial {
             self.number = next;
         }
         push_done(&done, answer);
+    }
+}
+
+/// The pair of channels to the server that is free, which is 6 at most.
+fn free_pair(slot: &Slot) -> u8
+    ensures { result ≤ 6 }
+{
+    match slot.session(0) {
+        Some(_) => NEXT_PAIR,
+        None => FIRST_PAIR,
     }
 }
 

@@ -33,12 +33,13 @@
 //! - `drill PLAYERS NUMBER LENGTH CALL` plays a drill with so many players, from this number on, into a sink that takes so many
 //!   bytes in a call, and fails at this call. It tells the status and what the sink took.
 //!
-//! Of one connection, whose session has the id `abcd1234`:
+//! Of one connection, whose first session has the id `abcd1234`, and the others `efgh5678`, `ijkl9012` and `mnop3456`:
 //!
 //! - `decide STATE STREAMS PLAYS CHANNELS REQUEST` tells what becomes of a request: the session's state, how many streams it
 //!   has, how many PLAYs wait, and whether a pair of channels to the server is `free` or all are `held`. The streams are
 //!   `rtsp://media.example/m/1`, `m/2` and so on, with the player's channels 0 and 1, 2 and 3 and so on. What goes up has the
-//!   number 9, and a SETUP the channels 6 and 7;
+//!   number 9, and a SETUP the channels 6 and 7. `STATE+N` has N other sessions beside it, which are ready, each with the stream
+//!   `rtsp://media.example/m/8`; then `rtsp://media.example/d` was described;
 //! - `keep STATE STREAMS PLAYS CHANNELS REQUEST` tells what is kept of a SETUP, or of a PLAY that waits;
 //! - `reply METHOD NAMED SOURCE SECONDS REPLY` tells what players get of a reply: one whose session has the channels 0 and 1,
 //!   and one without a session. The request had this method and the number 7, and its session was `named` or `unnamed`. When

@@ -1,5 +1,5 @@
 //! What players get of the server's replies.
-ghost use Rattle.std.specs.Prelude.{◌≡◌, IfOk};
+ghost use Rattle.std.specs.Prelude.{◌≡◌, IfOk, None};
 ghost use Rattle.translate_down.specs.Settings.{setting_of, CanBeTold};
 
 use crate::print::tell_written;
@@ -88,13 +88,15 @@ fn said(alloc: Global, method: &[u8], named: bool, text: &[u8]) -> Result<ReplyC
 
 /// A request with the number 7.
 pub fn asked(alloc: Global, method: Method, named: bool, uri: &[u8]) -> Result<Asked, Memory>
-    ensures { IfOk result (λ asked. asked.uri ≡ uri.now) }
+    ensures uri { IfOk result (λ asked. asked.uri ≡ uri.now) }
+    ensures place { IfOk result (λ asked. asked.place ≡ None) }
 {
     Ok(Asked {
         method,
         cseq: 7,
         named,
         uri: Text::copy(alloc, uri)?,
+        place: None,
     })
 }
 

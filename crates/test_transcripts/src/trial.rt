@@ -1,6 +1,8 @@
 //! What cases of one connection are played at.
+ghost use Rattle.std.specs.Prelude.{◌<◌};
+ghost use Rattle.session_one.specs.declared.parts.TheConstants.{MOST_SESSIONS};
 
-use crate::decisions::{tell_decision, tell_kept, tracks};
+use crate::decisions::{tell_decision, tracks};
 use crate::gateway::bases;
 use crate::replies::tell_reply;
 use crate::states::{tell_after, tell_allowed};
@@ -12,15 +14,17 @@ use session_one::Track;
 use std::alloc::Global;
 use test_text::{CaseAnswer, CaseFault};
 
-/// What cases of one connection are played at: this connection, and the number of the last request that went up from it; streams that other
-/// connections have set up; and the connections that a gateway keeps.
+/// What cases of one connection are played at: this connection, the place of the session that its steps are for, and the number
+/// of the last request that went up from it; streams that other connections have set up; and the connections that a gateway keeps.
 #[derive(Drop)]
 pub struct Trial {
     pub(crate) bases: Bases,
     pub(crate) slot: Slot,
+    pub(crate) place: u8,
     pub(crate) number: u32,
     pub(crate) seats: ConnectionTable,
     tracks: Vec<Track>,
+    ghost within: { place < MOST_SESSIONS },
 }
 
 impl Trial {
@@ -30,6 +34,7 @@ impl Trial {
             bases: bases(alloc)?,
             tracks: tracks(alloc)?,
             slot: Slot::new(alloc)?,
+            place: 0,
             number: 0,
             seats: ConnectionTable::new(alloc),
         };
@@ -39,8 +44,8 @@ impl Trial {
     /// Does what a word and the rest of its line say, and tells what came.
     pub fn tell(&mut self, alloc: Global, word: &str, rest: &[u8], answer: &mut CaseAnswer) {
         match word {
-            "decide" => tell_decision(alloc, &self.bases, &self.tracks, rest, answer),
-            "keep" => tell_kept(alloc, &self.bases, &self.tracks, rest, answer),
+            "decide" => tell_decision(alloc, &self.bases, &self.tracks, rest, false, answer),
+            "keep" => tell_decision(alloc, &self.bases, &self.tracks, rest, true, answer),
             "reply" => tell_reply(alloc, &self.bases, rest, answer),
             "allowed" => tell_allowed(rest, answer),
             "after" => tell_after(alloc, rest, answer),
@@ -62,7 +67,10 @@ impl Trial {
     /// Another connection enters.
     pub(crate) fn renew(&mut self, alloc: Global, answer: &mut CaseAnswer) {
         match Slot::new(alloc) {
-            Ok(slot) => self.slot = slot,
+            Ok(slot) => {
+                self.slot = slot;
+                self.place = 0;
+            }
             Err(_memory) => answer.fail(CaseFault::Memory),
         }
     }
