@@ -181,18 +181,17 @@ impl WaitingOutlet {
         self.watch.asked.load(Ordering::SeqCst) < self.stuck
     }
 
-    /// Offers bytes to the outlet in memory.
+    /// Offers bytes to the outlet in memory. While it is stuck it takes none each time, after a pause, as a real one does.
     fn hand(&mut self, piece: &[u8]) -> Result<usize, Failed>
         requires { 0 < length piece.now }
         ensures bound { IfOk result (λ count. count ≤ length piece.now) }
         ensures faults { self.new.faults ≡ self.old.faults }
     {
-        if self.is_stuck() && self.pauses == 0 {
-            self.pauses = 1;
-            return Ok(0);
-        }
-        if !self.await_room() {
+        if self.shut.load(Ordering::SeqCst) {
             return Err(Failed);
+        }
+        if self.is_stuck() {
+            return if self.pause() { Ok(0) } else { Err(Failed) };
         }
         let count = self.outlet.offer(piece)?;
         if self.is_server {
@@ -201,23 +200,13 @@ impl WaitingOutlet {
         Ok(count)
     }
 
-    /// Waits until it takes something. False where it is shut, or has waited in vain.
-    fn await_room(&mut self) -> bool
+    /// Pauses once. False where it has waited in vain.
+    fn pause(&mut self) -> bool
         ensures faults { self.new.faults ≡ self.old.faults }
     {
-        for _ in 0..=MOST_PAUSES {
-            if self.shut.load(Ordering::SeqCst) {
-                return false;
-            }
-            if !self.is_stuck() {
-                return true;
-            }
-            if !self.watch.pause(&self.host, self.pauses) {
-                return false;
-            }
-            self.pauses = self.pauses.saturating_add(1);
-        }
-        false
+        let paused = self.watch.pause(&self.host, self.pauses);
+        self.pauses = self.pauses.saturating_add(1);
+        paused
     }
 }
 
