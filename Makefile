@@ -7,7 +7,7 @@ REPLAY := replay rtsp://gate.example rtsp://media.example
 # the least.
 JOBS ?= $(shell awk -v most=$$(nproc) '/^MemAvailable/ { n = int($$2 / 5000000); print n < 1 ? 1 : n < most ? n : most }' /proc/meminfo)
 SOURCES := crates.txt $(shell find crates -name out -prune -o \( -name '*.rt' -o -name '*.antt' \) -print)
-EXAMPLES := sessions players options describe
+EXAMPLES := sessions players cameras options describe
 # What tools/transcript imports.
 PARTS := accounts.py chart.py chart_page.py chart_picture.py items.py notation.py recording.py replayed.py report.py watch.py
 

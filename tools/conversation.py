@@ -30,6 +30,7 @@ class Conversation(Words):
         self.gateway, self.transcript, self.left = Gateway(), MAGIC, {}
         self.cseqs, self.ids, self.ends = {}, list(IDS), self.one((0.05, 0.15, 0.15, 0.3))
         self.most, self.eager = self.one((1, 1, 2, 2, 3, 5, 12)), self.one((1, 1, 4, 30))
+        self.sessions = self.one((1, 1, 2, 3, 4, 4, 5))
         self.errors, self.cuts, self.spoils = self.one((0.02, 0.1, 0.1, 0.4)), self.one((0, 0.2, 0.5)), 0
 
     def add(self, kind, connection, said=b""):
@@ -88,7 +89,7 @@ class Conversation(Words):
             if player is None or len(player.tracks) >= tracks or player.asked or not player.is_alive:
                 number = self.enter()
                 continue
-            self.add(b"A", number, self.request(number, b"SETUP"))
+            self.add(b"A", number, self.request(number, b"SETUP", self.subject(player)))
             if player.asked and self.seldom(0.95):
                 self.add(b"U", 0, self.reply(player))
 
@@ -97,7 +98,7 @@ class Conversation(Words):
         connections = self.gateway.connections
         alive = [number for number, player in connections.items() if player.is_alive]
         number = self.one(alive if alive and not self.odd(0.03) else list(connections) or [self.enter()])
-        has_sessions = any(player.session for player in connections.values())
+        has_sessions = any(player.sessions for player in connections.values())
         what = self.pick({
             "enter": 1 if len(alive) < self.most else 0.01, "end": self.ends, "bad": 0.03 * self.noise,
             "request": 3 if connections[number].asked else 9, "reply": 9 if self.gateway.loans else 0,
@@ -121,58 +122,69 @@ class Conversation(Words):
         if what == "frame":
             own = [channel for track in player.tracks for channel in track.pair]
             return self.frame(self.one(own) if own and self.seldom(0.8) else self.random.randrange(256))
-        method = self.wish(player)
+        session = self.subject(player)
+        method = self.wish(session)
         if method == b"TEARDOWN" and self.seldom(0.3):
-            return self.request(number, method) + self.request(number, b"SETUP", True)
+            return self.request(number, method, session) + self.request(number, b"SETUP", None)
         more = self.one((0, 1, 2, 9)) if method == b"PLAY" and self.seldom(0.3) else 0
-        return self.request(number, method) + b"".join(
-            self.request(number, b"PLAY" if more else self.wish(player)) for _ in range(more or self.seldom(0.1)))
+        if more:
+            return self.request(number, method, session) + b"".join(
+                self.request(number, b"PLAY", session) for _ in range(more))
+        other = self.subject(player)
+        return self.request(number, method, session) + (
+            self.request(number, self.wish(other), other) if self.seldom(0.1) else b"")
 
-    def wish(self, player):
-        """A method that suits the state."""
-        wishes = WISHES[player.state]
-        is_eager = player.state == "Ready" and len(player.tracks) < self.random.randrange(8, 10)
-        return self.pick({**wishes, "SETUP": self.eager} if is_eager else wishes).encode()
+    def subject(self, player):
+        """The session that a request of a player is for, or none where it may bring a new one."""
+        may_come = len(player.sessions) < self.sessions and self.seldom(0.15)
+        return self.one(player.sessions) if player.sessions and not may_come else None
 
-    def request(self, number, method, is_fresh=False):
-        """A request of a player; a fresh one knows of no session."""
+    def wish(self, session):
+        """A method that suits a session's state."""
+        state, tracks = (session.state, session.tracks) if session else ("Init", [])
+        is_eager = state == "Ready" and len(tracks) < self.random.randrange(8, 10)
+        return self.pick({**WISHES[state], "SETUP": self.eager} if is_eager else WISHES[state]).encode()
+
+    def request(self, number, method, session):
+        """A request of a player for a session, or for none."""
         player = self.gateway.connections[number]
         cseq = self.cseqs[number] = self.cseqs.get(number, 0) + 1
         cseq = self.one((b"0", b"007", b"9" * 19, b"1" * 20, b"x")) if self.odd(0.01) else b"%d" % cseq
-        fields = self.fields(player, method, is_fresh)
+        fields = self.fields(player, method, session)
         body = self.body() if method.endswith(b"PARAMETER") and self.seldom(0.5) or self.odd(0.02) else b""
-        uri = self.uri(player, method)
+        uri = self.uri(session, method)
         method = self.one((b"FLY", b"describe", b"A@", b"A/B") + METHODS) if self.odd(0.005) else method
         version = self.one((b"RTSP/2.0", b"RTSP/1.0x", b"HTTP/1.1")) if self.odd(0.005) else b"RTSP/1.0"
         return self.message((b"  " if self.odd(0.001) else b" ").join((method, uri, version)), cseq, fields, body)
 
-    def uri(self, player, method):
-        """A URI that suits a method."""
+    def uri(self, session, method):
+        """A URI that suits a method for a session."""
         if self.odd(0.04):
             return self.one(URIS)
         if method in (b"OPTIONS", b"GET_PARAMETER", b"SET_PARAMETER") and self.seldom(0.4):
             return b"*"
-        place = self.random.randrange(1, 10) if self.odd(0.05) else len(player.tracks) + 1
+        place = self.random.randrange(1, 10) if self.odd(0.05) else len(session.tracks if session else ()) + 1
         if method != b"SETUP":
             place = self.random.randrange(1, 4) if self.seldom(0.1) else 0
         if self.odd(0.002):
             return self.one(FRONTS) + b"/" + b"m" * self.random.randrange(7900, 8192)
         return self.one(FRONTS) + (b"/m/%d" % place if place else self.one((b"/m", b"/m", b"/m", b"/m/", b"/n?x=1")))
 
-    def named(self, player, method, is_fresh):
-        """The Session field of a request."""
+    def named(self, method, session):
+        """The Session field of a request for a session."""
+        name = session.id if session else None
         if self.odd(0.03):
-            return self.one((None, self.one(self.ids), self.one(BAD_IDS), (player.session or b"aB").swapcase()))
+            return self.one((None, self.one(self.ids), self.one(BAD_IDS), (name or b"aB").swapcase()))
         seldom = {b"DESCRIBE": 0.1, b"OPTIONS": 0.6, b"GET_PARAMETER": 0.6, b"SET_PARAMETER": 0.6}.get(method, 1)
-        if player.session is None or is_fresh or not self.seldom(seldom):
+        if name is None or not self.seldom(seldom):
             return None
-        return player.session + self.one((b"",) * 8 + (b";timeout=60", b"; x;"))
+        return name + self.one((b"",) * 8 + (b";timeout=60", b"; x;"))
 
-    def fields(self, player, method, is_fresh):
+    def fields(self, player, method, session):
         """The fields of a request that suit a method."""
-        fields = [(b"Session", self.named(player, method, is_fresh))]
+        fields = [(b"Session", self.named(method, session))]
         if method == b"SETUP":
-            fields.append((b"Transport", self.transport(player, is_fresh)))
+            fields.append((b"Transport", self.transport(player)))
         if method == b"PLAY" and self.seldom(0.8) or method == b"PAUSE" and self.odd(0.05):
             fields.append((b"Range", self.span()))
         if method == b"PLAY" and self.seldom(0.2):
@@ -186,11 +198,12 @@ class Conversation(Words):
     def span(self):
         return self.one(BAD_RANGES) if self.odd(0.04) else self.one(RANGES)
 
-    def transport(self, player, is_fresh):
+    def transport(self, player):
         """The Transport that a player asks for."""
         if self.odd(0.03):
             return self.one(BAD_TRANSPORTS + (None,))
-        first = 0 if is_fresh else 2 * len(player.tracks)
+        taken = {channel for track in player.tracks for channel in track.pair}
+        first = next(channel for channel in range(0, 254, 2) if channel not in taken)
         first = self.random.randrange(12) if self.seldom(0.1) else first
         pair = (first + 1, first) if self.seldom(0.1) else (first, first + 1)
         text = self.one(TRANSPORTS) if self.seldom(0.3) else b"RTP/AVP/TCP;unicast;interleaved=%d-%d"
@@ -209,12 +222,12 @@ class Conversation(Words):
 
     def reply(self, player):
         """A reply to the open request of a player."""
-        asked, fields = player.asked, []
+        asked, fields, session = player.asked, [], player.at(player.asked.place)
         code = self.one(CODES) if self.seldom(self.errors) else 200
         if asked.track:
             fields = self.grant(player)
         elif self.seldom(0.4):
-            fields = [(b"Session", (player.session or b"a") + self.one(TIMEOUTS))]
+            fields = [(b"Session", (session.id if session else b"a") + self.one(TIMEOUTS))]
         if asked.method in (b"PLAY", b"PAUSE") and self.seldom(0.6):
             fields.append((b"Range", self.one(BAD_RANGES) if self.seldom(0.1) else self.one(RANGES)))
         if asked.method in (b"PLAY", b"PAUSE") and self.seldom(0.5):
@@ -232,7 +245,8 @@ class Conversation(Words):
     def grant(self, player):
         """Session and Transport of a reply to SETUP."""
         channels = 2 * player.asked.track.shared, 2 * player.asked.track.shared + 1
-        text, session = self.one(GRANTS), player.session or self.new_id()
+        named = player.at(player.asked.place)
+        text, session = self.one(GRANTS), named.id if named else self.new_id()
         is_wrong = self.seldom(self.spoils if player.is_alive else 0.2)
         wrong = self.one(("transport", "pair", "id", "id", "both")) if is_wrong else ""
         if wrong == "pair":
@@ -248,7 +262,7 @@ class Conversation(Words):
 
     def taken(self):
         """The ids of sessions."""
-        return [player.session for player in self.gateway.connections.values() if player.session]
+        return [session.id for player in self.gateway.connections.values() for session in player.sessions]
 
     def new_id(self):
         """The id of a new session, which may have been another's before, and seldom still is."""
@@ -262,15 +276,15 @@ class Conversation(Words):
 
     def notify(self, players):
         """A request of the server, most often the end of the PLAY that runs."""
-        holders = [player for player in players if player.session]
-        running = [player for player in holders if player.running]
-        player = self.one(running if running and self.seldom(0.8) else holders or [None])
-        session = player.session if player and self.seldom(0.9) else self.one(BAD_IDS + (None, *self.ids[-3:]))
-        number = player.running if player and player.running and self.seldom(0.8) else \
+        sessions = [session for player in players for session in player.sessions]
+        running = [session for session in sessions if session.running]
+        session = self.one(running if running and self.seldom(0.8) else sessions or [None])
+        name = session.id if session and self.seldom(0.9) else self.one(BAD_IDS + (None, *self.ids[-3:]))
+        number = session.running if session and session.running and self.seldom(0.8) else \
             self.random.randrange(self.gateway.issued + 2)
         method = self.one((b"REDIRECT", b"play_notify", b"TEARDOWN")) if self.seldom(0.03) else b"PLAY_NOTIFY"
         status = self.one(STATUSES[:3] if self.seldom(0.8) else STATUSES) % number if self.seldom(0.8) else None
         first = method + self.one((b" rtsp://media.example/m", b" *")) + b" RTSP/2.0"
         reason = None if self.seldom(0.03) else self.one(REASONS)
         return self.message(first, self.one((b"1", b"007", b"42")), [
-            (b"Session", session), (b"Notify-Reason", reason), (b"Request-Status", status)])
+            (b"Session", name), (b"Notify-Reason", reason), (b"Request-Status", status)])

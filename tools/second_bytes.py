@@ -1,6 +1,6 @@
 """The second reading of docs/FORMATS.md, its part on bytes: items, heads, fields, addresses, codes, messages.
 
-`second_reading.py` has the other part. Neither shares anything with the program.
+`second_reading.py` has what the gateway does, `second_state.py` what it keeps. None shares anything with the program.
 """
 import re
 

@@ -3,11 +3,10 @@
 It shares nothing with the program, so `tools/compare` can hold the two against each other. It is no part of the
 program and nothing is proved of it; where the two differ, one of them reads the document wrongly.
 """
-from dataclasses import dataclass, field
-
 from second_bytes import (FRONT, METHODS, NOTIFY_REASONS, PUBLIC, REASONS, TOKEN, UP, Stream, granted, info_of, message,
                           named_number, parts_of, range_of, reply, rewrite, scale_of, session_of, swap, told_code,
                           transport, trim, wanted)
+from second_state import Connection, Open, Play, Session, Track
 
 MOST_PAIRS, MOST_TRACKS, MOST_PLAYS, MOST_NUMBERS = 128, 8, 8, 999_999_999
 
@@ -23,68 +22,6 @@ WHY_ENDED = {b"E": b"Ended", b"R": b"ReadFault", b"W": b"WriteFault", b"Q": b"Up
 
 class Breach(Exception):
     """Why the connection to the server ends."""
-
-
-@dataclass
-class Track:
-    """A track: the URI that went up, the player's pair, and the number of the shared pair."""
-    uri: bytes
-    pair: tuple
-    shared: int
-
-
-@dataclass
-class Play:
-    """A PLAY that waits, as it goes up."""
-    uri: bytes
-    range: bytes
-    scale: bytes
-
-
-@dataclass
-class Open:
-    """The open request: a player's with its own number, a released PLAY, or a closing TEARDOWN."""
-    why: str
-    method: bytes
-    uri: bytes
-    number: int = 0
-    cseq: int = None
-    is_named: bool = False
-    track: Track = None
-
-
-@dataclass
-class Connection:
-    """What the gateway keeps of a player."""
-    is_alive: bool
-    stream: Stream = field(default_factory=Stream)
-    state: str = "Init"
-    session: bytes = None
-    control: bytes = None
-    tracks: list = field(default_factory=list)
-    running: int = None
-    plays: list = field(default_factory=list)
-    asked: Open = None
-    waiting: list = field(default_factory=list)
-
-    def has_track(self, uri):
-        return any(track.uri == uri for track in self.tracks)
-
-    def pair_for(self, want):
-        """The pair that a player gets: what it wants, or the lowest that is free."""
-        taken = {channel for track in self.tracks for channel in track.pair}
-        if want == "any":
-            return next((a, a + 1) for a in range(0, 255, 2) if not {a, a + 1} & taken)
-        return None if want is None or set(want) & taken else want
-
-    def ended(self):
-        """The session ends."""
-        self.session, self.control, self.tracks, self.running, self.plays = None, None, [], None, []
-        self.state = "Init"
-
-    def stopped(self):
-        """No PLAY runs, and none waits."""
-        self.running, self.plays, self.state = None, [], "Ready"
 
 
 class Gateway:
@@ -146,7 +83,9 @@ class Gateway:
         player = self.connections[number]
         if not player.is_alive:
             return number, b"", b"", b""
-        player.is_alive, player.waiting, player.plays = False, [], []
+        player.is_alive, player.waiting = False, []
+        for session in player.sessions:
+            session.plays = []
         return number, *self.go_on(number), why
 
     def go_on(self, number):
@@ -154,10 +93,11 @@ class Gateway:
         player, hand = self.connections[number], b""
         while player.asked is None:
             if not player.is_alive:
-                is_closing = player.session is not None
-                return hand, self.send(number, Open("closing", b"TEARDOWN", player.control)) if is_closing else b""
-            if player.running is None and player.plays:
-                return hand, self.release(number)
+                place = player.lowest(lambda session: session is not None)
+                return hand, b"" if place is None else self.tear_down(number, place)
+            place = player.lowest(lambda session: session and session.plays and session.running is None)
+            if place is not None:
+                return hand, self.release(number, place)
             if not player.waiting:
                 break
             answer, up = self.treat(number, *player.waiting.pop(0)[1:])
@@ -174,27 +114,36 @@ class Gateway:
         self.issued += 1
         self.loans[self.issued] = number
         asked.number, player.asked = self.issued, asked
-        has_session = asked.is_named or asked.why != "player"
+        session = player.at(asked.place)
         method = b"SET_PARAMETER" if asked.method == b"OPTIONS" else asked.method
-        named = (b"Session", player.session if has_session else None)
+        named = (b"Session", session.id if session else None)
         return message(method + b" " + asked.uri + b" RTSP/2.0", self.issued, [named, *headers], body)
 
-    def release(self, number):
-        """Sends the first PLAY that waits."""
-        play = self.connections[number].plays.pop(0)
-        return self.send(number, Open("released", b"PLAY", play.uri), [(b"Range", play.range), (b"Scale", play.scale)])
+    def tear_down(self, number, place):
+        """Sends the closing TEARDOWN of a session."""
+        session = self.connections[number].at(place)
+        return self.send(number, Open("closing", b"TEARDOWN", session.control, place))
+
+    def release(self, number, place):
+        """Sends the first PLAY that waits in a session."""
+        play = self.connections[number].at(place).plays.pop(0)
+        asked = Open("released", b"PLAY", play.uri, place)
+        return self.send(number, asked, [(b"Range", play.range), (b"Scale", play.scale)])
 
     def treat(self, number, head, body):
         """A request: an answer, or what goes up."""
         player, cseq = self.connections[number], head.number(19)
-        uri = player.control or b"*" if head.uri == b"*" else swap(FRONT, UP, head.uri)
-        code, headers = refusal_of(head, cseq, player, uri, len(self.held))
+        read = session_of(head.field(b"Session"))
+        place = player.find(read[0]) if read else None
+        session = player.at(place)
+        about = session.control if session else player.described
+        uri = about or b"*" if head.uri == b"*" else swap(FRONT, UP, head.uri)
+        code, headers = refusal_of(head, cseq, player, session, uri, len(self.held))
         if code is None:
-            code, headers = answer_of(head, player, uri)
+            code, headers = answer_of(head, session, uri)
         if code is not None:
             return reply(code, cseq, headers), b""
-        is_named = head.field(b"Session") is not None
-        asked = Open("player", head.method, uri, cseq=cseq, is_named=is_named)
+        asked = Open("player", head.method, uri, place, cseq=cseq)
         if head.method == b"SETUP":
             shared = min(set(range(MOST_PAIRS)) - self.held)
             self.held.add(shared)
@@ -232,8 +181,9 @@ class Gateway:
         return 0, b"", b"", b""
 
     def holder(self, name):
-        """The connection of a session."""
-        return next((number for number, player in self.connections.items() if player.session == name), None)
+        """The connection of a session, and the session; or nothing."""
+        return next(((number, session) for number, player in self.connections.items()
+                     for session in player.sessions if session.id == name), None)
 
     def notice(self, head, number):
         """A request of the server: its answer, and what it leads to."""
@@ -246,13 +196,13 @@ class Gateway:
                          [(b"Session", read[0] if code == 200 else None)])
         if code != 200 or reason.lower() != b"end-of-stream":
             return 0, b"", answer, b""
-        player, named = self.connections[holder], named_number(head.field(b"Request-Status"))
-        if player.running is None or named not in (None, player.running):
+        (number, session), named = holder, named_number(head.field(b"Request-Status"))
+        if session.running is None or named not in (None, session.running):
             return 0, b"", answer, b""
-        player.running = None
-        player.state = player.state if player.plays else "Ready"
-        hand, up = self.go_on(holder)
-        return holder, hand, answer + up, b""
+        session.running = None
+        session.state = session.state if session.plays else "Ready"
+        hand, up = self.go_on(number)
+        return number, hand, answer + up, b""
 
     def settle(self, number, head, body):
         """A final reply to the open request of a connection."""
@@ -260,7 +210,7 @@ class Gateway:
         asked, is_success = player.asked, 200 <= head.code <= 299
         grant = self.grant_of(number, head) if asked.track and is_success else None
         is_told = player.is_alive and asked.why == "player"
-        hand = reply_down(asked, player.session, grant, head, body) if is_told else b""
+        hand = reply_down(asked, player.at(asked.place), grant, head, body) if is_told else b""
         del self.loans[asked.number]
         player.asked = None
         self.change(player, asked, is_success, grant)
@@ -269,37 +219,38 @@ class Gateway:
 
     def grant_of(self, number, head):
         """The session's id, its timeout and the source that a success of SETUP grants."""
-        player = self.connections[number]
-        shared, session = player.asked.track.shared, session_of(head.field(b"Session"))
-        grant = granted(head.field(b"Transport"))
-        if not session or not grant or grant[0] != (2 * shared, 2 * shared + 1) or \
-                player.session not in (None, session[0]):
-            raise Breach(b"BadGrant %d" % player.asked.number)
-        if player.session is None and self.holder(session[0]) is not None:
-            raise Breach(b"SessionTaken %d" % player.asked.number)
+        asked = self.connections[number].asked
+        named, shared = self.connections[number].at(asked.place), asked.track.shared
+        session, grant = session_of(head.field(b"Session")), granted(head.field(b"Transport"))
+        if not session or not grant or grant[0] != (2 * shared, 2 * shared + 1) or (named and named.id != session[0]):
+            raise Breach(b"BadGrant %d" % asked.number)
+        if named is None and self.holder(session[0]) is not None:
+            raise Breach(b"SessionTaken %d" % asked.number)
         return session[0], session[1], grant[1]
 
     def change(self, player, asked, is_success, grant):
         """What a final reply changes."""
-        is_end = asked.why == "closing" or (asked.method == b"TEARDOWN" and is_success)
-        if is_success:
-            player.state = NEXT.get((player.state, asked.method), player.state)
-        if is_end:
-            self.held -= {track.shared for track in player.tracks}
-            player.ended()
+        session = player.at(asked.place)
+        if grant and session is None:
+            session = Session(grant[0], player.described or asked.uri)
+            player.places[player.lowest(lambda one: one is None)] = session
+        if is_success and session:
+            session.state = NEXT.get((session.state, asked.method), session.state)
+        if asked.why == "closing" or (asked.method == b"TEARDOWN" and is_success):
+            self.held -= {track.shared for track in session.tracks}
+            player.ended(asked.place)
         elif asked.method == b"SETUP" and is_success:
-            player.session, player.control = grant[0], player.control or asked.uri
-            player.tracks.append(asked.track)
+            session.tracks.append(asked.track)
         elif asked.method == b"SETUP":
             self.held.remove(asked.track.shared)
-        elif asked.method == b"DESCRIBE" and is_success and player.session is None:
-            player.control = asked.uri
+        elif asked.method == b"DESCRIBE" and is_success:
+            player.described = asked.uri
         elif asked.method == b"PLAY" and is_success:
-            player.running, player.control = asked.number, asked.uri
+            session.running, session.control = asked.number, asked.uri
         elif asked.method == b"PAUSE" and is_success:
-            player.running, player.plays = None, []
+            session.running, session.plays = None, []
         elif asked.why == "released":
-            player.stopped()
+            session.stopped()
 
 
 def frame_up(player, frame):
@@ -310,41 +261,42 @@ def frame_up(player, frame):
     return b""
 
 
-def refusal_of(head, cseq, player, uri, held):
-    """The code of the first rule that refuses a request, and the headers of the refusal."""
+def refusal_of(head, cseq, player, session, uri, held):
+    """The code of the first rule that refuses a request for a session or none, and the headers of the refusal."""
     method, named, said = head.method, head.field(b"Session"), head.field(b"Range")
     required = head.field(b"Require") or head.field(b"Proxy-Require")
     may_ask_all = method in (b"OPTIONS", b"GET_PARAMETER", b"SET_PARAMETER")
     of_streams, is_setup = method in (b"PLAY", b"PAUSE", b"TEARDOWN"), method == b"SETUP"
-    id_of = (session_of(named) or (None,))[0]
+    state, tracks = (session.state, session.tracks) if session else ("Init", [])
+    is_track = any(track.uri == uri for track in tracks)
+    is_full = session is None and None not in player.places
     pair = player.pair_for(wanted(head.field(b"Transport")))
     rules = (
         (not TOKEN.fullmatch(method), 400), (head.version != b"RTSP/1.0", 505), (cseq is None, 400),
         (method not in METHODS, 501), (bool(required), 551),
         (parts_of(head.uri) is None and not (head.uri == b"*" and may_ask_all), 400),
-        (named is not None and (id_of is None or id_of != player.session), 454), (named is None and of_streams, 454),
-        (method not in ANYWHERE and (player.state, method) not in NEXT, 455),
-        (is_setup and ((named is None and player.session is not None) or player.has_track(uri)), 455),
-        (of_streams and player.has_track(uri) and len(player.tracks) >= 2, 460), (is_setup and pair is None, 461),
+        (session is None and (named is not None or of_streams), 454),
+        (method not in ANYWHERE and (state, method) not in NEXT, 455), (is_setup and (is_full or is_track), 455),
+        (of_streams and is_track and len(tracks) >= 2, 460), (is_setup and pair is None, 461),
         (method == b"PLAY" and said is not None and range_of(said) is None, 457),
         (method == b"PAUSE" and said is not None, 457), (is_setup and held == MOST_PAIRS, 453),
-        (is_setup and len(player.tracks) == MOST_TRACKS, 503),
-        (method == b"PLAY" and said is not None and player.state == "Playing" and len(player.plays) == MOST_PLAYS, 503),
+        (is_setup and len(tracks) == MOST_TRACKS, 503),
+        (method == b"PLAY" and said is not None and state == "Playing" and len(session.plays) == MOST_PLAYS, 503),
     )
     code = next((code for applies, code in rules if applies), None)
     return code, [(b"Unsupported", required)] if code == 551 else []
 
 
-def answer_of(head, player, uri):
+def answer_of(head, session, uri):
     """The gateway's own answer to a request that passes, or nothing where it goes up. A PLAY may wait then."""
     if head.method == b"OPTIONS" and head.field(b"Session") is None:
         return 200, [(b"Public", PUBLIC)]
-    if head.method != b"PLAY" or player.state != "Playing":
+    if head.method != b"PLAY" or session.state != "Playing":
         return None, []
     span = range_of(head.field(b"Range"))
     if span is not None:
-        player.plays.append(Play(uri, span, scale_of(head.field(b"Scale"))))
-    return 200, [(b"Session", player.session), (b"Range", span)]
+        session.plays.append(Play(uri, span, scale_of(head.field(b"Scale"))))
+    return 200, [(b"Session", session.id), (b"Range", span)]
 
 
 def headers_up(head, asked, body):
@@ -365,7 +317,7 @@ def session_down(asked, session, grant):
     """The Session field of a success."""
     if grant:
         return grant[0] + (b"" if grant[1] is None else b";timeout=%d" % grant[1])
-    return session if asked.is_named and asked.method != b"TEARDOWN" else None
+    return session.id if session and asked.method != b"TEARDOWN" else None
 
 
 def reply_down(asked, session, grant, head, body):

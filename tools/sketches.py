@@ -60,7 +60,7 @@ def draw_sequence():
 
 
 def draw_states():
-    picture = Picture(1_060, 1_015, "the states of a connection, and those of its session")
+    picture = Picture(1_060, 1_015, "the states of a connection, and those of its sessions")
     draw_connection(picture)
     draw_session(picture)
     return picture
@@ -87,14 +87,14 @@ def draw_connection(picture):
     # From the alive to the closed, and to those that are over.
     picture.path("M290 281V418", "", True)
     picture.texts(302, 326, ["its client ends: E, sends a Bad item: B, or lags: S,", "while a request is open, or with a session.",
-                             "What waits is dropped, and a TEARDOWN goes up", "for the session once nothing is open"], "small left")
+                             "What waits is dropped, and TEARDOWNs go up, one for", "each session in turn, once nothing is open"], "small left")
     picture.path("M720 281V418", "", True)
     picture.texts(732, 333, ["E, B or S, with nothing", "open and no session"], "small left")
     picture.path("M741 150H950Q970 150 970 170V430Q970 450 950 450H913", "", True)
     picture.text(856, 140, "the connection to the server ends: U", "small")
     # From the closed, and for one that comes too late.
     picture.path("M260 481C240 550 340 550 320 483", "", True)
-    picture.texts(290, 548, ["a final reply, told to nobody, with a session left:", "its TEARDOWN goes up"])
+    picture.texts(290, 548, ["a final reply, told to nobody, with a session left:", "the next TEARDOWN goes up"])
     picture.path("M391 436H687", "", True)
     picture.text(539, 426, "a final reply, with no session left", "small")
     picture.path("M391 464H687", "", True)
@@ -104,8 +104,8 @@ def draw_connection(picture):
 
 
 def draw_session(picture):
-    picture.text(30, 620, "Its session, while it is alive", "title left")
-    picture.box(150, 780, 130, 54, ["Init", "nothing is set up"])
+    picture.text(30, 620, "A session, of which a connection has four at most, while it is alive", "title left")
+    picture.box(150, 780, 130, 54, ["Init", "an empty place"])
     picture.box(500, 780, 130, 54, ["Ready", "no stream plays"])
     picture.box(850, 780, 150, 54, ["Playing", "8 PLAYs may wait"], "top")
     picture.path("M216 770H433", "", True)
