@@ -44,7 +44,7 @@ use Rattle.translate_up.specs.Upward.{uri_up, session_said}
 use Rattle.translate_up.specs.Rules.{session_rules, with_channels, with_range, admission, unless_code, rules_checked}
 use Rattle.translate_up.specs.Answers.{own_answer, refusal_text, options_text, play_text}
 use Rattle.translate_up.specs.Decisions.{play_on, play_in, serve, is_for_gateway, by_rules, decide_request, decide_read, judged_of, decide}
-use Rattle.translate_up.proofs.JudgedLemmas.{judged_fit}
+use Rattle.translate_up.proofs.JudgementLemmas.{judged_fit}
 use Rattle.translate_up.specs.Sound.{AreFit, IsFit}
 use Rattle.translate_up.specs.OneReply.{IsOneReply, AnswersOneReply}
 use Rattle.translate_up.proofs.ReadLemmas.{Read, cseq_small, request_read}

@@ -37,7 +37,7 @@ use Rattle.translate_up.specs.Rules.{session_rules, with_channels, with_range, a
 use Rattle.translate_up.specs.Upward.{uri_up}
 use Rattle.translate_up.specs.Answers.{options_text}
 use Rattle.translate_up.specs.Decisions.{play_on, play_in, serve, is_for_gateway, by_rules, decide_request, decide_read, judged_of, decide}
-use Rattle.translate_up.proofs.JudgedLemmas.{judged_fit}
+use Rattle.translate_up.proofs.JudgementLemmas.{judged_fit}
 use Rattle.translate_up.specs.Sound.{is_target, AreFit, IsFit, SendsSound}
 use Rattle.translate_up.proofs.ReadLemmas.{Read, request_read}
 use Rattle.translate_up.proofs.SoundLemmas.{IsWritable, up_sound, setup_sound, scale_value}

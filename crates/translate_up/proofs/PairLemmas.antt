@@ -32,7 +32,7 @@ use Rattle.translate_up.specs.declared.rule.Admission.TheVariants.{SetUp, Played
 use Rattle.translate_up.specs.declared.decision.Decision.{Decision}
 use Rattle.translate_up.specs.declared.decision.Decision.TheVariants.{Answer}
 use Rattle.translate_up.specs.Decisions.{play_on, play_in, serve, is_for_gateway, by_rules, decide_request, decide_read, judged_of, decide}
-use Rattle.translate_up.proofs.JudgedLemmas.{judged_under}
+use Rattle.translate_up.proofs.JudgementLemmas.{judged_under}
 
 taken_under : (pairs : ℕ → ℕ) (tracks : List Track) (pair : Pair) → is_taken (map (with_pair pairs) tracks) pair ≡ is_taken tracks pair
 taken_under pairs [] pair = refl

@@ -21,7 +21,7 @@ use Rattle.translate_up.specs.declared.decision.Decision.TheVariants.{Answer, Fo
 use Rattle.translate_up.specs.declared.rule.Admission.{Admission}
 use Rattle.translate_up.specs.declared.rule.Admission.TheVariants.{SetUp, Played, Other}
 use Rattle.translate_up.specs.Ids.{id_of, are_same}
-use Rattle.translate_up.specs.Views.{Given, Judged, session_in, judged_by, place_named}
+use Rattle.translate_up.specs.Views.{Given, Judged, session_or_none, judged_by, place_named}
 use Rattle.translate_up.specs.Fields.{field, Said, said_of, is_named}
 use Rattle.translate_up.specs.Upward.{uri_up, session_said, fields_up, request_up}
 use Rattle.translate_up.specs.Rules.{names_no_session, sets_up_again, is_out_of_turn, names_one_of_many, has_no_channels, has_bad_range, finds_none_free, finds_no_place, session_rules, admission, rules_checked}
@@ -106,7 +106,7 @@ rules_name judged request said uri (Ok admitted) e known =
 
 -- the session at no place is none
 by_place : (given : Given) (value : Option (List ℕ)) (place : Option ℕ) → place_named value given.sessions ≡ place → place ≡ None → (judged_by given value).session ≡ None
-by_place given value None e none = ap (λ at. (session_in at given.sessions).id) e
+by_place given value None e none = ap (λ at. (session_or_none at given.sessions).id) e
 by_place given value (Some place) e none = cc
 
 read_known : (given : Given) (value : Option (List ℕ)) (said : Said) → said.session ≡ value → IsKnown (judged_by given value) said

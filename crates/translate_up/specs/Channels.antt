@@ -26,8 +26,8 @@ unfoldable pub free_from : ℕ → List Track → ℕ → ℕ
 free_from zero tracks rtp = rtp
 free_from (suc more) tracks rtp = if is_taken tracks (pair_at rtp) then free_from more tracks (rtp + 2) else rtp
 
--- The pair of the lowest even channel that is free with the next one (this project's own). The streams of a session
--- leave one free: they are 8 at most, and there are 128 such pairs.
+-- The pair of the lowest even channel that is free with the next one (this project's own). The streams of a
+-- connection leave one free: they are 32 at most, 8 in each of 4 sessions, and there are 128 such pairs.
 unfoldable pub free_pair : List Track → Pair
 free_pair tracks = pair_at (free_from 127 tracks 0)
 

@@ -7,7 +7,7 @@ pub mod Fields
 pub mod Ids
 pub mod Leads
 pub mod OneReply
-pub mod Placed
+pub mod DecisionPlaces
 pub mod QueuedPlay
 pub mod Rules
 pub mod Setups
@@ -15,3 +15,4 @@ pub mod Sound
 pub mod Subjects
 pub mod Upward
 pub mod Views
+pub mod UriLengths

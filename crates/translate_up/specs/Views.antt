@@ -67,17 +67,17 @@ place_from id place [] = None
 place_from id place (one ∷ more) = if are_same one.id (Some id) then Some place else place_from id (place + 1) more
 
 -- the first place whose session has this id
-abbrev pub place_of : List ℕ → List SeenSession → Option ℕ
-place_of id sessions = place_from id 0 sessions
+abbrev pub place_with_id : List ℕ → List SeenSession → Option ℕ
+place_with_id id sessions = place_from id 0 sessions
 
 -- the place of the session that a Session field names
 abbrev pub place_named : Option (List ℕ) → List SeenSession → Option ℕ
-place_named value sessions = option_and_then (λ id. place_of id sessions) (option_and_then id_of value)
+place_named value sessions = option_and_then (λ id. place_with_id id sessions) (option_and_then id_of value)
 
 -- the session at a place, where one is given
-abbrev pub session_in : Option ℕ → List SeenSession → SeenSession
-session_in None sessions = no_session
-session_in (Some place) sessions = slice_index_or sessions place no_session
+abbrev pub session_or_none : Option ℕ → List SeenSession → SeenSession
+session_or_none None sessions = no_session
+session_or_none (Some place) sessions = slice_index_or sessions place no_session
 
 -- whether a place is empty
 abbrev pub has_empty : List SeenSession → Bool
@@ -102,7 +102,7 @@ pub record Judged : Type 0 where
 -- by the place of the session that a request names
 abbrev pub judged_at : Given → Option ℕ → Judged
 judged_at given place =
-    let session = session_in place given.sessions in
+    let session = session_or_none place given.sessions in
     record {
       place = place;
       state = session.state;

@@ -1,8 +1,10 @@
 //! What holds of every decision. Each function does nothing: its contract is the law.
-ghost use Rattle.std.specs.Prelude.{◌≡◌, ℕ, ◌<◌, ◌≤◌, ◌^◌, List, Option, Some, Err, length};
+ghost use Rattle.std.specs.Prelude.{◌≡◌, ℕ, ◌+◌, ◌<◌, ◌≤◌, ◌^◌, List, Option, Some, Err, length};
+ghost use Rattle.rtsp_head.specs.declared.item.TheConstants.{MOST_HEAD};
 ghost use Rattle.rtsp_head.specs.Items.{Shape};
 ghost use Rattle.rtsp_transport.specs.declared.channels.Pair.{Pair};
 ghost use Rattle.rtsp_small.specs.declared.method.Method.{Method};
+ghost use Rattle.rtsp_uri.specs.declared.word.TheConstants.{LONGEST_BASE};
 ghost use Rattle.head_one.specs.declared.request.Request1.{Request1};
 ghost use Rattle.head_one.specs.Refusals.{first_code};
 ghost use Rattle.session_one.specs.declared.parts.Track.{Track};
@@ -14,8 +16,9 @@ ghost use Rattle.translate_up.specs.Fields.{Said};
 ghost use Rattle.rtsp_range.specs.declared.range.Range.{Range};
 ghost use Rattle.translate_up.specs.Rules.{session_rules, rules_checked};
 ghost use Rattle.translate_up.specs.OneReply.{AnswersOneReply};
-ghost use Rattle.translate_up.specs.Placed.{IsDecidedIn};
+ghost use Rattle.translate_up.specs.DecisionPlaces.{IsDecidedIn};
 ghost use Rattle.translate_up.specs.Sound.{AreFit, SendsSound};
+ghost use Rattle.translate_up.specs.UriLengths.{AreGivenWithin, HasUriWithin};
 
 /// What goes up, at once or later, can be written under every number and read back, and the channels
 /// that a player gets differ: where the server's address is one, ids of sessions are in the grammar,
@@ -49,9 +52,19 @@ pub fn every_refusal_is_by_a_rule()
 {}
 
 /// What no rule refuses has its place: a request names a session that its player has, or none; a PLAY
-/// waits where its session has room for it, and so does the stream of a SETUP.
+/// waits where its session has room for it, and so does the stream of a SETUP, which has two channels on
+/// the player's connection.
 pub fn what_no_rule_refuses_has_its_place()
     ensures { (given : Given) (shape : Shape) → IsDecidedIn given.sessions (decide given shape) }
+{}
+
+/// The URI of what goes up, at once or later, is no longer than the longest head and the longest base
+/// together, or than one that is known of the connection.
+pub fn what_goes_up_has_no_longer_uri()
+    ensures { (most : ℕ) (given : Given) (shape : Shape) → MOST_HEAD + LONGEST_BASE ≤ most
+        → AreGivenWithin most given
+        → shape.head ≤ MOST_HEAD
+        → HasUriWithin most (decide given shape) }
 {}
 
 /// What the gateway answers by itself, a refusal among it, is one reply, and is read back as that

@@ -2,7 +2,7 @@
 ghost use Rattle.std.specs.Prelude.{◌≡◌, ◌<◌, ◌≤◌, length, map, is_none, slice_index_or, None, Some, IfSome};
 ghost use Rattle.std.specs.List.{list_any};
 ghost use Rattle.std.specs.Option.{option_copied};
-ghost use Rattle.translate_up.specs.Views.{given_of, session_shown, session_in, place_of, place_named, judged_at, judged_by};
+ghost use Rattle.translate_up.specs.Views.{given_of, session_shown, session_or_none, place_with_id, place_named, judged_at, judged_by};
 ghost use Rattle.translate_up.specs.Ids.{are_same};
 ghost use Rattle.session_one.specs.declared.parts.TheConstants.{MOST_SESSIONS};
 ghost use Rattle.translate_up.specs.Subjects.{judged_seen};
@@ -48,7 +48,7 @@ impl<'v, 's, 'a> Subject<'v, 's, 'a> {
         place: Option<u8>,
         session: Option<SessionView<'s, 'a>>,
     ) -> Subject<'v, 's, 'a>
-        requires { session_in place (given_of view.now).sessions ≡ session_shown session }
+        requires { session_or_none place (given_of view.now).sessions ≡ session_shown session }
         ensures { judged_seen result ≡ judged_at (given_of view.entry.now) place }
     {
         let Some(session) = session else {
@@ -113,7 +113,7 @@ fn place_named(view: &View<'_, '_>, field: Option<&[u8]>) -> Option<u8>
 /// The place of the session with an id.
 fn place_of(sessions: &[Option<SessionView<'_, '_>>], id: &[u8]) -> Option<u8>
     requires { length sessions.now ≤ MOST_SESSIONS }
-    ensures place { result ≡ place_of id.now (map session_shown sessions.now) }
+    ensures place { result ≡ place_with_id id.now (map session_shown sessions.now) }
     ensures within { IfSome result (λ place. place < MOST_SESSIONS) }
 {
     for (place, session) in sessions.iter().enumerate() {

@@ -1,7 +1,7 @@
 use Rattle.std.proofs.Common.{subst, rules, Err}
 use Rattle.std.proofs.lemmas.Result.{IfOk-weaker}
 use Rattle.translate_up.specs.Views.{given_of}
-use Rattle.translate_up.proofs.JudgedLemmas.{read_decides}
+use Rattle.translate_up.proofs.JudgementLemmas.{read_decides}
 use Rattle.gate_bytes.specs.Outcomes.{UnlessMemory}
 use Rattle.rtsp_head.specs.Shapes.{shape_of}
 use Rattle.head_one.specs.declared.refusal.RequestFault.{RequestFault}

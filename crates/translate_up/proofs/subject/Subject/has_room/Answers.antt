@@ -1,6 +1,6 @@
 -- A place that shows no session is empty.
 use Rattle.std.proofs.Common.{◌∙◌}
-use Rattle.translate_up.proofs.ShownLemmas.{any_empty}
+use Rattle.translate_up.proofs.ViewLemmas.{any_empty}
 use Rattle.translate_up.proofs.subject.Subject.has_room.Goals as goal
 
 pub returns : goal.returns

@@ -1,7 +1,7 @@
 -- The session at the place is shown.
 use Rattle.std.proofs.Common.{◌∙◌, sym, ap}
 use Rattle.translate_up.specs.Views.{session_shown}
-use Rattle.translate_up.proofs.ShownLemmas.{shown_at}
+use Rattle.translate_up.proofs.ViewLemmas.{shown_at}
 use Rattle.translate_up.proofs.subject.Subject.named.Goals as goal
 
 pub at-requires : goal.at-requires

@@ -6,7 +6,7 @@ use Rattle.head_one.specs.declared.request.Request1.{Request1}
 use Rattle.head_one.specs.declared.refusal.Refusal.{Refusal}
 use Rattle.session_one.specs.declared.parts.Track.{Track}
 use Rattle.translate_up.specs.Ids.{id_of, are_same}
-use Rattle.translate_up.specs.Views.{SeenSession, no_session, Given, all_tracks, place_from, place_of, place_named, session_in, has_empty, Judged, judged_at, judged_by, with_pair, session_with_pairs, with_pairs, judged_with_pairs}
+use Rattle.translate_up.specs.Views.{SeenSession, no_session, Given, all_tracks, place_from, place_with_id, place_named, session_or_none, has_empty, Judged, judged_at, judged_by, with_pair, session_with_pairs, with_pairs, judged_with_pairs}
 use Rattle.translate_up.specs.Fields.{field}
 use Rattle.translate_up.specs.Sound.{is_target, IsFitSession, AreFitSessions, AreFit, IsFit}
 use Rattle.translate_up.specs.Decisions.{decide_request, judged_read, decide_read, decide}
@@ -23,7 +23,7 @@ each_fit [] place all = none_fit
 each_fit (one ∷ more) zero all = all.0
 each_fit (one ∷ more) (suc place) all = each_fit more place all.1
 
-place_fit : (place : Option ℕ) (sessions : List SeenSession) → AreFitSessions sessions → IsFitSession (session_in place sessions)
+place_fit : (place : Option ℕ) (sessions : List SeenSession) → AreFitSessions sessions → IsFitSession (session_or_none place sessions)
 place_fit None sessions all = none_fit
 place_fit (Some place) sessions all = each_fit sessions place all
 
@@ -34,7 +34,7 @@ or_target (Some uri) described c d = c
 fit_at : (given : Given) (place : Option ℕ) → AreFit given → IsFit (judged_at given place)
 fit_at given place fit =
     let session = place_fit place given.sessions fit.sessions in
-    record { up = fit.up; session = session.id; control = or_target (session_in place given.sessions).control given.described session.control fit.described }
+    record { up = fit.up; session = session.id; control = or_target (session_or_none place given.sessions).control given.described session.control fit.described }
 
 -- What a request is judged by is fit where all that is given is.
 pub judged_fit : (given : Given) (found : Result Request1 Refusal) → AreFit given → IsFit (judged_read given found)
@@ -47,7 +47,7 @@ place_under pairs id place [] = refl
 place_under pairs id place (one ∷ more) = ap (λ (later : Option ℕ). cond (are_same one.id (Some id)) (Some place) later) (place_under pairs id (place + 1) more)
 
 named_under : (pairs : ℕ → ℕ) (id : Option (List ℕ)) (sessions : List SeenSession)
-    → option_and_then (λ one. place_of one (map (session_with_pairs pairs) sessions)) id ≡ option_and_then (λ one. place_of one sessions) id
+    → option_and_then (λ one. place_with_id one (map (session_with_pairs pairs) sessions)) id ≡ option_and_then (λ one. place_with_id one sessions) id
 named_under pairs None sessions = refl
 named_under pairs (Some id) sessions = place_under pairs id 0 sessions
 
@@ -57,7 +57,7 @@ each_under pairs place [] = refl
 each_under pairs zero (one ∷ more) = refl
 each_under pairs (suc place) (one ∷ more) = each_under pairs place more
 
-session_under : (pairs : ℕ → ℕ) (place : Option ℕ) (sessions : List SeenSession) → session_in place (map (session_with_pairs pairs) sessions) ≡ session_with_pairs pairs (session_in place sessions)
+session_under : (pairs : ℕ → ℕ) (place : Option ℕ) (sessions : List SeenSession) → session_or_none place (map (session_with_pairs pairs) sessions) ≡ session_with_pairs pairs (session_or_none place sessions)
 session_under pairs None sessions = refl
 session_under pairs (Some place) sessions = each_under pairs place sessions
 
@@ -91,8 +91,8 @@ judged_with given place session room all = record {
 at_under : (pairs : ℕ → ℕ) (given : Given) (place : Option ℕ) → judged_at (with_pairs pairs given) place ≡ judged_with_pairs pairs (judged_at given place)
 at_under pairs given place =
     ap (λ session. judged_with given place session (has_empty (map (session_with_pairs pairs) given.sessions)) (all_tracks (map (session_with_pairs pairs) given.sessions))) (session_under pairs place given.sessions)
-    ∙ ap (λ room. judged_with given place (session_with_pairs pairs (session_in place given.sessions)) room (all_tracks (map (session_with_pairs pairs) given.sessions))) (room_under pairs given.sessions)
-    ∙ ap (judged_with given place (session_with_pairs pairs (session_in place given.sessions)) (has_empty given.sessions)) (tracks_under pairs given.sessions)
+    ∙ ap (λ room. judged_with given place (session_with_pairs pairs (session_or_none place given.sessions)) room (all_tracks (map (session_with_pairs pairs) given.sessions))) (room_under pairs given.sessions)
+    ∙ ap (judged_with given place (session_with_pairs pairs (session_or_none place given.sessions)) (has_empty given.sessions)) (tracks_under pairs given.sessions)
 
 pub judged_under : (pairs : ℕ → ℕ) (given : Given) (found : Result Request1 Refusal) → judged_read (with_pairs pairs given) found ≡ judged_with_pairs pairs (judged_read given found)
 judged_under pairs given (Ok request) =
