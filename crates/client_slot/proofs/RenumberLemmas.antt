@@ -16,8 +16,8 @@ use Rattle.client_slot.specs.declared.purpose.Purpose.TheVariants as purposes
 use Rattle.client_slot.specs.Session.{PlayerSession, new_session}
 use Rattle.client_slot.specs.Places.{session_at, session_where, changed_at, changed_where, first_place, has_due, queued_at, empty_place, filled_place}
 use Rattle.client_slot.specs.SessionChanges.{when_ended, when_next, when_queued, when_unqueued}
-use Rattle.client_slot.specs.declared.session_turn.Part.{Part}
-use Rattle.client_slot.specs.declared.session_turn.Part.TheVariants.{Keeps, Takes, Loses}
+use Rattle.client_slot.specs.declared.session_turn.PartTurn.{PartTurn}
+use Rattle.client_slot.specs.declared.session_turn.PartTurn.TheVariants.{Keeps, Takes, Loses}
 use Rattle.client_slot.specs.declared.session_turn.SessionTurn.{SessionTurn}
 use Rattle.client_slot.specs.SessionTurns.{Brought, reply_turn, brought_by, tracks_then, part_then, turned}
 use Rattle.client_slot.specs.Client.{Client}
@@ -72,12 +72,12 @@ tracks_and_one pairs (one ∷ tracks) track = ap (λ more. track_under pairs one
 abbrev brought_under : (ℕ → ℕ) → (ℕ → ℕ) → Brought → Brought
 brought_under numbers pairs brought = record brought { number = numbers brought.number; track = option_map (track_under pairs) brought.track }
 
-tracks_under : (pairs : ℕ → ℕ) (part : Part) (was : List Track) (track : Option Track) → map (track_under pairs) (tracks_then part was track) ≡ tracks_then part (map (track_under pairs) was) (option_map (track_under pairs) track)
+tracks_under : (pairs : ℕ → ℕ) (part : PartTurn) (was : List Track) (track : Option Track) → map (track_under pairs) (tracks_then part was track) ≡ tracks_then part (map (track_under pairs) was) (option_map (track_under pairs) track)
 tracks_under pairs Keeps was track = refl
 tracks_under pairs Takes was track = tracks_and_one pairs was track
 tracks_under pairs Loses was track = refl
 
-running_under : (numbers : ℕ → ℕ) (part : Part) (was : Option ℕ) (number : ℕ) → option_map numbers (part_then part was (Some number)) ≡ part_then part (option_map numbers was) (Some (numbers number))
+running_under : (numbers : ℕ → ℕ) (part : PartTurn) (was : Option ℕ) (number : ℕ) → option_map numbers (part_then part was (Some number)) ≡ part_then part (option_map numbers was) (Some (numbers number))
 running_under numbers Keeps was number = refl
 running_under numbers Takes was number = refl
 running_under numbers Loses was number = refl

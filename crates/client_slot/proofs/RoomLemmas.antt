@@ -1,5 +1,5 @@
 -- The rooms for closing TEARDOWNs.
-use Rattle.std.proofs.Common.{◌≡◌, ◌≢◌, ◌∙◌, ℕ, zero, suc, ◌==◌, ◌<◌, ◌≤◌, Bool, true, false, not, ◌&&◌, ◌||◌, cond, List, [], ◌∷◌, length, map, Option, Some, None, IfSome, IsSome, refl, sym, ap, subst, arith}
+use Rattle.std.proofs.Common.{◌≡◌, ◌≢◌, ◌∙◌, ℕ, zero, suc, ◌==◌, ◌<◌, ◌≤◌, Bool, true, false, not, ◌&&◌, ◌||◌, cond, List, [], ◌∷◌, length, Option, Some, None, IfSome, IsSome, refl, sym, ap, subst, arith}
 use Rattle.std.proofs.lemmas.Bool.{eqb-true, eqb-false, ne_eqb}
 use Rattle.std.specs.Prelude.{slice_set, slice_index_or, is_some, is_none}
 use Rattle.rtsp_small.specs.declared.method.Method.{Method}
@@ -14,16 +14,17 @@ use Rattle.session_one.specs.declared.parts.TheConstants.{MOST_SESSIONS, MOST_TR
 use Rattle.client_slot.specs.declared.limits.TheConstants.{LONGEST_URI}
 use Rattle.client_slot.specs.declared.purpose.Purpose.{Purpose}
 use Rattle.client_slot.specs.declared.purpose.Purpose.TheVariants as purposes
-use Rattle.client_slot.specs.declared.made.MadeSession.{MadeSession}
-use Rattle.client_slot.specs.Made.{id_made, described_made}
+use Rattle.client_slot.specs.declared.new_session.MadeSession.{MadeSession}
+use Rattle.client_slot.specs.NewSessions.{id_made, described_made}
 use Rattle.client_slot.specs.Session.{PlayerSession, new_session}
 use Rattle.client_slot.specs.Places.{session_at, session_where, empty_place, changed_at, changed_where, filled_place}
 use Rattle.client_slot.specs.declared.session_turn.SessionTurn.{SessionTurn}
 use Rattle.client_slot.specs.SessionTurns.{Brought, moved_turn, granted_turn, released_turn, reply_turn, control_by, brought_by, turned}
 use Rattle.client_slot.specs.Changes.{purpose_place, settled_place, session_after, sessions_after, described_by, described_after}
 use Rattle.client_slot.specs.Client.{Client}
-use Rattle.client_slot.specs.Bounds.{IsTidyBy, AreTidy, IsShort, IsPlaced, IsPlacedIn, IsAskable, is_asking, is_closing, is_torn, rooms_left, AreRoomy, IsSlot}
+use Rattle.client_slot.specs.Bounds.{IsTidyBy, AreTidy, HasShortUri, IsPlaced, IsPlacedIn, IsAskable, is_torn, rooms_left, AreRoomy, IsSlot}
 use Rattle.client_slot.proofs.TidyLemmas.{after_tidy, tidy_at}
+use Rattle.client_slot.proofs.ControlLemmas.{controls_after}
 use Rattle.client_slot.proofs.PlaceLemmas.{where_length, kept_each, place_is, changed_here, changed_other, same_changes_where}
 
 -- a room that is gone
@@ -85,7 +86,7 @@ by_short methods.Teardown uri sessions described short was = by (is_some (filled
 by_short methods.GetParameter uri sessions described short was = was
 by_short methods.SetParameter uri sessions described short was = was
 
-after_short : (purpose : Purpose) (tracks code : ℕ) (sessions : List PlayerSession) (described : Option (List ℕ)) → IsPlaced tracks purpose → IfSome described (λ one. length one ≤ LONGEST_URI)
+pub after_short : (purpose : Purpose) (tracks code : ℕ) (sessions : List PlayerSession) (described : Option (List ℕ)) → IsPlaced tracks purpose → IfSome described (λ one. length one ≤ LONGEST_URI)
     → IfSome (described_after purpose code sessions described) (λ one. length one ≤ LONGEST_URI)
 after_short (purposes.Client asked track) tracks code sessions described placed was = by (is_success code)
   where
@@ -181,6 +182,7 @@ slot_settled client rooms purpose number code id sessions described pending is a
     (subst (λ (every : List PlayerSession). IsSlot (record client { sessions = every; described = described_after purpose code every client.described; pending = None }) rooms) (sym all) (record {
       places = where_length (settled_place purpose id client.sessions) (session_after purpose number code client.described id) client.sessions ∙ slot.places;
       tidy = after_tidy purpose number code client.described id client.sessions slot.tidy placed.filled;
+      controls = controls_after purpose _ number code client.described id client.sessions placed.here slot.described slot.controls;
       all = slot.all;
       described = after_short purpose _ code (sessions_after purpose number code client.described id client.sessions) client.described placed.here slot.described;
       placed = tt;
@@ -233,7 +235,7 @@ settled_placed purpose id sessions place is placed =
     fewer (purposes.Released play) tracks here = here
     fewer (purposes.Closing closed) tracks here = here
 
-pub placed_short : (purpose : Purpose) (tracks : ℕ) → IsPlaced tracks purpose → IsShort purpose
+pub placed_short : (purpose : Purpose) (tracks : ℕ) → IsPlaced tracks purpose → HasShortUri purpose
 placed_short (purposes.Client asked track) tracks here = here.0
 placed_short (purposes.Released play) tracks here = here
 placed_short (purposes.Closing place) tracks here = here
@@ -259,6 +261,7 @@ asked_placed sessions asked track tidy four askable = record {
     λ some.
         places (λ (at : Option ℕ). length (session_where at sessions).tracks < MOST_TRACKS) few (λ place found. subst (λ (tracks : List Track). length tracks < MOST_TRACKS) (sym (none_there place found)) few) (askable.room some),
   );
+  apart = askable.apart;
 }
   where
     few : 0 < MOST_TRACKS
@@ -286,6 +289,7 @@ pub slot_asked : (client : Client) (rooms : List Bool) (asked : Asked) (track : 
 slot_asked client rooms asked track lives askable slot = record {
   places = slot.places;
   tidy = slot.tidy;
+  controls = slot.controls;
   all = slot.all;
   described = slot.described;
   placed = asked_placed client.sessions asked track slot.tidy slot.places askable;

@@ -18,8 +18,8 @@ use Rattle.client_slot.specs.declared.purpose.Purpose.TheVariants as purposes
 use Rattle.client_slot.specs.Session.{PlayerSession, new_session}
 use Rattle.client_slot.specs.Places.{session_at, session_where, changed_at, changed_where, empty_place}
 use Rattle.client_slot.specs.SessionChanges.{when_ended, when_next, when_queued, when_unqueued}
-use Rattle.client_slot.specs.declared.session_turn.Part.{Part}
-use Rattle.client_slot.specs.declared.session_turn.Part.TheVariants.{Keeps, Takes, Loses}
+use Rattle.client_slot.specs.declared.session_turn.PartTurn.{PartTurn}
+use Rattle.client_slot.specs.declared.session_turn.PartTurn.TheVariants.{Keeps, Takes, Loses}
 use Rattle.client_slot.specs.declared.session_turn.SessionTurn.{SessionTurn}
 use Rattle.client_slot.specs.SessionTurns.{Brought, moved_turn, granted_turn, released_turn, control_by, brought_by, part_then, turned}
 use Rattle.client_slot.specs.Changes.{settled_place, session_after, sessions_after}
@@ -87,7 +87,7 @@ left_or false h = cc
 turn_keeps : (turn : SessionTurn) (brought : Brought) (session : PlayerSession) → is_some session.id ≡ true → turn.id ≡ Keeps → (IsSome session.control → IsSome (part_then turn.control session.control brought.control))
     → IsTidy session → IsTidy (turned turn brought session)
 turn_keeps turn brought session filled keeps control tidy =
-    filled_tidy session (turned turn brought session) filled (ap (λ (part : Part). part_then part session.id brought.id) keeps) control tidy
+    filled_tidy session (turned turn brought session) filled (ap (λ (part : PartTurn). part_then part session.id brought.id) keeps) control tidy
 
 -- A turn that changes nothing but the state, which stays.
 moved_same : (brought : Brought) (session : PlayerSession) → turned (moved_turn session.state) brought session ≡ session

@@ -1,5 +1,5 @@
 -- What is bounded of a connection, so that no call but the first takes memory (this project's own).
-use Rattle.std.specs.Prelude.{◌≡◌, ℕ, ◌≤◌, ◌<◌, ◌==◌, Bool, true, false, ◌&&◌, ◌||◌, not, List, [], ◌∷◌, length, map, slice_index_or, All, Option, Some, None, is_some, is_none, IsSome, IfSome}
+use Rattle.std.specs.Prelude.{◌≡◌, ◌≢◌, ℕ, ◌≤◌, ◌<◌, ◌==◌, Bool, true, false, ◌&&◌, ◌||◌, not, List, [], ◌∷◌, length, map, slice_index_or, All, Option, Some, None, is_some, is_none, IsSome, IfSome}
 use Rattle.rtsp_small.specs.Sessions.{is_session_id}
 use Rattle.client_slot.specs.declared.limits.TheConstants.{LONGEST_URI}
 use Rattle.session_one.specs.declared.parts.TheConstants.{MOST_SESSIONS, MOST_TRACKS}
@@ -33,16 +33,21 @@ abbrev pub AreTidy : List PlayerSession → Type 0
 AreTidy [] = Unit {0}
 AreTidy (session ∷ more) = IsTidy session × AreTidy more
 
+-- What each is about has a short enough URI.
+abbrev pub AreControlsShort : List PlayerSession → Type 0
+AreControlsShort [] = Unit {0}
+AreControlsShort (session ∷ more) = IfSome session.control (λ uri. length uri ≤ LONGEST_URI) × AreControlsShort more
+
 -- whether a place that is given has a session
 abbrev pub is_filled : Option ℕ → List PlayerSession → Bool
 is_filled None sessions = true
 is_filled (Some place) sessions = is_some (session_at place sessions).id
 
 -- the URI of an open request is short enough
-abbrev pub IsShort : Purpose → Type 0
-IsShort (purposes.Client asked track) = length asked.uri ≤ LONGEST_URI
-IsShort (purposes.Released play) = length play.uri ≤ LONGEST_URI
-IsShort (purposes.Closing place) = Unit {0}
+abbrev pub HasShortUri : Purpose → Type 0
+HasShortUri (purposes.Client asked track) = length asked.uri ≤ LONGEST_URI
+HasShortUri (purposes.Released play) = length play.uri ≤ LONGEST_URI
+HasShortUri (purposes.Closing place) = Unit {0}
 
 -- The URI of an open request is short enough, and a stream that it sets up has a place beside so many others.
 abbrev pub IsPlaced : ℕ → Purpose → Type 0
@@ -56,19 +61,27 @@ place_asked (purposes.Client asked track) = asked.place
 place_asked (purposes.Released play) = play.place
 place_asked (purposes.Closing place) = None
 
+-- the two channels of a stream that it sets up differ
+abbrev pub HasTwoChannels : Purpose → Type 0
+HasTwoChannels (purposes.Client asked track) = IfSome track (λ one. one.client.rtp ≢ one.client.rtcp)
+HasTwoChannels (purposes.Released play) = Unit {0}
+HasTwoChannels (purposes.Closing place) = Unit {0}
+
 -- so beside the streams of the session that it is for, whose place is one of the four
 pub record IsPlacedIn (sessions : List PlayerSession) (purpose : Purpose) : Type 0 where
   pub within : IfSome (purpose_place purpose sessions) (λ place. place < MOST_SESSIONS)
   pub filled : is_filled (place_asked purpose) sessions ≡ true
   pub here : IsPlaced (length (session_where (purpose_place purpose sessions) sessions).tracks) purpose
+  pub apart : HasTwoChannels purpose
 
 -- A player's request can go up: its URI is short enough, the session that it names is there, and a stream that it sets up
--- has a place beside those of that session.
+-- has a place beside those of that session, and two channels.
 pub record IsAskable (sessions : List PlayerSession) (asked : Asked) (track : Option Track) : Type 0 where
   pub uri : length asked.uri ≤ LONGEST_URI
   pub within : IfSome asked.place (λ place. place < MOST_SESSIONS)
   pub filled : is_filled asked.place sessions ≡ true
   pub room : IsSome track → length (session_where asked.place sessions).tracks < MOST_TRACKS
+  pub apart : IfSome track (λ one. one.client.rtp ≢ one.client.rtcp)
 
 -- whether a player's own request is open, whose success may make a session
 abbrev pub is_asking : Option Purpose → Bool
@@ -97,10 +110,12 @@ rooms_left rooms = map is_some rooms
 abbrev pub AreRoomy : Client → List Bool → Type 0
 AreRoomy client rooms = (place : ℕ) → place < MOST_SESSIONS → (slice_index_or rooms place false || is_torn place client.alive client.pending (session_at place client.sessions).id) ≡ true
 
--- There are four places, and each is tidy; what was described is short enough; the open request has its place; and there is room.
+-- There are four places, and each is tidy; what sessions are about, and what was described, is short enough; the open request
+-- has its place; and there is room.
 pub record IsSlot (client : Client) (rooms : List Bool) : Type 0 where
   pub places : length client.sessions ≡ MOST_SESSIONS
   pub tidy : AreTidy client.sessions
+  pub controls : AreControlsShort client.sessions
   pub all : length rooms ≡ MOST_SESSIONS
   pub described : IfSome client.described (λ uri. length uri ≤ LONGEST_URI)
   pub placed : IfSome client.pending (IsPlacedIn client.sessions)

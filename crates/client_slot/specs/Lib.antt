@@ -1,9 +1,9 @@
 pub mod Bounds
-pub mod Brought
+pub mod Gains
 pub mod Client
 pub mod ClosingRequest
 pub mod Changes
-pub mod Made
+pub mod NewSessions
 pub mod Places
 pub mod Purposes
 pub mod Renumber

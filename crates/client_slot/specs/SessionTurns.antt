@@ -10,8 +10,8 @@ use Rattle.session_one.specs.declared.table.State.TheVariants.{Init, Ready}
 use Rattle.session_one.specs.declared.parts.Play.{Play}
 use Rattle.session_one.specs.declared.parts.Track.{Track}
 use Rattle.session_one.specs.Table.{is_success, state_after}
-use Rattle.client_slot.specs.declared.session_turn.Part.{Part}
-use Rattle.client_slot.specs.declared.session_turn.Part.TheVariants.{Keeps, Takes, Loses}
+use Rattle.client_slot.specs.declared.session_turn.PartTurn.{PartTurn}
+use Rattle.client_slot.specs.declared.session_turn.PartTurn.TheVariants.{Keeps, Takes, Loses}
 use Rattle.client_slot.specs.declared.session_turn.SessionTurn.{SessionTurn}
 use Rattle.client_slot.specs.declared.purpose.Purpose.{Purpose}
 use Rattle.client_slot.specs.declared.purpose.Purpose.TheVariants as purposes
@@ -26,7 +26,7 @@ abbrev pub gone_turn : SessionTurn
 gone_turn = record { state = Init; id = Loses; control = Loses; tracks = Loses; running = Loses; queue = Loses }
 
 -- a part that a session which the server made takes, and another keeps
-abbrev pub if_made : Bool → Part
+abbrev pub if_made : Bool → PartTurn
 if_made true = Takes
 if_made false = Keeps
 
@@ -83,19 +83,19 @@ brought_by (purposes.Released play) number described id = record { number = numb
 brought_by (purposes.Closing place) number described id = record { number = number; control = None; id = id; track = None }
 
 -- a part then
-abbrev pub part_then : {A : Type 0} → Part → Option A → Option A → Option A
+abbrev pub part_then : {A : Type 0} → PartTurn → Option A → Option A → Option A
 part_then Keeps was new = was
 part_then Takes was new = new
 part_then Loses was new = None
 
 -- the streams then
-abbrev pub tracks_then : Part → List Track → Option Track → List Track
+abbrev pub tracks_then : PartTurn → List Track → Option Track → List Track
 tracks_then Keeps was track = was
 tracks_then Takes was track = was ++ option_to_list track
 tracks_then Loses was track = []
 
 -- the PLAYs that wait then; none is brought
-abbrev pub queue_then : Part → List Play → List Play
+abbrev pub queue_then : PartTurn → List Play → List Play
 queue_then Keeps was = was
 queue_then Takes was = was
 queue_then Loses was = []

@@ -8,22 +8,22 @@
 #![tactic(auto)]
 
 mod at_place;
-mod brought;
 mod closing_room;
+mod final_reply;
+mod gain;
 mod law;
 mod limits;
-mod made;
+mod new_session;
 mod purpose;
 mod session;
 mod session_turn;
-mod settling;
 mod slot;
 mod waiting_request;
 
 pub use law::changes_keep_any_numbering;
 pub use limits::{CLOSING_ROOM, LONGEST_URI, MOST_WAITING};
-pub use made::MadeSession;
+pub use new_session::MadeSession;
 pub use purpose::{Pending, Settled};
-pub use session_turn::{Part, SessionTurn};
+pub use session_turn::{PartTurn, SessionTurn};
 pub use slot::Slot;
 pub use waiting_request::Waiting;

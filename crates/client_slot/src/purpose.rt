@@ -3,16 +3,16 @@ ghost use Rattle.std.specs.Prelude.{◌≡◌, ◌≤◌, ℕ, List, Option, is_
 ghost use Rattle.session_one.specs.declared.parts.TheConstants.{MOST_SESSIONS};
 ghost use Rattle.rtsp_small.specs.Sessions.{is_session_id};
 ghost use Rattle.client_slot.specs.declared.limits.TheConstants.{LONGEST_URI};
-ghost use Rattle.client_slot.specs.Bounds.{IsShort};
+ghost use Rattle.client_slot.specs.Bounds.{HasShortUri};
 ghost use Rattle.client_slot.specs.ShortUris.{is_short_where};
-ghost use Rattle.client_slot.specs.Brought.{brought_seen};
-ghost use Rattle.client_slot.specs.Made.{id_made, described_made};
+ghost use Rattle.client_slot.specs.Gains.{brought_seen};
+ghost use Rattle.client_slot.specs.NewSessions.{id_made, described_made};
 ghost use Rattle.client_slot.specs.SessionTurns.{brought_by, control_by};
 ghost use Rattle.client_slot.specs.Changes.{purpose_place, settled_place};
 ghost use Rattle.client_slot.specs.Purposes.{settled_as, purpose_seen};
 
-use crate::brought::BroughtParts;
-use crate::made::MadeSession;
+use crate::gain::BroughtParts;
+use crate::new_session::MadeSession;
 use crate::session::Session;
 use crate::slot::places::empty_place;
 use gate_bytes::Text;
@@ -106,7 +106,7 @@ impl Purpose {
     /// What it and its reply bring to its session: the number with which it went up, and the session
     /// that the server made for it.
     pub fn brings(self, number: u32, made: Option<MadeSession>) -> BroughtParts
-        requires { IsShort self }
+        requires { HasShortUri self }
         ensures brought { brought_seen result
             ≡ brought_by self number (described_made made) (id_made made) }
         ensures uri { IfSome result.control (λ uri. length uri ≤ LONGEST_URI) }

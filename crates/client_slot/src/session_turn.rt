@@ -9,7 +9,7 @@ use session_one::{State, after, is_success};
 
 /// What becomes of a part of a session.
 #[derive(Clone, Copy, Debug, PartialEq, Eq)]
-pub enum Part {
+pub enum PartTurn {
     /// It stays.
     Keeps,
     /// It is what the request or its reply brings; a stream comes to those that are there.
@@ -25,15 +25,15 @@ pub struct SessionTurn {
     /// Its state then.
     pub state: State,
     /// Its id.
-    pub id: Part,
+    pub id: PartTurn,
     /// The URI that stands for what it is about.
-    pub control: Part,
+    pub control: PartTurn,
     /// Its streams.
-    pub tracks: Part,
+    pub tracks: PartTurn,
     /// The PLAY that runs.
-    pub running: Part,
+    pub running: PartTurn,
     /// The PLAYs that wait.
-    pub queue: Part,
+    pub queue: PartTurn,
 }
 
 impl SessionTurn {
@@ -58,11 +58,11 @@ impl SessionTurn {
     {
         SessionTurn {
             state,
-            id: Part::Keeps,
-            control: Part::Keeps,
-            tracks: Part::Keeps,
-            running: Part::Keeps,
-            queue: Part::Keeps,
+            id: PartTurn::Keeps,
+            control: PartTurn::Keeps,
+            tracks: PartTurn::Keeps,
+            running: PartTurn::Keeps,
+            queue: PartTurn::Keeps,
         }
     }
 
@@ -72,11 +72,11 @@ impl SessionTurn {
     {
         SessionTurn {
             state: State::Init,
-            id: Part::Loses,
-            control: Part::Loses,
-            tracks: Part::Loses,
-            running: Part::Loses,
-            queue: Part::Loses,
+            id: PartTurn::Loses,
+            control: PartTurn::Loses,
+            tracks: PartTurn::Loses,
+            running: PartTurn::Loses,
+            queue: PartTurn::Loses,
         }
     }
 
@@ -87,23 +87,23 @@ impl SessionTurn {
         let moved = SessionTurn::moved(state);
         match method {
             Method::Setup if is_made => SessionTurn {
-                id: Part::Takes,
-                control: Part::Takes,
-                tracks: Part::Takes,
+                id: PartTurn::Takes,
+                control: PartTurn::Takes,
+                tracks: PartTurn::Takes,
                 ..moved
             },
             Method::Setup => SessionTurn {
-                tracks: Part::Takes,
+                tracks: PartTurn::Takes,
                 ..moved
             },
             Method::Play => SessionTurn {
-                control: Part::Takes,
-                running: Part::Takes,
+                control: PartTurn::Takes,
+                running: PartTurn::Takes,
                 ..moved
             },
             Method::Pause => SessionTurn {
-                running: Part::Loses,
-                queue: Part::Loses,
+                running: PartTurn::Loses,
+                queue: PartTurn::Loses,
                 ..moved
             },
             Method::Teardown => SessionTurn::gone(),
@@ -118,14 +118,14 @@ impl SessionTurn {
     {
         if is_success {
             SessionTurn {
-                control: Part::Takes,
-                running: Part::Takes,
+                control: PartTurn::Takes,
+                running: PartTurn::Takes,
                 ..SessionTurn::moved(state)
             }
         } else {
             SessionTurn {
-                running: Part::Loses,
-                queue: Part::Loses,
+                running: PartTurn::Loses,
+                queue: PartTurn::Loses,
                 ..SessionTurn::moved(State::Ready)
             }
         }

@@ -47,7 +47,7 @@ impl Slot {
     ghost use Rattle.client_slot.specs.Client.{new_client};
     ghost use Rattle.client_slot.specs.Places.{session_at, queued_at, place_with};
     ghost use Rattle.client_slot.specs.Changes.{due_place};
-    ghost use Rattle.client_slot.specs.Bounds.{AreTidy, IsPlacedIn};
+    ghost use Rattle.client_slot.specs.Bounds.{AreTidy, AreControlsShort, IsPlacedIn};
 
     /// A connection that entered, with room for four sessions, each with eight streams, eight PLAYs and
     /// a closing TEARDOWN.
@@ -146,11 +146,12 @@ impl Slot {
         self.pending.is_some()
     }
 
-    /// What holds of every connection: it has four places, a place without a session is an empty one, and
-    /// the open request has its place. The call does nothing.
+    /// What holds of every connection: it has four places, a place without a session is an empty one, the URIs
+    /// that sessions are about are short enough, and the open request has its place. The call does nothing.
     pub fn keeps(&self)
         ensures places { length self.now.sessions ≡ MOST_SESSIONS }
         ensures tidy { AreTidy self.now.sessions }
+        ensures controls { AreControlsShort self.now.sessions }
         ensures placed { IfSome self.now.pending (IsPlacedIn self.now.sessions) }
     {
         let _ = &self.sessions;

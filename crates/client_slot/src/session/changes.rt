@@ -8,14 +8,14 @@ ghost use Rattle.session_two.specs.Ends.{end_counts};
 ghost use Rattle.client_slot.specs.SessionTurns.{part_then};
 
 use super::Session;
-use crate::brought::BroughtParts;
-use crate::session_turn::{Part, SessionTurn};
+use crate::gain::BroughtParts;
+use crate::session_turn::{PartTurn, SessionTurn};
 use gate_bytes::Text;
 use session_one::{Play, State, Track};
 use session_two::Names;
 
 impl Session {
-    ghost use Rattle.client_slot.specs.Brought.{brought_seen};
+    ghost use Rattle.client_slot.specs.Gains.{brought_seen};
     ghost use Rattle.client_slot.specs.SessionTurns.{tracks_then, turned};
     ghost use Rattle.client_slot.specs.SessionChanges.{when_ended, when_next, when_queued, when_unqueued};
 
@@ -37,35 +37,35 @@ impl Session {
         turn_part(&mut self.control, turn.control, control);
         self.turn_tracks(turn.tracks, track);
         self.turn_running(turn.running, number);
-        if turn.queue == Part::Loses {
+        if turn.queue == PartTurn::Loses {
             self.queue.clear();
         }
     }
 
     /// What becomes of its streams.
-    fn turn_tracks(&mut self, part: Part, track: Option<Track>)
+    fn turn_tracks(&mut self, part: PartTurn, track: Option<Track>)
         requires { IsSome track → length self.old.tracks < MOST_TRACKS }
         ensures { self.new ≡ record self.old { tracks = tracks_then part self.old.tracks track } }
     {
         match part {
-            Part::Keeps => {}
-            Part::Takes => {
+            PartTurn::Keeps => {}
+            PartTurn::Takes => {
                 if let Some(track) = track {
                     self.tracks.push_reserved(track);
                 }
             }
-            Part::Loses => self.tracks.clear(),
+            PartTurn::Loses => self.tracks.clear(),
         }
     }
 
     /// What becomes of the PLAY that runs.
-    fn turn_running(&mut self, part: Part, number: u32)
+    fn turn_running(&mut self, part: PartTurn, number: u32)
         ensures { self.new ≡ record self.old { running = part_then part self.old.running (Some number) } }
     {
         match part {
-            Part::Keeps => {}
-            Part::Takes => self.running.started(number),
-            Part::Loses => self.running.stop(),
+            PartTurn::Keeps => {}
+            PartTurn::Takes => self.running.started(number),
+            PartTurn::Loses => self.running.stop(),
         }
     }
 
@@ -108,12 +108,12 @@ impl Session {
 }
 
 /// What becomes of a text.
-fn turn_part(text: &mut Option<Text>, part: Part, new: Option<Text>)
+fn turn_part(text: &mut Option<Text>, part: PartTurn, new: Option<Text>)
     ensures { text.new ≡ part_then part text.old new }
 {
     match part {
-        Part::Keeps => {}
-        Part::Takes => *text = new,
-        Part::Loses => *text = None,
+        PartTurn::Keeps => {}
+        PartTurn::Takes => *text = new,
+        PartTurn::Loses => *text = None,
     }
 }

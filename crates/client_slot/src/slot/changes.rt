@@ -11,9 +11,9 @@ ghost use Rattle.client_slot.specs.Purposes.{settled_as};
 use super::Slot;
 use crate::at_place::{end_at, next_at, queue_at, unqueue_all};
 use crate::closing_room::ClosingRoom;
-use crate::made::MadeSession;
+use crate::final_reply::{FinalReply, settle_sessions};
+use crate::new_session::MadeSession;
 use crate::purpose::{Purpose, Settled};
-use crate::settling::{FinalReply, settle_sessions};
 use crate::waiting_request::Waiting;
 use gate_bytes::Text;
 use rtsp_head::Item;
@@ -25,7 +25,7 @@ impl Slot {
     ghost use Rattle.client_slot.specs.Places.{session_at};
     ghost use Rattle.client_slot.specs.Changes.{after_waiting, after_next, after_asking, after_queueing, after_release, after_reply, after_note, after_close, after_closing};
     ghost use Rattle.client_slot.specs.Bounds.{IsAskable, is_filled};
-    ghost use Rattle.client_slot.specs.Made.{id_made, described_made};
+    ghost use Rattle.client_slot.specs.NewSessions.{id_made, described_made};
     ghost use Rattle.client_slot.specs.ClosingRequest.{closing_text};
 
     /// A request waits.

@@ -1,7 +1,7 @@
 -- The sessions keep their ids and their streams.
 use Rattle.rtsp_head.specs.Shapes.{shapes}
 use Rattle.client_slot.specs.Bounds.{rooms_left}
-use Rattle.client_slot.proofs.BoundLemmas.{slot_closed}
+use Rattle.client_slot.proofs.LimitLemmas.{slot_closed}
 use Rattle.client_slot.proofs.slot.Slot.close.Goals as goal
 
 pub invariant_of-self : goal.invariant_of-self

@@ -7,7 +7,7 @@ use Rattle.client_slot.specs.Places.{session_at}
 use Rattle.client_slot.specs.Client.{Client}
 use Rattle.client_slot.specs.Changes.{closing_place}
 use Rattle.client_slot.specs.Bounds.{rooms_left}
-use Rattle.client_slot.proofs.BoundLemmas.{leaving_is, room_there, closes}
+use Rattle.client_slot.proofs.LimitLemmas.{leaving_is, room_there, closes}
 use Rattle.client_slot.proofs.PlaceLemmas.{lent_at}
 use Rattle.client_slot.proofs.slot.Slot.closing.Goals as goal
 

@@ -8,7 +8,7 @@ use Rattle.client_slot.specs.SessionChanges.{when_next}
 use Rattle.client_slot.specs.Changes.{due_place}
 use Rattle.client_slot.specs.Bounds.{is_filled, rooms_left}
 use Rattle.client_slot.proofs.TidyLemmas.{tidy_at, next_tidy, due_filled}
-use Rattle.client_slot.proofs.BoundLemmas.{filled_kept, due_queue, slot_changed, slot_released, next_keeps, IsDueAt, due_is, due_waits}
+use Rattle.client_slot.proofs.LimitLemmas.{filled_kept, due_queue, slot_changed, slot_released, next_keeps, IsDueAt, due_is, due_waits}
 use Rattle.client_slot.proofs.slot.Slot.release.Goals as goal
 
 pub unreachable-requires : goal.unreachable-requires

@@ -2,7 +2,7 @@
 use Rattle.std.proofs.Common.{◌≡◌, ◌∙◌, rules, refl, sym, ap, Some}
 use Rattle.rtsp_head.specs.Shapes.{shapes}
 use Rattle.client_slot.specs.Bounds.{rooms_left}
-use Rattle.client_slot.specs.Made.{id_made}
+use Rattle.client_slot.specs.NewSessions.{id_made}
 use Rattle.client_slot.proofs.RoomLemmas.{slot_settled}
 use Rattle.client_slot.proofs.slot.Slot.settle.Goals as goal
 

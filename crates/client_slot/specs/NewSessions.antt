@@ -1,7 +1,7 @@
 -- A session that the server made (RFC 7826, 4.3).
 use Rattle.std.specs.Prelude.{List, ℕ, Option}
 use Rattle.std.specs.Option.{option_map, option_and_then}
-use Rattle.client_slot.specs.declared.made.MadeSession.{MadeSession}
+use Rattle.client_slot.specs.declared.new_session.MadeSession.{MadeSession}
 
 -- its id
 abbrev pub id_made : Option MadeSession → Option (List ℕ)

@@ -1,9 +1,9 @@
 -- A reply to DESCRIBE leaves the sessions.
 use Rattle.std.proofs.Common.{◌≡◌, ◌∙◌, refl, sym, ap}
-use Rattle.client_slot.specs.Made.{id_made, described_made}
+use Rattle.client_slot.specs.NewSessions.{id_made, described_made}
 use Rattle.client_slot.proofs.PlaceLemmas.{nothing_changed_where}
 use Rattle.client_slot.proofs.QuietLemmas.{described_same}
-use Rattle.client_slot.proofs.settling.answered.Goals as goal
+use Rattle.client_slot.proofs.final_reply.answered.Goals as goal
 
 pub returns-then-is_granted-clause-sessions : goal.returns-then-is_granted-clause-sessions
 returns-then-is_granted-clause-sessions c =

@@ -6,9 +6,9 @@ use Rattle.client_slot.specs.Bounds.{IsPlaced}
 use Rattle.client_slot.specs.Places.{session_where}
 use Rattle.client_slot.specs.Session.{PlayerSession}
 use Rattle.client_slot.specs.Changes.{settled_place}
-use Rattle.client_slot.specs.Made.{id_made, described_made}
+use Rattle.client_slot.specs.NewSessions.{id_made, described_made}
 use Rattle.client_slot.proofs.RoomLemmas.{sessions_same, made_some, settled_within, settled_placed}
-use Rattle.client_slot.proofs.settling.settle_sessions.Goals as goal
+use Rattle.client_slot.proofs.final_reply.settle_sessions.Goals as goal
 
 pub answered-requires-clause-within : goal.answered-requires-clause-within
 answered-requires-clause-within c =

@@ -1,9 +1,9 @@
 -- The session at the place is changed.
 use Rattle.std.proofs.Common.{◌∙◌, rules, refl, sym, ap, Some}
-use Rattle.client_slot.specs.Made.{id_made, described_made}
+use Rattle.client_slot.specs.NewSessions.{id_made, described_made}
 use Rattle.client_slot.specs.Changes.{session_after}
 use Rattle.client_slot.proofs.PlaceLemmas.{set_where}
-use Rattle.client_slot.proofs.settling.turn_at.Goals as goal
+use Rattle.client_slot.proofs.final_reply.turn_at.Goals as goal
 
 pub returns-in-Some : goal.returns-in-Some
 returns-in-Some c =

@@ -1,5 +1,5 @@
 -- What is bounded of a connection stays so.
-use Rattle.std.proofs.Common.{◌≡◌, ◌∙◌, ℕ, ◌+◌, ◌<◌, ◌≤◌, ◌==◌, Bool, true, false, not, ◌&&◌, ◌||◌, cond, List, [], ◌∷◌, length, map, Option, Some, None, IfSome, IsSome, refl, sym, ap, subst, arith}
+use Rattle.std.proofs.Common.{◌≡◌, ◌∙◌, ℕ, ◌<◌, ◌≤◌, ◌==◌, Bool, true, false, not, ◌&&◌, ◌||◌, cond, List, [], ◌∷◌, length, map, Option, Some, None, IfSome, refl, sym, ap, subst}
 use Rattle.std.specs.Prelude.{slice_index_or, slice_get, is_some, is_none, if◌then◌else◌}
 use Rattle.std.specs.Option.{option_or, option_map}
 use Rattle.head_two.specs.Requests.{request_text}
@@ -7,7 +7,7 @@ use Rattle.rtsp_head.specs.Items.{Shape}
 use Rattle.rtsp_small.specs.declared.method.Method.{Method}
 use Rattle.rtsp_small.specs.declared.method.Method.TheVariants as methods
 use Rattle.session_one.specs.Table.{same_method}
-use Rattle.session_one.specs.declared.parts.TheConstants.{MOST_SESSIONS, MOST_TRACKS}
+use Rattle.session_one.specs.declared.parts.TheConstants.{MOST_SESSIONS}
 use Rattle.session_one.specs.declared.parts.Track.{Track}
 use Rattle.client_slot.specs.declared.purpose.Purpose.{Purpose}
 use Rattle.client_slot.specs.declared.purpose.Purpose.TheVariants as purposes
@@ -17,19 +17,21 @@ use Rattle.session_two.specs.declared.names.Names.{Names}
 use Rattle.session_two.specs.Ends.{end_counts}
 use Rattle.client_slot.specs.declared.limits.TheConstants.{LONGEST_URI}
 use Rattle.client_slot.specs.SessionChanges.{when_ended, when_queued, when_next, when_unqueued}
-use Rattle.client_slot.specs.Session.{PlayerSession, new_session}
-use Rattle.client_slot.specs.Places.{session_at, session_where, changed_at, changed_where, first_place, empty_place, filled_place, has_due}
-use Rattle.client_slot.specs.Changes.{due_place, due_place_at, purpose_place, session_after, sessions_after, described_by, described_after, closing_place, closing_place_at}
+use Rattle.client_slot.specs.Session.{PlayerSession}
+use Rattle.client_slot.specs.Places.{session_at, session_where, changed_at, changed_where, has_due}
+use Rattle.client_slot.specs.Changes.{due_place, due_place_at, purpose_place, closing_place, closing_place_at}
 use Rattle.client_slot.specs.ClosingRequest.{closing_request, session_closing}
 use Rattle.client_slot.specs.Client.{Client}
-use Rattle.client_slot.specs.Bounds.{IsTidy, is_filled, place_asked, IsPlaced, IsPlacedIn, is_asking, is_closing, is_torn, AreRoomy, IsSlot}
+use Rattle.client_slot.specs.Bounds.{IsTidy, AreControlsShort, is_filled, place_asked, IsPlaced, IsPlacedIn, is_asking, is_closing, is_torn, AreRoomy, IsSlot}
 use Rattle.client_slot.proofs.TidyLemmas.{tidy_where, unqueued_tidy}
-use Rattle.client_slot.proofs.PlaceLemmas.{changed_length, kept_each, first_changed, first_mapped, at_mapped, mapped_length, place_is, where_length}
+use Rattle.client_slot.proofs.ControlLemmas.{short_at, changed_short, unqueued_short}
+use Rattle.client_slot.proofs.PlaceLemmas.{changed_length, kept_each, first_changed, first_mapped, at_mapped, mapped_length, place_is}
 
--- A change keeps the session's id and its streams.
+-- A change keeps the session's id, its streams, and what it is about.
 pub record Keeps (change : PlayerSession → PlayerSession) (session : PlayerSession) : Type 0 where
   pub id : (change session).id ≡ session.id
   pub tracks : (change session).tracks ≡ session.tracks
+  pub control : (change session).control ≡ session.control
 
 abbrev place_by : Option ℕ → Method → Option ℕ → Option ℕ
 place_by place method empty = option_or place (if same_method method methods.Setup then empty else None)
@@ -62,6 +64,7 @@ placed_kept (Some purpose) place change sessions keeps placed =
       here = subst (λ (tracks : List Track). IsPlaced (length tracks) purpose)
           (sym (ap (λ (at : Option ℕ). (session_where at (changed_at place change sessions)).tracks) same ∙ where_kept (λ session. session.tracks) (purpose_place purpose sessions) place change sessions keeps.tracks))
           placed.here;
+      apart = placed.apart;
     }
 
 rooms_kept : (client : Client) (rooms : List Bool) (place : ℕ) (change : PlayerSession → PlayerSession) → Keeps change (session_at place client.sessions)
@@ -70,11 +73,17 @@ rooms_kept client rooms place change keeps roomy at within =
     ap (λ (id : Option (List ℕ)). slice_index_or rooms at false || is_torn at client.alive client.pending id) (kept_each (λ session. session.id) place at change client.sessions keeps.id)
     ∙ roomy at within
 
+controls_kept : (place : ℕ) (change : PlayerSession → PlayerSession) (sessions : List PlayerSession) → Keeps change (session_at place sessions) → AreControlsShort sessions → AreControlsShort (changed_at place change sessions)
+controls_kept place change sessions keeps short =
+    changed_short place change sessions short
+    (subst (λ (control : Option (List ℕ)). IfSome control (λ uri. length uri ≤ LONGEST_URI)) (sym keeps.control) (short_at place sessions short))
+
 changed_slot : (client : Client) (rooms : List Bool) (place : ℕ) (change : PlayerSession → PlayerSession) → Keeps change (session_at place client.sessions)
     → IsTidy (change (session_at place client.sessions)) → IsSlot client rooms → IsSlot (record client { sessions = changed_at place change client.sessions }) rooms
 changed_slot client rooms place change keeps tidy slot = record {
   places = changed_length place change client.sessions ∙ slot.places;
   tidy = tidy_where (Some place) change client.sessions slot.tidy (λ at is. let same : place ≡ at = cc in subst (λ (k : ℕ). IsTidy (change (session_at k client.sessions))) same tidy);
+  controls = controls_kept place change client.sessions keeps slot.controls;
   all = slot.all;
   described = slot.described;
   placed = placed_kept client.pending place change client.sessions keeps slot.placed;
@@ -89,7 +98,7 @@ slot_changed client rooms (Some place) change sessions keeps tidy is slot = subs
 
 -- What the end of what plays and a queue change keeps the session.
 pub ended_keeps : (names : Names) (session : PlayerSession) → Keeps (when_ended names) session
-ended_keeps names session = record { id = id (end_counts session.running names); tracks = tracks (end_counts session.running names) }
+ended_keeps names session = record { id = id (end_counts session.running names); tracks = tracks (end_counts session.running names); control = control (end_counts session.running names) }
   where
     id : (counts : Bool) → (cond counts (record session { state = cond (length session.queue == 0) Ready session.state; running = None }) session).id ≡ session.id
     id true = refl
@@ -99,11 +108,15 @@ ended_keeps names session = record { id = id (end_counts session.running names);
     tracks true = refl
     tracks false = refl
 
+    control : (counts : Bool) → (cond counts (record session { state = cond (length session.queue == 0) Ready session.state; running = None }) session).control ≡ session.control
+    control true = refl
+    control false = refl
+
 pub queued_keeps : (play : Play) (session : PlayerSession) → Keeps (when_queued play) session
-queued_keeps play session = record { id = refl; tracks = refl }
+queued_keeps play session = record { id = refl; tracks = refl; control = refl }
 
 pub next_keeps : (session : PlayerSession) → Keeps when_next session
-next_keeps session = record { id = refl; tracks = refl }
+next_keeps session = record { id = refl; tracks = refl; control = refl }
 
 -- A request of the gateway itself goes up, where none was open.
 released_torn : (place : ℕ) (alive : Bool) (play : Play) (id : Option (List ℕ)) → is_torn place alive (Some (purposes.Released play)) id ≡ is_torn place alive None id
@@ -114,9 +127,10 @@ pub slot_released : (client : Client) (rooms : List Bool) (play : Play) → clie
 slot_released client rooms play idle within filled short slot = record {
   places = slot.places;
   tidy = slot.tidy;
+  controls = slot.controls;
   all = slot.all;
   described = slot.described;
-  placed = record { within = within; filled = filled; here = short };
+  placed = record { within = within; filled = filled; here = short; apart = tt };
   room = λ place low.
       ap (λ (pending : Option Purpose). slice_index_or rooms place false || is_torn place client.alive pending (session_at place client.sessions).id) (sym idle)
       ∙ slot.room place low;
@@ -152,6 +166,7 @@ unqueued_placed (Some purpose) sessions placed = record {
   filled = unqueued_filled (place_asked purpose) sessions ∙ placed.filled;
   here = subst (λ (tracks : List Track). IsPlaced (length tracks) purpose)
       (sym (ap (λ (at : Option ℕ). (session_where at (map when_unqueued sessions)).tracks) (unqueued_place purpose sessions) ∙ unqueued_tracks (purpose_place purpose sessions) sessions)) placed.here;
+  apart = placed.apart;
 }
 
 still_roomy : (room alive asking torn : Bool) → (room || (not alive && (asking && torn))) ≡ true → (room || (not false && (asking && torn))) ≡ true
@@ -165,6 +180,7 @@ slot_closed client rooms waiting sessions is slot =
     subst (λ (all : List PlayerSession). IsSlot (record { alive = false; sessions = all; described = client.described; pending = client.pending; waiting = waiting }) rooms) (sym is) (record {
       places = mapped_length when_unqueued client.sessions ∙ slot.places;
       tidy = unqueued_tidy client.sessions slot.tidy;
+      controls = unqueued_short client.sessions slot.controls;
       all = slot.all;
       described = slot.described;
       placed = unqueued_placed client.pending client.sessions slot.placed;

@@ -4,11 +4,11 @@ ghost use Rattle.client_slot.specs.declared.limits.TheConstants.{LONGEST_URI};
 ghost use Rattle.client_slot.specs.declared.purpose.Purpose.TheVariants as purposes;
 ghost use Rattle.session_one.specs.declared.parts.TheConstants.{MOST_SESSIONS};
 ghost use Rattle.client_slot.specs.Bounds.{IsPlaced, IsPlacedIn};
-ghost use Rattle.client_slot.specs.Made.{id_made, described_made};
+ghost use Rattle.client_slot.specs.NewSessions.{id_made, described_made};
 ghost use Rattle.client_slot.specs.Places.{changed_where, session_where};
 ghost use Rattle.client_slot.specs.Changes.{session_after, sessions_after, described_after};
 
-use crate::made::MadeSession;
+use crate::new_session::MadeSession;
 use crate::purpose::Purpose;
 use crate::session::Session;
 use crate::session_turn::SessionTurn;

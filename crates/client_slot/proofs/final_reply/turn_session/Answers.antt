@@ -1,8 +1,8 @@
 -- A session's turn is made of its parts.
-use Rattle.client_slot.specs.Brought.{brought_seen}
+use Rattle.client_slot.specs.Gains.{brought_seen}
 use Rattle.client_slot.specs.Purposes.{purpose_seen}
 use Rattle.client_slot.proofs.RoomLemmas.{turn_is}
-use Rattle.client_slot.proofs.settling.turn_session.Goals as goal
+use Rattle.client_slot.proofs.final_reply.turn_session.Goals as goal
 
 pub returns : goal.returns
 returns c =

@@ -1,5 +1,5 @@
 -- What is brought to a session, as it is kept.
-use Rattle.client_slot.specs.declared.brought.BroughtParts.{BroughtParts}
+use Rattle.client_slot.specs.declared.gain.BroughtParts.{BroughtParts}
 use Rattle.client_slot.specs.SessionTurns.{Brought}
 
 -- as the definitions have it
