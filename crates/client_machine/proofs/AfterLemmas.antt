@@ -1,9 +1,10 @@
 -- A connection as it will be after an event.
-use Rattle.std.proofs.Common.{◌≡◌, ◌∙◌, ◌==◌, ◌<◌, ℕ, zero, suc, Bool, false, cond, List, [], ◌∷◌, length, map, Option, None, Some, IfSome, refl, sym, ap, subst}
+use Rattle.std.proofs.Common.{◌≡◌, ◌∙◌, ◌==◌, ◌<◌, ◌≤◌, ℕ, zero, suc, Bool, true, false, ◌&&◌, cond, List, [], ◌∷◌, length, map, Option, None, Some, IfSome, refl, sym, ap, subst, arith}
 use Rattle.std.specs.Prelude.{is_some}
-use Rattle.std.specs.Option.{option_and_then}
+use Rattle.std.specs.Borrow.{Bor}
+use Rattle.std.specs.Option.{option_and_then, option_copied}
+use Rattle.std.proofs.lemmas.Bool.{le-leb}
 use Rattle.session_one.specs.declared.table.State.{State}
-use Rattle.session_one.specs.declared.table.State.TheVariants.{Ready}
 use Rattle.session_two.specs.declared.names.Names.{Names}
 use Rattle.session_two.specs.Ends.{end_counts}
 use Rattle.client_slot.specs.declared.purpose.Purpose.{Purpose}
@@ -12,11 +13,15 @@ use Rattle.client_slot.specs.Session.{PlayerSession}
 use Rattle.client_slot.specs.Places.{session_at, session_where, changed_at, changed_where, filled_place}
 use Rattle.client_slot.specs.SessionChanges.{when_ended}
 use Rattle.client_slot.specs.SessionTurns.{Brought, reply_turn, brought_by, turned}
-use Rattle.client_slot.specs.Changes.{settled_place, session_after, sessions_after}
-use Rattle.client_slot.specs.Bounds.{AreTidy, IsPlacedIn}
+use Rattle.client_slot.specs.Changes.{settled_place, session_after, sessions_after, described_after}
+use Rattle.client_slot.specs.declared.limits.TheConstants.{LONGEST_URI}
+use Rattle.client_slot.specs.ShortUris.{is_short_where}
+use Rattle.client_slot.specs.Bounds.{AreTidy, AreControlsShort, IsPlacedIn}
 use Rattle.client_slot.proofs.TidyLemmas.{tidy_at, tidy_where, ended_tidy, after_tidy}
-use Rattle.client_slot.proofs.RoomLemmas.{open_placed}
-use Rattle.client_machine.specs.Sights.{Sight, sight, sight_at, filled_seen, replaced, AreTidySights}
+use Rattle.client_slot.proofs.ControlLemmas.{IsShortUri, where_short, controls_after}
+use Rattle.client_slot.proofs.LimitLemmas.{ended_keeps}
+use Rattle.client_slot.proofs.RoomLemmas.{open_placed, after_short}
+use Rattle.client_machine.specs.Sights.{Sight, sight, sight_at, filled_seen, replaced, AreTidySights, are_sights_short}
 use Rattle.client_machine.proofs.SightLemmas.{shown_at, shown_length, replaced_here, replaced_sight, tidy_sights, filled_shown}
 
 -- The final reply changes a session.
@@ -43,8 +48,7 @@ settled_open pending purpose id sessions is = ap (option_and_then (λ one. settl
 -- What was described is forgotten where no session is left.
 pub left_described : (left : Bool) (sessions : List PlayerSession) (sights : List Sight) (described : Option (List ℕ)) → sights ≡ map sight sessions → left ≡ is_some (filled_seen sights)
     → cond (is_some (filled_place sessions)) described None ≡ cond left described None
-left_described left sessions sights described shows is =
-    ap (λ b. cond b described None) (ap (λ (place : Option ℕ). is_some place) (sym (filled_shown sessions)) ∙ ap (λ all. is_some (filled_seen all)) (sym shows) ∙ sym is)
+left_described left sessions sights described shows is = grind (arith, filled_shown)
 
 -- The end of what plays.
 quiet_at : (place : ℕ) (change : PlayerSession → PlayerSession) (sessions : List PlayerSession) → change (session_at place sessions) ≡ session_at place sessions → changed_at place change sessions ≡ sessions
@@ -53,18 +57,42 @@ quiet_at zero change (one ∷ more) same = ap (λ first. first ∷ more) same
 quiet_at (suc place) change (one ∷ more) same = ap (λ later. one ∷ later) (quiet_at place change more same)
 
 pub not_ended : (place : ℕ) (names : Names) (sessions : List PlayerSession) → end_counts (session_at place sessions).running names ≡ false → changed_at place (when_ended names) sessions ≡ sessions
-not_ended place names sessions stays =
-    let session = session_at place sessions in
-    quiet_at place (when_ended names) sessions (ap (λ b. cond b (record session { state = cond (length session.queue == 0) Ready session.state; running = None }) session) stays)
+not_ended place names sessions stays = grind (arith, quiet_at)
 
 pub ended_tidily : (place : Option ℕ) (names : Names) (sessions : List PlayerSession) → AreTidy sessions → AreTidySights (map sight (changed_where place (when_ended names) sessions))
-ended_tidily place names sessions tidy =
-    tidy_sights (changed_where place (when_ended names) sessions) (tidy_where place (when_ended names) sessions tidy (λ at is. ended_tidy names (session_at at sessions) (tidy_at at sessions tidy)))
+ended_tidily place names sessions tidy = grind (arith, tidy_sights, tidy_where, ended_tidy, tidy_at)
 
 pub replied_tidily : (pending : Option Purpose) (purpose : Purpose) (number code : ℕ) (described id : Option (List ℕ)) (sessions : List PlayerSession) → pending ≡ Some purpose → AreTidy sessions → IfSome pending (IsPlacedIn sessions)
     → AreTidySights (map sight (sessions_after purpose number code described id sessions))
-replied_tidily pending purpose number code described id sessions is tidy placed =
-    tidy_sights (sessions_after purpose number code described id sessions) (after_tidy purpose number code described id sessions tidy (open_placed pending purpose sessions is placed).filled)
+replied_tidily pending purpose number code described id sessions is tidy placed = grind (arith, tidy_sights, after_tidy, open_placed)
+
+-- What each session is about stays short enough, and so does what was described.
+pub short_is : (uri : Option (List ℕ)) → IsShortUri uri → is_short_where uri ≡ true
+short_is None short = refl
+short_is (Some uri) short = le-leb (length uri) LONGEST_URI short
+
+pub shown_short : (sessions : List PlayerSession) → AreControlsShort sessions → are_sights_short (map sight sessions) ≡ true
+shown_short [] short = refl
+shown_short (one ∷ more) short = ap (λ first. first && are_sights_short (map sight more)) (short_is one.control short.0) ∙ shown_short more short.1
+
+pub ended_short : (place : Option ℕ) (names : Names) (sessions : List PlayerSession) → AreControlsShort sessions → are_sights_short (map sight (changed_where place (when_ended names) sessions)) ≡ true
+ended_short place names sessions short =
+    shown_short (changed_where place (when_ended names) sessions)
+    (where_short place (when_ended names) sessions short (λ session control. subst IsShortUri (sym (ended_keeps names session).control) control))
+
+pub kept_short : (lent : Option (Bor (List ℕ))) (kept : Option (List ℕ)) → option_copied lent ≡ kept → IfSome lent (λ uri. length uri.now ≤ LONGEST_URI) → IsShortUri kept
+kept_short None kept is short = subst IsShortUri is tt
+kept_short (Some uri) kept is short = subst IsShortUri is short
+
+pub replied_short : (pending : Option Purpose) (purpose : Purpose) (number code : ℕ) (described id : Option (List ℕ)) (sessions : List PlayerSession) → pending ≡ Some purpose → IfSome pending (IsPlacedIn sessions) → IsShortUri described → AreControlsShort sessions
+    → are_sights_short (map sight (sessions_after purpose number code described id sessions)) ≡ true
+replied_short pending purpose number code described id sessions is placed was short =
+    shown_short (sessions_after purpose number code described id sessions) (controls_after purpose _ number code described id sessions (open_placed pending purpose sessions is placed).here was short)
+
+pub told_short : (pending : Option Purpose) (purpose : Purpose) (code : ℕ) (described told : Option (List ℕ)) (sessions after : List PlayerSession) → pending ≡ Some purpose → IfSome pending (IsPlacedIn sessions) → IsShortUri described
+    → told ≡ described_after purpose code after described → is_short_where told ≡ true
+told_short pending purpose code described told sessions after is placed was tells =
+    ap is_short_where tells ∙ short_is (described_after purpose code after described) (after_short purpose _ code after described (open_placed pending purpose sessions is placed).here was)
 
 -- the id of the session that changes
 pub own_is : (place : ℕ) (seen : Sight) (sessions after : List PlayerSession) (given settled : Option ℕ) → replaced place seen (map sight sessions) ≡ map sight after → place < length sessions → given ≡ Some place → given ≡ settled

@@ -1,17 +1,15 @@
 -- The streams of a connection alone are apart: a SETUP has the next number as that of its pair, and channels that no other
 -- stream has.
-use Rattle.std.proofs.Common.{◌≡◌, ◌≢◌, ◌∙◌, ℕ, zero, suc, ◌+◌, ◌≤◌, ◌==◌, Bool, true, false, ◌||◌, List, [], ◌∷◌, ◌++◌, length, map, Option, Some, None, refl, sym, ap, subst, arith}
+use Rattle.std.proofs.Common.{◌≡◌, ◌≢◌, ◌∙◌, ℕ, zero, suc, ◌+◌, ◌≤◌, ◌==◌, Bool, false, ◌||◌, List, [], ◌∷◌, ◌++◌, length, map, Option, Some, None, refl, sym, ap, subst, arith}
 use Rattle.std.specs.Prelude.{is_none, is_some}
 use Rattle.std.specs.Option.{option_to_list}
-use Rattle.std.proofs.lemmas.Bool.{eqb-true, eqb-false}
 use Rattle.std.proofs.lemmas.List.{append-nil}
 use Rattle.rtsp_transport.specs.declared.channels.Pair.{Pair}
 use Rattle.rtsp_uri.specs.declared.base.Bases.{Bases}
 use Rattle.session_one.specs.declared.parts.Track.{Track}
 use Rattle.translate_up.specs.Channels.{share, is_taken}
-use Rattle.translate_up.specs.Views.{all_tracks}
-use Rattle.client_slot.specs.declared.session_turn.Part.{Part}
-use Rattle.client_slot.specs.declared.session_turn.Part.TheVariants.{Keeps, Takes, Loses}
+use Rattle.client_slot.specs.declared.session_turn.PartTurn.{PartTurn}
+use Rattle.client_slot.specs.declared.session_turn.PartTurn.TheVariants.{Keeps, Takes, Loses}
 use Rattle.client_slot.specs.declared.purpose.Purpose.{Purpose}
 use Rattle.client_slot.specs.declared.purpose.Purpose.TheVariants as purposes
 use Rattle.client_slot.specs.Session.{PlayerSession}
@@ -20,36 +18,23 @@ use Rattle.client_slot.specs.Places.{changed_at, changed_where, tracks_of}
 use Rattle.client_slot.specs.Client.{Client}
 use Rattle.client_slot.specs.Changes.{settled_place, session_after, sessions_after}
 use Rattle.client_slot.specs.SessionChanges.{when_next}
-use Rattle.client_machine.specs.Apart.{stream_asked, streams_of, AreStreamsApart, IsStreamApart, AreAllStreamsApart}
-use Rattle.client_machine.specs.Bounds.{ArePairsBelow}
+use Rattle.client_machine.specs.Bounds.{stream_asked, streams_of, AreStreamsApart, IsStreamApart, AreAllStreamsApart, ArePairsBelow}
 use Rattle.client_machine.specs.Events.{PrivateEvent}
-use Rattle.client_machine.specs.Treatment.{session_seen, given, Going, treated}
-use Rattle.client_machine.specs.Releases.{track_of, after_plays, goes_at}
-use Rattle.client_machine.specs.ServerItems.{NextPart, Hearing, new_id, hear}
-use Rattle.client_machine.specs.Step.{going_on, step}
+use Rattle.client_machine.specs.Treatment.{session_found, given, Going, treated}
+use Rattle.client_machine.specs.Step.{track_of, after_plays, goes_at, NextPart, new_id, hear, going_on, step}
 use Rattle.client_machine.specs.Alone.{pair_alone, private_after}
 use Rattle.client_machine.proofs.WayLemmas.{going_as, alone_as}
 use Rattle.client_machine.proofs.BelowLemmas.{IsNumbered, hear_numbered, IsNextPair, next_alone, alone_numbered, tracks_below}
 use Rattle.client_machine.proofs.FullLemmas.{either_false}
 use Rattle.client_machine.proofs.HoldLemmas.{same_tracks, changed_same, plays_steady, heard_as}
-use Rattle.client_machine.proofs.PlacedLemmas.{IsInPlace, hear_placed, AreChannelsFree, IsGoingIn, treated_in, seen_tracks, plays_idle, few_all, alone_placed}
+use Rattle.client_machine.proofs.PlaceLemmas.{IsInPlace, hear_placed, IsGoingIn, treated_in, seen_tracks, plays_idle, few_all, alone_placed}
 
 -- Two streams are apart whichever comes first.
 swap_eq : (a b : ℕ) → (a == b) ≡ (b == a)
-swap_eq a b = by (a == b) (b == a) refl refl
-  where
-    by : (x y : Bool) → (a == b) ≡ x → (b == a) ≡ y → x ≡ y
-    by true true h k = refl
-    by false false h k = refl
-    by true false h k = absurd (eqb-false b a k (sym (eqb-true a b h)))
-    by false true h k = absurd (eqb-false a b h (sym (eqb-true b a k)))
+swap_eq a b = grind arith
 
 swap_or : (a b c d : Bool) → ((a || b) || (c || d)) ≡ ((a || c) || (b || d))
-swap_or true b c d = refl
-swap_or false true true d = refl
-swap_or false true false d = refl
-swap_or false false true d = refl
-swap_or false false false d = refl
+swap_or a b c d = grind arith
 
 share_swap : (p q : Pair) → share p q ≡ share q p
 share_swap p q = rw (swap_eq q.rtp p.rtp, swap_eq q.rtp p.rtcp, swap_eq q.rtcp p.rtp, swap_eq q.rtcp p.rtcp) (swap_or (p.rtp == q.rtp) (p.rtp == q.rtcp) (p.rtcp == q.rtp) (p.rtcp == q.rtcp))
@@ -125,10 +110,10 @@ front_apart front back apart = (all_parts front back apart).one
 
 -- A session whose streams are kept, or get one more, or are lost.
 record IsTurned (track : Option Track) (before after : PlayerSession) : Type 0 where
-  part : Part
+  part : PartTurn
   is : after.tracks ≡ tracks_then part before.tracks track
 
-part_apart : (part : Part) (was : List Track) (track : Option Track) (more : List Track) → AreAllStreamsApart ((was ++ more) ++ option_to_list track) → AreAllStreamsApart (tracks_then part was track ++ more)
+part_apart : (part : PartTurn) (was : List Track) (track : Option Track) (more : List Track) → AreAllStreamsApart ((was ++ more) ++ option_to_list track) → AreAllStreamsApart (tracks_then part was track ++ more)
 part_apart Keeps was track more apart = front_apart (was ++ more) (option_to_list track) apart
 part_apart Loses was track more apart = (all_parts was more (front_apart (was ++ more) (option_to_list track) apart)).other
 part_apart Takes was track more apart =
@@ -142,10 +127,8 @@ part_apart Takes was track more apart =
       between = each_joined was new more inner.between (each_second new was more new_and);
     })
 
-part_each : (first : List Track) (part : Part) (was : List Track) (track : Option Track) → AreEachApart first was → AreEachApart first (option_to_list track) → AreEachApart first (tracks_then part was track)
-part_each first Keeps was track a b = a
-part_each first Takes was track a b = each_swap (was ++ option_to_list track) first (each_joined was (option_to_list track) first (each_swap first was a) (each_swap first (option_to_list track) b))
-part_each first Loses was track a b = each_none first
+part_each : (first : List Track) (part : PartTurn) (was : List Track) (track : Option Track) → AreEachApart first was → AreEachApart first (option_to_list track) → AreEachApart first (tracks_then part was track)
+part_each first part was track a b = grind (arith, each_swap, each_joined, each_none)
 
 turned_each : (first : List Track) (place : ℕ) (change : PlayerSession → PlayerSession) (track : Option Track) (sessions : List PlayerSession) → ((session : PlayerSession) → IsTurned track session (change session))
     → AreEachApart first (tracks_of sessions) → AreEachApart first (option_to_list track) → AreEachApart first (tracks_of (changed_at place change sessions))
@@ -182,8 +165,7 @@ turned_apart (suc place) change track (one ∷ more) turns apart =
 
 turned_where : (place : Option ℕ) (change : PlayerSession → PlayerSession) (track : Option Track) (sessions : List PlayerSession) → ((session : PlayerSession) → IsTurned track session (change session))
     → AreAllStreamsApart (tracks_of sessions ++ option_to_list track) → AreAllStreamsApart (tracks_of (changed_where place change sessions))
-turned_where None change track sessions turns apart = front_apart (tracks_of sessions) (option_to_list track) apart
-turned_where (Some place) change track sessions turns apart = turned_apart place change track sessions turns apart
+turned_where place change track sessions turns apart = grind (arith, front_apart, turned_apart)
 
 -- what a reply makes of the streams
 after_apart : (purpose : Purpose) (number code : ℕ) (described id : Option (List ℕ)) (sessions : List PlayerSession) → AreAllStreamsApart (tracks_of sessions ++ stream_asked (Some purpose))
@@ -221,24 +203,14 @@ AreFreeFor tracks (Some channels) = is_taken tracks channels ≡ false
 
 asked_apart : (n : ℕ) (tracks : List Track) (uri : List ℕ) (pair : Option ℕ) (channels : Option Pair) → IsNextPair n pair → ArePairsBelow n tracks → AreFreeFor tracks channels → AreAllStreamsApart tracks
     → AreAllStreamsApart (tracks ++ option_to_list (track_of uri pair channels))
-asked_apart n tracks uri None channels next below free apart = nil_apart tracks apart
-asked_apart n tracks uri (Some pair) None next below free apart = nil_apart tracks apart
-asked_apart n tracks uri (Some pair) (Some channels) next below free apart =
-    all_joined tracks (record { uri = uri; client = channels; pair = pair } ∷ []) (record { one = apart; other = (tt, tt); between = new_apart n tracks (record { uri = uri; client = channels; pair = pair }) below free next })
+asked_apart n tracks uri pair channels next below free apart = grind (arith, nil_apart, all_joined, new_apart)
 
-free_of : (sessions : List PlayerSession) (going : Option Going) (one : Going) → going ≡ Some one → IsGoingIn (map session_seen sessions) going → length (tracks_of sessions) ≤ 63 → AreFreeFor (tracks_of sessions) one.channels
-free_of sessions going one is all few = by one.channels (subst (IsGoingIn (map session_seen sessions)) is all).1
-  where
-    by : (channels : Option Pair) → AreChannelsFree (all_tracks (map session_seen sessions)) channels → AreFreeFor (tracks_of sessions) channels
-    by None free = tt
-    by (Some channels) free = subst (λ (tracks : List Track). length tracks ≤ 63 → is_taken tracks channels ≡ false) (seen_tracks sessions) free few
+free_of : (sessions : List PlayerSession) (going : Option Going) (one : Going) → going ≡ Some one → IsGoingIn (map session_found sessions) going → length (tracks_of sessions) ≤ 63 → AreFreeFor (tracks_of sessions) one.channels
+free_of sessions going one is all few = grind (arith, seen_tracks)
 
 goes_apart : (n : ℕ) (one : Option Going) (pair : Option ℕ) (hand : List ℕ) (before client : Client) → IsNextPair n pair → ArePairsBelow n (tracks_of before.sessions) → length (tracks_of before.sessions) ≤ 63
-    → IsGoingIn (map session_seen before.sessions) one → AreAllStreamsApart (tracks_of before.sessions) → tracks_of client.sessions ≡ tracks_of before.sessions → AreAllStreamsApart (streams_of client) → AreAllStreamsApart (streams_of (goes_at one pair hand client).client)
-goes_apart n None pair hand before client next below few free apart same all = all
-goes_apart n (Some one) pair hand before client next below few free apart same all =
-    subst (λ (tracks : List Track). AreAllStreamsApart (tracks ++ option_to_list (track_of one.asked.uri pair one.channels))) (sym same)
-    (asked_apart n (tracks_of before.sessions) one.asked.uri pair one.channels next below (free_of before.sessions (Some one) one refl free few) apart)
+    → IsGoingIn (map session_found before.sessions) one → AreAllStreamsApart (tracks_of before.sessions) → tracks_of client.sessions ≡ tracks_of before.sessions → AreAllStreamsApart (streams_of client) → AreAllStreamsApart (streams_of (goes_at one pair hand client).client)
+goes_apart n one pair hand before client next below few free apart same all = grind (arith, asked_apart, free_of)
 
 going_apart : (bases : Bases) (n : ℕ) (pair : Option ℕ) (next : NextPart) (client : Client) → IsNextPair n pair → ArePairsBelow n (tracks_of client.sessions) → IsInPlace client → AreAllStreamsApart (streams_of client)
     → AreAllStreamsApart (streams_of (going_on bases pair next client).client)
@@ -262,10 +234,7 @@ going_apart bases n pair next client is_next below placed apart =
 
 step_apart : (bases : Bases) (n : ℕ) (pair : Option ℕ) (client : Client) (event : PrivateEvent) → IsNextPair n pair → IsNumbered n client → IsInPlace client → AreAllStreamsApart (streams_of client)
     → AreAllStreamsApart (streams_of (step bases n pair client event).client)
-step_apart bases n pair client event next numbered placed apart =
-    let heard : Hearing = hear bases n client event in
-    going_apart bases n pair heard.next heard.effect.client next (tracks_below n heard.effect.client.sessions (hear_numbered bases n client event numbered).0.sessions)
-    (hear_placed bases n client event placed) (hear_apart bases n client event apart)
+step_apart bases n pair client event next numbered placed apart = grind (arith, going_apart, tracks_below, hear_numbered, hear_placed, hear_apart)
 
 -- So it is for a connection alone.
 pub alone_apart : (bases : Bases) (events : List PrivateEvent) → AreAllStreamsApart (streams_of (private_after bases events).client)

@@ -1,11 +1,11 @@
 -- What becomes of requests in a row does not depend on the numbers of the pairs of channels.
-use Rattle.std.proofs.Common.{◌≡◌, ◌∙◌, ℕ, zero, suc, cond, List, [], ◌∷◌, map, Option, Some, None, refl, sym, ap}
+use Rattle.std.proofs.Common.{◌≡◌, ◌∙◌, ℕ, zero, suc, cond, List, [], ◌∷◌, map, Option, refl, ap, arith}
 use Rattle.rtsp_head.specs.Items.{Shape}
 use Rattle.translate_up.specs.Views.{SeenSession, Given, session_with_pairs, with_pairs}
 use Rattle.translate_up.specs.declared.decision.Decision.{Decision}
-use Rattle.translate_up.specs.declared.decision.Decision.TheVariants.{Answer, Forward, Queue, Setup}
+use Rattle.translate_up.specs.declared.decision.Decision.TheVariants.{Answer}
 use Rattle.translate_up.proofs.PairLemmas.{decide_under}
-use Rattle.client_machine.specs.Treatment.{queued_more, queued_more_where, one_queued, fits_memory, decision_on, Treated, with_answer, with_play, treated_first, treated}
+use Rattle.client_machine.specs.Treatment.{queued_more, queued_more_where, fits_memory, decision_on, Treated, treated_first, treated}
 
 more_under : (pairs : ℕ → ℕ) (place : ℕ) (sessions : List SeenSession) → map (session_with_pairs pairs) (queued_more place sessions) ≡ queued_more place (map (session_with_pairs pairs) sessions)
 more_under pairs place [] = refl
@@ -13,20 +13,14 @@ more_under pairs zero (one ∷ more) = refl
 more_under pairs (suc place) (one ∷ more) = ap (λ later. session_with_pairs pairs one ∷ later) (more_under pairs place more)
 
 where_under : (pairs : ℕ → ℕ) (place : Option ℕ) (sessions : List SeenSession) → map (session_with_pairs pairs) (queued_more_where place sessions) ≡ queued_more_where place (map (session_with_pairs pairs) sessions)
-where_under pairs None sessions = refl
-where_under pairs (Some place) sessions = more_under pairs place sessions
+where_under pairs place sessions = grind (arith, more_under)
 
 pub decision_under : (pairs : ℕ → ℕ) (given : Given) (shape : Shape) → decision_on (with_pairs pairs given) shape ≡ decision_on given shape
 decision_under pairs given shape = ap (λ (decision : Decision). cond (fits_memory shape) decision (Answer [])) (decide_under pairs given shape)
 
 treated_by : (pairs : ℕ → ℕ) (decision : Decision) (given : Given) (more : List Shape) (again : Given → Treated) → ((one : Given) → again (with_pairs pairs one) ≡ again one)
     → treated_first decision (with_pairs pairs given) more again ≡ treated_first decision given more again
-treated_by pairs (Answer text) given more again same = ap (with_answer text) (same given)
-treated_by pairs (Queue play text) given more again same =
-    ap (λ (sessions : List SeenSession). with_play play text (again (record given { sessions = sessions }))) (sym (where_under pairs play.place given.sessions))
-    ∙ ap (with_play play text) (same (one_queued play given))
-treated_by pairs (Forward request asked) given more again same = refl
-treated_by pairs (Setup request asked channels) given more again same = refl
+treated_by pairs decision given more again same = grind (arith, where_under)
 
 -- nor does what becomes of requests in a row
 pub treated_under : (pairs : ℕ → ℕ) (shapes : List Shape) (given : Given) → treated shapes (with_pairs pairs given) ≡ treated shapes given

@@ -1,21 +1,18 @@
 -- What a frame does to a connection: it goes on, on a channel of one of its streams, or nothing comes of it.
-use Rattle.std.proofs.Common.{◌≡◌, ◌∙◌, ℕ, suc, ◌==◌, Bool, true, false, cond, List, [], ◌∷◌, Option, Some, None, ◌⊎◌, inl, inr, refl, sym, ap, subst, arith}
+use Rattle.std.proofs.Common.{◌≡◌, ◌∙◌, ℕ, suc, ◌==◌, Bool, true, false, cond, List, [], ◌∷◌, Option, Some, None, ◌⊎◌, refl, ap, arith}
 use Rattle.std.specs.Option.{option_map, option_or}
 use Rattle.std.specs.List.{Contains, find}
 use Rattle.std.proofs.lemmas.Bool.{eqb-true}
 use Rattle.std.proofs.lemmas.List.{append-nil}
 use Rattle.rtsp_head.specs.Items.{Shape}
-use Rattle.rtsp_head.specs.declared.item.ItemKind.{ItemKind}
 use Rattle.rtsp_head.specs.declared.item.ItemKind.TheVariants.{Frame}
 use Rattle.rtsp_uri.specs.declared.base.Bases.{Bases}
 use Rattle.session_one.specs.declared.parts.Track.{Track}
 use Rattle.client_slot.specs.Places.{tracks_of}
 use Rattle.client_slot.specs.Client.{Client}
-use Rattle.client_machine.specs.Effects.{Outgoing, asks, carries, Effect}
-use Rattle.client_machine.specs.Events.{arrive, media}
+use Rattle.client_machine.specs.Events.{Outgoing, asks, carries, Effect, arrive, media}
 use Rattle.client_machine.specs.Frames.{channel_in, behind_channel, frame_text, Half, half_on, half_for, player_channel, channel_for}
-use Rattle.client_machine.specs.ServerItems.{carry, take_item, take, give, take_media}
-use Rattle.client_machine.specs.Step.{heard_step, step}
+use Rattle.client_machine.specs.Step.{step}
 
 contains_first : (track : Track) (tracks : List Track) → Contains (track ∷ tracks) track
 contains_first track tracks = (0, omega arith, refl)
@@ -58,17 +55,7 @@ pub record IsMediaGiven (tracks : List Track) (pair half : ℕ) (rest : List ℕ
 
 pub media_given : (bases : Bases) (n : ℕ) (free : Option ℕ) (client : Client) (pair half : ℕ) (rest : List ℕ)
     → IsMediaGiven (tracks_of client.sessions) pair half rest (step bases n free client (media pair half rest))
-media_given bases n free client pair half rest = by client.alive
-  where
-    given : (channel : Option ℕ) → channel_for pair half (tracks_of client.sessions) ≡ channel → IsMediaGiven (tracks_of client.sessions) pair half rest (heard_step bases free (give channel rest client))
-    given None is = record { message = refl; close = refl; hand = inl refl }
-    given (Some channel) is =
-        let found = channel_found pair half (tracks_of client.sessions) channel is in
-        record { message = refl; close = refl; hand = inr (found.0, found.1, found.2, append-nil (frame_text channel rest) ∙ ap (λ one. frame_text one rest) (sym found.3)) }
-
-    by : (alive : Bool) → IsMediaGiven (tracks_of client.sessions) pair half rest (heard_step bases free (take_media alive pair half rest client))
-    by false = record { message = refl; close = refl; hand = inl refl }
-    by true = given (channel_for pair half (tracks_of client.sessions)) refl
+media_given bases n free client pair half rest = grind (arith, channel_found, append-nil)
 
 -- A frame of the player: it goes up on the pair of the stream that has its channel, and nothing else happens.
 abbrev pub IsCarriedBy : List Track → ℕ → List ℕ → Option Outgoing → Type 0
@@ -83,16 +70,4 @@ pub record IsFrameCarried (tracks : List Track) (channel : ℕ) (rest : List ℕ
 
 pub frame_carried : (bases : Bases) (n : ℕ) (free : Option ℕ) (client : Client) (shape : Shape) (full : Bool) → shape.kind ≡ Frame
     → IsFrameCarried (tracks_of client.sessions) (channel_in shape) (behind_channel shape) (step bases n free client (arrive shape full))
-frame_carried bases n free client shape full kind = by client.alive
-  where
-    carried : (half : Option Half) → half_for (channel_in shape) (tracks_of client.sessions) ≡ half
-        → IsFrameCarried (tracks_of client.sessions) (channel_in shape) (behind_channel shape) (heard_step bases free (carry half (behind_channel shape) client))
-    carried None is = record { hand = refl; close = refl; message = tt }
-    carried (Some half) is =
-        let found = half_found (channel_in shape) (tracks_of client.sessions) half is in
-        record { hand = refl; close = refl; message = (found.0, found.1, found.2, found.3, refl) }
-
-    by : (alive : Bool) → IsFrameCarried (tracks_of client.sessions) (channel_in shape) (behind_channel shape) (heard_step bases free (take alive shape client))
-    by false = record { hand = refl; close = refl; message = tt }
-    by true = subst (λ (one : ItemKind). IsFrameCarried (tracks_of client.sessions) (channel_in shape) (behind_channel shape) (heard_step bases free (take_item one shape client))) (sym kind)
-        (carried (half_for (channel_in shape) (tracks_of client.sessions)) refl)
+frame_carried bases n free client shape full kind = grind (arith, half_found)

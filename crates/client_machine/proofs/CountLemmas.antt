@@ -1,9 +1,9 @@
 -- A PLAY that waits is counted.
-use Rattle.std.proofs.Common.{◌≡◌, ◌∙◌, ℕ, zero, suc, ◌+◌, ◌<◌, true, List, [], ◌∷◌, length, map, Option, Some, None, refl, sym, ap, subst, arith}
-use Rattle.std.specs.Prelude.{is_some, slice_index_or, slice_set}
+use Rattle.std.proofs.Common.{◌≡◌, ◌∙◌, ℕ, zero, suc, ◌+◌, ◌<◌, List, [], ◌∷◌, length, map, Option, Some, None, refl, sym, ap, subst, arith}
+use Rattle.std.specs.Prelude.{slice_index_or, slice_set}
 use Rattle.translate_up.specs.declared.view.SessionView.{SessionView}
 use Rattle.translate_up.specs.Views.{SeenSession, no_session, session_shown}
-use Rattle.translate_up.specs.Placed.{NamesSession}
+use Rattle.translate_up.specs.DecisionPlaces.{NamesSession}
 use Rattle.client_machine.specs.Treatment.{queued_more, queued_more_where}
 
 -- one more in the session at a place
@@ -18,10 +18,7 @@ counted_at (one ∷ rest) (suc place) view d new within is more = ap (λ later. 
 
 pub counted_where : (sessions : List (Option SessionView)) (given : Option ℕ) (place at : ℕ) (view : SessionView) (d new : Option SessionView) → given ≡ Some place → at ≡ place → place < length sessions → slice_index_or sessions at d ≡ Some view
     → session_shown new ≡ one_more (Some view) → map session_shown (slice_set sessions at new) ≡ queued_more_where given (map session_shown sessions)
-counted_where sessions given place at view d new is same within found more =
-    ap (λ k. map session_shown (slice_set sessions k new)) same
-    ∙ counted_at sessions place view d new within (ap (λ k. slice_index_or sessions k d) (sym same) ∙ found) more
-    ∙ ap (λ one. queued_more_where one (map session_shown sessions)) (sym is)
+counted_where sessions given place at view d new is same within found more = grind (arith, counted_at)
 
 none_at : (sessions : List (Option SessionView)) (place : ℕ) (d : Option SessionView) → place < length sessions → slice_index_or sessions place d ≡ None → (slice_index_or (map session_shown sessions) place no_session).id ≡ None
 none_at [] place d within is = absurd (omega (arith, within))
@@ -37,7 +34,4 @@ pub named_at : (sessions : List (Option SessionView)) (given : Option ℕ) (plac
 named_at sessions given place is named = subst (λ n. place < n) (mapped sessions) (subst (λ one. NamesSession one (map session_shown sessions)) is named).0
 
 pub named_there : (sessions : List (Option SessionView)) (given : Option ℕ) (place at : ℕ) (d : Option SessionView) → given ≡ Some place → at ≡ place → NamesSession given (map session_shown sessions) → slice_index_or sessions at d ≡ None → ⊥
-named_there sessions given place at d is same named none =
-    let wrong : is_some (slice_index_or (map session_shown sessions) place no_session).id ≡ true = (subst (λ one. NamesSession one (map session_shown sessions)) is named).1 in
-    let empty = none_at sessions place d (named_at sessions given place is named) (ap (λ k. slice_index_or sessions k d) (sym same) ∙ none) in
-    let clash = sym (ap (λ (id : Option (List ℕ)). is_some id) empty) ∙ wrong in cc
+named_there sessions given place at d is same named none = grind (arith, none_at, named_at)

@@ -1,18 +1,16 @@
 -- Streams of all sessions are searched session by session.
-use Rattle.std.proofs.Common.{◌≡◌, ◌∙◌, ◌<◌, ◌+◌, ◌==◌, ℕ, Bool, true, false, cond, List, [], ◌∷◌, ◌++◌, length, drop, Option, Some, None, option_map, refl, sym, ap, add-one, drop-cons}
+use Rattle.std.proofs.Common.{◌≡◌, ◌∙◌, ◌<◌, ◌+◌, ℕ, Bool, true, false, cond, List, [], ◌∷◌, ◌++◌, length, drop, Option, None, option_map, refl, sym, ap, add-one, drop-cons, arith}
 use Rattle.std.specs.Prelude.{is_some}
 use Rattle.std.specs.Option.{option_or}
-use Rattle.std.specs.List.{find}
 use Rattle.std.proofs.lemmas.List.Folds.{find-append}
 use Rattle.std.proofs.Math.Seq.{drop-length}
 use Rattle.session_one.specs.declared.parts.Track.{Track}
 use Rattle.client_slot.specs.Session.{PlayerSession, new_session}
 use Rattle.client_slot.specs.Places.{session_at, tracks_of}
-use Rattle.client_machine.specs.Frames.{Half, half_on, half_for, player_channel, channel_for}
+use Rattle.client_machine.specs.Frames.{Half, half_on, half_for, channel_for}
 
 or_or : {A : Type 0} (a b c : Option A) → option_or a (option_or b c) ≡ option_or (option_or a b) c
-or_or None b c = refl
-or_or (Some one) b c = refl
+or_or a b c = grind arith
 
 pub half_joined : (channel : ℕ) (one more : List Track) → half_for channel (one ++ more) ≡ option_or (half_for channel one) (half_for channel more)
 half_joined channel [] more = refl
@@ -21,13 +19,10 @@ half_joined channel (track ∷ tracks) more =
     ap (option_or here) (half_joined channel tracks more) ∙ or_or here (half_for channel tracks) (half_for channel more)
 
 mapped_or : {A B : Type 0} (f : A → B) (a b : Option A) → option_map f (option_or a b) ≡ option_or (option_map f a) (option_map f b)
-mapped_or f None b = refl
-mapped_or f (Some one) b = refl
+mapped_or f a b = grind arith
 
 pub channel_joined : (pair half : ℕ) (one more : List Track) → channel_for pair half (one ++ more) ≡ option_or (channel_for pair half one) (channel_for pair half more)
-channel_joined pair half one more =
-    ap (option_map (player_channel half)) (find-append (λ (track : Track). track.pair == pair) one more)
-    ∙ mapped_or (player_channel half) (find (λ (track : Track). track.pair == pair) one) (find (λ (track : Track). track.pair == pair) more)
+channel_joined pair half one more = grind (arith, option_map, find-append, mapped_or)
 
 -- A search of streams that goes on where nothing was found.
 pub record Searches {A : Type 0} (look : List Track → Option A) : Type 0 where
@@ -39,15 +34,10 @@ left_sessions place sessions within = rw (add-one, drop-cons sessions place new_
 
 next_session : {A : Type 0} (look : List Track → Option A) (place : ℕ) (sessions : List PlayerSession) → Searches look → place < length sessions
     → look (tracks_of (drop place sessions)) ≡ option_or (look (session_at place sessions).tracks) (look (tracks_of (drop (place + 1) sessions)))
-next_session look place sessions searches within =
-    ap (λ left. look (tracks_of left)) (left_sessions place sessions within)
-    ∙ searches.joined (session_at place sessions).tracks (tracks_of (drop (place + 1) sessions))
+next_session look place sessions searches within = grind (arith, left_sessions)
 
 either : {A : Type 0} (one other : Option A) (here : Bool) → is_some one ≡ here → option_or one other ≡ cond here one other
-either None other true e = cc
-either None other false e = refl
-either (Some a) other true e = refl
-either (Some a) other false e = cc
+either one other here e = grind arith
 
 pub found_here : {A : Type 0} (look : List Track → Option A) (place : ℕ) (sessions : List PlayerSession) → Searches look → place < length sessions → is_some (look (session_at place sessions).tracks) ≡ true
     → look (tracks_of (drop place sessions)) ≡ look (tracks_of sessions) → look (session_at place sessions).tracks ≡ look (tracks_of sessions)
@@ -70,5 +60,4 @@ pub channel_searches : (pair half : ℕ) → Searches (channel_for pair half)
 channel_searches pair half = record { none = refl; joined = channel_joined pair half }
 
 pub mapped_some : {A B : Type 0} (f : A → B) (one : Option A) → is_some (option_map f one) ≡ is_some one
-mapped_some f None = refl
-mapped_some f (Some a) = refl
+mapped_some f one = grind arith

@@ -1,5 +1,5 @@
 -- What a step keeps of a connection's sessions and of their streams, and for whom a request goes up.
-use Rattle.std.proofs.Common.{◌≡◌, ◌∙◌, ℕ, zero, suc, ◌+◌, ◌==◌, Bool, true, false, cond, List, [], ◌∷◌, ◌++◌, map, Option, Some, None, refl, sym, ap, subst}
+use Rattle.std.proofs.Common.{◌≡◌, ◌∙◌, ℕ, zero, suc, ◌+◌, ◌==◌, Bool, true, false, cond, List, [], ◌∷◌, ◌++◌, map, Option, Some, None, refl, sym, ap, subst, arith}
 use Rattle.std.specs.Prelude.{is_none, length}
 use Rattle.rtsp_uri.specs.declared.base.Bases.{Bases}
 use Rattle.session_one.specs.declared.parts.Play.{Play}
@@ -14,12 +14,9 @@ use Rattle.client_slot.specs.SessionChanges.{when_ended, when_next, when_queued,
 use Rattle.client_slot.specs.Places.{session_at, changed_at, changed_where, first_place, place_with, tracks_of}
 use Rattle.client_slot.specs.Client.{Client}
 use Rattle.client_slot.specs.Changes.{after_queueing, after_waiting, settle_with, after_note, after_close}
-use Rattle.client_machine.specs.Effects.{Outgoing, asks, carries}
-use Rattle.client_machine.specs.Events.{PrivateEvent, arrive, answer, note, media, end, slow, up_end}
+use Rattle.client_machine.specs.Events.{Outgoing, asks, PrivateEvent, answer}
 use Rattle.client_machine.specs.Treatment.{given, Going, Treated, treated}
-use Rattle.client_machine.specs.Releases.{after_plays, goes_at, goes_with}
-use Rattle.client_machine.specs.ServerItems.{NextPart, new_id, hear}
-use Rattle.client_machine.specs.Step.{going_on}
+use Rattle.client_machine.specs.Step.{after_plays, goes_at, goes_with, NextPart, new_id, hear, going_on}
 use Rattle.client_machine.proofs.WayLemmas.{hear_as, going_as}
 
 -- a session has its id and its streams as before
@@ -30,9 +27,8 @@ pub record IsSame (before after : PlayerSession) : Type 0 where
 -- so does each
 abbrev pub AreSame : List PlayerSession → List PlayerSession → Type 0
 AreSame [] [] = Unit {0}
-AreSame [] (other ∷ others) = ⊥
-AreSame (one ∷ more) [] = ⊥
 AreSame (one ∷ more) (other ∷ others) = IsSame one other × AreSame more others
+AreSame one other = ⊥
 
 pub all_same : (sessions : List PlayerSession) → AreSame sessions sessions
 all_same [] = tt
@@ -74,8 +70,7 @@ changed_same zero change (one ∷ more) keeps = (keeps one, all_same more)
 changed_same (suc place) change (one ∷ more) keeps = (record { id = refl; tracks = refl }, changed_same place change more keeps)
 
 pub where_same : (place : Option ℕ) (change : PlayerSession → PlayerSession) (sessions : List PlayerSession) → ((session : PlayerSession) → IsSame session (change session)) → AreSame sessions (changed_where place change sessions)
-where_same None change sessions keeps = all_same sessions
-where_same (Some place) change sessions keeps = changed_same place change sessions keeps
+where_same place change sessions keeps = grind (arith, all_same, changed_same)
 
 mapped_same : (change : PlayerSession → PlayerSession) (sessions : List PlayerSession) → ((session : PlayerSession) → IsSame session (change session)) → AreSame sessions (map change sessions)
 mapped_same change [] keeps = tt
@@ -97,8 +92,7 @@ plays_steady (play ∷ plays) client =
     }
 
 goes_steady : (one : Option Going) (pair : Option ℕ) (hand : List ℕ) (before client : Client) → IsSteady before client → IsSteady before (goes_at one pair hand client).client
-goes_steady None pair hand before client steady = steady
-goes_steady (Some one) pair hand before client steady = record { sessions = steady.sessions; alive = steady.alive }
+goes_steady one pair hand before client steady = grind arith
 
 treat_steady : (all : Treated) (pair : Option ℕ) (client : Client) → IsSteady client (goes_with all pair client).client
 treat_steady all pair client =
@@ -125,24 +119,12 @@ SuitsOpen alive None = Unit {0}
 SuitsOpen alive (Some purpose) = Suits alive purpose
 
 abbrev pub SuitsBy : Bool → Option Outgoing → Option Purpose → Type 0
-SuitsBy alive None new = Unit {0}
 SuitsBy alive (Some (asks request pair)) new = SuitsOpen alive new
-SuitsBy alive (Some (carries pair half rest)) new = Unit {0}
-
-goes_suits : (one : Option Going) (pair : Option ℕ) (hand : List ℕ) (alive : Bool) (client : Client) → alive ≡ true → SuitsBy alive (goes_at one pair hand client).message (goes_at one pair hand client).client.pending
-goes_suits None pair hand alive client e = tt
-goes_suits (Some one) pair hand alive client e = e
+SuitsBy alive message new = Unit {0}
 
 pub going_suits : (bases : Bases) (pair : Option ℕ) (next : NextPart) (client : Client)
     → SuitsBy client.alive (going_on bases pair next client).message (going_on bases pair next client).client.pending
-going_suits bases pair next client = going_as (λ effect. SuitsBy client.alive effect.message effect.client.pending) bases pair next client (record {
-  still = tt;
-  released = λ place play idle due is. tt;
-  treats = λ idle alive.
-      let all = treated client.waiting (given bases (is_none pair) client) in
-      goes_suits all.going pair all.hand client.alive (after_plays all.plays (record client { waiting = all.left })) alive;
-  left = λ place id idle dead filled is. dead;
-})
+going_suits bases pair next client = grind arith
 
 -- An event that is no reply keeps the sessions with their streams, and what is open.
 pub record IsHeldStill (before after : Client) : Type 0 where
@@ -150,17 +132,11 @@ pub record IsHeldStill (before after : Client) : Type 0 where
   pub pending : after.pending ≡ before.pending
 
 abbrev pub IsNoAnswer : PrivateEvent → Type 0
-IsNoAnswer (arrive shape full) = Unit {0}
 IsNoAnswer (answer told ssrc full) = ⊥
-IsNoAnswer (note id reason names) = Unit {0}
-IsNoAnswer (media pair half rest) = Unit {0}
-IsNoAnswer end = Unit {0}
-IsNoAnswer slow = Unit {0}
-IsNoAnswer up_end = Unit {0}
+IsNoAnswer event = Unit {0}
 
 ended_same : (counts : Bool) (session : PlayerSession) → IsSame session (cond counts (record session { state = cond (length session.queue == 0) Ready session.state; running = None }) session)
-ended_same true session = record { id = refl; tracks = refl }
-ended_same false session = record { id = refl; tracks = refl }
+ended_same counts session = grind arith
 
 -- what an event makes of a connection by itself: it settles what is open, or keeps this
 pub heard_as : (P : Client → Type 0) (bases : Bases) (number : ℕ) (client : Client) (event : PrivateEvent) → ((after : Client) → IsHeldStill client after → P after)

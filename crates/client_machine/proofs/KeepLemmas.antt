@@ -1,91 +1,59 @@
 -- A connection is alive exactly where it was not closed, and nothing happens to it once the connection to the server has
 -- ended.
-use Rattle.std.proofs.Common.{◌≡◌, ◌∙◌, ℕ, ◌+◌, Bool, true, false, cond, ◌&&◌, not, List, [], ◌∷◌, ◌++◌, Option, Some, None, refl, sym, ap}
+use Rattle.std.proofs.Common.{◌≡◌, ◌∙◌, ℕ, ◌+◌, Bool, true, false, cond, ◌&&◌, not, List, [], ◌∷◌, ◌++◌, Option, Some, None, refl, sym, ap, arith}
 use Rattle.std.specs.Prelude.{is_none}
 use Rattle.std.specs.Option.{option_or, option_to_list}
 use Rattle.rtsp_uri.specs.declared.base.Bases.{Bases}
 use Rattle.session_one.specs.declared.parts.Play.{Play}
-use Rattle.client_slot.specs.declared.purpose.Purpose.{Purpose}
 use Rattle.client_slot.specs.Client.{Client}
-use Rattle.client_slot.specs.Changes.{after_queueing, settle_with}
+use Rattle.client_slot.specs.Changes.{after_queueing}
 use Rattle.client_machine.specs.declared.why.CloseWhy.{CloseWhy}
 use Rattle.client_machine.specs.declared.why.CloseWhy.TheVariants as why
-use Rattle.client_machine.specs.Effects.{Effect, stays}
-use Rattle.client_machine.specs.Events.{PrivateEvent, arrive, answer, note, media, end, slow, up_end}
-use Rattle.client_machine.specs.Treatment.{given, Going, Treated, treated}
-use Rattle.client_machine.specs.Releases as going
-use Rattle.client_machine.specs.ServerItems.{NextPart, Hearing, new_id, hear}
-use Rattle.client_machine.specs.Step.{going_on, step}
-use Rattle.client_machine.specs.Alone.{Private, is_live, pair_alone, effect_while, effect_alone, is_up_end, or_else, private_next, private_after, effect_after, piece, hand, shut_alone, is_empty_list}
-use Rattle.client_machine.proofs.WayLemmas.{hear_as, going_as}
+use Rattle.client_machine.specs.Events.{Effect, stays, PrivateEvent, arrive, answer, note, media, end, slow, up_end}
+use Rattle.client_machine.specs.Treatment.{Going, Treated}
+use Rattle.client_machine.specs.Step as going
+use Rattle.client_machine.specs.Step.{NextPart, Hearing, hear, going_on, step}
+use Rattle.client_machine.specs.Alone.{Private, is_live, pair_alone, effect_while, effect_alone, is_up_end, or_else, private_next, private_after, effect_after, shut_alone, is_empty_list}
+use Rattle.client_machine.proofs.WayLemmas.{going_as}
 
 -- What goes up closes nothing.
 record IsQuiet (was : Bool) (effect : Effect) : Type 0 where
   alive : effect.client.alive ≡ was
   close : effect.close ≡ None
 
-plays_alive : (plays : List Play) (client : Client) → (going.after_plays plays client).alive ≡ client.alive
+pub plays_alive : (plays : List Play) (client : Client) → (going.after_plays plays client).alive ≡ client.alive
 plays_alive [] client = refl
 plays_alive (play ∷ plays) client = plays_alive plays (after_queueing play client)
 
 goes_at_quiet : (one : Option Going) (pair : Option ℕ) (text : List ℕ) (client : Client) → IsQuiet client.alive (going.goes_at one pair text client)
-goes_at_quiet None pair text client = record { alive = refl; close = refl }
-goes_at_quiet (Some one) pair text client = record { alive = refl; close = refl }
+goes_at_quiet one pair text client = grind arith
 
 goes_with_quiet : (all : Treated) (pair : Option ℕ) (client : Client) → IsQuiet client.alive (going.goes_with all pair client)
-goes_with_quiet all pair client =
-    let after : Client = going.after_plays all.plays (record client { waiting = all.left }) in
-    let quiet : IsQuiet after.alive (going.goes_at all.going pair all.hand after) = goes_at_quiet all.going pair all.hand after in
-    record { alive = quiet.alive ∙ plays_alive all.plays (record client { waiting = all.left }); close = quiet.close }
+goes_with_quiet all pair client = grind (arith, goes_at_quiet, plays_alive)
 
 going_on_quiet : (bases : Bases) (pair : Option ℕ) (next : NextPart) (client : Client) → IsQuiet client.alive (going_on bases pair next client)
-going_on_quiet bases pair next client = going_as (IsQuiet client.alive) bases pair next client (record {
-  still = record { alive = refl; close = refl };
-  released = λ place play idle due is. record { alive = refl; close = refl };
-  treats = λ idle alive. goes_with_quiet (treated client.waiting (given bases (is_none pair) client)) pair client;
-  left = λ place id idle dead filled is. record { alive = refl; close = refl };
-})
+going_on_quiet bases pair next client = grind (arith, going_as, goes_with_quiet)
 
 -- What an event does by itself leaves a connection alive exactly where it does not close it.
 abbrev IsKept : Bool → Hearing → Type 0
 IsKept alive heard = heard.effect.client.alive ≡ (alive && is_none heard.effect.close)
 
-and_kept : (alive : Bool) → alive ≡ (alive && true)
-and_kept true = refl
-and_kept false = refl
-
 lost : (b : Bool) → false ≡ (b && false)
-lost true = refl
-lost false = refl
+lost b = grind arith
 
 hear_kept : (bases : Bases) (number : ℕ) (client : Client) (event : PrivateEvent) → IsKept client.alive (hear bases number client event)
-hear_kept bases number client event = hear_as (IsKept client.alive) bases number client event (record {
-  idle = and_kept client.alive;
-  closing = λ reason alive. lost client.alive;
-  waits = λ shape full here is alive. and_kept client.alive;
-  carrying = λ shape full half here is. and_kept client.alive;
-  settles = λ purpose told ssrc full here late is.
-      ap (λ (one : Option Purpose). (settle_with one number told.code (new_id purpose told) client).alive) is ∙ and_kept client.alive;
-  notes = λ id names here. and_kept client.alive;
-  gives = λ pair half channel rest here is alive. and_kept client.alive;
-})
+hear_kept bases number client event = grind arith
 
-or_none : (first : Option CloseWhy) → option_or first None ≡ first
-or_none None = refl
-or_none (Some one) = refl
+pub or_none : (first : Option CloseWhy) → option_or first None ≡ first
+or_none first = grind arith
 
 pub step_alive : (bases : Bases) (number : ℕ) (pair : Option ℕ) (client : Client) (event : PrivateEvent)
     → (step bases number pair client event).client.alive ≡ (client.alive && is_none (step bases number pair client event).close)
-step_alive bases number pair client event =
-    let heard : Hearing = hear bases number client event in
-    let quiet : IsQuiet heard.effect.client.alive (going_on bases pair heard.next heard.effect.client) = going_on_quiet bases pair heard.next heard.effect.client in
-    quiet.alive ∙ hear_kept bases number client event
-    ∙ ap (λ (close : Option CloseWhy). client.alive && is_none close) (sym (ap (option_or heard.effect.close) quiet.close ∙ or_none heard.effect.close))
+step_alive bases number pair client event = grind (arith, going_on_quiet, hear_kept, or_none)
 
 -- So it is for a connection alone.
 end_live : (alive : Bool) → false ≡ (alive && is_none (cond alive (Some why.Upstream) None))
-end_live true = refl
-end_live false = refl
+end_live alive = grind arith
 
 numbered_alive : (bases : Bases) (p : Private) (event : PrivateEvent)
     → (step bases p.count (pair_alone event (p.count + 1)) p.client event).client.alive ≡ (p.client.alive && is_none (step bases p.count (pair_alone event (p.count + 1)) p.client event).close)
@@ -113,8 +81,7 @@ pub alone_live : (bases : Bases) (p : Private) (event : PrivateEvent)
 alone_live bases p event = live_by p.over bases p event
 
 pub close_append : (one : Option CloseWhy) (closed : List CloseWhy) → is_empty_list (option_to_list one ++ closed) ≡ (is_empty_list closed && is_none one)
-close_append None closed = and_kept (is_empty_list closed)
-close_append (Some one) closed = lost (is_empty_list closed)
+close_append one closed = grind arith
 
 pub live_unclosed : (bases : Bases) (events : List PrivateEvent) → is_live (private_after bases events) ≡ is_empty_list (shut_alone bases events)
 live_unclosed bases [] = refl
@@ -131,65 +98,19 @@ pub over_stays : (bases : Bases) (p : Private) (event : PrivateEvent) → p.over
 over_stays bases p event over = ap (λ b. effect_while b bases p event) over
 
 pub or_true : (b : Bool) → or_else b true ≡ true
-or_true true = refl
-or_true false = refl
-
-pub stays_over : (bases : Bases) (events : List PrivateEvent) (one : Option PrivateEvent) → IsOver bases events → IsOver bases (option_to_list one ++ events)
-stays_over bases events None over = over
-stays_over bases events (Some event) over = ap (or_else (is_up_end event)) over ∙ or_true (is_up_end event)
+or_true b = grind arith
 
 pub over_client : (bases : Bases) (events : List PrivateEvent) (one : Option PrivateEvent) → IsOver bases events
     → (private_after bases (option_to_list one ++ events)).client ≡ (private_after bases events).client
-over_client bases events None over = refl
-over_client bases events (Some event) over = ap (λ (effect : Effect). effect.client) (over_stays bases (private_after bases events) event over)
-
-pub over_hand : (bases : Bases) (events : List PrivateEvent) (one : Option PrivateEvent) → IsOver bases events → hand bases (option_to_list one ++ events) ≡ hand bases events
-over_hand bases events None over = refl
-over_hand bases events (Some event) over = ap (λ (effect : Effect). piece effect.hand ++ hand bases events) (over_stays bases (private_after bases events) event over)
-
-pub over_shut : (bases : Bases) (events : List PrivateEvent) (one : Option PrivateEvent) → IsOver bases events → shut_alone bases (option_to_list one ++ events) ≡ shut_alone bases events
-over_shut bases events None over = refl
-over_shut bases events (Some event) over = ap (λ (effect : Effect). option_to_list effect.close ++ shut_alone bases events) (over_stays bases (private_after bases events) event over)
+over_client bases events one over = grind arith
 
 -- That end hands out nothing, sends nothing up, and closes a connection that is alive.
-pub end_hand : (bases : Bases) (p : Private) → (effect_alone bases p up_end).hand ≡ []
-end_hand bases p = by p.over
-  where
-    by : (over : Bool) → (effect_while over bases p up_end).hand ≡ []
-    by true = refl
-    by false = refl
-
 pub end_up : (bases : Bases) (p : Private) → (effect_alone bases p up_end).message ≡ None
-end_up bases p = by p.over
-  where
-    by : (over : Bool) → (effect_while over bases p up_end).message ≡ None
-    by true = refl
-    by false = refl
-
-pub end_client : (bases : Bases) (p : Private) → (effect_alone bases p up_end).client ≡ p.client
-end_client bases p = by p.over
-  where
-    by : (over : Bool) → (effect_while over bases p up_end).client ≡ p.client
-    by true = refl
-    by false = refl
-
-end_here : (alive : Bool) → option_to_list (cond alive (Some why.Upstream) None) ≡ cond alive (why.Upstream ∷ []) []
-end_here true = refl
-end_here false = refl
+end_up bases p = grind arith
 
 pub end_close : (bases : Bases) (p : Private) → option_to_list (effect_alone bases p up_end).close ≡ cond (is_live p) (why.Upstream ∷ []) []
-end_close bases p = by p.over
-  where
-    by : (over : Bool) → option_to_list (effect_while over bases p up_end).close ≡ cond (not over && p.client.alive) (why.Upstream ∷ []) []
-    by true = refl
-    by false = end_here p.client.alive
-
-pub ends_over : (bases : Bases) (events : List PrivateEvent) → IsOver bases (up_end ∷ events)
-ends_over bases events = refl
+end_close bases p = grind arith
 
 -- so for whole runs
-pub ends_hand : (bases : Bases) (events : List PrivateEvent) → hand bases (up_end ∷ events) ≡ hand bases events
-ends_hand bases events = ap (λ (text : List ℕ). piece text ++ hand bases events) (end_hand bases (private_after bases events))
-
 pub ends_shut : (bases : Bases) (events : List PrivateEvent) → shut_alone bases (up_end ∷ events) ≡ cond (is_live (private_after bases events)) (why.Upstream ∷ []) [] ++ shut_alone bases events
 ends_shut bases events = ap (λ (closed : List CloseWhy). closed ++ shut_alone bases events) (end_close bases (private_after bases events))

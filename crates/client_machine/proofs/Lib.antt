@@ -5,13 +5,14 @@ pub mod BelowLemmas
 pub mod BlindLemmas
 pub mod CarryLemmas
 pub mod CountLemmas
+pub mod EachLemmas
 pub mod FullLemmas
 pub mod GrowthLemmas
 pub mod HalfLemmas
 pub mod HoldLemmas
 pub mod KeepLemmas
 pub mod OnwardLemmas
-pub mod PlacedLemmas
+pub mod PlaceLemmas
 pub mod PlanLemmas
 pub mod PlayerReplyLemmas
 pub mod RenumberLemmas
@@ -25,3 +26,4 @@ pub mod SeenWalkLemmas
 pub mod SightLemmas
 pub mod TreatLemmas
 pub mod WayLemmas
+pub mod ShortUriLemmas

@@ -1,45 +1,47 @@
 -- What goes up for a connection with no open request is what the machine does.
-use Rattle.std.proofs.Common.{◌≡◌, ◌∙◌, ◌≤◌, ◌<◌, ℕ, Bool, true, false, List, [], ◌++◌, ◌∷◌, length, drop, map, Option, None, Some, IsSome, refl, sym, ap, subst}
+use Rattle.std.proofs.Common.{◌≡◌, ◌∙◌, ◌≤◌, ◌<◌, ℕ, Bool, true, false, List, [], ◌++◌, ◌∷◌, length, drop, map, Option, None, Some, IfSome, IsSome, refl, sym, ap, subst}
 use Rattle.std.specs.Prelude.{is_none, is_some, not}
 use Rattle.std.specs.Option.{option_map, option_and_then}
 use Rattle.std.proofs.lemmas.List.{append-nil}
+use Rattle.rtsp_head.specs.declared.item.TheConstants.{MOST_HEAD}
 use Rattle.rtsp_head.specs.Items.{Shape}
 use Rattle.rtsp_transport.specs.declared.channels.Pair.{Pair}
+use Rattle.rtsp_transport.specs.Channels.{AreApart}
 use Rattle.rtsp_uri.specs.declared.base.Bases.{Bases}
 use Rattle.head_two.specs.Requests.{request_text}
 use Rattle.session_one.specs.declared.parts.TheConstants.{MOST_SESSIONS, MOST_TRACKS}
 use Rattle.session_one.specs.declared.parts.Play.{Play}
 use Rattle.session_one.specs.declared.parts.Track.{Track}
 use Rattle.translate_up.specs.QueuedPlay.{play_up}
-use Rattle.translate_up.specs.Views.{SeenSession, Given, session_in}
+use Rattle.translate_up.specs.Views.{SeenSession, Given, session_or_none}
 use Rattle.client_slot.specs.declared.purpose.Purpose.{Purpose}
 use Rattle.client_slot.specs.Places.{session_at, session_where, first_place, has_due, queued_at, filled_place}
 use Rattle.client_slot.specs.Client.{Client}
 use Rattle.client_slot.specs.Changes as changes
 use Rattle.client_slot.specs.ClosingRequest.{closing_request, session_closing}
 use Rattle.client_slot.proofs.PlaceLemmas.{place_is}
-use Rattle.client_slot.proofs.BoundLemmas.{due_waits}
+use Rattle.client_slot.proofs.LimitLemmas.{due_waits}
 use Rattle.std.proofs.Math.Seq.{drop-length}
 use Rattle.std.proofs.lemmas.List.{drop-append-le}
 use Rattle.client_machine.specs.declared.parts.Change.{Change}
 use Rattle.client_machine.specs.declared.parts.Up.{Up}
 use Rattle.client_machine.specs.declared.parts.Up.TheVariants as ups
-use Rattle.client_machine.specs.declared.parts.Plan.{Plan}
+use Rattle.client_machine.specs.declared.parts.PlannedStep.{PlannedStep}
 use Rattle.client_machine.specs.declared.treat.Upward.{Upward}
 use Rattle.client_machine.specs.declared.treat.Progress.{Progress}
-use Rattle.client_machine.specs.Effects.{Effect}
-use Rattle.client_machine.specs.Releases as going
-use Rattle.client_machine.specs.Treatment.{session_seen, given, decision_on, Treated, treated}
+use Rattle.client_machine.specs.Events.{Effect}
+use Rattle.client_machine.specs.Step as going
+use Rattle.client_machine.specs.Treatment.{session_found, given, decision_on, Treated, treated, ahead, given_shown}
 use Rattle.client_machine.specs.Plans.{ArePlaced, IsReadyUp, without, risen, risen_text, is_up}
-use Rattle.client_machine.specs.Progresses.{going_of, progressed, given_then, ahead, joined_at, with_progress, sessions_queued, IsAskedIn, IsShortQueue, IsTreated}
-use Rattle.client_machine.specs.Sights.{Sight, sight, sight_at, due_seen, filled_seen, given_shown, given_by, session_in_sight}
+use Rattle.client_machine.specs.Progresses.{going_of, progressed, given_then, joined_at, with_progress, sessions_queued, IsAskedIn, IsTreated}
+use Rattle.client_machine.specs.Sights.{Sight, sight, sight_at, due_seen, filled_seen, given_by, session_in_sight}
 use Rattle.client_machine.specs.UpTexts.{spelled}
-use Rattle.client_machine.specs.Onward.{leave_up, up_for, due_with, due_at, due_for, IsShortAsk, IsFinished, IsShown, Onward, GoesOnward}
+use Rattle.client_machine.specs.Onward.{leave_up, up_for, due_with, due_at, due_for, IsFinished, IsShown, Onward, GoesOnward}
 use Rattle.client_machine.proofs.SightLemmas.{shown_at, due_shown, filled_shown, found_shown}
 use Rattle.client_machine.proofs.TreatLemmas.{seen_in, named_within, named_filled, same_treated, one_on}
 
 -- nothing but this goes up
-abbrev pub still : Change → List ℕ → Up → Plan
+abbrev pub still : Change → List ℕ → Up → PlannedStep
 still change hand up = record { change = change; treated = 0; plays = []; hand = hand; up = up }
 
 -- nothing goes up
@@ -178,23 +180,29 @@ stream_room uri None channels tracks room some = cc
 stream_room uri (Some number) None tracks room some = cc
 stream_room uri (Some number) (Some client) tracks room some = room refl
 
-ready_up : (next : ℕ) (pair : Option ℕ) (one : Option Upward) (seen : List SeenSession) (client : Client) → client.alive ≡ true → client.pending ≡ None → seen ≡ map session_seen client.sessions → length seen ≤ MOST_SESSIONS → IsAskedIn seen one →
-    IsShortAsk (up_for next pair one) → IsReadyUp client (up_for next pair one)
-ready_up next pair None seen client lives idle is few asked short = tt
-ready_up next pair (Some one) seen client lives idle is few asked short = record {
+stream_apart : (uri : List ℕ) (pair : Option ℕ) (channels : Option Pair) → IfSome channels AreApart → IfSome (going.track_of uri pair channels) (λ one. AreApart one.client)
+stream_apart uri None channels apart = tt
+stream_apart uri (Some number) None apart = tt
+stream_apart uri (Some number) (Some client) apart = apart
+
+ready_up : (next : ℕ) (pair : Option ℕ) (one : Option Upward) (seen : List SeenSession) (client : Client) → client.alive ≡ true → client.pending ≡ None → seen ≡ map session_found client.sessions → length seen ≤ MOST_SESSIONS → IsAskedIn seen one →
+    IsReadyUp client (up_for next pair one)
+ready_up next pair None seen client lives idle is few asked = tt
+ready_up next pair (Some one) seen client lives idle is few asked = record {
   alive = lives;
   idle = idle;
   placed = record {
-    uri = short;
+    uri = asked.1;
     within = named_within one.asked.place seen asked.0 few;
     filled = named_filled one.asked.place seen client.sessions asked.0 is;
     room = stream_room one.asked.uri pair one.channels (session_where one.asked.place client.sessions).tracks
-        (λ some. subst (λ (session : SeenSession). length session.tracks < MOST_TRACKS) (ap (session_in one.asked.place) is ∙ seen_in one.asked.place client.sessions) (asked.1 some));
+        (λ some. subst (λ (session : SeenSession). length session.tracks < MOST_TRACKS) (ap (session_or_none one.asked.place) is ∙ seen_in one.asked.place client.sessions) (asked.2 some));
+    apart = stream_apart one.asked.uri pair one.channels asked.3;
   };
 }
 
 -- the plan that is finished
-finished_is : (next : ℕ) (pair : Option ℕ) (change : Change) (progress : Progress) (plan : Plan) → IsFinished next pair change progress plan →
+finished_is : (next : ℕ) (pair : Option ℕ) (change : Change) (progress : Progress) (plan : PlannedStep) → IsFinished next pair change progress plan →
     plan ≡ record { change = change; treated = progress.treated; plays = progress.plays; hand = progress.hand; up = up_for next pair progress.going }
 finished_is next pair change progress plan finished =
     ap (λ (one : Change). record { change = one; treated = plan.treated; plays = plan.plays; hand = plan.hand; up = plan.up }) finished.change
@@ -207,13 +215,13 @@ finished_is next pair change progress plan finished =
 pub record IsDoneWith (base : Client) (judged last : Given) (all : List Shape) (first : List ℕ) (progress : Progress) : Type 0 where
   pub leads : with_progress progress last (drop progress.treated base.waiting) ≡ ahead first [] (treated all judged)
   pub none : progress.going ≡ None → drop progress.treated base.waiting ≡ []
-  pub counts : last.sessions ≡ map session_seen (sessions_queued progress.plays base.sessions)
+  pub counts : last.sessions ≡ map session_found (sessions_queued progress.plays base.sessions)
   pub placed : ArePlaced base.sessions progress.plays
   pub few : length last.sessions ≤ MOST_SESSIONS
   pub asked : IsAskedIn last.sessions progress.going
 
 -- It is what the machine does with all requests that wait.
-pub treat_onward : (bases : Bases) (next : ℕ) (pair : Option ℕ) (base : Client) (last : Given) (all : List Shape) (first : List ℕ) (progress : Progress) (change : Change) (plan : Plan) → base.alive ≡ true → base.pending ≡ None → changes.due_place base ≡ None →
+pub treat_onward : (bases : Bases) (next : ℕ) (pair : Option ℕ) (base : Client) (last : Given) (all : List Shape) (first : List ℕ) (progress : Progress) (change : Change) (plan : PlannedStep) → base.alive ≡ true → base.pending ≡ None → changes.due_place base ≡ None →
     IsDoneWith base (given bases (is_none pair) base) last all first progress → IsFinished next pair change progress plan → Onward next pair base first plan (going.go bases pair (record base { waiting = all }))
 treat_onward bases next pair base last all first progress change plan lives idle due done finished =
     let judged : Given = given bases (is_none pair) base in
@@ -226,19 +234,19 @@ treat_onward bases next pair base last all first progress change plan lives idle
     ∙ ap (λ (one : Option ℕ). going.go_due bases pair one (record base { waiting = all })) due
     ∙ ap (λ (one : Treated). going.goes_at one.going pair became.hand (going.after_plays one.plays (record base { waiting = one.left }))) end in
     subst (Onward next pair base first plan) (sym same) (record {
-      client_then = ap (λ (one : Plan). risen one.up (going.after_plays one.plays (without one.treated base))) (finished_is next pair change progress plan finished) ∙ goes_client progress.going next pair became.hand then;
+      client_then = ap (λ (one : PlannedStep). risen one.up (going.after_plays one.plays (without one.treated base))) (finished_is next pair change progress plan finished) ∙ goes_client progress.going next pair became.hand then;
       hand = finished.hand ∙ sym (ap (λ (one : Treated). one.hand) end) ∙ ap (λ (bytes : List ℕ). first ++ bytes) (sym (goes_hand progress.going pair became.hand then));
-      request = ap (λ (one : Plan). risen_text next one.up (going.after_plays one.plays (without one.treated base))) (finished_is next pair change progress plan finished) ∙ goes_text progress.going next pair became.hand then;
+      request = ap (λ (one : PlannedStep). risen_text next one.up (going.after_plays one.plays (without one.treated base))) (finished_is next pair change progress plan finished) ∙ goes_text progress.going next pair became.hand then;
       asks = ap is_up finished.up ∙ goes_asks progress.going next pair became.hand then;
       close = goes_close progress.going pair became.hand then;
       plays = subst (ArePlaced base.sessions) (sym finished.plays) done.placed;
-      up = subst (λ (one : Plan). IsReadyUp (going.after_plays one.plays (without one.treated base)) one.up) (sym (finished_is next pair change progress plan finished))
+      up = subst (λ (one : PlannedStep). IsReadyUp (going.after_plays one.plays (without one.treated base)) one.up) (sym (finished_is next pair change progress plan finished))
           (ready_up next pair progress.going last.sessions then (plays_alive progress.plays (without progress.treated base) ∙ lives) (plays_pending progress.plays (without progress.treated base) ∙ idle)
-          (done.counts ∙ ap (map session_seen) (sym (plays_sessions progress.plays (without progress.treated base)))) done.few done.asked (subst IsShortAsk finished.up finished.short));
+          (done.counts ∙ ap (map session_found) (sym (plays_sessions progress.plays (without progress.treated base)))) done.few done.asked);
     })
 
 -- Those that wait were treated.
-pub done_with : (base : Client) (judged last : Given) (first : List ℕ) (progress : Progress) → judged.sessions ≡ map session_seen base.sessions → IsTreated judged last base.waiting first progress → IsDoneWith base judged last base.waiting first progress
+pub done_with : (base : Client) (judged last : Given) (first : List ℕ) (progress : Progress) → judged.sessions ≡ map session_found base.sessions → IsTreated judged last base.waiting first progress → IsDoneWith base judged last base.waiting first progress
 done_with base judged last first progress same all =
     let filled = all.way.filled base.sessions same in
     record {
@@ -254,7 +262,7 @@ done_with base judged last first progress same all =
     }
 
 -- A request that comes waits behind one that goes up.
-pub done_before : (client : Client) (judged last : Given) (shape : Shape) (progress : Progress) → judged.sessions ≡ map session_seen client.sessions → IsTreated judged last client.waiting [] progress → is_some progress.going ≡ true
+pub done_before : (client : Client) (judged last : Given) (shape : Shape) (progress : Progress) → judged.sessions ≡ map session_found client.sessions → IsTreated judged last client.waiting [] progress → is_some progress.going ≡ true
     → IsDoneWith (changes.after_waiting (shape ∷ []) client) judged last (client.waiting ++ shape ∷ []) [] progress
 done_before client judged last shape progress same all goes =
     let filled = all.way.filled client.sessions same in
@@ -268,10 +276,10 @@ done_before client judged last shape progress same all goes =
     }
 
 -- A request that comes is treated with those that waited.
-pub done_and : (client : Client) (judged last next : Given) (shape : Shape) (progress more : Progress) → judged.sessions ≡ map session_seen client.sessions → IsTreated judged last client.waiting [] progress → progress.going ≡ None
-    → more ≡ progressed (decision_on last shape) progress → IsShortQueue (decision_on last shape) → next ≡ given_then (decision_on last shape) last → IsDoneWith client judged next (client.waiting ++ shape ∷ []) [] more
-done_and client judged last next shape progress more same all none is short then =
-    let on = one_on judged last next progress more shape none all.way.few is short then in
+pub done_and : (client : Client) (judged last next : Given) (shape : Shape) (progress more : Progress) → judged.sessions ≡ map session_found client.sessions → IsTreated judged last client.waiting [] progress → progress.going ≡ None
+    → shape.head ≤ MOST_HEAD → more ≡ progressed (decision_on last shape) progress → next ≡ given_then (decision_on last shape) last → IsDoneWith client judged next (client.waiting ++ shape ∷ []) [] more
+done_and client judged last next shape progress more same all none head is then =
+    let on = one_on judged last next progress more shape none all.way.few all.way.known head is then in
     let filled = on.filled client.sessions (all.way.filled client.sessions same) in
     let empty : drop progress.treated client.waiting ≡ [] = ap (λ n. drop n client.waiting) (all.all none) ∙ drop-length client.waiting in
     let gone : drop more.treated client.waiting ≡ [] = ap (λ n. drop n client.waiting) (same_treated last progress more shape is) ∙ empty in
@@ -289,7 +297,7 @@ done_and client judged last next shape progress more same all none is short then
     }
 
 -- Plans for a connection that is as it is seen.
-pub closed_goes : (bases : Bases) (next : ℕ) (pair : Option ℕ) (lives : Client) (seen : List Sight) (described : Option (List ℕ)) (first : List ℕ) (change : Change) (plan : Plan) → lives.alive ≡ false → plan ≡ still change first (leave_up (filled_seen seen))
+pub closed_goes : (bases : Bases) (next : ℕ) (pair : Option ℕ) (lives : Client) (seen : List Sight) (described : Option (List ℕ)) (first : List ℕ) (change : Change) (plan : PlannedStep) → lives.alive ≡ false → plan ≡ still change first (leave_up (filled_seen seen))
     → GoesOnward bases next pair lives seen described first change plan
 closed_goes bases next pair lives seen described first change plan closed is = subst (GoesOnward bases next pair lives seen described first change) (sym is) (record {
   change_is = refl;
@@ -298,7 +306,7 @@ closed_goes bases next pair lives seen described first change plan closed is = s
       (leave_onward next pair client (filled_seen seen) change first (shown.alive ∙ closed) shown.idle (ap filled_seen (sym shown.sessions) ∙ filled_shown client.sessions));
 })
 
-pub due_goes : (bases : Bases) (next : ℕ) (pair : Option ℕ) (lives : Client) (seen : List Sight) (described : Option (List ℕ)) (first : List ℕ) (change : Change) (up : Up) (plan : Plan) → lives.alive ≡ true → due_for next seen ≡ Some up → plan ≡ still change first up
+pub due_goes : (bases : Bases) (next : ℕ) (pair : Option ℕ) (lives : Client) (seen : List Sight) (described : Option (List ℕ)) (first : List ℕ) (change : Change) (up : Up) (plan : PlannedStep) → lives.alive ≡ true → due_for next seen ≡ Some up → plan ≡ still change first up
     → GoesOnward bases next pair lives seen described first change plan
 due_goes bases next pair lives seen described first change up plan alive due is = subst (GoesOnward bases next pair lives seen described first change) (sym is) (record {
   change_is = refl;
@@ -321,9 +329,9 @@ judged_shown bases pair full lives client seen described shown is =
     ap (λ b. given_by bases b seen described) is
     ∙ ap (λ (one : List Sight). given_by bases (is_none pair) one described) (sym shown.sessions)
     ∙ ap (λ (one : List SeenSession). given_shown bases (is_none pair) one described) (found_shown client.sessions)
-    ∙ ap (λ (one : Option (List ℕ)). given_shown bases (is_none pair) (map session_seen client.sessions) one) (sym shown.about)
+    ∙ ap (λ (one : Option (List ℕ)). given_shown bases (is_none pair) (map session_found client.sessions) one) (sym shown.about)
 
-pub treated_goes : (bases : Bases) (next : ℕ) (pair : Option ℕ) (full : Bool) (lives : Client) (seen : List Sight) (described : Option (List ℕ)) (first : List ℕ) (change : Change) (last : Given) (progress : Progress) (plan : Plan) → lives.alive ≡ true
+pub treated_goes : (bases : Bases) (next : ℕ) (pair : Option ℕ) (full : Bool) (lives : Client) (seen : List Sight) (described : Option (List ℕ)) (first : List ℕ) (change : Change) (last : Given) (progress : Progress) (plan : PlannedStep) → lives.alive ≡ true
     → due_for next seen ≡ None → full ≡ is_none pair → IsTreated (given_by bases full seen described) last lives.waiting first progress → IsFinished next pair change progress plan → GoesOnward bases next pair lives seen described first change plan
 treated_goes bases next pair full lives seen described first change last progress plan alive due is all finished = record {
   change_is = finished.change;
@@ -340,7 +348,7 @@ pub judged_now : (bases : Bases) (pair : Option ℕ) (full : Bool) (client : Cli
 judged_now bases pair full client found described same about is =
     ap (λ b. given_shown bases b found described) is
     ∙ ap (λ one. given_shown bases (is_none pair) one described) (same ∙ found_shown client.sessions)
-    ∙ ap (λ (one : Option (List ℕ)). given_shown bases (is_none pair) (map session_seen client.sessions) one) about
+    ∙ ap (λ (one : Option (List ℕ)). given_shown bases (is_none pair) (map session_found client.sessions) one) about
 
 pub treated_now : (view judged last : Given) (waiting : List Shape) (first : List ℕ) (progress : Progress) → view ≡ judged → first ≡ [] → IsTreated view last waiting first progress → IsTreated judged last waiting [] progress
 treated_now view judged last waiting first progress same empty all =

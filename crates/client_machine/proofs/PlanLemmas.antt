@@ -2,42 +2,37 @@
 use Rattle.std.proofs.Common.{◌≡◌, ◌∙◌, ◌≤◌, ℕ, Bool, true, false, cond, nat_lt, List, [], ◌∷◌, ◌++◌, length, map, Option, None, Some, ◌<◌, refl, sym, ap, subst, arith}
 use Rattle.std.specs.Prelude.{IfSome, IsSome, is_some, is_none, ◌&&◌}
 use Rattle.std.specs.Option.{option_or}
+use Rattle.rtsp_head.specs.declared.item.TheConstants.{MOST_HEAD}
 use Rattle.rtsp_head.specs.Items.{Shape}
-use Rattle.rtsp_head.specs.declared.item.ItemKind.{ItemKind}
 use Rattle.rtsp_head.specs.declared.item.ItemKind.TheVariants as kinds
-use Rattle.rtsp_small.specs.declared.method.Method.TheVariants as methods
 use Rattle.rtsp_uri.specs.declared.base.Bases.{Bases}
 use Rattle.head_two.specs.declared.reply.Reply2.{Reply2}
-use Rattle.session_one.specs.Table.{same_method}
-use Rattle.translate_down.specs.Replies.{Told, told_by}
-use Rattle.client_slot.specs.declared.made.MadeSession.{MadeSession}
+use Rattle.translate_down.specs.Replies.{told_by}
+use Rattle.client_slot.specs.declared.new_session.MadeSession.{MadeSession}
 use Rattle.client_slot.specs.declared.purpose.Purpose.{Purpose}
-use Rattle.client_slot.specs.declared.purpose.Purpose.TheVariants as purposes
-use Rattle.client_slot.specs.Made.{id_made, described_made}
+use Rattle.client_slot.specs.NewSessions.{id_made, described_made}
 use Rattle.client_slot.specs.Session.{PlayerSession}
 use Rattle.client_slot.specs.Places.{session_at, session_where, changed_where, place_with, empty_place, filled_place}
 use Rattle.client_slot.specs.SessionChanges.{when_ended, when_unqueued}
 use Rattle.client_slot.specs.Client.{Client}
-use Rattle.client_slot.specs.Changes.{purpose_place, settled_place, session_after, sessions_after, described_after, settle_with, due_place, after_waiting, after_reply, after_note, after_close}
+use Rattle.client_slot.specs.Changes.{purpose_place, settled_place, sessions_after, described_after, due_place, after_waiting, after_note, after_close}
 use Rattle.client_slot.specs.declared.limits.TheConstants.{MOST_WAITING}
 use Rattle.client_slot.proofs.PlaceLemmas.{place_is, first_mapped}
 use Rattle.client_machine.specs.declared.why.CloseWhy.{CloseWhy}
 use Rattle.client_machine.specs.declared.parts.Change.{Change}
 use Rattle.client_machine.specs.declared.parts.Change.TheVariants as changes
-use Rattle.client_machine.specs.declared.parts.Plan.{Plan}
-use Rattle.client_machine.specs.Effects.{Effect, stays, hands, then_effect}
-use Rattle.client_machine.specs.Releases.{released_at, release, go_due, go}
-use Rattle.client_machine.specs.ServerItems.{idles, closes, take, take_item, new_id, reply_hand, id_after, settle_at}
-use Rattle.client_machine.specs.Step.{heard_step}
+use Rattle.client_machine.specs.declared.parts.PlannedStep.{PlannedStep}
+use Rattle.client_machine.specs.Events.{Effect, stays}
+use Rattle.client_machine.specs.Step.{released_at, release, go_due, go, new_id, reply_hand}
 use Rattle.client_machine.specs.Plans.{Comes, requests, replies, notes, shuts, effect_by, changed, shut_by, ripe, IsReadyChange, IsCarriedOut, IsPlan}
 use Rattle.client_machine.specs.Sights.{Sight, sight, filled_seen}
-use Rattle.client_machine.specs.Onward.{leave_up, due_for, IsFinished, IsShown, Onward, GoesOnward}
+use Rattle.client_machine.specs.Onward.{leave_up, due_for, IsFinished, Onward, GoesOnward}
 use Rattle.translate_up.specs.Views.{Given}
 use Rattle.client_machine.specs.declared.parts.Up.{Up}
 use Rattle.client_machine.specs.declared.parts.Up.TheVariants as ups
 use Rattle.client_machine.specs.declared.treat.Progress.{Progress}
 use Rattle.client_machine.specs.Treatment.{given, decision_on}
-use Rattle.client_machine.specs.Progresses.{progressed, given_then, IsShortQueue, IsTreated}
+use Rattle.client_machine.specs.Progresses.{progressed, given_then, IsTreated}
 use Rattle.rtsp_small.specs.declared.notify.NotifyReason.TheVariants.{EndOfStream}
 use Rattle.session_one.specs.declared.parts.TheConstants.{MOST_SESSIONS}
 use Rattle.session_two.specs.declared.names.Names.{Names}
@@ -46,27 +41,16 @@ use Rattle.client_machine.proofs.SightLemmas.{filled_shown}
 use Rattle.client_machine.proofs.OnwardLemmas.{still, still_onward, due_onward, none_due, leave_onward, go_alive, go_closed, treat_onward, done_before, done_and}
 
 -- What the event does by itself is this change and these bytes, and what goes on then is this.
-pub record IsStep (bases : Bases) (next : ℕ) (pair : Option ℕ) (client : Client) (comes : Comes) (first : List ℕ) (change : Change) (plan : Plan) (number : ℕ) : Type 0 where
+pub record IsStep (bases : Bases) (next : ℕ) (pair : Option ℕ) (client : Client) (comes : Comes) (first : List ℕ) (change : Change) (plan : PlannedStep) (number : ℕ) : Type 0 where
   pub later : Effect
   pub onward : Onward next pair (changed number change client) first plan later
   pub same : effect_by bases number pair client comes ≡ record { client = later.client; hand = first ++ later.hand; message = later.message; close = option_or (shut_by change) later.close }
 
-shut_or : (shut late : Option CloseWhy) → late ≡ None → shut ≡ option_or shut late
-shut_or None late none = sym none
-shut_or (Some why) late none = refl
-
-step_done : (bases : Bases) (next : ℕ) (pair : Option ℕ) (client : Client) (comes : Comes) (first : List ℕ) (plan : Plan) (number : ℕ) → IsStep bases next pair client comes first plan.change plan number →
+step_done : (bases : Bases) (next : ℕ) (pair : Option ℕ) (client : Client) (comes : Comes) (first : List ℕ) (plan : PlannedStep) (number : ℕ) → IsStep bases next pair client comes first plan.change plan number →
     IsCarriedOut next pair (ripe number client plan) plan (effect_by bases number pair client comes)
-step_done bases next pair client comes first plan number step =
-    subst (IsCarriedOut next pair (ripe number client plan) plan) (sym step.same) (record {
-      client = step.onward.client_then;
-      hand = step.onward.hand;
-      request = step.onward.request;
-      asks = step.onward.asks;
-      close = shut_or (shut_by plan.change) step.later.close step.onward.close;
-    })
+step_done bases next pair client comes first plan number step = grind arith
 
-pub plan_from : (bases : Bases) (next : ℕ) (pair : Option ℕ) (client : Client) (comes : Comes) (first : List ℕ) (change : Change) (plan : Plan) → plan.change ≡ change → IsReadyChange client change →
+pub plan_from : (bases : Bases) (next : ℕ) (pair : Option ℕ) (client : Client) (comes : Comes) (first : List ℕ) (change : Change) (plan : PlannedStep) → plan.change ≡ change → IsReadyChange client change →
     ((number : ℕ) → IsStep bases next pair client comes first change plan number) → IsPlan bases next pair client comes plan
 plan_from bases next pair client comes first change plan is ready steps =
     let step : (number : ℕ) → IsStep bases next pair client comes first plan.change plan number = λ number. subst (λ (one : Change). IsStep bases next pair client comes first one plan number) (sym is) (steps number) in
@@ -78,16 +62,11 @@ plan_from bases next pair client comes first change plan is ready steps =
 -- a request that comes waits, and then what may go up does
 pub request_same : (bases : Bases) (number : ℕ) (pair : Option ℕ) (client : Client) (shape : Shape) → client.alive ≡ true → shape.kind ≡ kinds.Request →
     effect_by bases number pair client (requests shape) ≡ (let later = go bases pair (after_waiting (shape ∷ []) client) in record { client = later.client; hand = later.hand; message = later.message; close = later.close })
-request_same bases number pair client shape lives kind =
-    ap (λ b. heard_step bases pair (take b shape client)) lives ∙ ap (λ (one : ItemKind). heard_step bases pair (take_item one shape client)) kind
+request_same bases number pair client shape lives kind = grind arith
 
 -- the final reply
 by_code : (early : Bool) (code : ℕ) → nat_lt code 200 ≡ early → 200 ≤ code → nat_lt code 200 ≡ false
-by_code true code e last = absurd (grind (arith, e, last))
-by_code false code e last = e
-
-abbrev settled_effect : Bases → Option ℕ → Purpose → Told → Option ℕ → Client → Client → Effect
-settled_effect bases pair purpose told ssrc client after = then_effect (hands (reply_hand bases client.alive purpose told ssrc (id_after purpose client after)) after) (go bases pair after)
+by_code early code e last = grind arith
 
 -- The session that a SETUP is for, where the server made none, is none.
 made_place : (place : Option ℕ) (sets made : Bool) (sessions after : List PlayerSession) → (place ≡ None → made ≡ false → after ≡ sessions)
@@ -108,48 +87,19 @@ made_place None true false sessions after same = by (empty_place sessions) refl
 
 pub own_place : (purpose : Purpose) (number code : ℕ) (described id : Option (List ℕ)) (sessions : List PlayerSession)
     → (session_where (settled_place purpose id sessions) (sessions_after purpose number code described id sessions)).id ≡ (session_where (purpose_place purpose sessions) (sessions_after purpose number code described id sessions)).id
-own_place (purposes.Client asked track) number code described id sessions =
-    made_place asked.place (same_method asked.method methods.Setup) (is_some id) sessions (sessions_after (purposes.Client asked track) number code described id sessions)
-    (λ none no. ap (λ (one : Option ℕ). changed_where one (session_after (purposes.Client asked track) number code described id) sessions)
-    (ap (λ (place : Option ℕ). option_or place (cond (same_method asked.method methods.Setup && is_some id) (empty_place sessions) None)) none
-    ∙ ap (λ b. cond (same_method asked.method methods.Setup && b) (empty_place sessions) None) no ∙ never (same_method asked.method methods.Setup)))
-  where
-    never : (sets : Bool) → cond (sets && false) (empty_place sessions) None ≡ None
-    never true = refl
-    never false = refl
-own_place (purposes.Released play) number code described id sessions = refl
-own_place (purposes.Closing place) number code described id sessions = refl
+own_place purpose number code described id sessions = grind (arith, made_place)
 
 -- A final reply settles, and then what may go up does.
-pub settle_plan : (bases : Bases) (next : ℕ) (pair : Option ℕ) (client : Client) (reply : Reply2) (ssrc : Option ℕ) (purpose : Purpose) (made : Option MadeSession) (seen : List Sight) (described : Option (List ℕ)) (hand : List ℕ) (plan : Plan) →
+pub settle_plan : (bases : Bases) (next : ℕ) (pair : Option ℕ) (client : Client) (reply : Reply2) (ssrc : Option ℕ) (purpose : Purpose) (made : Option MadeSession) (seen : List Sight) (described : Option (List ℕ)) (hand : List ℕ) (plan : PlannedStep) →
     client.pending ≡ Some purpose → 200 ≤ reply.code → id_made made ≡ new_id purpose (told_by reply) → (IsSome made → described_made made ≡ client.described) →
     ((number : ℕ) → seen ≡ map sight (sessions_after purpose number reply.code client.described (id_made made) client.sessions)) →
     ((number : ℕ) → described ≡ described_after purpose reply.code (sessions_after purpose number reply.code client.described (id_made made) client.sessions) client.described) →
     ((number : ℕ) → hand ≡ reply_hand bases client.alive purpose (told_by reply) ssrc (session_where (settled_place purpose (id_made made) client.sessions) (sessions_after purpose number reply.code client.described (id_made made) client.sessions)).id) →
     GoesOnward bases next pair client seen described hand (changes.Settles reply.code made) plan → IsPlan bases next pair client (replies reply ssrc) plan
-settle_plan bases next pair client reply ssrc purpose made seen described hand plan open_for last is about shows tells handed goes =
-    let told : Told = told_by reply in
-    let change : Change = changes.Settles reply.code made in
-    let after : ℕ → Client = λ number. settle_with (Some purpose) number reply.code (id_made made) client in
-    let settled : (number : ℕ) → changed number change client ≡ after number = λ number. ap (λ (one : Option Purpose). settle_with one number reply.code (id_made made) client) open_for in
-    plan_from bases next pair client (replies reply ssrc) hand change plan goes.change_is
-    (subst (λ (one : Option Purpose). IsSome one) (sym open_for) refl, last, about)
-    (λ number. record {
-      later = go bases pair (changed number change client);
-      onward = goes.onward (changed number change client)
-          (subst (IsShown client seen described) (sym (settled number)) (record { alive = refl; idle = refl; waiting = refl; sessions = sym (shows number); about = sym (tells number) }));
-      same =
-          ap (λ b. heard_step bases pair (cond b (idles client) (settle_at bases number client.pending told ssrc client))) (by_code (nat_lt reply.code 200) reply.code refl last)
-          ∙ ap (λ (one : Option Purpose). heard_step bases pair (settle_at bases number one told ssrc client)) open_for
-          ∙ ap (λ (one : Option (List ℕ)). settled_effect bases pair purpose told ssrc client (after_reply number reply.code one client)) (sym is)
-          ∙ ap (λ (bytes : List ℕ). then_effect (hands bytes (changed number change client)) (go bases pair (changed number change client)))
-          (sym (handed number
-          ∙ ap (reply_hand bases client.alive purpose told ssrc) (own_place purpose number reply.code client.described (id_made made) client.sessions)
-          ∙ ap (λ (one : Client). reply_hand bases client.alive purpose told ssrc (id_after purpose client one)) (sym (settled number))));
-    })
+settle_plan bases next pair client reply ssrc purpose made seen described hand plan open_for last is about shows tells handed goes = grind (arith, plan_from, by_code, nat_lt, own_place)
 
 -- by the code and the id as they were read
-pub settle_from : (bases : Bases) (next : ℕ) (pair : Option ℕ) (client lives : Client) (reply : Reply2) (ssrc : Option ℕ) (purpose : Purpose) (code : ℕ) (id own : Option (List ℕ)) (made : Option MadeSession) (seen : List Sight) (described : Option (List ℕ)) (hand : List ℕ) (plan : Plan) →
+pub settle_from : (bases : Bases) (next : ℕ) (pair : Option ℕ) (client lives : Client) (reply : Reply2) (ssrc : Option ℕ) (purpose : Purpose) (code : ℕ) (id own : Option (List ℕ)) (made : Option MadeSession) (seen : List Sight) (described : Option (List ℕ)) (hand : List ℕ) (plan : PlannedStep) →
     client.pending ≡ Some purpose → 200 ≤ reply.code → code ≡ reply.code → id_made made ≡ id → id ≡ new_id purpose (told_by reply) → (IsSome made → described_made made ≡ client.described) → lives ≡ client →
     ((number : ℕ) → seen ≡ map sight (sessions_after purpose number code client.described id client.sessions)) →
     ((number : ℕ) → described ≡ described_after purpose code (sessions_after purpose number code client.described id client.sessions) client.described) →
@@ -168,21 +118,21 @@ settle_from bases next pair client lives reply ssrc purpose code id own made see
     (subst (λ (one : Client). GoesOnward bases next pair one seen described hand (changes.Settles code made) plan) there goes))
 
 -- The plans for a request that comes.
-pub plan_waits : (bases : Bases) (next : ℕ) (pair : Option ℕ) (client : Client) (shape : Shape) (change : Change) (up : Up) (plan : Plan) → shape.kind ≡ kinds.Request → length client.waiting < MOST_WAITING → client.alive ≡ true → client.pending ≡ None →
+pub plan_waits : (bases : Bases) (next : ℕ) (pair : Option ℕ) (client : Client) (shape : Shape) (change : Change) (up : Up) (plan : PlannedStep) → shape.kind ≡ kinds.Request → length client.waiting < MOST_WAITING → client.alive ≡ true → client.pending ≡ None →
     due_for next (map sight client.sessions) ≡ Some up → change ≡ changes.Waits (shape ∷ []) → plan ≡ still change [] up → IsPlan bases next pair client (requests shape) plan
 plan_waits bases next pair client shape change up plan kind space lives idle due waits is =
     let waiting : Client = after_waiting (shape ∷ []) client in
-    plan_from bases next pair client (requests shape) [] (changes.Waits (shape ∷ [])) plan (ap (λ (one : Plan). one.change) is ∙ waits) space
+    plan_from bases next pair client (requests shape) [] (changes.Waits (shape ∷ [])) plan (ap (λ (one : PlannedStep). one.change) is ∙ waits) space
     (λ number. record {
       later = go bases pair waiting;
       onward =
-          subst (λ (one : Plan). Onward next pair waiting [] one (go bases pair waiting)) (sym is)
+          subst (λ (one : PlannedStep). Onward next pair waiting [] one (go bases pair waiting)) (sym is)
           (subst (Onward next pair waiting [] (still change [] up)) (sym (go_alive bases pair waiting idle lives))
           (due_onward bases next pair waiting (map sight client.sessions) change [] up idle refl due (due_place waiting) refl (go_due bases pair) (λ k. refl)));
       same = request_same bases number pair client shape lives kind;
     })
 
-pub plan_before : (bases : Bases) (next : ℕ) (pair : Option ℕ) (client : Client) (last : Given) (shape : Shape) (progress : Progress) (change : Change) (plan : Plan) → shape.kind ≡ kinds.Request → length client.waiting < MOST_WAITING →
+pub plan_before : (bases : Bases) (next : ℕ) (pair : Option ℕ) (client : Client) (last : Given) (shape : Shape) (progress : Progress) (change : Change) (plan : PlannedStep) → shape.kind ≡ kinds.Request → length client.waiting < MOST_WAITING →
     client.alive ≡ true → client.pending ≡ None → due_place client ≡ None → IsTreated (given bases (is_none pair) client) last client.waiting [] progress → is_some progress.going ≡ true → change ≡ changes.Waits (shape ∷ []) →
     IsFinished next pair change progress plan → IsPlan bases next pair client (requests shape) plan
 plan_before bases next pair client last shape progress change plan kind space lives idle due all goes waits finished =
@@ -195,77 +145,64 @@ plan_before bases next pair client last shape progress change plan kind space li
       same = request_same bases number pair client shape lives kind;
     })
 
-pub plan_with : (bases : Bases) (next : ℕ) (pair : Option ℕ) (client : Client) (last then : Given) (shape : Shape) (progress more : Progress) (plan : Plan) → shape.kind ≡ kinds.Request → client.alive ≡ true → client.pending ≡ None → due_place client ≡ None →
-    IsTreated (given bases (is_none pair) client) last client.waiting [] progress → is_some progress.going ≡ false → more ≡ progressed (decision_on last shape) progress → IsShortQueue (decision_on last shape) → then ≡ given_then (decision_on last shape) last →
+pub plan_with : (bases : Bases) (next : ℕ) (pair : Option ℕ) (client : Client) (last then : Given) (shape : Shape) (progress more : Progress) (plan : PlannedStep) → shape.kind ≡ kinds.Request → client.alive ≡ true → client.pending ≡ None → due_place client ≡ None →
+    IsTreated (given bases (is_none pair) client) last client.waiting [] progress → is_some progress.going ≡ false → shape.head ≤ MOST_HEAD → more ≡ progressed (decision_on last shape) progress → then ≡ given_then (decision_on last shape) last →
     IsFinished next pair changes.Nothing more plan → IsPlan bases next pair client (requests shape) plan
-plan_with bases next pair client last then shape progress more plan kind lives idle due all goes is short after finished =
+plan_with bases next pair client last then shape progress more plan kind lives idle due all goes head is after finished =
     plan_from bases next pair client (requests shape) [] changes.Nothing plan finished.change tt
     (λ number. record {
       later = go bases pair (after_waiting (shape ∷ []) client);
       onward =
           treat_onward bases next pair client then (client.waiting ++ shape ∷ []) [] more changes.Nothing plan lives idle due
-          (done_and client (given bases (is_none pair) client) last then shape progress more refl all (not_going progress.going goes) is short after) finished;
+          (done_and client (given bases (is_none pair) client) last then shape progress more refl all (not_going progress.going goes) head is after) finished;
       same = request_same bases number pair client shape lives kind;
     })
 
 -- The end of what plays was told.
-ended_steps : (bases : Bases) (next : ℕ) (pair : Option ℕ) (client : Client) (id : List ℕ) (names : Names) (place : Option ℕ) (plan : Plan) → place ≡ place_with id client.sessions → IfSome place (λ one. one < MOST_SESSIONS) → plan.change ≡ changes.Ends place names →
+ended_steps : (bases : Bases) (next : ℕ) (pair : Option ℕ) (client : Client) (id : List ℕ) (names : Names) (place : Option ℕ) (plan : PlannedStep) → place ≡ place_with id client.sessions → IfSome place (λ one. one < MOST_SESSIONS) → plan.change ≡ changes.Ends place names →
     Onward next pair (after_note place names client) [] plan (release (after_note place names client)) → IsPlan bases next pair client (notes id EndOfStream names) plan
-ended_steps bases next pair client id names place plan found within change onward =
-    plan_from bases next pair client (notes id EndOfStream names) [] (changes.Ends place names) plan change within
-    (λ number. record {
-      later = release (after_note place names client);
-      onward = onward;
-      same = ap (λ (one : Option ℕ). then_effect (stays (after_note one names client)) (release (after_note one names client))) (sym found);
-    })
+ended_steps bases next pair client id names place plan found within change onward = grind arith
 
 -- nothing goes up where none is due
 none_released : (client : Client) (place : Option ℕ) → due_place client ≡ place → place ≡ None → stays client ≡ release client
 none_released client place is none = sym (ap (λ (one : Option ℕ). released_at one client) (is ∙ none))
 
-idle_is : (pending : Option Purpose) → is_some pending ≡ false → pending ≡ None
-idle_is None e = refl
-idle_is (Some purpose) e = cc
+pub idle_is : (pending : Option Purpose) → is_some pending ≡ false → pending ≡ None
+idle_is pending e = grind arith
 
 pub is_idle : (client : Client) → false ≡ is_some client.pending → client.pending ≡ None
 is_idle client e = idle_is client.pending (sym e)
 
-pub end_due : (bases : Bases) (next : ℕ) (pair : Option ℕ) (client : Client) (id : List ℕ) (names : Names) (place : Option ℕ) (seen : List Sight) (up : Up) (first : List ℕ) (plan : Plan) → place ≡ place_with id client.sessions → IfSome place (λ one. one < MOST_SESSIONS) → client.pending ≡ None →
+pub end_due : (bases : Bases) (next : ℕ) (pair : Option ℕ) (client : Client) (id : List ℕ) (names : Names) (place : Option ℕ) (seen : List Sight) (up : Up) (first : List ℕ) (plan : PlannedStep) → place ≡ place_with id client.sessions → IfSome place (λ one. one < MOST_SESSIONS) → client.pending ≡ None →
     seen ≡ map sight (changed_where place (when_ended names) client.sessions) → due_for next seen ≡ Some up → first ≡ [] → plan ≡ still (changes.Ends place names) first up → IsPlan bases next pair client (notes id EndOfStream names) plan
 end_due bases next pair client id names place seen up first plan found within idle shows due empty is =
     let after : Client = after_note place names client in
     let same : plan ≡ still (changes.Ends place names) [] up = is ∙ ap (λ bytes. still (changes.Ends place names) bytes up) empty in
-    ended_steps bases next pair client id names place plan found within (ap (λ (one : Plan). one.change) is)
-    (subst (λ (one : Plan). Onward next pair after [] one (release after)) (sym same)
+    ended_steps bases next pair client id names place plan found within (ap (λ (one : PlannedStep). one.change) is)
+    (subst (λ (one : PlannedStep). Onward next pair after [] one (release after)) (sym same)
     (due_onward bases next pair after seen (changes.Ends place names) [] up idle (sym shows) due (due_place after) refl released_at (λ k. refl)))
 
-pub end_none : (bases : Bases) (next : ℕ) (pair : Option ℕ) (client : Client) (id : List ℕ) (names : Names) (place : Option ℕ) (seen : List Sight) (first : List ℕ) (plan : Plan) → place ≡ place_with id client.sessions → IfSome place (λ one. one < MOST_SESSIONS) → client.pending ≡ None →
+pub end_none : (bases : Bases) (next : ℕ) (pair : Option ℕ) (client : Client) (id : List ℕ) (names : Names) (place : Option ℕ) (seen : List Sight) (first : List ℕ) (plan : PlannedStep) → place ≡ place_with id client.sessions → IfSome place (λ one. one < MOST_SESSIONS) → client.pending ≡ None →
     seen ≡ map sight (changed_where place (when_ended names) client.sessions) → due_for next seen ≡ None → first ≡ [] → plan ≡ still (changes.Ends place names) first ups.Nothing → IsPlan bases next pair client (notes id EndOfStream names) plan
 end_none bases next pair client id names place seen first plan found within idle shows none empty is =
     let after : Client = after_note place names client in
     let same : plan ≡ still (changes.Ends place names) [] ups.Nothing = is ∙ ap (λ bytes. still (changes.Ends place names) bytes ups.Nothing) empty in
-    ended_steps bases next pair client id names place plan found within (ap (λ (one : Plan). one.change) is)
-    (subst (λ (one : Plan). Onward next pair after [] one (release after)) (sym same)
+    ended_steps bases next pair client id names place plan found within (ap (λ (one : PlannedStep). one.change) is)
+    (subst (λ (one : PlannedStep). Onward next pair after [] one (release after)) (sym same)
     (subst (Onward next pair after [] (still (changes.Ends place names) [] ups.Nothing)) (none_released after (due_place after) refl (none_due next after seen idle (sym shows) none)) (still_onward next pair after (changes.Ends place names) [])))
 
 -- A connection closes.
-close_steps : (bases : Bases) (next : ℕ) (pair : Option ℕ) (client : Client) (why : CloseWhy) (plan : Plan) → client.alive ≡ true → plan.change ≡ changes.Closes why →
+close_steps : (bases : Bases) (next : ℕ) (pair : Option ℕ) (client : Client) (why : CloseWhy) (plan : PlannedStep) → client.alive ≡ true → plan.change ≡ changes.Closes why →
     Onward next pair (after_close client) [] plan (go bases pair (after_close client)) → IsPlan bases next pair client (shuts why) plan
-close_steps bases next pair client why plan lives change onward =
-    plan_from bases next pair client (shuts why) [] (changes.Closes why) plan change tt
-    (λ number. record {
-      later = go bases pair (after_close client);
-      onward = onward;
-      same = ap (λ b. heard_step bases pair (closes b why client)) lives;
-    })
+close_steps bases next pair client why plan lives change onward = grind arith
 
-pub close_idle : (bases : Bases) (next : ℕ) (pair : Option ℕ) (client : Client) (why : CloseWhy) (sights : List Sight) (up : Up) (first : List ℕ) (plan : Plan) → client.alive ≡ true → client.pending ≡ None → sights ≡ map sight client.sessions → up ≡ leave_up (filled_seen sights) → first ≡ [] →
+pub close_idle : (bases : Bases) (next : ℕ) (pair : Option ℕ) (client : Client) (why : CloseWhy) (sights : List Sight) (up : Up) (first : List ℕ) (plan : PlannedStep) → client.alive ≡ true → client.pending ≡ None → sights ≡ map sight client.sessions → up ≡ leave_up (filled_seen sights) → first ≡ [] →
     plan ≡ still (changes.Closes why) first up → IsPlan bases next pair client (shuts why) plan
 close_idle bases next pair client why sights up first plan lives idle shows leaves empty is =
     let after : Client = after_close client in
     let same : plan ≡ still (changes.Closes why) [] (leave_up (filled_seen sights)) = is ∙ ap (λ bytes. still (changes.Closes why) bytes up) empty ∙ ap (λ one. still (changes.Closes why) [] one) leaves in
     let left : filled_seen sights ≡ filled_place after.sessions =
     ap filled_seen shows ∙ filled_shown client.sessions ∙ sym (first_mapped (λ session. is_some session.id) when_unqueued 0 client.sessions (λ session. refl)) in
-    close_steps bases next pair client why plan lives (ap (λ (one : Plan). one.change) is)
-    (subst (λ (one : Plan). Onward next pair after [] one (go bases pair after)) (sym same)
+    close_steps bases next pair client why plan lives (ap (λ (one : PlannedStep). one.change) is)
+    (subst (λ (one : PlannedStep). Onward next pair after [] one (go bases pair after)) (sym same)
     (subst (Onward next pair after [] (still (changes.Closes why) [] (leave_up (filled_seen sights)))) (sym (go_closed bases pair after idle refl)) (leave_onward next pair after (filled_seen sights) (changes.Closes why) [] refl idle left)))

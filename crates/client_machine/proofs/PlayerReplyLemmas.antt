@@ -1,6 +1,7 @@
 -- What a reply says of its session.
 use Rattle.std.proofs.Common.{◌≡◌, ◌∙◌, ◌<◌, ◌^◌, ℕ, Bool, true, false, cond, List, [], ◌∷◌, Option, None, Some, IfSome, option_map, refl, sym, ap, subst}
 use Rattle.std.specs.Prelude.{codes}
+use Rattle.std.specs.Borrow.{Bor}
 use Rattle.std.specs.Option.{option_and_then, option_or}
 use Rattle.std.specs.Str.{bytes_eq}
 use Rattle.gate_bytes.specs.Ascii.{semicolon, equals_sign}
@@ -14,10 +15,20 @@ use Rattle.rtsp_small.specs.declared.session.TheConstants.{TIMEOUT_DIGITS}
 use Rattle.rtsp_small.specs.declared.session.SessionField.{SessionField}
 use Rattle.rtsp_small.specs.Sessions.{SessionParts, is_session_id, timeout_in, first_timeout, session_in, session_of}
 use Rattle.rtsp_small.specs.Views.{session_seen}
+use Rattle.rtsp_transport.specs.Channels.{AreApart}
 use Rattle.head_two.specs.declared.reply.Reply2.{Reply2}
+use Rattle.session_one.specs.declared.parts.Asked.{Asked}
+use Rattle.session_one.specs.declared.parts.Track.{Track}
 use Rattle.translate_down.specs.Replies.{told_by}
 use Rattle.translate_down.proofs.FieldLemmas.{own_field, untransported_field}
-use Rattle.client_machine.specs.ServerItems.{session_told}
+use Rattle.client_slot.specs.declared.purpose.Purpose.{Purpose}
+use Rattle.client_slot.specs.declared.purpose.Pending.{Pending}
+use Rattle.client_slot.specs.declared.purpose.Pending.TheVariants as lent
+use Rattle.client_slot.specs.Purposes.{purpose_seen}
+use Rattle.client_slot.specs.Session.{PlayerSession}
+use Rattle.client_slot.specs.Bounds.{IsPlacedIn}
+use Rattle.client_slot.proofs.RoomLemmas.{open_placed}
+use Rattle.client_machine.specs.Step.{session_told}
 
 -- Its Session is among what it tells.
 pub session_is : (reply : Reply2) → option_and_then session_of (field_of reply.head.headers (codes "Session")) ≡ session_told (told_by reply)
@@ -55,3 +66,13 @@ in_short (id ∷ parameters) = with_short (is_session_id id) id (first_timeout p
 pub session_short : (field : Option SessionField) (value : List ℕ) → option_map session_seen field ≡ session_of value → IfSome field (λ one. IsShort one.timeout)
 session_short None value is = tt
 session_short (Some field) value is = subst (λ (session : Option SessionParts). IfSome session (λ one. IsShort one.timeout)) (sym is) (in_short (parts_at semicolon value))
+
+-- The stream of an open SETUP has two channels.
+lent_apart : (track : Option (Bor Track)) → IfSome (option_map (λ (one : Bor Track). one.now) track) (λ one. AreApart one.client) → IfSome track (λ one. AreApart one.now.client)
+lent_apart None apart = tt
+lent_apart (Some track) apart = apart
+
+pub open_apart : (pending : Pending) (asked : Bor Asked) (track : Option (Bor Track)) (kept : Option Purpose) (sessions : List PlayerSession) → kept ≡ Some (purpose_seen pending) → pending ≡ lent.Client asked track → IfSome kept (IsPlacedIn sessions)
+    → IfSome track (λ one. AreApart one.now.client)
+open_apart pending asked track kept sessions is seen placed =
+    lent_apart track (open_placed kept (purpose_seen (lent.Client asked track)) sessions (is ∙ ap (λ (one : Pending). Some (purpose_seen one)) seen) placed).apart

@@ -1,5 +1,5 @@
 -- A step is the same under every numbering that tells apart what the event names.
-use Rattle.std.proofs.Common.{◌≡◌, ◌∙◌, ℕ, ◌==◌, nat_lt, Bool, true, false, cond, List, [], ◌∷◌, map, Option, Some, None, refl, sym, ap}
+use Rattle.std.proofs.Common.{◌≡◌, ◌∙◌, ℕ, ◌==◌, nat_lt, Bool, true, cond, List, [], ◌∷◌, map, Option, Some, None, refl, sym, ap, arith}
 use Rattle.std.specs.Prelude.{◌++◌, is_none}
 use Rattle.std.specs.Option.{option_map, option_or}
 use Rattle.std.specs.List.{find}
@@ -7,51 +7,36 @@ use Rattle.rtsp_head.specs.Items.{Shape}
 use Rattle.rtsp_head.specs.declared.item.ItemKind.{ItemKind}
 use Rattle.rtsp_head.specs.declared.item.ItemKind.TheVariants.{Request, Response, Frame, Bad}
 use Rattle.rtsp_small.specs.declared.notify.NotifyReason.{NotifyReason}
-use Rattle.rtsp_small.specs.declared.notify.NotifyReason.TheVariants.{EndOfStream, MediaProperties, ScaleChange}
 use Rattle.rtsp_transport.specs.declared.channels.Pair.{Pair}
 use Rattle.rtsp_uri.specs.declared.base.Bases.{Bases}
 use Rattle.session_one.specs.declared.parts.Play.{Play}
 use Rattle.session_one.specs.declared.parts.Track.{Track}
-use Rattle.session_one.specs.Table.{same_method}
-use Rattle.rtsp_small.specs.declared.method.Method.TheVariants.{Setup}
-use Rattle.translate_up.specs.QueuedPlay.{play_up}
 use Rattle.translate_up.specs.Views.{session_with_pairs}
 use Rattle.session_two.specs.declared.names.Names.{Names}
 use Rattle.translate_down.specs.Replies.{Told}
 use Rattle.client_slot.specs.declared.purpose.Purpose.{Purpose}
-use Rattle.client_slot.specs.declared.purpose.Purpose.TheVariants as purposes
 use Rattle.client_slot.specs.Client.{Client}
 use Rattle.client_slot.specs.Session.{PlayerSession}
-use Rattle.client_slot.specs.Places.{session_at, session_where, place_with, is_session, queued_at, tracks_of}
-use Rattle.client_slot.specs.Changes.{due_place, closing_place, purpose_place, after_queueing, after_reply, after_note}
-use Rattle.client_slot.specs.ClosingRequest.{closing_request}
+use Rattle.client_slot.specs.Places.{session_where, place_with, tracks_of}
+use Rattle.client_slot.specs.Changes.{due_place, closing_place, purpose_place, after_queueing}
 use Rattle.client_slot.specs.Renumber.{track_under, purpose_under, client_under, names_under, AreToldApart}
 use Rattle.client_slot.proofs.RenumberLemmas.{sessions_under, at_under, where_under, place_under, reply_under, note_under, queueing_under, due_under, queued_under, release_under, close_under, left_under, closing_under}
 use Rattle.client_machine.specs.declared.why.CloseWhy.{CloseWhy}
 use Rattle.client_machine.specs.declared.why.CloseWhy.TheVariants as why
-use Rattle.client_machine.specs.Effects.{Outgoing, asks, Effect, stays, sends, hands, then_effect}
-use Rattle.client_machine.specs.Events.{PrivateEvent, arrive, answer, note, media, end, slow, up_end}
+use Rattle.client_machine.specs.Events.{Effect, hands, then_effect, PrivateEvent}
 use Rattle.client_machine.specs.Frames.{channel_in, behind_channel, Half, half_on, half_for, player_channel, channel_for}
-use Rattle.client_machine.specs.Treatment.{session_seen, given, Going, Treated, treated}
-use Rattle.client_machine.specs.Releases as going
-use Rattle.client_machine.specs.ServerItems.{NextPart, rests, releases, goes_on, Hearing, idles, closes, carry, take_item, take, new_id, reply_for, reply_hand, id_after, settled, settle_at, take_answer, take_note, give, take_media, hear}
-use Rattle.client_machine.specs.Renumber.{message_under, effect_under, event_under, AreTracksApart, IsToldApart}
-use Rattle.client_machine.specs.Step.{going_on, heard_step, step}
+use Rattle.client_machine.specs.Treatment.{session_found, given, Going, Treated, treated}
+use Rattle.client_machine.specs.Step as going
+use Rattle.client_machine.specs.Step.{NextPart, goes_on, Hearing, idles, closes, carry, take_item, take, new_id, reply_for, id_after, settled, settle_at, take_answer, take_note, give, take_media, hear, going_on, heard_step, step}
+use Rattle.client_machine.specs.Renumber.{effect_under, event_under, AreTracksApart, IsToldApart}
 use Rattle.client_machine.proofs.BlindLemmas.{treated_under}
 
 -- the same channels go to the stream
-track_same : (pairs : ℕ → ℕ) (uri : List ℕ) (pair : Option ℕ) (channels : Option Pair) → going.track_of uri (option_map pairs pair) channels ≡ option_map (track_under pairs) (going.track_of uri pair channels)
-track_same pairs uri None channels = refl
-track_same pairs uri (Some pair) None = refl
-track_same pairs uri (Some pair) (Some channels) = refl
-
 pair_same : (pairs : ℕ → ℕ) (channels : Option Pair) (pair : Option ℕ) → going.pair_if_wanted channels (option_map pairs pair) ≡ option_map pairs (going.pair_if_wanted channels pair)
-pair_same pairs None pair = refl
-pair_same pairs (Some channels) pair = refl
+pair_same pairs channels pair = grind arith
 
 none_same : (pairs : ℕ → ℕ) (pair : Option ℕ) → is_none (option_map pairs pair) ≡ is_none pair
-none_same pairs None = refl
-none_same pairs (Some pair) = refl
+none_same pairs pair = grind arith
 
 plays_under : (numbers pairs : ℕ → ℕ) (plays : List Play) (client : Client) → going.after_plays plays (client_under numbers pairs client) ≡ client_under numbers pairs (going.after_plays plays client)
 plays_under numbers pairs [] client = refl
@@ -60,23 +45,16 @@ plays_under numbers pairs (play ∷ plays) client =
 
 goes_at_under : (numbers pairs : ℕ → ℕ) (one : Option Going) (pair : Option ℕ) (hand : List ℕ) (client : Client)
     → going.goes_at one (option_map pairs pair) hand (client_under numbers pairs client) ≡ effect_under numbers pairs (going.goes_at one pair hand client)
-goes_at_under numbers pairs None pair hand client = refl
-goes_at_under numbers pairs (Some one) pair hand client =
-    ap (λ (track : Option Track). record { client = record (client_under numbers pairs client) { pending = Some (purposes.Client one.asked track) }; hand = hand; message = Some (asks one.request (going.pair_if_wanted one.channels (option_map pairs pair))); close = None })
-    (track_same pairs one.asked.uri pair one.channels)
-    ∙ ap (λ (named : Option ℕ). record { client = record (client_under numbers pairs client) { pending = Some (purposes.Client one.asked (option_map (track_under pairs) (going.track_of one.asked.uri pair one.channels))) }; hand = hand; message = Some (asks one.request named); close = None })
-    (pair_same pairs one.channels pair)
+goes_at_under numbers pairs one pair hand client = grind arith
 
 goes_with_under : (numbers pairs : ℕ → ℕ) (all : Treated) (pair : Option ℕ) (client : Client)
     → going.goes_with all (option_map pairs pair) (client_under numbers pairs client) ≡ effect_under numbers pairs (going.goes_with all pair client)
-goes_with_under numbers pairs all pair client =
-    ap (going.goes_at all.going (option_map pairs pair) all.hand) (plays_under numbers pairs all.plays (record client { waiting = all.left }))
-    ∙ goes_at_under numbers pairs all.going pair all.hand (going.after_plays all.plays (record client { waiting = all.left }))
+goes_with_under numbers pairs all pair client = grind (arith, plays_under, goes_at_under)
 
 -- what requests are judged by
-seen_under : (numbers pairs : ℕ → ℕ) (sessions : List PlayerSession) → map session_seen (sessions_under numbers pairs sessions) ≡ map (session_with_pairs pairs) (map session_seen sessions)
+seen_under : (numbers pairs : ℕ → ℕ) (sessions : List PlayerSession) → map session_found (sessions_under numbers pairs sessions) ≡ map (session_with_pairs pairs) (map session_found sessions)
 seen_under numbers pairs [] = refl
-seen_under numbers pairs (one ∷ more) = ap (λ later. session_with_pairs pairs (session_seen one) ∷ later) (seen_under numbers pairs more)
+seen_under numbers pairs (one ∷ more) = ap (λ later. session_with_pairs pairs (session_found one) ∷ later) (seen_under numbers pairs more)
 
 treat_under : (numbers pairs : ℕ → ℕ) (bases : Bases) (pair : Option ℕ) (client : Client) → going.treat bases (option_map pairs pair) (client_under numbers pairs client) ≡ effect_under numbers pairs (going.treat bases pair client)
 treat_under numbers pairs bases pair client =
@@ -86,28 +64,19 @@ treat_under numbers pairs bases pair client =
     ∙ goes_with_under numbers pairs (treated client.waiting (given bases (is_none pair) client)) pair client
 
 released_with_under : (numbers pairs : ℕ → ℕ) (play : Option Play) (id : Option (List ℕ)) (client : Client) → going.released_with play id (client_under numbers pairs client) ≡ effect_under numbers pairs (going.released_with play id client)
-released_with_under numbers pairs None id client = refl
-released_with_under numbers pairs (Some play) id client = ap (sends (asks (play_up id play) None)) (sym (release_under numbers pairs client))
+released_with_under numbers pairs play id client = grind (arith, release_under)
 
 released_at_under : (numbers pairs : ℕ → ℕ) (place : Option ℕ) (client : Client) → going.released_at place (client_under numbers pairs client) ≡ effect_under numbers pairs (going.released_at place client)
-released_at_under numbers pairs None client = refl
-released_at_under numbers pairs (Some place) client =
-    ap (λ (play : Option Play). going.released_with play (session_at place (sessions_under numbers pairs client.sessions)).id (client_under numbers pairs client)) (queued_under numbers pairs place client.sessions)
-    ∙ ap (λ (session : PlayerSession). going.released_with (queued_at place client.sessions) session.id (client_under numbers pairs client)) (at_under numbers pairs place client.sessions)
-    ∙ released_with_under numbers pairs (queued_at place client.sessions) (session_at place client.sessions).id client
+released_at_under numbers pairs place client = grind (arith, sessions_under, queued_under, at_under, released_with_under)
 
 release_same : (numbers pairs : ℕ → ℕ) (client : Client) → going.release (client_under numbers pairs client) ≡ effect_under numbers pairs (going.release client)
 release_same numbers pairs client = ap (λ place. going.released_at place (client_under numbers pairs client)) (due_under numbers pairs client) ∙ released_at_under numbers pairs (due_place client) client
 
 leave_with_under : (numbers pairs : ℕ → ℕ) (id control : Option (List ℕ)) (client : Client) → going.leave_with id control (client_under numbers pairs client) ≡ effect_under numbers pairs (going.leave_with id control client)
-leave_with_under numbers pairs None control client = refl
-leave_with_under numbers pairs (Some id) control client = ap (sends (asks (closing_request control id) None)) (sym (closing_under numbers pairs client))
+leave_with_under numbers pairs id control client = grind (arith, closing_under)
 
 leave_at_under : (numbers pairs : ℕ → ℕ) (place : Option ℕ) (client : Client) → going.leave_at place (client_under numbers pairs client) ≡ effect_under numbers pairs (going.leave_at place client)
-leave_at_under numbers pairs None client = refl
-leave_at_under numbers pairs (Some place) client =
-    ap (λ (session : PlayerSession). going.leave_with session.id session.control (client_under numbers pairs client)) (at_under numbers pairs place client.sessions)
-    ∙ leave_with_under numbers pairs (session_at place client.sessions).id (session_at place client.sessions).control client
+leave_at_under numbers pairs place client = grind (arith, at_under, leave_with_under)
 
 leave_same : (numbers pairs : ℕ → ℕ) (client : Client) → going.leave (client_under numbers pairs client) ≡ effect_under numbers pairs (going.leave client)
 leave_same numbers pairs client = ap (λ place. going.leave_at place (client_under numbers pairs client)) (left_under numbers pairs client) ∙ leave_at_under numbers pairs (closing_place client) client
@@ -119,37 +88,29 @@ go_due_under numbers pairs bases pair None client = treat_under numbers pairs ba
 
 go_idle_under : (numbers pairs : ℕ → ℕ) (bases : Bases) (pair : Option ℕ) (alive : Bool) (client : Client)
     → going.go_idle bases (option_map pairs pair) alive (client_under numbers pairs client) ≡ effect_under numbers pairs (going.go_idle bases pair alive client)
-go_idle_under numbers pairs bases pair true client =
-    ap (λ place. going.go_due bases (option_map pairs pair) place (client_under numbers pairs client)) (due_under numbers pairs client)
-    ∙ go_due_under numbers pairs bases pair (due_place client) client
-go_idle_under numbers pairs bases pair false client = leave_same numbers pairs client
+go_idle_under numbers pairs bases pair alive client = grind (arith, due_under, go_due_under, leave_same)
 
 go_at_under : (numbers pairs : ℕ → ℕ) (bases : Bases) (pair : Option ℕ) (pending : Option Purpose) (client : Client)
     → going.go_at bases (option_map pairs pair) (option_map (purpose_under pairs) pending) (client_under numbers pairs client) ≡ effect_under numbers pairs (going.go_at bases pair pending client)
-go_at_under numbers pairs bases pair None client = go_idle_under numbers pairs bases pair client.alive client
-go_at_under numbers pairs bases pair (Some purpose) client = refl
+go_at_under numbers pairs bases pair pending client = grind (arith, go_idle_under)
 
 going_on_under : (numbers pairs : ℕ → ℕ) (bases : Bases) (pair : Option ℕ) (next : NextPart) (client : Client)
     → going_on bases (option_map pairs pair) next (client_under numbers pairs client) ≡ effect_under numbers pairs (going_on bases pair next client)
-going_on_under numbers pairs bases pair rests client = refl
-going_on_under numbers pairs bases pair releases client = release_same numbers pairs client
-going_on_under numbers pairs bases pair goes_on client = go_at_under numbers pairs bases pair client.pending client
+going_on_under numbers pairs bases pair next client = grind (arith, release_same, go_at_under)
 
 -- what an event does by itself
 abbrev heard_under : (ℕ → ℕ) → (ℕ → ℕ) → Hearing → Hearing
 heard_under numbers pairs heard = record { effect = effect_under numbers pairs heard.effect; next = heard.next }
 
 closes_under : (numbers pairs : ℕ → ℕ) (alive : Bool) (why : CloseWhy) (client : Client) → closes alive why (client_under numbers pairs client) ≡ heard_under numbers pairs (closes alive why client)
-closes_under numbers pairs false why client = refl
-closes_under numbers pairs true why client = ap (λ (after : Client). record { effect = record { client = after; hand = []; message = None; close = Some why }; next = goes_on }) (sym (close_under numbers pairs client))
+closes_under numbers pairs alive why client = grind (arith, close_under)
 
 abbrev half_under : (ℕ → ℕ) → Half → Half
 half_under pairs half = record { pair = pairs half.pair; half = half.half }
 
 half_here : (pairs : ℕ → ℕ) (pair : ℕ) (half : Option ℕ) (later moved : Option Half) → moved ≡ option_map (half_under pairs) later
     → option_or (option_map (λ one. record { pair = pairs pair; half = one }) half) moved ≡ option_map (half_under pairs) (option_or (option_map (λ one. record { pair = pair; half = one }) half) later)
-half_here pairs pair None later moved same = same
-half_here pairs pair (Some one) later moved same = refl
+half_here pairs pair half later moved same = grind arith
 
 half_same : (pairs : ℕ → ℕ) (channel : ℕ) (tracks : List Track) → half_for channel (map (track_under pairs) tracks) ≡ option_map (half_under pairs) (half_for channel tracks)
 half_same pairs channel [] = refl
@@ -166,8 +127,7 @@ tracks_of_under numbers pairs (one ∷ more) = ap (λ later. map (track_under pa
 
 carry_under : (numbers pairs : ℕ → ℕ) (half : Option Half) (rest : List ℕ) (client : Client)
     → carry (option_map (half_under pairs) half) rest (client_under numbers pairs client) ≡ heard_under numbers pairs (carry half rest client)
-carry_under numbers pairs None rest client = refl
-carry_under numbers pairs (Some half) rest client = refl
+carry_under numbers pairs half rest client = grind arith
 
 item_under : (numbers pairs : ℕ → ℕ) (kind : ItemKind) (shape : Shape) (client : Client) → take_item kind shape (client_under numbers pairs client) ≡ heard_under numbers pairs (take_item kind shape client)
 item_under numbers pairs Request shape client = refl
@@ -179,54 +139,35 @@ item_under numbers pairs Frame shape client =
 item_under numbers pairs (Bad kind) shape client = closes_under numbers pairs true why.BadItem client
 
 take_under : (numbers pairs : ℕ → ℕ) (alive : Bool) (shape : Shape) (client : Client) → take alive shape (client_under numbers pairs client) ≡ heard_under numbers pairs (take alive shape client)
-take_under numbers pairs false shape client = refl
-take_under numbers pairs true shape client = item_under numbers pairs shape.kind shape client
+take_under numbers pairs alive shape client = grind (arith, item_under)
 
 id_same : (pairs : ℕ → ℕ) (purpose : Purpose) (told : Told) → new_id (purpose_under pairs purpose) told ≡ new_id purpose told
-id_same pairs (purposes.Client asked track) told = refl
-id_same pairs (purposes.Released play) told = refl
-id_same pairs (purposes.Closing place) told = refl
+id_same pairs purpose told = grind arith
 
 purpose_place_under : (numbers pairs : ℕ → ℕ) (purpose : Purpose) (sessions : List PlayerSession) → purpose_place (purpose_under pairs purpose) (sessions_under numbers pairs sessions) ≡ purpose_place purpose sessions
-purpose_place_under numbers pairs (purposes.Client asked track) sessions =
-    ap (λ (empty : Option ℕ). option_or asked.place (cond (same_method asked.method Setup) empty None)) (place_under numbers pairs (λ session. is_none session.id) 0 sessions (λ session. refl))
-purpose_place_under numbers pairs (purposes.Released play) sessions = refl
-purpose_place_under numbers pairs (purposes.Closing place) sessions = refl
+purpose_place_under numbers pairs purpose sessions = grind (arith, place_under)
 
 -- the id of the session that a request is for
 id_after_under : (numbers pairs : ℕ → ℕ) (purpose : Purpose) (client after : Client) → id_after (purpose_under pairs purpose) (client_under numbers pairs client) (client_under numbers pairs after) ≡ id_after purpose client after
-id_after_under numbers pairs purpose client after =
-    ap (λ (place : Option ℕ). (session_where place (sessions_under numbers pairs after.sessions)).id) (purpose_place_under numbers pairs purpose client.sessions)
-    ∙ ap (λ (session : PlayerSession). session.id) (where_under numbers pairs (purpose_place purpose client.sessions) after.sessions)
+id_after_under numbers pairs purpose client after = grind (arith, sessions_under, purpose_place_under, where_under)
 
 text_same : (pairs : ℕ → ℕ) (bases : Bases) (purpose : Purpose) (told : Told) (ssrc : Option ℕ) (id : Option (List ℕ)) → reply_for bases (purpose_under pairs purpose) told ssrc id ≡ reply_for bases purpose told ssrc id
-text_same pairs bases (purposes.Client asked None) told ssrc id = refl
-text_same pairs bases (purposes.Client asked (Some track)) told ssrc id = refl
-text_same pairs bases (purposes.Released play) told ssrc id = refl
-text_same pairs bases (purposes.Closing place) told ssrc id = refl
+text_same pairs bases purpose told ssrc id = grind arith
 
 abbrev hears : List ℕ → Client → Hearing
 hears text then = record { effect = hands text then; next = goes_on }
 
 settled_under : (numbers pairs : ℕ → ℕ) (bases : Bases) (number : ℕ) (purpose : Purpose) (told : Told) (ssrc : Option ℕ) (client : Client)
     → settled bases (numbers number) (purpose_under pairs purpose) told ssrc (client_under numbers pairs client) ≡ heard_under numbers pairs (settled bases number purpose told ssrc client)
-settled_under numbers pairs bases number purpose told ssrc client =
-    let after = after_reply number told.code (new_id purpose told) client in
-    let own = client_under numbers pairs client in
-    ap (λ (id : Option (List ℕ)). hears (reply_hand bases client.alive (purpose_under pairs purpose) told ssrc (id_after (purpose_under pairs purpose) own (after_reply (numbers number) told.code id own))) (after_reply (numbers number) told.code id own)) (id_same pairs purpose told)
-    ∙ ap (λ (then : Client). hears (reply_hand bases client.alive (purpose_under pairs purpose) told ssrc (id_after (purpose_under pairs purpose) own then)) then) (sym (reply_under numbers pairs number told.code (new_id purpose told) client))
-    ∙ ap (λ (id : Option (List ℕ)). hears (reply_hand bases client.alive (purpose_under pairs purpose) told ssrc id) (client_under numbers pairs after)) (id_after_under numbers pairs purpose client after)
-    ∙ ap (λ (text : List ℕ). hears (cond client.alive text []) (client_under numbers pairs after)) (text_same pairs bases purpose told ssrc (id_after purpose client after))
+settled_under numbers pairs bases number purpose told ssrc client = grind (arith, id_same, reply_under, id_after_under, text_same)
 
 settle_at_under : (numbers pairs : ℕ → ℕ) (bases : Bases) (number : ℕ) (pending : Option Purpose) (told : Told) (ssrc : Option ℕ) (client : Client)
     → settle_at bases (numbers number) (option_map (purpose_under pairs) pending) told ssrc (client_under numbers pairs client) ≡ heard_under numbers pairs (settle_at bases number pending told ssrc client)
-settle_at_under numbers pairs bases number None told ssrc client = refl
-settle_at_under numbers pairs bases number (Some purpose) told ssrc client = settled_under numbers pairs bases number purpose told ssrc client
+settle_at_under numbers pairs bases number pending told ssrc client = grind (arith, settled_under)
 
 answer_by : (numbers pairs : ℕ → ℕ) (early : Bool) (client : Client) (moved heard : Hearing) → moved ≡ heard_under numbers pairs heard
     → cond early (idles (client_under numbers pairs client)) moved ≡ heard_under numbers pairs (cond early (idles client) heard)
-answer_by numbers pairs true client moved heard same = refl
-answer_by numbers pairs false client moved heard same = same
+answer_by numbers pairs early client moved heard same = grind arith
 
 answer_under : (numbers pairs : ℕ → ℕ) (bases : Bases) (number : ℕ) (told : Told) (ssrc : Option ℕ) (client : Client)
     → take_answer bases (numbers number) told ssrc (client_under numbers pairs client) ≡ heard_under numbers pairs (take_answer bases number told ssrc client)
@@ -235,16 +176,11 @@ answer_under numbers pairs bases number told ssrc client =
 
 take_note_under : (numbers pairs : ℕ → ℕ) (id : List ℕ) (reason : NotifyReason) (names : Names) (client : Client) → AreToldApart numbers (session_where (place_with id client.sessions) client.sessions).running names
     → take_note id reason (names_under numbers names) (client_under numbers pairs client) ≡ heard_under numbers pairs (take_note id reason names client)
-take_note_under numbers pairs id EndOfStream names client apart =
-    ap (λ (place : Option ℕ). record { effect = stays (after_note place (names_under numbers names) (client_under numbers pairs client)); next = releases }) (place_under numbers pairs (λ session. is_session id session.id) 0 client.sessions (λ session. refl))
-    ∙ ap (λ (after : Client). record { effect = stays after; next = releases }) (sym (note_under numbers pairs (place_with id client.sessions) names client apart))
-take_note_under numbers pairs id MediaProperties names client apart = refl
-take_note_under numbers pairs id ScaleChange names client apart = refl
+take_note_under numbers pairs id reason names client apart = grind (arith, place_under, note_under)
 
 found_by : (pairs : ℕ → ℕ) (here : Bool) (half : ℕ) (track : Track) (moved found : Option Track) → option_map (player_channel half) moved ≡ option_map (player_channel half) found
     → option_map (player_channel half) (cond here (Some (track_under pairs track)) moved) ≡ option_map (player_channel half) (cond here (Some track) found)
-found_by pairs true half track moved found same = refl
-found_by pairs false half track moved found same = same
+found_by pairs here half track moved found same = grind arith
 
 channel_same : (pairs : ℕ → ℕ) (pair half : ℕ) (tracks : List Track) → AreTracksApart pairs pair tracks → channel_for (pairs pair) half (map (track_under pairs) tracks) ≡ channel_for pair half tracks
 channel_same pairs pair half [] apart = refl
@@ -253,43 +189,23 @@ channel_same pairs pair half (track ∷ tracks) apart =
     ∙ found_by pairs (track.pair == pair) half track (find (λ one. one.pair == pairs pair) (map (track_under pairs) tracks)) (find (λ one. one.pair == pair) tracks) (channel_same pairs pair half tracks apart.1)
 
 give_under : (numbers pairs : ℕ → ℕ) (channel : Option ℕ) (rest : List ℕ) (client : Client) → give channel rest (client_under numbers pairs client) ≡ heard_under numbers pairs (give channel rest client)
-give_under numbers pairs None rest client = refl
-give_under numbers pairs (Some channel) rest client = refl
+give_under numbers pairs channel rest client = grind arith
 
 media_under : (numbers pairs : ℕ → ℕ) (alive : Bool) (pair half : ℕ) (rest : List ℕ) (client : Client) → AreTracksApart pairs pair (tracks_of client.sessions)
     → take_media alive (pairs pair) half rest (client_under numbers pairs client) ≡ heard_under numbers pairs (take_media alive pair half rest client)
-media_under numbers pairs false pair half rest client apart = refl
-media_under numbers pairs true pair half rest client apart =
-    ap (λ tracks. give (channel_for (pairs pair) half tracks) rest (client_under numbers pairs client)) (tracks_of_under numbers pairs client.sessions)
-    ∙ ap (λ channel. give channel rest (client_under numbers pairs client)) (channel_same pairs pair half (tracks_of client.sessions) apart)
-    ∙ give_under numbers pairs (channel_for pair half (tracks_of client.sessions)) rest client
+media_under numbers pairs alive pair half rest client apart = grind (arith, tracks_of_under, channel_same, give_under)
 
 hear_under : (numbers pairs : ℕ → ℕ) (bases : Bases) (number : ℕ) (client : Client) (event : PrivateEvent) → IsToldApart numbers pairs client event
     → hear bases (numbers number) (client_under numbers pairs client) (event_under numbers pairs event) ≡ heard_under numbers pairs (hear bases number client event)
-hear_under numbers pairs bases number client (arrive shape full) apart = take_under numbers pairs client.alive shape client
-hear_under numbers pairs bases number client (answer told ssrc full) apart = answer_under numbers pairs bases number told ssrc client
-hear_under numbers pairs bases number client (note id reason names) apart = take_note_under numbers pairs id reason names client apart
-hear_under numbers pairs bases number client (media pair half rest) apart = media_under numbers pairs client.alive pair half rest client apart
-hear_under numbers pairs bases number client end apart = closes_under numbers pairs client.alive why.Ended client
-hear_under numbers pairs bases number client slow apart = closes_under numbers pairs client.alive why.Slow client
-hear_under numbers pairs bases number client up_end apart = refl
-
-message_same : (pairs : ℕ → ℕ) (first second : Option Outgoing) → option_or (option_map (message_under pairs) first) (option_map (message_under pairs) second) ≡ option_map (message_under pairs) (option_or first second)
-message_same pairs None second = refl
-message_same pairs (Some message) second = refl
+hear_under numbers pairs bases number client event apart = grind (arith, take_under, answer_under, take_note_under, media_under, closes_under)
 
 then_under : (numbers pairs : ℕ → ℕ) (first second : Effect) → then_effect (effect_under numbers pairs first) (effect_under numbers pairs second) ≡ effect_under numbers pairs (then_effect first second)
-then_under numbers pairs first second =
-    ap (λ (message : Option Outgoing). record (effect_under numbers pairs (then_effect first second)) { message = message }) (message_same pairs first.message second.message)
+then_under numbers pairs first second = grind arith
 
 heard_step_under : (numbers pairs : ℕ → ℕ) (bases : Bases) (pair : Option ℕ) (heard : Hearing)
     → heard_step bases (option_map pairs pair) (heard_under numbers pairs heard) ≡ effect_under numbers pairs (heard_step bases pair heard)
-heard_step_under numbers pairs bases pair heard =
-    ap (then_effect (effect_under numbers pairs heard.effect)) (going_on_under numbers pairs bases pair heard.next heard.effect.client)
-    ∙ then_under numbers pairs heard.effect (going_on bases pair heard.next heard.effect.client)
+heard_step_under numbers pairs bases pair heard = grind (arith, going_on_under, then_under)
 
 pub step_under : (numbers pairs : ℕ → ℕ) (bases : Bases) (number : ℕ) (pair : Option ℕ) (client : Client) (event : PrivateEvent) → IsToldApart numbers pairs client event
     → step bases (numbers number) (option_map pairs pair) (client_under numbers pairs client) (event_under numbers pairs event) ≡ effect_under numbers pairs (step bases number pair client event)
-step_under numbers pairs bases number pair client event apart =
-    ap (heard_step bases (option_map pairs pair)) (hear_under numbers pairs bases number client event apart)
-    ∙ heard_step_under numbers pairs bases pair (hear bases number client event)
+step_under numbers pairs bases number pair client event apart = grind (arith, hear_under, heard_step_under)

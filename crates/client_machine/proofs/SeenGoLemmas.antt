@@ -1,5 +1,5 @@
 -- A connection that is alive stands where the walks have come to, and what goes up keeps that.
-use Rattle.std.proofs.Common.{◌≡◌, ◌∙◌, ℕ, zero, suc, ◌+◌, ◌==◌, Bool, true, false, cond, not, ◌&&◌, List, [], ◌∷◌, ◌++◌, map, length, Option, None, Some, IfSome, refl, sym, ap, subst}
+use Rattle.std.proofs.Common.{◌≡◌, ◌∙◌, ℕ, zero, suc, ◌+◌, ◌==◌, Bool, true, false, cond, not, ◌&&◌, List, [], ◌∷◌, ◌++◌, map, length, Option, None, Some, IfSome, refl, sym, ap, subst, arith}
 use Rattle.std.specs.Prelude.{codes, is_none, slice_get}
 use Rattle.std.proofs.lemmas.List.{append_assoc, map-append}
 use Rattle.rtsp_head.specs.Items.{Shape}
@@ -13,7 +13,7 @@ use Rattle.session_one.specs.declared.table.State.{State}
 use Rattle.session_one.specs.declared.table.State.TheVariants.{Init, Ready, Playing}
 use Rattle.translate_up.specs.Fields.{field}
 use Rattle.translate_up.specs.Ids.{are_same}
-use Rattle.translate_up.specs.Views.{SeenSession, place_from, session_in}
+use Rattle.translate_up.specs.Views.{SeenSession, place_from, session_or_none}
 use Rattle.translate_up.proofs.StateLemmas.{IsValidId, IsSent, IsGiven}
 use Rattle.client_slot.specs.declared.purpose.Purpose.{Purpose}
 use Rattle.client_slot.specs.declared.purpose.Purpose.TheVariants as purposes
@@ -23,14 +23,12 @@ use Rattle.client_slot.specs.Places.{session_at, session_where, changed_at, chan
 use Rattle.client_slot.specs.Client.{Client}
 use Rattle.client_slot.specs.Changes.{after_queueing, release_with}
 use Rattle.client_slot.proofs.PlaceLemmas.{first_changed, kept_each, place_is}
-use Rattle.client_machine.specs.Effects.{Effect, stays, then_effect}
-use Rattle.client_machine.specs.Treatment.{session_seen, given, Going, Treated, treated}
-use Rattle.client_machine.specs.Releases.{track_of, after_plays, goes_at, goes_with}
-use Rattle.client_machine.specs.ServerItems.{NextPart}
-use Rattle.client_machine.specs.Step.{going_on}
-use Rattle.client_machine.specs.SeenRun.{SeenStep, may_become, AreNumbered}
+use Rattle.client_machine.specs.Events.{Effect, stays, then_effect}
+use Rattle.client_machine.specs.Treatment.{session_found, given, Going, Treated, treated}
+use Rattle.client_machine.specs.Step.{track_of, after_plays, goes_at, goes_with, NextPart, going_on}
+use Rattle.client_machine.specs.SeenRun.{SeenStep, may_become, TellNumbers}
 use Rattle.client_machine.proofs.WayLemmas.{going_as}
-use Rattle.client_machine.proofs.PlacedLemmas.{seen_at, plays_idle}
+use Rattle.client_machine.proofs.PlaceLemmas.{seen_at, plays_idle}
 use Rattle.client_machine.proofs.SeenWalkLemmas.{may_self, AreWalks, walks_more, numbers_more, texts, AreReplies, texts_more, replies_more}
 use Rattle.client_machine.proofs.SeenTreatLemmas.{counted, places_in, states_in, ArePlaysOn, IsNamedAt, AreAway, IsTreatedSo, same_function, treat_walks}
 
@@ -82,7 +80,7 @@ pub record IsWalking (at : List ℕ → State) (requests : List Shape) (effect :
   pub steps : List SeenStep
   pub now : List ℕ → State
   pub walks : AreWalks at steps now
-  pub numbers : AreNumbered steps
+  pub numbers : TellNumbers steps
   pub readable : AreReplies steps
   pub text_is : effect.hand ≡ texts steps
   pub left : List Shape
@@ -145,8 +143,7 @@ like_then a b c first second = record { places = λ id. second.places id ∙ fir
 
 pub same_places : (place : Option ℕ) (change : PlayerSession → PlayerSession) (sessions : List PlayerSession) → (change (session_where place sessions)).id ≡ (session_where place sessions).id
     → (id : List ℕ) → places_of (changed_where place change sessions) id ≡ places_of sessions id
-same_places None change sessions same id = refl
-same_places (Some place) change sessions same id = first_changed (λ session. is_session id session.id) 0 place change sessions (ap (is_session id) same)
+same_places place change sessions same id = grind (arith, first_changed)
 
 pub like_where : (place : Option ℕ) (change : PlayerSession → PlayerSession) (sessions : List PlayerSession) → (change (session_where place sessions)).id ≡ (session_where place sessions).id → (change (session_where place sessions)).state ≡ (session_where place sessions).state
     → IsLike sessions (changed_where place change sessions)
@@ -163,10 +160,7 @@ like_became at before after like became id = ap (λ (place : Option ℕ). may_be
 
 -- Where a PLAY is due, streams play, and no request is owed.
 due_in : (state : State) (running : Option ℕ) (queue : List Play) (play : Play) → slice_get queue 0 ≡ Some play → (is_none running && not (length queue == 0)) ≡ true → IsCalm state running queue → (state ≡ Playing) × (running ≡ None)
-due_in state (Some number) queue play first due calm = cc
-due_in Init None queue play first due calm = let none : None ≡ Some play = ap (λ (q : List Play). slice_get q 0) (sym calm.1) ∙ first in cc
-due_in Ready None queue play first due calm = let none : None ≡ Some play = ap (λ (q : List Play). slice_get q 0) (sym calm.1) ∙ first in cc
-due_in Playing None queue play first due calm = (refl, refl)
+due_in state running queue play first due calm = grind arith
 
 pub calm_playing : (state : State) (running : Option ℕ) (queue : List Play) → state ≡ Playing → IsCalm state running queue
 calm_playing state running queue e = subst (λ s. IsCalm s running queue) (sym e) tt
@@ -214,9 +208,7 @@ plays_queued (play ∷ plays) client are each =
 
 -- the stream that a SETUP sets up
 track_given : (uri : List ℕ) (pair : Option ℕ) (channels : Option Pair) → IfSome channels IsGiven → IfSome (track_of uri pair channels) (λ one. IsGiven one.client)
-track_given uri None channels given = tt
-track_given uri (Some number) None given = tt
-track_given uri (Some number) (Some channels) given = given
+track_given uri pair channels given = grind arith
 
 -- Requests that were treated, and what goes up of them.
 goes_open : (one : Option Going) (pair : Option ℕ) (hand : List ℕ) (at : List ℕ → State) (after : Client) (owed : List Shape) → after.pending ≡ None → ((id : List ℕ) → may_become (at id) (states_of after.sessions (places_of after.sessions id)) ≡ true)
@@ -234,35 +226,33 @@ goes_open (Some one) pair hand at after owed idle became away = record {
 }
 
 goes_hand : (one : Option Going) (pair : Option ℕ) (hand : List ℕ) (client : Client) → (goes_at one pair hand client).hand ≡ hand
-goes_hand None pair hand client = refl
-goes_hand (Some one) pair hand client = refl
+goes_hand one pair hand client = grind arith
 
 -- as the sessions are seen
-seen_places : (sessions : List PlayerSession) (id : List ℕ) → places_in (map session_seen sessions) id ≡ places_of sessions id
+seen_places : (sessions : List PlayerSession) (id : List ℕ) → places_in (map session_found sessions) id ≡ places_of sessions id
 seen_places sessions id = from 0 sessions
   where
     test : (one : Option (List ℕ)) → are_same one (Some id) ≡ is_session id one
     test None = refl
     test (Some one) = refl
 
-    from : (first : ℕ) (all : List PlayerSession) → place_from id first (map session_seen all) ≡ first_place (λ session. is_session id session.id) first all
+    from : (first : ℕ) (all : List PlayerSession) → place_from id first (map session_found all) ≡ first_place (λ session. is_session id session.id) first all
     from first [] = refl
     from first (one ∷ more) =
-        ap (λ (here : Bool). cond here (Some first) (place_from id (first + 1) (map session_seen more))) (test one.id)
+        ap (λ (here : Bool). cond here (Some first) (place_from id (first + 1) (map session_found more))) (test one.id)
         ∙ ap (λ (later : Option ℕ). cond (is_session id one.id) (Some first) later) (from (first + 1) more)
 
-seen_states : (sessions : List PlayerSession) (place : Option ℕ) → states_in (map session_seen sessions) place ≡ states_of sessions place
-seen_states sessions None = refl
-seen_states sessions (Some place) = ap (λ (one : SeenSession). one.state) (seen_at place sessions)
+seen_states : (sessions : List PlayerSession) (place : Option ℕ) → states_in (map session_found sessions) place ≡ states_of sessions place
+seen_states sessions place = grind (arith, seen_at)
 
-seen_ids : (sessions : List PlayerSession) → ((place : Option ℕ) → IsSound (session_where place sessions)) → (place : Option ℕ) → IsValidId (session_in place (map session_seen sessions)).id
+seen_ids : (sessions : List PlayerSession) → ((place : Option ℕ) → IsSound (session_where place sessions)) → (place : Option ℕ) → IsValidId (session_or_none place (map session_found sessions)).id
 seen_ids sessions each None = tt
 seen_ids sessions each (Some place) = subst (λ (one : SeenSession). IsValidId one.id) (sym (seen_at place sessions)) (each (Some place)).id
 
 seen_treated : (client : Client) (bases : Bases) (full : Bool) (at : List ℕ → State) → ((id : List ℕ) → may_become (at id) (states_of client.sessions (places_of client.sessions id)) ≡ true) → ((place : Option ℕ) → IsSound (session_where place client.sessions))
     → IsTreatedSo at (places_of client.sessions) (states_of client.sessions) (counted client.waiting) (treated client.waiting (given bases full client))
 seen_treated client bases full at became each =
-    let seen = map session_seen client.sessions in
+    let seen = map session_found client.sessions in
     let places = same_function (places_in seen) (places_of client.sessions) (seen_places client.sessions) in
     let states = same_function (states_in seen) (states_of client.sessions) (seen_states client.sessions) in
     subst (λ (f : List ℕ → Option ℕ). IsTreatedSo at f (states_of client.sessions) (counted client.waiting) (treated client.waiting (given bases full client))) places
@@ -321,12 +311,7 @@ pub record IsDead (effect : Effect) : Type 0 where
   pub none : effect.hand ≡ []
 
 pub going_dead : (bases : Bases) (pair : Option ℕ) (next : NextPart) (client : Client) → client.alive ≡ false → IsDead (going_on bases pair next client)
-going_dead bases pair next client dead = going_as IsDead bases pair next client (record {
-  still = record { closed = dead; none = refl };
-  released = λ place play idle due is. record { closed = dead; none = refl };
-  treats = λ idle alive. let bad : true ≡ false = sym alive ∙ dead in cc;
-  left = λ place id idle closed filled is. record { closed = dead; none = refl };
-})
+going_dead bases pair next client dead = grind arith
 
 pub then_dead : (first second : Effect) → first.hand ≡ [] → IsDead second → IsDead (then_effect first second)
 then_dead first second none dead = record { closed = dead.closed; none = ap (λ t. t ++ second.hand) none ∙ dead.none }

@@ -8,13 +8,12 @@ use Rattle.std.proofs.lemmas.Bool.{eqb-true}
 use Rattle.rtsp_head.specs.Items.{Shape}
 use Rattle.rtsp_head.specs.HeadText.{is_header}
 use Rattle.rtsp_head.specs.declared.item.ItemKind.{ItemKind}
-use Rattle.rtsp_head.specs.declared.item.ItemKind.TheVariants.{Request, Response, Frame, Bad}
 use Rattle.rtsp_head.specs.declared.item.TheConstants.{MOST_BODY}
 use Rattle.rtsp_uri.specs.declared.base.Bases.{Bases}
 use Rattle.session_one.specs.declared.parts.Play.{Play}
 use Rattle.session_one.specs.declared.table.State.{State}
 use Rattle.session_one.specs.Table.{is_success}
-use Rattle.session_one.specs.declared.table.State.TheVariants.{Init, Ready, Playing}
+use Rattle.session_one.specs.declared.table.State.TheVariants.{Ready, Playing}
 use Rattle.session_two.specs.declared.names.Names.{Names}
 use Rattle.session_two.specs.Ends.{end_counts}
 use Rattle.translate_down.specs.Replies.{Told}
@@ -22,19 +21,16 @@ use Rattle.client_slot.specs.declared.purpose.Purpose.{Purpose}
 use Rattle.client_slot.specs.declared.purpose.Purpose.TheVariants as purposes
 use Rattle.client_slot.specs.Session.{PlayerSession}
 use Rattle.client_slot.specs.SessionChanges.{when_ended}
-use Rattle.client_slot.specs.Places.{session_where, changed_where, place_with, tracks_of}
+use Rattle.client_slot.specs.Places.{session_where, changed_where, place_with}
 use Rattle.client_slot.specs.Client.{Client}
-use Rattle.client_slot.specs.Changes.{after_waiting, after_note, settle_with}
-use Rattle.client_machine.specs.Effects.{Effect, stays, then_effect}
-use Rattle.client_machine.specs.Events.{PrivateEvent, arrive, answer, note, media, end, slow, up_end}
-use Rattle.client_machine.specs.Frames.{channel_in, behind_channel, frame_text, Half, half_for}
+use Rattle.client_slot.specs.Changes.{after_waiting, after_note}
+use Rattle.client_machine.specs.Events.{Effect, stays, then_effect, PrivateEvent, arrive, answer, note, media, end, slow, up_end}
+use Rattle.client_machine.specs.Frames.{frame_text, Half}
 use Rattle.client_machine.specs.Treatment.{fits_memory}
-use Rattle.client_machine.specs.ServerItems.{NextPart, rests, Hearing, idles, carry, take_item, take, new_id, hear}
-use Rattle.client_machine.specs.Step.{going_on, heard_step, step}
+use Rattle.client_machine.specs.Step.{NextPart, rests, Hearing, idles, carry, take_item, take, new_id, hear, going_on, heard_step, step}
 use Rattle.client_machine.specs.SeenRun.{may_become, request_among, request_taken}
 use Rattle.client_machine.proofs.WayLemmas.{hear_as}
-use Rattle.client_machine.proofs.PlacedLemmas.{IsInPlace}
-use Rattle.client_machine.proofs.SeenWalkLemmas.{may_more}
+use Rattle.client_machine.proofs.PlaceLemmas.{IsInPlace}
 use Rattle.client_machine.proofs.SeenTreatLemmas.{counted, IsNamedAt, same_function}
 use Rattle.client_machine.proofs.SeenGoLemmas.{places_of, states_of, IsCalm, IsSound, IsOpen, IsStanding, IsWalking, IsDead, walks_on, walks_then, going_walks, going_dead, then_dead, calm_playing, one_where, each_where, same_places}
 use Rattle.client_machine.proofs.SeenSettleLemmas.{AreDistinct, settle_walks}
@@ -50,48 +46,27 @@ idle at requests client st = walks (walks_on at requests (stays client) refl st)
 
 -- a request waits behind the others
 counted_by : (fits : Bool) (one : Shape) (later more new : List Shape) → later ≡ more ++ new → cond fits (one ∷ later) later ≡ cond fits (one ∷ more) more ++ new
-counted_by true one later more new e = ap (λ (l : List Shape). one ∷ l) e
-counted_by false one later more new e = e
+counted_by fits one later more new e = grind arith
 
 counted_more : (waiting : List Shape) (shape : Shape) → counted (waiting ++ shape ∷ []) ≡ counted waiting ++ cond (fits_memory shape) (shape ∷ []) []
 counted_more [] shape = refl
 counted_more (one ∷ more) shape = counted_by (fits_memory one) one (counted (more ++ shape ∷ [])) (counted more) (cond (fits_memory shape) (shape ∷ []) []) (counted_more more shape)
 
 waits_so : (at : List ℕ → State) (requests : List Shape) (client : Client) (shape : Shape) → IsStanding at client requests → IsStanding at (after_waiting (shape ∷ []) client) (requests ++ cond (fits_memory shape) (shape ∷ []) [])
-waits_so at requests client shape st =
-    let new : List Shape = cond (fits_memory shape) (shape ∷ []) [] in
-    record {
-      alive = st.alive;
-      became = st.became;
-      each = st.each;
-      owed = st.owed;
-      is_open = st.is_open;
-      requests_are = ap (λ (l : List Shape). l ++ new) st.requests_are ∙ append_assoc st.owed (counted client.waiting) new ∙ ap (λ (l : List Shape). st.owed ++ l) (sym (counted_more client.waiting shape));
-    }
+waits_so at requests client shape st = grind (arith, append_assoc, counted, counted_more)
 
 nothing_more : (at : List ℕ → State) (requests : List Shape) (client : Client) → IsStanding at client requests → IsStanding at client (requests ++ [])
 nothing_more at requests client st = subst (IsStanding at client) (sym (append-nil requests)) st
 
 carry_heard : (at : List ℕ → State) (requests : List Shape) (half : Option Half) (rest : List ℕ) (client : Client) → IsStanding at client requests → IsHeard at requests (carry half rest client)
-carry_heard at requests None rest client st = idle at requests client st
-carry_heard at requests (Some half) rest client st = walks (walks_on at requests (carry (Some half) rest client).effect refl st)
+carry_heard at requests half rest client st = grind (arith, idle, walks_on)
 
 item_heard : (at : List ℕ → State) (requests : List Shape) (kind : ItemKind) (shape : Shape) (client : Client) → IsStanding at client requests → IsHeard at (requests ++ request_among kind shape) (take_item kind shape client)
-item_heard at requests Request shape client st = walks (walks_on at (requests ++ request_among Request shape) (stays (after_waiting (shape ∷ []) client)) refl (waits_so at requests client shape st))
-item_heard at requests Response shape client st = idle at (requests ++ []) client (nothing_more at requests client st)
-item_heard at requests Frame shape client st = carry_heard at (requests ++ []) (half_for (channel_in shape) (tracks_of client.sessions)) (behind_channel shape) client (nothing_more at requests client st)
-item_heard at requests (Bad kind) shape client st = dies refl refl
+item_heard at requests kind shape client st = grind (arith, walks_on, waits_so, idle, nothing_more, carry_heard)
 
 -- The end of what plays.
 ends_playing : (state : State) (running : Option ℕ) (queue : List Play) (names : Names) → end_counts running names ≡ true → IsCalm state running queue → state ≡ Playing
-ends_playing state None queue names e calm = cc
-ends_playing Init (Some number) queue names e calm = let none : Some number ≡ None = calm.0 in cc
-ends_playing Ready (Some number) queue names e calm = let none : Some number ≡ None = calm.0 in cc
-ends_playing Playing (Some number) queue names e calm = refl
-
-ended_may : (empty : Bool) (from state : State) → state ≡ Playing → may_become from state ≡ true → may_become from (cond empty Ready state) ≡ true
-ended_may true from state e may = may_more from Playing Ready (subst (λ s. may_become from s ≡ true) e may) refl
-ended_may false from state e may = may
+ends_playing state running queue names e calm = grind arith
 
 no_queue : (queue : List Play) → (length queue == 0) ≡ true → queue ≡ []
 no_queue [] e = refl
@@ -101,33 +76,26 @@ no_queue (play ∷ queue) e =
     absurd bad
 
 ended_calm : (empty : Bool) (state : State) (queue : List Play) → (length queue == 0) ≡ empty → state ≡ Playing → IsCalm (cond empty Ready state) None queue
-ended_calm true state queue e playing = (refl, no_queue queue e)
-ended_calm false state queue e playing = calm_playing state None queue playing
+ended_calm empty state queue e playing = grind (arith, no_queue, calm_playing)
 
 -- what it makes of a session
 abbrev ended_by : Bool → PlayerSession → PlayerSession
 ended_by counts session = cond counts (record session { state = cond (length session.queue == 0) Ready session.state; running = None }) session
 
 ended_sound : (counts : Bool) (names : Names) (session : PlayerSession) → end_counts session.running names ≡ counts → IsSound session → IsSound (ended_by counts session)
-ended_sound true names session e sound =
-    record { calm = ended_calm (length session.queue == 0) session.state session.queue refl (ends_playing session.state session.running session.queue names e sound.calm); id = sound.id }
-ended_sound false names session e sound = sound
+ended_sound counts names session e sound = grind (arith, ended_calm, ends_playing)
 
 ended_became : (counts : Bool) (names : Names) (from : State) (session : PlayerSession) → end_counts session.running names ≡ counts → IsSound session → may_become from session.state ≡ true → may_become from (ended_by counts session).state ≡ true
-ended_became true names from session e sound may = ended_may (length session.queue == 0) from session.state (ends_playing session.state session.running session.queue names e sound.calm) may
-ended_became false names from session e sound may = may
+ended_became counts names from session e sound may = grind arith
 
 ended_id : (counts : Bool) (session : PlayerSession) → (ended_by counts session).id ≡ session.id
-ended_id true session = refl
-ended_id false session = refl
+ended_id counts session = grind arith
 
 abbrev IsDuly : PlayerSession → Type 0
 IsDuly session = (session.state ≡ Playing) × (session.running ≡ None)
 
 stopped : (names : Names) (session : PlayerSession) → IsDuly session → IsDuly (when_ended names session)
-stopped names session duly =
-    let none : false ≡ end_counts session.running names = ap (λ (running : Option ℕ). end_counts running names) (sym duly.1) in
-    subst (λ b. IsDuly (ended_by b session)) none duly
+stopped names session duly = grind arith
 
 open_ended : (at : List ℕ → State) (sessions : List PlayerSession) (place : Option ℕ) (names : Names) (pending : Option Purpose) (owed : List Shape) → IsSound (session_where place sessions) → IsOpen at sessions pending owed
     → IsOpen at (changed_where place (when_ended names) sessions) pending owed
@@ -167,22 +135,12 @@ noted at requests client place names st =
 -- the requests that an event brings
 abbrev pub asked_by : PrivateEvent → List Shape
 asked_by (arrive shape full) = request_taken shape
-asked_by (answer told ssrc full) = []
-asked_by (note id reason names) = []
-asked_by (media pair half rest) = []
-asked_by end = []
-asked_by slow = []
-asked_by up_end = []
+asked_by event = []
 
 -- A reply has the fields of a head that was read, and no longer a body than an item has.
 abbrev pub IsReadableEvent : PrivateEvent → Type 0
-IsReadableEvent (arrive shape full) = Unit {0}
 IsReadableEvent (answer told ssrc full) = (list_all is_header told.fields ≡ true) × (length told.body ≤ MOST_BODY)
-IsReadableEvent (note id reason names) = Unit {0}
-IsReadableEvent (media pair half rest) = Unit {0}
-IsReadableEvent end = Unit {0}
-IsReadableEvent slow = Unit {0}
-IsReadableEvent up_end = Unit {0}
+IsReadableEvent event = Unit {0}
 
 -- the session that a success makes is none that is there
 abbrev pub IsNew : List PlayerSession → Option Purpose → Told → Type 0
@@ -190,23 +148,13 @@ IsNew sessions None told = Unit {0}
 IsNew sessions (Some purpose) told = is_success told.code ≡ true → (id : List ℕ) → new_id purpose told ≡ Some id → place_with id sessions ≡ None
 
 abbrev pub IsFreshEvent : Client → PrivateEvent → Type 0
-IsFreshEvent client (arrive shape full) = Unit {0}
 IsFreshEvent client (answer told ssrc full) = IsNew client.sessions client.pending told
-IsFreshEvent client (note id reason names) = Unit {0}
-IsFreshEvent client (media pair half rest) = Unit {0}
-IsFreshEvent client end = Unit {0}
-IsFreshEvent client slow = Unit {0}
-IsFreshEvent client up_end = Unit {0}
+IsFreshEvent client event = Unit {0}
 
 -- an event that is no item of the player
 abbrev IsOther : PrivateEvent → Type 0
 IsOther (arrive shape full) = ⊥
-IsOther (answer told ssrc full) = Unit {0}
-IsOther (note id reason names) = Unit {0}
-IsOther (media pair half rest) = Unit {0}
-IsOther end = Unit {0}
-IsOther slow = Unit {0}
-IsOther up_end = Unit {0}
+IsOther event = Unit {0}
 
 other_heard : (bases : Bases) (number : ℕ) (at : List ℕ → State) (requests : List Shape) (client : Client) (event : PrivateEvent) → IsOther event → IsReadableEvent event → IsFreshEvent client event → AreDistinct client.sessions → IsInPlace client
     → IsStanding at client requests → IsHeard at requests (hear bases number client event)
@@ -254,23 +202,5 @@ step_stepped bases number pair at requests client event readable fresh distinct 
     heard_stepped bases pair at (requests ++ asked_by event) (hear bases number client event) (hear_heard bases number at requests client event readable fresh distinct placed st)
 
 -- Nothing is handed to a connection that is not alive.
-hand_dead : (alive : Bool) (text : List ℕ) → alive ≡ false → cond alive text [] ≡ []
-hand_dead true text e = cc
-hand_dead false text e = refl
-
-hear_dead : (bases : Bases) (number : ℕ) (client : Client) (event : PrivateEvent) → client.alive ≡ false → IsDead (hear bases number client event).effect
-hear_dead bases number client event closed = hear_as (λ heard. IsDead heard.effect) bases number client event (record {
-  idle = record { closed = closed; none = refl };
-  closing = λ reason alive. record { closed = refl; none = refl };
-  waits = λ shape full here is alive. record { closed = closed; none = refl };
-  carrying = λ shape full half here is. record { closed = closed; none = refl };
-  settles = λ purpose told ssrc full here late is. record { closed = ap (λ (p : Option Purpose). (settle_with p number told.code (new_id purpose told) client).alive) is ∙ closed; none = hand_dead client.alive _ closed };
-  notes = λ id names here. record { closed = closed; none = refl };
-  gives = λ pair half channel rest here is alive. let bad : true ≡ false = sym alive ∙ closed in cc;
-})
-
 pub step_dead : (bases : Bases) (number : ℕ) (pair : Option ℕ) (client : Client) (event : PrivateEvent) → client.alive ≡ false → IsDead (step bases number pair client event)
-step_dead bases number pair client event closed =
-    let heard : Hearing = hear bases number client event in
-    let dead : IsDead heard.effect = hear_dead bases number client event closed in
-    then_dead heard.effect (going_on bases pair heard.next heard.effect.client) dead.none (going_dead bases pair heard.next heard.effect.client dead.closed)
+step_dead bases number pair client event closed = grind arith

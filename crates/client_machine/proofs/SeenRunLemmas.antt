@@ -1,5 +1,5 @@
 -- A whole run of a connection alone walks the table of each of its sessions.
-use Rattle.std.proofs.Common.{◌≡◌, ◌∙◌, ◌+◌, ◌&&◌, ℕ, zero, suc, Bool, true, false, not, List, [], ◌∷◌, ◌++◌, map, Option, Some, None, refl, sym, ap, subst}
+use Rattle.std.proofs.Common.{◌≡◌, ◌∙◌, ◌+◌, ◌&&◌, ℕ, Bool, true, false, not, List, [], ◌∷◌, ◌++◌, map, Option, Some, refl, sym, ap, subst, arith}
 use Rattle.std.proofs.lemmas.List.{append_assoc, append-nil, map-append}
 use Rattle.rtsp_head.specs.Items.{Shape}
 use Rattle.rtsp_uri.specs.declared.base.Bases.{Bases}
@@ -9,13 +9,12 @@ use Rattle.session_one.specs.declared.table.State.TheVariants.{Init}
 use Rattle.client_slot.specs.Client.{Client}
 use Rattle.client_slot.specs.Places.{session_where, new_sessions}
 use Rattle.client_machine.specs.Alone.{Private, is_live, pair_alone, effect_alone, is_up_end, or_else, private_next, private_after, piece, hand}
-use Rattle.client_machine.specs.Effects.{Effect}
-use Rattle.client_machine.specs.Events.{PrivateEvent}
+use Rattle.client_machine.specs.Events.{Effect, PrivateEvent}
 use Rattle.client_machine.specs.Step.{step}
-use Rattle.client_machine.specs.SeenRun.{SeenStep, AreNumbered, IsTableRun, replies_handed}
+use Rattle.client_machine.specs.SeenRun.{SeenStep, TellNumbers, IsTableRun, replies_handed}
 use Rattle.client_machine.proofs.KeepLemmas.{or_true}
 use Rattle.client_machine.proofs.WayLemmas.{alone_by}
-use Rattle.client_machine.proofs.PlacedLemmas.{IsInPlace, alone_placed}
+use Rattle.client_machine.proofs.PlaceLemmas.{IsInPlace, alone_placed}
 use Rattle.client_machine.proofs.SeenWalkLemmas.{AreWalks, walks_more, numbers_more, handed_more, handed_frame}
 use Rattle.client_machine.proofs.SeenGoLemmas.{IsSound, IsStanding, IsDead}
 use Rattle.client_machine.proofs.SeenSettleLemmas.{AreDistinct}
@@ -42,7 +41,7 @@ pub record IsRun (bases : Bases) (events : List PrivateEvent) (requests : List S
   pub left : List Shape
   pub requests_are : requests ≡ requests_of steps ++ left
   pub replies_are : replies_handed (hand bases events) ≡ Some (replies_of steps)
-  pub numbers : AreNumbered steps
+  pub numbers : TellNumbers steps
   pub walks : AreWalks all_init steps now
   pub kept : IsKeptAt (is_live (private_after bases events)) now (private_after bases events).client left
 
@@ -58,12 +57,7 @@ seen_run bases events requests run = record {
 
 -- a connection that entered
 new_sound : (place : Option ℕ) → IsSound (session_where place new_sessions)
-new_sound None = record { calm = (refl, refl); id = tt }
-new_sound (Some zero) = record { calm = (refl, refl); id = tt }
-new_sound (Some (suc zero)) = record { calm = (refl, refl); id = tt }
-new_sound (Some (suc (suc zero))) = record { calm = (refl, refl); id = tt }
-new_sound (Some (suc (suc (suc zero)))) = record { calm = (refl, refl); id = tt }
-new_sound (Some (suc (suc (suc (suc place))))) = record { calm = (refl, refl); id = tt }
+new_sound place = grind arith
 
 pub run_begins : (bases : Bases) → IsRun bases [] []
 run_begins bases = record {
@@ -82,7 +76,7 @@ run_begins bases = record {
 record IsNext (at : List ℕ → State) (left extra : List Shape) (live : Bool) (effect : Effect) (pieces : List (List ℕ)) (before : List Reply1) : Type 0 where
   pub steps : List SeenStep
   pub now : List ℕ → State
-  pub numbers : AreNumbered steps
+  pub numbers : TellNumbers steps
   pub walks : AreWalks at steps now
   pub replies_are : replies_handed (piece effect.hand ++ pieces) ≡ Some (before ++ replies_of steps)
   pub more : List Shape

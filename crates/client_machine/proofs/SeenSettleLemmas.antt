@@ -1,8 +1,8 @@
 -- A reply of the server to a player's request is the next step of the walks.
-use Rattle.std.proofs.Common.{◌≡◌, ◌≢◌, ◌∙◌, ◌+◌, ◌<◌, ◌≤◌, ◌==◌, ◌&&◌, ℕ, zero, suc, Bool, true, false, cond, List, [], ◌∷◌, ◌++◌, length, Option, None, Some, IfSome, refl, sym, ap, subst, unwrap_or, option_and_then, ◌⊎◌, inl, inr, arith}
+use Rattle.std.proofs.Common.{◌≡◌, ◌≢◌, ◌∙◌, ◌+◌, ◌<◌, ◌≤◌, ◌==◌, ◌&&◌, ℕ, zero, suc, Bool, true, false, cond, List, [], ◌∷◌, ◌++◌, length, Option, None, Some, refl, sym, ap, subst, unwrap_or, option_and_then, ◌⊎◌, inl, inr, arith}
 use Rattle.std.specs.Prelude.{codes, is_some, is_none}
 use Rattle.std.specs.List.{list_all}
-use Rattle.std.specs.Option.{option_or, option_map}
+use Rattle.std.specs.Option.{option_or}
 use Rattle.std.proofs.lemmas.List.{append-nil}
 use Rattle.std.proofs.lemmas.Bool.{eqb-true, eqb-false}
 use Rattle.std.proofs.lemmas.Slice.Eq.{bytes_eq-Decides}
@@ -10,7 +10,6 @@ use Rattle.rtsp_head.specs.Items.{Shape}
 use Rattle.rtsp_head.specs.Headers.{field_of}
 use Rattle.rtsp_head.specs.HeadText.{is_header}
 use Rattle.rtsp_head.specs.declared.item.TheConstants.{MOST_BODY}
-use Rattle.rtsp_small.specs.Sessions.{SessionParts, is_session_id}
 use Rattle.rtsp_small.specs.declared.method.Method.{Method}
 use Rattle.rtsp_small.specs.declared.method.Method.TheVariants as methods
 use Rattle.rtsp_uri.specs.declared.base.Bases.{Bases}
@@ -21,7 +20,7 @@ use Rattle.session_one.specs.declared.parts.Asked.{Asked}
 use Rattle.session_one.specs.declared.parts.Play.{Play}
 use Rattle.session_one.specs.declared.parts.Track.{Track}
 use Rattle.session_one.specs.declared.table.State.{State}
-use Rattle.session_one.specs.declared.table.State.TheVariants.{Init, Ready, Playing}
+use Rattle.session_one.specs.declared.table.State.TheVariants.{Init, Playing}
 use Rattle.session_one.specs.Table.{next_of, is_allowed, is_success}
 use Rattle.translate_up.specs.Fields.{field, is_setup}
 use Rattle.translate_up.specs.Ids.{id_of}
@@ -32,24 +31,23 @@ use Rattle.translate_down.specs.Sessions.{sets_up}
 use Rattle.translate_down.specs.Settings.{Setting}
 use Rattle.client_slot.specs.declared.purpose.Purpose.{Purpose}
 use Rattle.client_slot.specs.declared.purpose.Purpose.TheVariants as purposes
-use Rattle.client_slot.specs.declared.session_turn.Part.{Part}
-use Rattle.client_slot.specs.declared.session_turn.Part.TheVariants.{Keeps, Takes, Loses}
+use Rattle.client_slot.specs.declared.session_turn.PartTurn.{PartTurn}
 use Rattle.client_slot.specs.Session.{PlayerSession, new_session}
-use Rattle.client_slot.specs.SessionTurns.{Brought, if_made, granted_turn, moved_turn, released_turn, brought_by, part_then, turned}
+use Rattle.client_slot.specs.SessionTurns.{Brought, granted_turn, moved_turn, released_turn, brought_by, part_then, turned}
 use Rattle.client_slot.specs.Places.{session_at, session_where, changed_at, changed_where, first_place, place_with, is_session, empty_place}
 use Rattle.client_slot.specs.Bounds.{IsTidyBy, AreTidy}
 use Rattle.client_slot.specs.Client.{Client}
 use Rattle.client_slot.specs.Changes.{purpose_place, settled_place, session_after, settle_with}
-use Rattle.client_slot.proofs.PlaceLemmas.{place_is, changed_here, changed_other, first_changed, nothing_changed_where, same_changes}
+use Rattle.client_slot.proofs.PlaceLemmas.{place_is, changed_here, changed_other, first_changed, nothing_changed_where, same_changes_where}
 use Rattle.client_slot.proofs.TidyLemmas.{tidy_at}
-use Rattle.client_machine.specs.Effects.{hands}
-use Rattle.client_machine.specs.ServerItems.{session_told, new_id_at, new_id, setting, reply_hand, id_after, settled}
-use Rattle.client_machine.specs.SeenRun.{SeenStep, id_named, id_brought, id_by, id_about, is_about, may_become}
-use Rattle.client_machine.proofs.PlacedLemmas.{IsInPlace}
-use Rattle.client_machine.proofs.SeenWalkLemmas.{may_more, IsMoved, moved, led_for, one_walks}
+use Rattle.client_machine.specs.Events.{hands}
+use Rattle.client_machine.specs.Step.{new_id_at, new_id, setting, reply_hand, id_after, settled}
+use Rattle.client_machine.specs.SeenRun.{SeenStep, id_brought, id_by, id_about, is_about, may_become}
+use Rattle.client_machine.proofs.PlaceLemmas.{IsInPlace}
+use Rattle.client_machine.proofs.SeenWalkLemmas.{IsMoved, moved, led_for, one_walks}
 use Rattle.client_machine.proofs.SeenTreatLemmas.{counted, IsNamedAt, id_is}
-use Rattle.client_machine.proofs.SeenGoLemmas.{places_of, states_of, IsCalm, IsSound, IsAsked, IsOpen, IsStanding, IsWalking, walks_on, calm_playing, each_where, one_where, same_places}
-use Rattle.client_machine.proofs.SeenReplyLemmas.{code_refuses, id_told, down_readable, brought_is}
+use Rattle.client_machine.proofs.SeenGoLemmas.{places_of, states_of, IsSound, IsAsked, IsOpen, IsStanding, IsWalking, walks_on, each_where, one_where, same_places}
+use Rattle.client_machine.proofs.SeenReplyLemmas.{code_refuses, down_readable, brought_is}
 
 -- no two sessions have one id
 abbrev pub AreDistinct : List PlayerSession → Type 0
@@ -98,84 +96,21 @@ step_made at client after requests owed asked track reply next hand o are alive 
 abbrev pub moves_to : Method → State → State
 moves_to method state = unwrap_or (next_of state method) state
 
-calm_options : (state : State) (running : Option ℕ) (queue : List Play) → IsCalm state running queue → IsCalm (moves_to methods.Options state) running queue
-calm_options Init running queue calm = calm
-calm_options Ready running queue calm = calm
-calm_options Playing running queue calm = tt
-
-calm_describe : (state : State) (running : Option ℕ) (queue : List Play) → IsCalm state running queue → IsCalm (moves_to methods.Describe state) running queue
-calm_describe Init running queue calm = calm
-calm_describe Ready running queue calm = calm
-calm_describe Playing running queue calm = tt
-
-calm_setup : (state : State) (running : Option ℕ) (queue : List Play) → IsCalm state running queue → IsCalm (moves_to methods.Setup state) running queue
-calm_setup Init running queue calm = calm
-calm_setup Ready running queue calm = calm
-calm_setup Playing running queue calm = tt
-
-calm_get : (state : State) (running : Option ℕ) (queue : List Play) → IsCalm state running queue → IsCalm (moves_to methods.GetParameter state) running queue
-calm_get Init running queue calm = calm
-calm_get Ready running queue calm = calm
-calm_get Playing running queue calm = tt
-
-calm_set : (state : State) (running : Option ℕ) (queue : List Play) → IsCalm state running queue → IsCalm (moves_to methods.SetParameter state) running queue
-calm_set Init running queue calm = calm
-calm_set Ready running queue calm = calm
-calm_set Playing running queue calm = tt
-
-calm_none : (state : State) → IsCalm state None []
-calm_none Init = (refl, refl)
-calm_none Ready = (refl, refl)
-calm_none Playing = tt
-
--- a PLAY is not allowed in Init
-not_init : (from : State) → is_allowed from methods.Play ≡ true → may_become from Init ≡ true → ⊥
-not_init Init allowed may = cc
-not_init Ready allowed may = cc
-not_init Playing allowed may = cc
-
-calm_play : (from state : State) (running : Option ℕ) (queue : List Play) → is_allowed from methods.Play ≡ true → may_become from state ≡ true → IsCalm (moves_to methods.Play state) running queue
-calm_play from Init running queue allowed may = absurd (not_init from allowed may)
-calm_play from Ready running queue allowed may = tt
-calm_play from Playing running queue allowed may = tt
-
-part_valid : (part : Part) (was new : Option (List ℕ)) → IsValidId was → IsValidId new → IsValidId (part_then part was new)
-part_valid Keeps was new a b = a
-part_valid Takes was new a b = b
-part_valid Loses was new a b = tt
-
 -- what a success makes of a session
 granted_sound : (method : Method) (from : State) (made : Bool) (brought : Brought) (session : PlayerSession) → is_allowed from method ≡ true → may_become from session.state ≡ true → IsSound session → IsValidId brought.id
     → IsSound (turned (granted_turn method made (moves_to method session.state)) brought session)
-granted_sound methods.Options from made brought session allowed may sound new = record { calm = calm_options session.state session.running session.queue sound.calm; id = sound.id }
-granted_sound methods.Describe from made brought session allowed may sound new = record { calm = calm_describe session.state session.running session.queue sound.calm; id = sound.id }
-granted_sound methods.Setup from made brought session allowed may sound new =
-    record { calm = calm_setup session.state session.running session.queue sound.calm; id = part_valid (if_made made) session.id brought.id sound.id new }
-granted_sound methods.Play from made brought session allowed may sound new = record { calm = calm_play from session.state (Some brought.number) session.queue allowed may; id = sound.id }
-granted_sound methods.Pause from made brought session allowed may sound new = record { calm = calm_none (moves_to methods.Pause session.state); id = sound.id }
-granted_sound methods.Teardown from made brought session allowed may sound new = record { calm = (refl, refl); id = tt }
-granted_sound methods.GetParameter from made brought session allowed may sound new = record { calm = calm_get session.state session.running session.queue sound.calm; id = sound.id }
-granted_sound methods.SetParameter from made brought session allowed may sound new = record { calm = calm_set session.state session.running session.queue sound.calm; id = sound.id }
+granted_sound method from made brought session allowed may sound new = grind arith
 
 -- The id that a reply makes is in the grammar.
-id_of_session : (session : Option SessionParts) → IfSome session (λ one. is_session_id one.id ≡ true) → IsValidId (option_map (λ one. one.id) session)
-id_of_session None all = tt
-id_of_session (Some session) all = all
-
 new_by : (sets : Bool) (place : Option ℕ) (told : Told) → IsValidId (new_id_at sets place told)
-new_by false place told = tt
-new_by true None told = id_of_session (session_told told) (id_told told)
-new_by true (Some place) told = tt
+new_by sets place told = grind arith
 
 none_new : (sets : Bool) (place : ℕ) (told : Told) → new_id_at sets (Some place) told ≡ None
-none_new false place told = refl
-none_new true place told = refl
+none_new sets place told = grind arith
 
 -- A session that is not that of an id is found by it neither before nor after.
-test_none : (id : List ℕ) (part : Part) (was new : Option (List ℕ)) → is_session id was ≡ false → is_session id new ≡ false → is_session id (part_then part was new) ≡ false
-test_none id Keeps was new a b = a
-test_none id Takes was new a b = b
-test_none id Loses was new a b = refl
+test_none : (id : List ℕ) (part : PartTurn) (was new : Option (List ℕ)) → is_session id was ≡ false → is_session id new ≡ false → is_session id (part_then part was new) ≡ false
+test_none id part was new a b = grind arith
 
 off_at : (place : ℕ) (change : PlayerSession → PlayerSession) (sessions : List PlayerSession) (id : List ℕ) → is_session id (session_at place sessions).id ≡ false → is_session id (change (session_at place sessions)).id ≡ false
     → states_of (changed_at place change sessions) (places_of (changed_at place change sessions) id) ≡ states_of sessions (places_of sessions id)
@@ -191,10 +126,7 @@ off_at place change sessions id was new =
 -- That of its id is found at its place, or is gone.
 kept_at : (place : ℕ) (change : PlayerSession → PlayerSession) (sessions : List PlayerSession) (id : List ℕ) (next : State) → place_with id sessions ≡ Some place → (change (session_at place sessions)).id ≡ (session_at place sessions).id
     → may_become next (change (session_at place sessions)).state ≡ true → may_become next (states_of (changed_at place change sessions) (places_of (changed_at place change sessions) id)) ≡ true
-kept_at place change sessions id next is kept may =
-    let there = place_is (λ session. is_session id session.id) place sessions is in
-    ap (λ (q : Option ℕ). may_become next (states_of (changed_at place change sessions) q)) (first_changed (λ session. is_session id session.id) 0 place change sessions (ap (is_session id) kept) ∙ is)
-    ∙ ap (λ (session : PlayerSession). may_become next session.state) (changed_here place change sessions there.within) ∙ may
+kept_at place change sessions id next is kept may = grind (arith, place_is, states_of, first_changed, changed_here)
 
 gone_place : (place : ℕ) (change : PlayerSession → PlayerSession) (sessions : List PlayerSession) (id : List ℕ) → AreDistinct sessions → place_with id sessions ≡ Some place → (change (session_at place sessions)).id ≡ None
     → (q : Option ℕ) → place_with id (changed_at place change sessions) ≡ q → q ≡ None
@@ -219,8 +151,7 @@ gone_place place change sessions id distinct is gone (Some at) found = absurd (b
 
 gone_at : (place : ℕ) (change : PlayerSession → PlayerSession) (sessions : List PlayerSession) (id : List ℕ) (next : State) → AreDistinct sessions → place_with id sessions ≡ Some place → (change (session_at place sessions)).id ≡ None
     → may_become next Init ≡ true → may_become next (states_of (changed_at place change sessions) (places_of (changed_at place change sessions) id)) ≡ true
-gone_at place change sessions id next distinct is gone may =
-    ap (λ (q : Option ℕ). may_become next (states_of (changed_at place change sessions) q)) (gone_place place change sessions id distinct is gone (place_with id (changed_at place change sessions)) refl) ∙ may
+gone_at place change sessions id next distinct is gone may = grind (arith, states_of, gone_place)
 
 -- One that was made is found at its place.
 filled_first : (test : PlayerSession → Bool) (from place : ℕ) (change : PlayerSession → PlayerSession) (sessions : List PlayerSession) → first_place test from sessions ≡ None → place < length sessions → test (change (session_at place sessions)) ≡ true
@@ -238,9 +169,7 @@ filled_first test from (suc place) change (one ∷ more) none within passes = by
 
 filled_at : (place : ℕ) (change : PlayerSession → PlayerSession) (sessions : List PlayerSession) (id : List ℕ) (next : State) → place_with id sessions ≡ None → place < length sessions → is_session id (change (session_at place sessions)).id ≡ true
     → may_become next (change (session_at place sessions)).state ≡ true → may_become next (states_of (changed_at place change sessions) (places_of (changed_at place change sessions) id)) ≡ true
-filled_at place change sessions id next none within passes may =
-    ap (λ (q : Option ℕ). may_become next (states_of (changed_at place change sessions) q)) (filled_first (λ session. is_session id session.id) 0 place change sessions none within passes ∙ ap (λ (k : ℕ). Some k) (omega arith))
-    ∙ ap (λ (session : PlayerSession). may_become next session.state) (changed_here place change sessions within) ∙ may
+filled_at place change sessions id next none within passes may = grind (arith, states_of, filled_first, changed_here)
 
 -- what a success makes of a session
 abbrev granted : Asked → Option Track → ℕ → Option (List ℕ) → Option (List ℕ) → PlayerSession → PlayerSession
@@ -249,10 +178,6 @@ granted asked track number described new session = turned (granted_turn asked.me
 abbrev turned_so : Asked → Option Track → ℕ → Option (List ℕ) → Option (List ℕ) → PlayerSession → Bool → PlayerSession
 turned_so asked track number described new session success =
     turned (cond success (granted_turn asked.method (is_some new) (cond success (moves_to asked.method session.state) session.state)) (moved_turn session.state)) (brought_by (purposes.Client asked track) number described new) session
-
-same_where : (place : Option ℕ) (change other : PlayerSession → PlayerSession) (sessions : List PlayerSession) → ((session : PlayerSession) → change session ≡ other session) → changed_where place change sessions ≡ changed_where place other sessions
-same_where None change other sessions same = refl
-same_where (Some place) change other sessions same = same_changes place change other sessions same
 
 -- What a reply makes of the states, by the id that it is about and by the place that its request names.
 record IsSettledSo (at : List ℕ → State) (before after : List PlayerSession) (place : Option ℕ) (next : State) (about : Option (List ℕ)) : Type 0 where
@@ -264,39 +189,23 @@ AreReached at sessions = (id : List ℕ) → may_become (at id) (states_of sessi
 
 -- nothing changes, and it is about no session
 none_so : (at : List ℕ → State) (before after : List PlayerSession) (place : Option ℕ) (next : State) (about : Option (List ℕ)) → AreReached at before → after ≡ before → about ≡ None → IsSettledSo at before after place next about
-none_so at before after place next about became same none = record {
-  on = λ id is. let bad : true ≡ false = sym is ∙ ap (is_session id) none in cc;
-  off = λ id is. subst (λ (sessions : List PlayerSession). may_become (at id) (states_of sessions (places_of sessions id)) ≡ true) (sym same) (became id);
-}
+none_so at before after place next about became same none = grind arith
 
 -- a refusal changes nothing
 refused_so : (at : List ℕ → State) (before after : List PlayerSession) (place : Option ℕ) (from : State) (about : Option (List ℕ)) → AreReached at before → after ≡ before
     → ((id : List ℕ) → is_session id about ≡ true → places_of before id ≡ place) → may_become from (states_of before place) ≡ true → IsSettledSo at before after place from about
-refused_so at before after place from about became same named may = record {
-  on = λ id is. (named id is, subst (λ (sessions : List PlayerSession). may_become from (states_of sessions (places_of sessions id)) ≡ true) (sym same) (ap (λ (q : Option ℕ). may_become from (states_of before q)) (named id is) ∙ may));
-  off = λ id is. subst (λ (sessions : List PlayerSession). may_become (at id) (states_of sessions (places_of sessions id)) ≡ true) (sym same) (became id);
-}
+refused_so at before after place from about became same named may = grind arith
 
 same_text : (one id : List ℕ) → is_session id (Some one) ≡ true → one ≡ id
 same_text one id is = (bytes_eq-Decides one id).0 is
 
 gone_init : (next state : State) → may_become next (moves_to methods.Teardown state) ≡ true → may_become next Init ≡ true
-gone_init next Init may = may
-gone_init next Ready may = may
-gone_init next Playing may = may
+gone_init next state may = grind arith
 
 -- a success for a session that is named
 on_granted : (method : Method) (brought : Brought) (place : ℕ) (sessions : List PlayerSession) (id : List ℕ) (next : State) → AreDistinct sessions → place_with id sessions ≡ Some place → may_become next (moves_to method (session_at place sessions).state) ≡ true
     → may_become next (states_of (changed_at place (λ session. turned (granted_turn method false (moves_to method session.state)) brought session) sessions) (places_of (changed_at place (λ session. turned (granted_turn method false (moves_to method session.state)) brought session) sessions) id)) ≡ true
-on_granted methods.Options brought place sessions id next distinct is may = kept_at place (λ session. turned (granted_turn methods.Options false (moves_to methods.Options session.state)) brought session) sessions id next is refl may
-on_granted methods.Describe brought place sessions id next distinct is may = kept_at place (λ session. turned (granted_turn methods.Describe false (moves_to methods.Describe session.state)) brought session) sessions id next is refl may
-on_granted methods.Setup brought place sessions id next distinct is may = kept_at place (λ session. turned (granted_turn methods.Setup false (moves_to methods.Setup session.state)) brought session) sessions id next is refl may
-on_granted methods.Play brought place sessions id next distinct is may = kept_at place (λ session. turned (granted_turn methods.Play false (moves_to methods.Play session.state)) brought session) sessions id next is refl may
-on_granted methods.Pause brought place sessions id next distinct is may = kept_at place (λ session. turned (granted_turn methods.Pause false (moves_to methods.Pause session.state)) brought session) sessions id next is refl may
-on_granted methods.Teardown brought place sessions id next distinct is may =
-    gone_at place (λ session. turned (granted_turn methods.Teardown false (moves_to methods.Teardown session.state)) brought session) sessions id next distinct is refl (gone_init next (session_at place sessions).state may)
-on_granted methods.GetParameter brought place sessions id next distinct is may = kept_at place (λ session. turned (granted_turn methods.GetParameter false (moves_to methods.GetParameter session.state)) brought session) sessions id next is refl may
-on_granted methods.SetParameter brought place sessions id next distinct is may = kept_at place (λ session. turned (granted_turn methods.SetParameter false (moves_to methods.SetParameter session.state)) brought session) sessions id next is refl may
+on_granted method brought place sessions id next distinct is may = grind (arith, kept_at, gone_at, gone_init)
 
 named_so : (at : List ℕ → State) (sessions : List PlayerSession) (place : ℕ) (asked : Asked) (track : Option Track) (number : ℕ) (described : Option (List ℕ)) (one : List ℕ) (next : State) → AreDistinct sessions → place_with one sessions ≡ Some place → AreReached at sessions
     → may_become next (moves_to asked.method (session_at place sessions).state) ≡ true → IsSettledSo at sessions (changed_at place (granted asked track number described None) sessions) (Some place) next (Some one)
@@ -359,14 +268,7 @@ made_so at sessions (Some place) asked track number described (Some one) next se
 
 -- whether a request is a SETUP
 setup_or : (method : Method) → (method ≡ methods.Setup) ⊎ (is_setup method ≡ false)
-setup_or methods.Options = inr refl
-setup_or methods.Describe = inr refl
-setup_or methods.Setup = inl refl
-setup_or methods.Play = inr refl
-setup_or methods.Pause = inr refl
-setup_or methods.Teardown = inr refl
-setup_or methods.GetParameter = inr refl
-setup_or methods.SetParameter = inr refl
+setup_or method = grind arith
 
 -- the place that is settled, by the place that a request names and by whether it makes a session
 abbrev settled_by : Option ℕ → Bool → List PlayerSession → Option ℕ
@@ -378,7 +280,7 @@ all_granted asked track number described place new sessions = changed_where (set
 
 success_so : (at : List ℕ → State) (sessions : List PlayerSession) (asked : Asked) (track : Option Track) (number : ℕ) (described : Option (List ℕ)) (told : Told) (from : State) (place : Option ℕ) (value : Option (List ℕ)) (reply : Reply1) → AreDistinct sessions → AreTidy sessions
     → AreReached at sessions → IsNamedAt (places_of sessions) value place → ((id : List ℕ) → new_id_at (sets_up asked.method) place told ≡ Some id → place_with id sessions ≡ None) → is_success reply.code ≡ true → (move : IsMoved from (states_of sessions place) asked.method)
-    → (asked.method ≡ methods.Setup → id_named (field_of reply.headers (codes "Session"))
+    → (asked.method ≡ methods.Setup → option_and_then id_of (field_of reply.headers (codes "Session"))
     ≡ (session_where (settled_by place (is_setup asked.method) sessions) (all_granted asked track number described place (new_id_at (sets_up asked.method) place told) sessions)).id)
     → IsSettledSo at sessions (all_granted asked track number described place (new_id_at (sets_up asked.method) place told) sessions) place move.next (id_by value asked.method reply)
 success_so at sessions asked track number described told from (Some place) None reply distinct tidy became named fresh success move brought = cc
@@ -395,7 +297,7 @@ success_so at sessions asked track number described told from None None reply di
         let new : Option (List ℕ) = new_id_at (sets_up asked.method) None told in
         none_so at sessions (all_granted asked track number described None new sessions) None move.next (id_brought asked.method reply) became
         (ap (λ (b : Bool). changed_where (cond (b && is_some new) (empty_place sessions) None) (granted asked track number described new) sessions) other)
-        (ap (λ (b : Bool). cond (b && is_success reply.code) (id_named (field_of reply.headers (codes "Session"))) None) other)
+        (ap (λ (b : Bool). cond (b && is_success reply.code) (option_and_then id_of (field_of reply.headers (codes "Session"))) None) other)
     by (inl setup) =
         let new : Option (List ℕ) = new_id_at (sets_up asked.method) None told in
         let is : is_setup asked.method ≡ true = ap is_setup setup in
@@ -403,8 +305,8 @@ success_so at sessions asked track number described told from None None reply di
         let all_is : all_granted asked track number described None new sessions ≡ made =
         ap (λ (b : Bool). changed_where (cond (b && is_some new) (empty_place sessions) None) (granted asked track number described new) sessions) is in
         let about : id_brought asked.method reply ≡ (session_where (empty_place sessions) made).id =
-        ap (λ (b : Bool). cond (b && is_success reply.code) (id_named (field_of reply.headers (codes "Session"))) None) is
-        ∙ ap (λ (b : Bool). cond b (id_named (field_of reply.headers (codes "Session"))) None) success ∙ brought setup
+        ap (λ (b : Bool). cond (b && is_success reply.code) (option_and_then id_of (field_of reply.headers (codes "Session"))) None) is
+        ∙ ap (λ (b : Bool). cond b (option_and_then id_of (field_of reply.headers (codes "Session"))) None) success ∙ brought setup
         ∙ ap (λ (b : Bool). (session_where (cond b (empty_place sessions) None) (all_granted asked track number described None new sessions)).id) is
         ∙ ap (λ (all : List PlayerSession). (session_where (empty_place sessions) all).id) all_is in
         subst (λ (all : List PlayerSession). IsSettledSo at sessions all None move.next (id_brought asked.method reply)) (sym all_is)
@@ -413,23 +315,11 @@ success_so at sessions asked track number described told from None None reply di
 
 -- the place that is settled has a state that the request's can lead to
 became_settled : (place : Option ℕ) (sets made : Bool) (sessions : List PlayerSession) (from : State) → AreTidy sessions → may_become from (states_of sessions place) ≡ true → may_become from (states_of sessions (settled_by place (sets && made) sessions)) ≡ true
-became_settled (Some place) sets made sessions from tidy may = may
-became_settled None false made sessions from tidy may = may
-became_settled None true false sessions from tidy may = may
-became_settled None true true sessions from tidy may = ap (λ (s : PlayerSession). may_become from s.state) (empty_is sessions (empty_place sessions) tidy refl) ∙ may
+became_settled place sets made sessions from tidy may = grind (arith, empty_is)
 
 -- Where a request names no session, its refusal is about none; and else about the one that it names.
 refused_about : (places : List ℕ → Option ℕ) (value : Option (List ℕ)) (place : Option ℕ) (method : Method) (reply : Reply1) (id : List ℕ) → IsNamedAt places value place → is_success reply.code ≡ false → is_session id (id_by value method reply) ≡ true → places id ≡ place
-refused_about places None place method reply id named refused is = by (is_setup method) (is_success reply.code) refused is
-  where
-    by : (sets success : Bool) → success ≡ false → is_session id (cond (sets && success) (id_named (field_of reply.headers (codes "Session"))) None) ≡ true → places id ≡ place
-    by true true refused is = cc
-    by true false refused is = cc
-    by false success refused is = cc
-refused_about places (Some value) place method reply id (one, named, there, some) refused is =
-    let same : Some one ≡ Some id = sym named ∙ id_is (id_of value) id is in
-    let text : one ≡ id = cc in
-    subst (λ (k : List ℕ). places k ≡ place) text there
+refused_about places value place method reply id named refused is = grind (arith, option_and_then, id_is)
 
 -- A reply to the player's own request.
 asked_settles : (success : Bool) (bases : Bases) (number : ℕ) (at : List ℕ → State) (client : Client) (requests : List Shape) (asked : Asked) (track : Option Track) (told : Told) (ssrc : Option ℕ) → is_success told.code ≡ success
@@ -447,7 +337,7 @@ asked_settles true bases number at client requests asked track told ssrc e field
     let all : List PlayerSession = all_granted asked track number client.described asked.place new sessions in
     let where_is : Option ℕ = settled_by asked.place (is_setup asked.method && is_some new) sessions in
     let all_is : after.sessions ≡ all =
-    same_where where_is (session_after purpose number told.code client.described new) (granted asked track number client.described new) sessions (λ session. ap (turned_so asked track number client.described new session) e) in
+    same_changes_where where_is (session_after purpose number told.code client.described new) (granted asked track number client.described new) sessions (λ session. ap (turned_so asked track number client.described new session) e) in
     let each_all : (q : Option ℕ) → IsSound (session_where q all) =
     each_where IsSound where_is (granted asked track number client.described new) sessions
     (λ sound. granted_sound asked.method o.from (is_some new) (brought_by purpose number client.described new) (session_where where_is sessions) o.sent.allowed
@@ -459,7 +349,7 @@ asked_settles true bases number at client requests asked track told ssrc e field
     let move : IsMoved o.from (states_of sessions asked.place) asked.method = moved o.from (states_of sessions asked.place) asked.method o.became o.sent.allowed in
     let so : IsSettledSo at sessions all asked.place move.next (id_by (field o.sent.request (codes "Session")) asked.method (reply_down place asked told)) =
     success_so at sessions asked track number client.described told o.from asked.place (field o.sent.request (codes "Session")) (reply_down place asked told) distinct placed.tidy st.became o.at_is (fresh e) (ap (λ (one : Reply1). is_success one.code) reply_is) move
-    (λ setup. ap (λ (one : Reply1). id_named (field_of one.headers (codes "Session"))) reply_is ∙ brought_is bases asked track told ssrc id setup valid
+    (λ setup. ap (λ (one : Reply1). option_and_then id_of (field_of one.headers (codes "Session"))) reply_is ∙ brought_is bases asked track told ssrc id setup valid
     ∙ ap (λ (one : List PlayerSession). (session_where (settled_by asked.place (is_setup asked.method) sessions) one).id) all_is) in
     let now : IsSettledSo at sessions after.sessions asked.place move.next (id_by (field o.sent.request (codes "Session")) asked.method (reply_down place asked told)) =
     subst (λ (one : List PlayerSession). IsSettledSo at sessions one asked.place move.next (id_by (field o.sent.request (codes "Session")) asked.method (reply_down place asked told))) (sym all_is) so in
@@ -490,16 +380,13 @@ asked_settles false bases number at client requests asked track told ssrc e fiel
 
 -- A reply to a PLAY that waited: nothing is answered, and where it is refused what played has ended.
 released_sound : (success : Bool) (brought : Brought) (session : PlayerSession) → session.state ≡ Playing → IsSound session → IsSound (turned (released_turn success session.state) brought session)
-released_sound true brought session playing sound = record { calm = calm_playing session.state (Some brought.number) session.queue playing; id = sound.id }
-released_sound false brought session playing sound = record { calm = (refl, refl); id = sound.id }
+released_sound success brought session playing sound = grind arith
 
 released_may : (success : Bool) (from : State) (brought : Brought) (session : PlayerSession) → session.state ≡ Playing → may_become from session.state ≡ true → may_become from (turned (released_turn success session.state) brought session).state ≡ true
-released_may true from brought session playing may = may
-released_may false from brought session playing may = may_more from Playing Ready (subst (λ s. may_become from s ≡ true) playing may) refl
+released_may success from brought session playing may = grind arith
 
 released_id : (success : Bool) (brought : Brought) (session : PlayerSession) → (turned (released_turn success session.state) brought session).id ≡ session.id
-released_id true brought session = refl
-released_id false brought session = refl
+released_id success brought session = grind arith
 
 released_settles : (bases : Bases) (number : ℕ) (at : List ℕ → State) (client : Client) (requests : List Shape) (play : Play) (told : Told) (ssrc : Option ℕ) (session new : Option (List ℕ)) (st : IsStanding at client requests) → st.owed ≡ []
     → (session_where play.place client.sessions).state ≡ Playing

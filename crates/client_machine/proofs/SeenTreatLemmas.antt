@@ -1,13 +1,10 @@
 -- Requests that are treated in a row walk the table.
-use Rattle.std.proofs.Common.{◌≡◌, ◌∙◌, ◌^◌, ℕ, zero, suc, ◌+◌, Bool, true, false, cond, List, [], ◌∷◌, ◌++◌, map, length, Option, None, Some, IfSome, IsSome, Result, Ok, Err, refl, sym, ap, subst}
+use Rattle.std.proofs.Common.{◌≡◌, ◌∙◌, ◌^◌, ℕ, zero, suc, ◌+◌, Bool, true, false, cond, List, [], ◌∷◌, ◌++◌, map, length, Option, None, Some, IfSome, IsSome, Result, Ok, refl, sym, ap, subst, arith}
 use Rattle.std.specs.Prelude.{codes}
-use Rattle.std.specs.Option.{option_and_then}
 use Rattle.std.proofs.lemmas.Bool.{ltb-true}
 use Rattle.std.proofs.lemmas.Slice.Eq.{bytes_eq-Decides}
-use Rattle.rtsp_head.specs.Headers.{field_of}
 use Rattle.rtsp_head.specs.Items.{Shape}
 use Rattle.rtsp_small.specs.declared.method.Method.{Method}
-use Rattle.rtsp_small.specs.declared.method.Method.TheVariants as methods
 use Rattle.head_one.specs.declared.reply.Reply1.{Reply1}
 use Rattle.head_one.specs.declared.request.Request1.{Request1}
 use Rattle.head_one.specs.declared.refusal.Refusal.{Refusal}
@@ -16,21 +13,20 @@ use Rattle.head_one.specs.Requests.{request_of_item}
 use Rattle.session_one.specs.declared.parts.Play.{Play}
 use Rattle.session_one.specs.declared.table.State.{State}
 use Rattle.session_one.specs.declared.table.State.TheVariants.{Init, Playing}
-use Rattle.session_one.specs.Table.{next_of, is_success}
 use Rattle.translate_up.specs.Fields.{field}
 use Rattle.translate_up.specs.Ids.{id_of, are_same}
 use Rattle.translate_up.specs.Leads.{method_asked, led_by}
-use Rattle.translate_up.specs.Views.{SeenSession, Given, place_from, place_of, place_named, session_in, judged_by}
+use Rattle.translate_up.specs.Views.{SeenSession, Given, place_from, place_with_id, place_named, session_or_none, judged_by}
 use Rattle.translate_up.specs.Decisions.{judged_read, judged_of, decide}
 use Rattle.translate_up.specs.declared.decision.Decision.{Decision}
 use Rattle.translate_up.specs.declared.decision.Decision.TheVariants.{Answer, Forward, Queue, Setup}
 use Rattle.translate_up.proofs.StateLemmas.{IsValidId, IsAnswer, IsSent, IsGiven, IsDecided, decided}
 use Rattle.translate_up.proofs.DecisionLemmas.{IsPlacedAs, decide_placed}
-use Rattle.translate_up.proofs.UnrefusedLemmas.{IsUnrefused, IsUpAs, IsUnrefusedIn, decided_unrefused, named_there}
+use Rattle.translate_up.proofs.NoRefusalLemmas.{IsUnrefused, IsUpAs, IsUnrefusedIn, decided_unrefused}
 use Rattle.client_slot.specs.Places.{is_session}
-use Rattle.client_machine.specs.Treatment.{queued_more, queued_more_where, one_queued, fits_memory, Going, Treated, with_answer, treated_first, treated}
-use Rattle.client_machine.specs.SeenRun.{SeenStep, id_brought, id_by, id_about, is_about, may_become, AreNumbered}
-use Rattle.client_machine.proofs.PlacedLemmas.{calm_in}
+use Rattle.client_machine.specs.Treatment.{queued_more, queued_more_where, one_queued, fits_memory, Going, Treated, treated_first, treated, ahead}
+use Rattle.client_machine.specs.SeenRun.{SeenStep, id_brought, id_by, id_about, is_about, may_become, TellNumbers}
+use Rattle.client_machine.proofs.PlaceLemmas.{calm_in}
 use Rattle.client_machine.proofs.SeenWalkLemmas.{may_self, AreWalks, walks_more, led_for, one_walks, texts, AreReplies}
 
 -- the requests that memory can hold
@@ -40,10 +36,10 @@ counted (shape ∷ more) = cond (fits_memory shape) (shape ∷ counted more) (co
 
 -- the place of the session with an id, and the state of the session at a place
 abbrev pub places_in : List SeenSession → List ℕ → Option ℕ
-places_in sessions id = place_of id sessions
+places_in sessions id = place_with_id id sessions
 
 abbrev pub states_in : List SeenSession → Option ℕ → State
-states_in sessions place = (session_in place sessions).state
+states_in sessions place = (session_or_none place sessions).state
 
 -- PLAYs wait only while streams play.
 abbrev pub ArePlaysOn : (Option ℕ → State) → List Play → Type 0
@@ -74,7 +70,7 @@ pub record IsTreatedSo (at : List ℕ → State) (places : List ℕ → Option �
   pub now : List ℕ → State
   pub walks : AreWalks at steps now
   pub became : (id : List ℕ) → may_become (now id) (states (places id)) ≡ true
-  pub numbers : AreNumbered steps
+  pub numbers : TellNumbers steps
   pub readable : AreReplies steps
   pub text_is : all.hand ≡ texts steps
   pub requests_are : requests ≡ map (λ (step : SeenStep). step.request) steps ++ (owed ++ counted all.left)
@@ -83,38 +79,23 @@ pub record IsTreatedSo (at : List ℕ → State) (places : List ℕ → Option �
 
 -- An answer of the gateway itself is about the session by whose state it was decided.
 brought_none : (method : Method) (reply : Reply1) (id : List ℕ) → led_by Init (Some method) reply.code ≡ Some Init → is_session id (id_brought method reply) ≡ true → ⊥
-brought_none methods.Options reply id leads about = cc
-brought_none methods.Describe reply id leads about = cc
-brought_none methods.Setup reply id leads about = by (is_success reply.code) leads about
-  where
-    by : (success : Bool) → cond success (option_and_then (next_of Init) (Some methods.Setup)) (Some Init) ≡ Some Init → is_session id (cond success (option_and_then id_of (field_of reply.headers (codes "Session"))) None) ≡ true → ⊥
-    by true leads about = cc
-    by false leads about = cc
-brought_none methods.Play reply id leads about = cc
-brought_none methods.Pause reply id leads about = cc
-brought_none methods.Teardown reply id leads about = cc
-brought_none methods.GetParameter reply id leads about = cc
-brought_none methods.SetParameter reply id leads about = cc
+brought_none method reply id leads about = grind arith
 
 pub id_is : (one : Option (List ℕ)) (id : List ℕ) → is_session id one ≡ true → one ≡ Some id
-id_is None id e = cc
-id_is (Some one) id e = ap (λ (text : List ℕ). Some text) ((bytes_eq-Decides one id).0 e)
+id_is one id e = grind (arith, bytes_eq-Decides)
 
 answered_by : (sessions : List SeenSession) (value : Option (List ℕ)) (method : Method) (reply : Reply1) (id : List ℕ) → led_by (states_in sessions (place_named value sessions)) (Some method) reply.code ≡ Some (states_in sessions (place_named value sessions))
     → is_session id (id_by value method reply) ≡ true → states_in sessions (places_in sessions id) ≡ states_in sessions (place_named value sessions)
-answered_by sessions None method reply id leads about = absurd (brought_none method reply id leads about)
-answered_by sessions (Some value) method reply id leads about =
-    ap (λ (one : Option (List ℕ)). states_in sessions (option_and_then (λ text. place_of text sessions) one)) (sym (id_is (id_of value) id about))
+answered_by sessions value method reply id leads about = grind (arith, brought_none, id_is)
 
 answered_at : (given : Given) (found : Result Request1 Refusal) (reply : Reply1) (id : List ℕ) → led_by (judged_read given found).state (method_asked found) reply.code ≡ Some (judged_read given found).state
     → is_session id (id_about found reply) ≡ true → states_in given.sessions (places_in given.sessions id) ≡ (judged_read given found).state
-answered_at given (Ok request) reply id leads about = answered_by given.sessions (field request (codes "Session")) request.method reply id leads about
-answered_at given (Err refusal) reply id leads about = cc
+answered_at given found reply id leads about = grind (arith, answered_by)
 
 -- one step before those of the others
 step_first : (at : List ℕ → State) (places : List ℕ → Option ℕ) (states : Option ℕ → State) (state : State) (shape : Shape) (requests : List Shape) (text : List ℕ) (later : Treated) (answer : IsAnswer state (request_of_item shape) text)
     → ((id : List ℕ) → is_about id (record { request = shape; reply = answer.reply }) ≡ true → states (places id) ≡ state) → ((id : List ℕ) → may_become (at id) (states (places id)) ≡ true)
-    → ((next : List ℕ → State) → ((id : List ℕ) → may_become (next id) (states (places id)) ≡ true) → IsTreatedSo next places states requests later) → IsTreatedSo at places states (shape ∷ requests) (with_answer text later)
+    → ((next : List ℕ → State) → ((id : List ℕ) → may_become (next id) (states (places id)) ≡ true) → IsTreatedSo next places states requests later) → IsTreatedSo at places states (shape ∷ requests) (ahead text [] later)
 step_first at places states state shape requests text later answer about may on =
     let step : SeenStep = record { request = shape; reply = answer.reply } in
     let next : List ℕ → State = led_for at step state in
@@ -155,29 +136,17 @@ goes_away at places states shape more one may sent channels named = record {
 }
 
 -- A request that goes up names a session that is there, or none.
-some_place : (sessions : List SeenSession) (place : Option ℕ) (id : List ℕ) → (session_in place sessions).id ≡ Some id → IsSome place
-some_place sessions None id e = cc
-some_place sessions (Some place) id e = refl
-
 named_by : (given : Given) (request : Request1) (value : Option (List ℕ)) (place : Option ℕ) → field request (codes "Session") ≡ value → place ≡ place_named value given.sessions → IsUnrefused (judged_by given (field request (codes "Session"))) request
     → IsNamedAt (places_in given.sessions) value place
-named_by given request None place is at un = at
-named_by given request (Some value) place is at un =
-    let there = named_there (judged_by given (field request (codes "Session"))) request value un is in
-    let same : place ≡ place_of there.0 given.sessions = at ∙ ap (option_and_then (λ id. place_of id given.sessions)) there.2 in
-    let here : place_named (field request (codes "Session")) given.sessions ≡ place = ap (λ (one : Option (List ℕ)). place_named one given.sessions) is ∙ sym at in
-    (there.0, there.2, sym same, some_place given.sessions place there.0 (ap (λ (one : Option ℕ). (session_in one given.sessions).id) (sym here) ∙ there.1))
+named_by given request value place is at un = grind arith
 
 named_at : (given : Given) (found : Result Request1 Refusal) (method : Method) (request : Request1) (place : Option ℕ) → found ≡ Ok request → place ≡ (judged_read given found).place → IsUnrefusedIn given found method
     → IsNamedAt (places_in given.sessions) (field request (codes "Session")) place
-named_at given found method request place is at (one, found_is, method_is, un) =
-    let same : one ≡ request = cc in
-    named_by given request (field request (codes "Session")) place refl (at ∙ ap (λ (read : Result Request1 Refusal). (judged_read given read).place) is)
-    (subst (λ (r : Request1). IsUnrefused (judged_by given (field r (codes "Session"))) r) same un)
+named_at given found method request place is at h7 = grind arith
 
 -- what becomes of the others, wherever the walks have come to
 abbrev AreValid : List SeenSession → Type 0
-AreValid sessions = (place : Option ℕ) → IsValidId (session_in place sessions).id
+AreValid sessions = (place : Option ℕ) → IsValidId (session_or_none place sessions).id
 
 abbrev Walks : List Shape → Type 0
 Walks more = (at : List ℕ → State) (given : Given) → ((id : List ℕ) → may_become (at id) (states_in given.sessions (places_in given.sessions id)) ≡ true) → AreValid given.sessions
@@ -215,23 +184,10 @@ queued_walks at given play more walks valid may =
 
 with_more_plays : (at : List ℕ → State) (places : List ℕ → Option ℕ) (states : Option ℕ → State) (requests : List Shape) (all : Treated) (play : Play) → states play.place ≡ Playing → IsTreatedSo at places states requests all
     → IsTreatedSo at places states requests (record all { plays = play ∷ all.plays })
-with_more_plays at places states requests all play playing so = record {
-  steps = so.steps;
-  owed = so.owed;
-  now = so.now;
-  walks = so.walks;
-  became = so.became;
-  numbers = so.numbers;
-  readable = so.readable;
-  text_is = so.text_is;
-  requests_are = so.requests_are;
-  away = so.away;
-  plays = (playing, so.plays);
-}
+with_more_plays at places states requests all play playing so = grind arith
 
 judged_state : (given : Given) (found : Result Request1 Refusal) → (judged_read given found).state ≡ states_in given.sessions (judged_read given found).place
-judged_state given (Ok request) = refl
-judged_state given (Err refusal) = refl
+judged_state given found = grind arith
 
 by_decision : (at : List ℕ → State) (given : Given) (shape : Shape) (more : List Shape) (decision : Decision) → ((id : List ℕ) → may_become (at id) (states_in given.sessions (places_in given.sessions id)) ≡ true) → AreValid given.sessions
     → IsDecided (judged_of given shape).state (request_of_item shape) decision → IsPlacedAs (judged_of given shape) decision → IsUpAs (IsUnrefusedIn given (request_of_item shape)) decision → Walks more
@@ -240,7 +196,7 @@ by_decision at given shape more (Answer text) may valid one placed un walks =
     step_first at (places_in given.sessions) (states_in given.sessions) (judged_of given shape).state shape (counted more) text (treated more given) one
     (λ id about. answered_at given (request_of_item shape) one.reply id one.leads about) may (λ next became. walks next given became valid)
 by_decision at given shape more (Queue play text) may valid one placed un walks =
-    with_more_plays at (places_in given.sessions) (states_in given.sessions) (shape ∷ counted more) (with_answer text (treated more (one_queued play given))) play
+    with_more_plays at (places_in given.sessions) (states_in given.sessions) (shape ∷ counted more) (ahead text [] (treated more (one_queued play given))) play
     (ap (states_in given.sessions) placed ∙ sym (judged_state given (request_of_item shape)) ∙ one.1)
     (step_first at (places_in given.sessions) (states_in given.sessions) (judged_of given shape).state shape (counted more) text (treated more (one_queued play given)) one.0
     (λ id about. answered_at given (request_of_item shape) one.0.reply id one.0.leads about) may (λ next became. queued_walks next given play more walks valid became))
@@ -256,8 +212,7 @@ by_decision at given shape more (Setup request asked pair) may valid one placed 
     (named_at given (request_of_item shape) asked.method sent.request asked.place sent.found_is placed un)
 
 valid_judged : (given : Given) (found : Result Request1 Refusal) → AreValid given.sessions → IsValidId (judged_read given found).session
-valid_judged given (Ok request) valid = valid (place_named (field request (codes "Session")) given.sessions)
-valid_judged given (Err refusal) valid = tt
+valid_judged given found valid = grind arith
 
 by_memory : (fits : Bool) (at : List ℕ → State) (given : Given) (shape : Shape) (more : List Shape) → fits_memory shape ≡ fits → ((id : List ℕ) → may_become (at id) (states_in given.sessions (places_in given.sessions id)) ≡ true) → AreValid given.sessions → Walks more
     → IsTreatedSo at (places_in given.sessions) (states_in given.sessions) (cond fits (shape ∷ counted more) (counted more)) (treated_first (cond fits (decide given shape) (Answer [])) given more (treated more))

@@ -1,42 +1,24 @@
 -- Walks of the table, and how replies in a row are read.
-use Rattle.std.proofs.Common.{◌≡◌, ◌∙◌, ℕ, Bool, true, false, ◌==◌, cond, List, [], ◌∷◌, ◌++◌, map, length, Option, None, Some, refl, sym, ap, subst, unwrap_or, arith}
+use Rattle.std.proofs.Common.{◌≡◌, ◌∙◌, ℕ, Bool, true, false, cond, List, [], ◌∷◌, ◌++◌, map, Option, Some, refl, sym, ap, subst, unwrap_or, arith}
 use Rattle.std.specs.Prelude.{is_some}
 use Rattle.std.specs.Option.{option_and_then, option_map}
 use Rattle.std.proofs.lemmas.List.{append_assoc, append-nil}
-use Rattle.std.proofs.lemmas.Bool.{eqb-true}
 use Rattle.rtsp_head.specs.Messages.{Message, messages_of}
 use Rattle.rtsp_small.specs.declared.method.Method.{Method}
-use Rattle.rtsp_small.specs.declared.method.Method.TheVariants as methods
 use Rattle.head_one.specs.declared.reply.Reply1.{Reply1}
 use Rattle.head_one.specs.Requests.{request_of_item}
 use Rattle.translate_up.specs.Leads.{method_asked, led_by}
 use Rattle.head_one.specs.Replies.{reply_text, reply_message, IsReply}
 use Rattle.head_one.proofs.ReadLemmas.{reply_told, replies_read}
 use Rattle.session_one.specs.declared.table.State.{State}
-use Rattle.session_one.specs.declared.table.State.TheVariants.{Init, Ready, Playing}
 use Rattle.session_one.specs.Table.{next_of, is_allowed}
 use Rattle.client_machine.specs.Alone.{piece}
 use Rattle.client_machine.specs.Frames.{frame_text}
-use Rattle.client_machine.specs.SeenRun.{SeenStep, is_about, steps_about, may_become, IsWalk, AreNumbered, replies_among, replies_in, and_replies, replies_handed}
+use Rattle.client_machine.specs.SeenRun.{SeenStep, is_about, steps_about, may_become, IsWalk, TellNumbers, replies_among, replies_in, and_replies, replies_handed}
 
 -- A session can be in the state that it is in, and what it can be in from there.
 pub may_self : (s : State) → may_become s s ≡ true
-may_self Init = refl
-may_self Ready = refl
-may_self Playing = refl
-
-pub may_more : (a b c : State) → may_become a b ≡ true → may_become b c ≡ true → may_become a c ≡ true
-may_more Init Init c x y = y
-may_more Init Ready c x y = cc
-may_more Init Playing c x y = cc
-may_more Ready Init c x y = cc
-may_more Ready Ready c x y = y
-may_more Ready Playing c x y = cc
-may_more Playing Init c x y = cc
-may_more Playing Ready Init x y = cc
-may_more Playing Ready Ready x y = refl
-may_more Playing Ready Playing x y = cc
-may_more Playing Playing c x y = y
+may_self s = grind arith
 
 -- one walk after another
 pub walk_more : (from mid to : State) (xs ys : List SeenStep) → IsWalk from xs mid → IsWalk mid ys to → IsWalk from (xs ++ ys) to
@@ -44,8 +26,7 @@ walk_more from mid to [] ys first second = subst (λ (s : State). IsWalk s ys to
 walk_more from mid to (x ∷ xs) ys first second = (first.0, first.1, walk_more first.0 mid to xs ys first.2 second)
 
 about_by : (here : Bool) (one : SeenStep) (xs ys both : List SeenStep) → both ≡ xs ++ ys → cond here (one ∷ both) both ≡ cond here (one ∷ xs) xs ++ ys
-about_by true one xs ys both e = ap (λ (l : List SeenStep). one ∷ l) e
-about_by false one xs ys both e = e
+about_by here one xs ys both e = grind arith
 
 about_more : (id : List ℕ) (xs ys : List SeenStep) → steps_about id (xs ++ ys) ≡ steps_about id xs ++ steps_about id ys
 about_more id [] ys = refl
@@ -56,10 +37,9 @@ abbrev pub AreWalks : (List ℕ → State) → List SeenStep → (List ℕ → S
 AreWalks from steps to = (id : List ℕ) → IsWalk (from id) (steps_about id steps) (to id)
 
 pub walks_more : (from mid to : List ℕ → State) (xs ys : List SeenStep) → AreWalks from xs mid → AreWalks mid ys to → AreWalks from (xs ++ ys) to
-walks_more from mid to xs ys first second id =
-    subst (λ (steps : List SeenStep). IsWalk (from id) steps (to id)) (sym (about_more id xs ys)) (walk_more (from id) (mid id) (to id) (steps_about id xs) (steps_about id ys) (first id) (second id))
+walks_more from mid to xs ys first second id = grind (arith, about_more, walk_more)
 
-pub numbers_more : (xs ys : List SeenStep) → AreNumbered xs → AreNumbered ys → AreNumbered (xs ++ ys)
+pub numbers_more : (xs ys : List SeenStep) → TellNumbers xs → TellNumbers ys → TellNumbers (xs ++ ys)
 numbers_more [] ys first second = second
 numbers_more (x ∷ xs) ys first second = (first.0, numbers_more xs ys first.1 second)
 
@@ -82,30 +62,10 @@ pub record IsMoved (walked state : State) (method : Method) : Type 0 where
   pub became : may_become next (unwrap_or (next_of state method) state) ≡ true
 
 moved_same : (state : State) (method : Method) (next : Option State) → next_of state method ≡ next → is_some next ≡ true → IsMoved state state method
-moved_same state method None e allowed = cc
-moved_same state method (Some next) e allowed =
-    record { next = next; row = e; became = subst (λ (o : Option State). may_become next (unwrap_or o state) ≡ true) (sym e) (may_self next) }
-
-moved_ended : (method : Method) → is_allowed Playing method ≡ true → IsMoved Playing Ready method
-moved_ended methods.Options allowed = record { next = Playing; row = refl; became = refl }
-moved_ended methods.Describe allowed = record { next = Playing; row = refl; became = refl }
-moved_ended methods.Setup allowed = cc
-moved_ended methods.Play allowed = record { next = Playing; row = refl; became = refl }
-moved_ended methods.Pause allowed = record { next = Ready; row = refl; became = refl }
-moved_ended methods.Teardown allowed = record { next = Init; row = refl; became = refl }
-moved_ended methods.GetParameter allowed = record { next = Playing; row = refl; became = refl }
-moved_ended methods.SetParameter allowed = record { next = Playing; row = refl; became = refl }
+moved_same state method next e allowed = grind arith
 
 pub moved : (walked state : State) (method : Method) → may_become walked state ≡ true → is_allowed walked method ≡ true → IsMoved walked state method
-moved Init Init method may allowed = moved_same Init method (next_of Init method) refl allowed
-moved Init Ready method may allowed = cc
-moved Init Playing method may allowed = cc
-moved Ready Init method may allowed = cc
-moved Ready Ready method may allowed = moved_same Ready method (next_of Ready method) refl allowed
-moved Ready Playing method may allowed = cc
-moved Playing Init method may allowed = cc
-moved Playing Ready method may allowed = moved_ended method allowed
-moved Playing Playing method may allowed = moved_same Playing method (next_of Playing method) refl allowed
+moved walked state method may allowed = grind arith
 
 -- the text of the replies of steps, each of which can be read back
 abbrev pub texts : List SeenStep → List ℕ
@@ -147,16 +107,8 @@ abbrev begins : List ℕ → Bool
 begins [] = false
 begins (b ∷ bytes) = true
 
-piece_by : (empty : Bool) (b : ℕ) (bytes : List ℕ) → (length (b ∷ bytes) == 0) ≡ empty → cond empty [] ((b ∷ bytes) ∷ []) ≡ (b ∷ bytes) ∷ []
-piece_by true b bytes e =
-    let none : length (b ∷ bytes) ≡ 0 = eqb-true (length (b ∷ bytes)) 0 e in
-    let bad : ⊥ = omega (arith, none) in
-    absurd bad
-piece_by false b bytes e = refl
-
 one_piece : (bytes : List ℕ) → begins bytes ≡ true → piece bytes ≡ bytes ∷ []
-one_piece [] some = cc
-one_piece (b ∷ bytes) some = piece_by (length (b ∷ bytes) == 0) b bytes refl
+one_piece bytes some = grind arith
 
 -- So are those of a piece after earlier ones, and a frame brings none.
 pub handed_more : (steps : List SeenStep) (pieces : List (List ℕ)) (before : List Reply1) → AreReplies steps → replies_handed pieces ≡ Some before
@@ -168,6 +120,4 @@ handed_more (step ∷ more) pieces before all e =
 
 pub handed_frame : (channel : ℕ) (rest : List ℕ) (pieces : List (List ℕ)) (before : List Reply1) → replies_handed pieces ≡ Some before
     → replies_handed (piece (frame_text channel rest) ++ pieces) ≡ Some before
-handed_frame channel rest pieces before e =
-    ap (λ (l : List (List ℕ)). replies_handed (l ++ pieces)) (one_piece (frame_text channel rest) refl)
-    ∙ ap (λ (o : Option (List Reply1)). and_replies o (Some [])) e ∙ ap (λ (l : List Reply1). Some l) (append-nil before)
+handed_frame channel rest pieces before e = grind (arith, one_piece, append-nil)

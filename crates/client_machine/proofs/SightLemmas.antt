@@ -1,5 +1,5 @@
 -- What sessions show.
-use Rattle.std.proofs.Common.{◌≡◌, ◌≢◌, ◌∙◌, ℕ, zero, suc, ◌+◌, ◌<◌, ◌==◌, Bool, true, false, not, ◌&&◌, cond, List, [], ◌∷◌, length, drop, map, Option, None, Some, IsSome, refl, sym, ap, subst, add-one, drop-cons, arith}
+use Rattle.std.proofs.Common.{◌≡◌, ◌≢◌, ◌∙◌, ℕ, zero, suc, ◌+◌, ◌<◌, ◌==◌, Bool, true, false, not, ◌&&◌, cond, List, [], ◌∷◌, length, drop, map, Option, None, Some, refl, sym, ap, subst, add-one, drop-cons, arith}
 use Rattle.std.specs.Prelude.{is_some, is_none, slice_get}
 use Rattle.std.specs.Borrow.{Bor}
 use Rattle.std.specs.Option.{option_copied}
@@ -7,6 +7,7 @@ use Rattle.std.proofs.lemmas.Bool.{ne_eqb}
 use Rattle.std.proofs.Math.Seq.{drop-length}
 use Rattle.session_one.specs.declared.parts.TheConstants.{MOST_SESSIONS}
 use Rattle.client_machine.specs.declared.outlook.Outlook.{Outlook}
+use Rattle.client_machine.specs.Sights.{Sight, sight, sight_at, sight_of, replaced, replaced_where, first_sight, has_due_seen, session_in_sight, IsTidySight, AreTidySights}
 use Rattle.client_machine.specs.Outlooks.{sights_of}
 use Rattle.session_one.specs.declared.parts.Play.{Play}
 use Rattle.client_slot.specs.Session.{PlayerSession, new_session}
@@ -14,8 +15,7 @@ use Rattle.client_slot.specs.Places.{session_at, changed_at, first_place, has_du
 use Rattle.client_slot.specs.Bounds.{IsTidyBy, AreTidy}
 use Rattle.client_slot.proofs.TidyLemmas.{tidy_at}
 use Rattle.client_machine.specs.declared.sight.PlacedShowing.{PlacedShowing}
-use Rattle.client_machine.specs.Sights.{Sight, sight, sight_at, sight_of, replaced, replaced_where, first_sight, has_due_seen, session_in_sight, IsTidySight, AreTidySights}
-use Rattle.client_machine.specs.Treatment.{session_seen}
+use Rattle.client_machine.specs.Treatment.{session_found}
 
 pub shown_at : (place : ℕ) (sessions : List PlayerSession) → sight_at place (map sight sessions) ≡ sight (session_at place sessions)
 shown_at place [] = refl
@@ -76,12 +76,7 @@ filled_shown sessions = shown_first (λ seen. is_some seen.id) (λ session. is_s
 
 -- Each place is tidy.
 tidy_one : (session : PlayerSession) (id : Option (List ℕ)) → session.id ≡ id → IsTidyBy id session → IsTidySight (sight session)
-tidy_one session None is tidy = (λ none. ap sight tidy, λ some. let clash = sym some ∙ ap (λ (one : Option (List ℕ)). is_some one) is in cc)
-tidy_one session (Some id) is tidy = (λ none. let clash = sym none ∙ is in cc, λ some. there session.control tidy)
-  where
-    there : (control : Option (List ℕ)) → IsSome control → is_some control ≡ true
-    there None h = cc
-    there (Some uri) h = refl
+tidy_one session id is tidy = grind arith
 
 pub tidy_sights : (sessions : List PlayerSession) → AreTidy sessions → AreTidySights (map sight sessions)
 tidy_sights sessions tidy place = subst IsTidySight (sym (shown_at place sessions)) (tidy_one (session_at place sessions) (session_at place sessions).id refl (tidy_at place sessions tidy))
@@ -91,14 +86,10 @@ left_sights : (place : ℕ) (sights : List Sight) → place < length sights → 
 left_sights place sights within = rw (add-one, drop-cons sights place (sight new_session) within) refl
 
 pub next_sight : (test : Sight → Bool) (at place : ℕ) (sights : List Sight) → place < length sights → test (sight_at place sights) ≡ false → first_sight test (at + 1) (drop (place + 1) sights) ≡ first_sight test at (drop place sights)
-next_sight test at place sights within other =
-    sym (ap (λ (passes : Bool). cond passes (Some at) (first_sight test (at + 1) (drop (place + 1) sights))) other)
-    ∙ sym (ap (first_sight test at) (left_sights place sights within))
+next_sight test at place sights within other = grind (arith, left_sights)
 
 pub here_sight : (test : Sight → Bool) (at place : ℕ) (sights : List Sight) → place < length sights → test (sight_at place sights) ≡ true → first_sight test at (drop place sights) ≡ Some at
-here_sight test at place sights within same =
-    ap (first_sight test at) (left_sights place sights within)
-    ∙ ap (λ (passes : Bool). cond passes (Some at) (first_sight test (at + 1) (drop (place + 1) sights))) same
+here_sight test at place sights within same = grind (arith, left_sights)
 
 -- a function of each of four
 pub four_mapped : {A : Type 0} (f : Sight → A) (sights : List Sight) → length sights ≡ 4 → f (sight_at 0 sights) ∷ f (sight_at 1 sights) ∷ f (sight_at 2 sights) ∷ f (sight_at 3 sights) ∷ [] ≡ map f sights
@@ -110,8 +101,7 @@ four_mapped f (a ∷ b ∷ c ∷ d ∷ []) four = refl
 four_mapped f (a ∷ b ∷ c ∷ d ∷ e ∷ more) four = absurd (grind (arith, four))
 
 pub four_same : {A : Type 0} (a b c d e f g h : A) → a ≡ e → b ≡ f → c ≡ g → d ≡ h → a ∷ b ∷ c ∷ d ∷ [] ≡ e ∷ f ∷ g ∷ h ∷ []
-four_same a b c d e f g h ae bf cg dh =
-    ap (λ one. one ∷ b ∷ c ∷ d ∷ []) ae ∙ ap (λ one. e ∷ one ∷ c ∷ d ∷ []) bf ∙ ap (λ one. e ∷ f ∷ one ∷ d ∷ []) cg ∙ ap (λ one. e ∷ f ∷ g ∷ one ∷ []) dh
+four_same a b c d e f g h ae bf cg dh = grind arith
 
 -- all were looked at
 pub none_sight : (test : Sight → Bool) (from place : ℕ) (sights : List Sight) → place ≡ length sights → first_sight test from (drop place sights) ≡ None
@@ -122,22 +112,14 @@ pub outlook_length : (outlook : Outlook) → length (sights_of outlook) ≡ MOST
 outlook_length outlook = replaced_length outlook.changed (map sight outlook.slot.now.sessions) ∙ shown_length outlook.slot.now.sessions ∙ outlook.places
 
 pub copied_some : (id : Option (Bor (List ℕ))) → is_some (option_copied id) ≡ is_some id
-copied_some None = refl
-copied_some (Some one) = refl
+copied_some h0 = grind arith
 
 -- What is seen at a place: the session that changes, or the one that is there.
 pub here_is : (outlook : Outlook) (changed : PlacedShowing) (place : ℕ) → outlook.changed ≡ Some changed → changed.place ≡ place → place < MOST_SESSIONS → sight_at place (sights_of outlook) ≡ sight_of changed.session
-here_is outlook changed place is same within =
-    let all = map sight outlook.slot.now.sessions in
-    ap (λ one. sight_at place (replaced_where one all)) is
-    ∙ ap (λ at. sight_at place (replaced at (sight_of changed.session) all)) same
-    ∙ replaced_here place (sight_of changed.session) all (subst (λ n. place < n) (sym (shown_length outlook.slot.now.sessions ∙ outlook.places)) within)
+here_is outlook changed place is same within = grind (arith, replaced_here, shown_length)
 
 pub apart_is : (outlook : Outlook) (changed : PlacedShowing) (place : ℕ) → outlook.changed ≡ Some changed → changed.place ≢ place → sight_at place (sights_of outlook) ≡ sight (session_at place outlook.slot.now.sessions)
-apart_is outlook changed place is apart =
-    ap (λ one. sight_at place (replaced_where one (map sight outlook.slot.now.sessions))) is
-    ∙ replaced_other changed.place place (sight_of changed.session) (map sight outlook.slot.now.sessions) (λ e. apart (sym e))
-    ∙ shown_at place outlook.slot.now.sessions
+apart_is outlook changed place is apart = grind (arith, replaced_other, shown_at)
 
 pub same_is : (outlook : Outlook) (place : ℕ) → outlook.changed ≡ None → sight_at place (sights_of outlook) ≡ sight (session_at place outlook.slot.now.sessions)
 same_is outlook place is = ap (λ one. sight_at place (replaced_where one (map sight outlook.slot.now.sessions))) is ∙ shown_at place outlook.slot.now.sessions
@@ -164,17 +146,12 @@ passes_at test place sights e =
     ap (λ k. test (sight_at k sights)) (sym same) ∙ found.passes
 
 pub due_first : (seen : Sight) → has_due_seen seen ≡ true → seen.first ≡ None → ⊥
-due_first seen due none = by seen.runs seen.first due none
-  where
-    by : (runs : Bool) (first : Option Play) → (not runs && is_some first) ≡ true → first ≡ None → ⊥
-    by true first h e = cc
-    by false None h e = cc
-    by false (Some play) h e = cc
+due_first seen due none = grind arith
 
 -- what a request finds, by what is seen
-pub found_shown : (sessions : List PlayerSession) → map session_in_sight (map sight sessions) ≡ map session_seen sessions
+pub found_shown : (sessions : List PlayerSession) → map session_in_sight (map sight sessions) ≡ map session_found sessions
 found_shown [] = refl
-found_shown (one ∷ more) = ap (λ later. session_seen one ∷ later) (found_shown more)
+found_shown (one ∷ more) = ap (λ later. session_found one ∷ later) (found_shown more)
 
 pub found_length : (sights : List Sight) → length (map session_in_sight sights) ≡ length sights
 found_length [] = refl

@@ -1,5 +1,5 @@
 -- The ways of a step: what holds of each holds of the step.
-use Rattle.std.proofs.Common.{◌≡◌, ◌∙◌, ℕ, ◌+◌, nat_lt, Bool, true, false, cond, List, [], ◌∷◌, Option, Some, None, refl, sym, ap, subst}
+use Rattle.std.proofs.Common.{◌≡◌, ◌∙◌, ℕ, ◌+◌, nat_lt, Bool, true, false, cond, List, [], ◌∷◌, Option, Some, None, refl, sym, ap, subst, arith}
 use Rattle.rtsp_head.specs.Items.{Shape}
 use Rattle.rtsp_head.specs.declared.item.ItemKind.{ItemKind}
 use Rattle.rtsp_head.specs.declared.item.ItemKind.TheVariants.{Request, Response, Frame, Bad}
@@ -19,12 +19,9 @@ use Rattle.client_slot.specs.Changes.{after_waiting, after_note, due_place_at, d
 use Rattle.client_slot.specs.ClosingRequest.{closing_request}
 use Rattle.client_machine.specs.declared.why.CloseWhy.{CloseWhy}
 use Rattle.client_machine.specs.declared.why.CloseWhy.TheVariants.{Ended, BadItem, Slow}
-use Rattle.client_machine.specs.Effects.{asks, carries, Effect, stays, sends, hands}
-use Rattle.client_machine.specs.Events.{PrivateEvent, arrive, answer, note, media, end, slow, up_end}
+use Rattle.client_machine.specs.Events.{asks, carries, Effect, stays, sends, hands, PrivateEvent, arrive, answer, note, media, end, slow, up_end}
 use Rattle.client_machine.specs.Frames.{channel_in, behind_channel, frame_text, Half, half_for, channel_for}
-use Rattle.client_machine.specs.Releases.{released_with, released_at, leave_with, leave_at, treat, go_due, go_idle, go_at}
-use Rattle.client_machine.specs.ServerItems.{NextPart, rests, releases, goes_on, Hearing, idles, closes, carry, take_item, take, settled, settle_at, take_note, give, take_media, hear}
-use Rattle.client_machine.specs.Step.{going_on, step}
+use Rattle.client_machine.specs.Step.{released_with, released_at, leave_with, leave_at, treat, go_due, go_idle, go_at, NextPart, rests, releases, goes_on, Hearing, idles, closes, carry, take_item, take, settled, settle_at, take_note, give, take_media, hear, going_on, step}
 use Rattle.client_machine.specs.Alone.{Private, pair_alone, over_effect, effect_while, effect_alone, is_up_end}
 
 -- each way to hear an event
@@ -103,13 +100,10 @@ pub record GoesAs (P : Effect → Type 0) (bases : Bases) (pair : Option ℕ) (c
       → P (sends (asks (closing_request (session_at place client.sessions).control id) None) (record client { pending = Some (Closing place) }))
 
 due_there : (pending : Option Purpose) (sessions : List PlayerSession) (place : ℕ) → due_place_at pending sessions ≡ Some place → (pending ≡ None) × (first_place has_due 0 sessions ≡ Some place)
-due_there None sessions place due = (refl, due)
-due_there (Some purpose) sessions place due = cc
+due_there pending sessions place due = grind arith
 
 left_there : (alive : Bool) (pending : Option Purpose) (sessions : List PlayerSession) (place : ℕ) → closing_place_at alive pending sessions ≡ Some place → (alive ≡ false) × ((pending ≡ None) × (filled_place sessions ≡ Some place))
-left_there true pending sessions place due = cc
-left_there false None sessions place due = (refl, (refl, due))
-left_there false (Some purpose) sessions place due = cc
+left_there alive pending sessions place due = grind arith
 
 module _ (P : Effect → Type 0) (bases : Bases) (pair : Option ℕ) (client : Client) (ways : GoesAs P bases pair client) where
   play_as : (place : ℕ) (play : Option Play) → due_place client ≡ Some place → queued_at place client.sessions ≡ play → P (released_with play (session_at place client.sessions).id client)
@@ -159,14 +153,7 @@ going_as P bases pair next client ways = next_as P bases pair client ways next
 -- what an event does to a connection alone
 while_by : (P : Effect → Type 0) (bases : Bases) (p : Private) (over : Bool) (event : PrivateEvent) → (over ≡ true → P (stays p.client)) → (over ≡ false → is_up_end event ≡ true → P (over_effect p.client))
     → (over ≡ false → is_up_end event ≡ false → P (step bases p.count (pair_alone event (p.count + 1)) p.client event)) → P (effect_while over bases p event)
-while_by P bases p true event still ended steps = still refl
-while_by P bases p false (arrive shape full) still ended steps = steps refl refl
-while_by P bases p false (answer told ssrc full) still ended steps = steps refl refl
-while_by P bases p false (note id reason names) still ended steps = steps refl refl
-while_by P bases p false (media pair half rest) still ended steps = steps refl refl
-while_by P bases p false end still ended steps = steps refl refl
-while_by P bases p false slow still ended steps = steps refl refl
-while_by P bases p false up_end still ended steps = ended refl refl
+while_by P bases p over event still ended steps = grind arith
 
 pub alone_by : (P : Effect → Type 0) (bases : Bases) (p : Private) (event : PrivateEvent) → (p.over ≡ true → P (stays p.client)) → (p.over ≡ false → is_up_end event ≡ true → P (over_effect p.client))
     → (p.over ≡ false → is_up_end event ≡ false → P (step bases p.count (pair_alone event (p.count + 1)) p.client event)) → P (effect_alone bases p event)

@@ -6,8 +6,7 @@ use Rattle.rtsp_uri.specs.declared.base.Bases.{Bases}
 use Rattle.client_slot.specs.Client.{Client, new_client}
 use Rattle.client_machine.specs.declared.why.CloseWhy.{CloseWhy}
 use Rattle.client_machine.specs.declared.why.CloseWhy.TheVariants.{Upstream}
-use Rattle.client_machine.specs.Effects.{Outgoing, asks, carries, Effect, stays}
-use Rattle.client_machine.specs.Events.{PrivateEvent, arrive, answer, note, media, end, slow, up_end}
+use Rattle.client_machine.specs.Events.{Outgoing, asks, Effect, stays, PrivateEvent, arrive, answer, up_end}
 use Rattle.client_machine.specs.Step.{step}
 
 -- the connection; whether the connection to the server has ended; and how many requests went up
@@ -33,11 +32,7 @@ pair_unless false number = Some number
 abbrev pub pair_alone : PrivateEvent → ℕ → Option ℕ
 pair_alone (arrive shape full) number = pair_unless full number
 pair_alone (answer told ssrc full) number = pair_unless full number
-pair_alone (note id reason names) number = Some number
-pair_alone (media pair half rest) number = Some number
-pair_alone end number = Some number
-pair_alone slow number = Some number
-pair_alone up_end number = Some number
+pair_alone event number = Some number
 
 -- The end of the server's connection closes a connection that is alive.
 abbrev pub over_effect : Client → Effect
@@ -60,9 +55,8 @@ is_up_end event = false
 
 -- one request more, where a message is one
 abbrev pub asked_in : Option Outgoing → ℕ
-asked_in None = 0
 asked_in (Some (asks request pair)) = 1
-asked_in (Some (carries pair half rest)) = 0
+asked_in message = 0
 
 -- either of two
 abbrev pub or_else : Bool → Bool → Bool

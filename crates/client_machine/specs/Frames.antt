@@ -6,6 +6,7 @@ use Rattle.std.specs.List.{find}
 use Rattle.gate_bytes.specs.Ascii.{dollar}
 use Rattle.rtsp_head.specs.Items.{Shape}
 use Rattle.session_one.specs.declared.parts.Track.{Track}
+use Rattle.client_machine.specs.declared.frames.StreamHalf.{StreamHalf}
 
 -- the channel of a frame, and all that stands behind it
 abbrev pub channel_in : Shape → ℕ
@@ -40,3 +41,7 @@ player_channel half track = if half == 0 then track.client.rtp else track.client
 -- the player's channel for a half of a pair, where one of its streams has the pair
 abbrev pub channel_for : ℕ → ℕ → List Track → Option ℕ
 channel_for pair half tracks = option_map (player_channel half) (find (λ track. track.pair == pair) tracks)
+
+-- a half as it is handed out
+abbrev pub half_of : StreamHalf → Half
+half_of one = record { pair = one.pair; half = one.half }

@@ -1,14 +1,9 @@
-pub mod Alone
-pub mod Apart
-pub mod OpenRequests
 pub mod Outlooks
+pub mod Alone
+pub mod OpenRequests
 pub mod Bounds
 pub mod Events
-pub mod Effects
 pub mod Frames
-pub mod Releases
-pub mod Halves
-pub mod ServerItems
 pub mod Onward
 pub mod Plans
 pub mod Progresses

@@ -1,19 +1,18 @@
 -- What goes up for a connection with no open request, as it is planned (this project's own).
-use Rattle.std.specs.Prelude.{◌≡◌, ℕ, ◌≤◌, is_some, List, ◌++◌, length, map, Option, Some, None}
+use Rattle.std.specs.Prelude.{◌≡◌, ℕ, is_some, List, ◌++◌, map, Option, Some, None}
 use Rattle.rtsp_uri.specs.declared.base.Bases.{Bases}
 use Rattle.session_one.specs.declared.parts.Play.{Play}
 use Rattle.head_two.specs.Requests.{request_text}
 use Rattle.translate_up.specs.QueuedPlay.{play_up}
-use Rattle.client_slot.specs.declared.limits.TheConstants.{LONGEST_URI}
 use Rattle.client_slot.specs.Client.{Client}
 use Rattle.client_machine.specs.declared.parts.Change.{Change}
 use Rattle.client_machine.specs.declared.parts.Up.{Up}
 use Rattle.client_machine.specs.declared.parts.Up.TheVariants as ups
-use Rattle.client_machine.specs.declared.parts.Plan.{Plan}
+use Rattle.client_machine.specs.declared.parts.PlannedStep.{PlannedStep}
 use Rattle.client_machine.specs.declared.treat.Upward.{Upward}
 use Rattle.client_machine.specs.declared.treat.Progress.{Progress}
-use Rattle.client_machine.specs.Effects.{Effect}
-use Rattle.client_machine.specs.Releases.{track_of, pair_if_wanted, after_plays, go}
+use Rattle.client_machine.specs.Events.{Effect}
+use Rattle.client_machine.specs.Step.{track_of, pair_if_wanted, after_plays, go}
 use Rattle.client_machine.specs.Plans.{ArePlaced, IsReadyUp, without, risen, risen_text, is_up}
 use Rattle.client_machine.specs.Sights.{Sight, sight, sight_at, due_seen}
 use Rattle.client_machine.specs.UpTexts.{text_up, spelled}
@@ -42,21 +41,13 @@ due_at next (Some place) sights = due_with next (sight_at place sights).first (s
 abbrev pub due_for : ℕ → List Sight → Option Up
 due_for next sights = due_at next (due_seen sights) sights
 
--- the URI of a request that goes up is short
-abbrev pub IsShortAsk : Up → Type 0
-IsShortAsk ups.Nothing = Unit {0}
-IsShortAsk (ups.Due text) = Unit {0}
-IsShortAsk ups.Leave = Unit {0}
-IsShortAsk (ups.Ask text asked track) = length asked.uri ≤ LONGEST_URI
-
 -- what became of requests, as a plan
-pub record IsFinished (next : ℕ) (pair : Option ℕ) (first : Change) (progress : Progress) (plan : Plan) : Type 0 where
+pub record IsFinished (next : ℕ) (pair : Option ℕ) (first : Change) (progress : Progress) (plan : PlannedStep) : Type 0 where
   pub change : plan.change ≡ first
   pub treated : plan.treated ≡ progress.treated
   pub plays : plan.plays ≡ progress.plays
   pub hand : plan.hand ≡ progress.hand
   pub up : plan.up ≡ up_for next pair progress.going
-  pub short : IsShortAsk plan.up
 
 -- a connection without an open request that shows this
 pub record IsShown (lives : Client) (seen : List Sight) (described : Option (List ℕ)) (client : Client) : Type 0 where
@@ -67,7 +58,7 @@ pub record IsShown (lives : Client) (seen : List Sight) (described : Option (Lis
   pub about : client.described ≡ described
 
 -- A plan does this effect for a connection that its change leaves, after these bytes.
-pub record Onward (next : ℕ) (pair : Option ℕ) (client : Client) (first : List ℕ) (plan : Plan) (effect : Effect) : Type 0 where
+pub record Onward (next : ℕ) (pair : Option ℕ) (client : Client) (first : List ℕ) (plan : PlannedStep) (effect : Effect) : Type 0 where
   pub client_then : risen plan.up (after_plays plan.plays (without plan.treated client)) ≡ effect.client
   pub hand : plan.hand ≡ first ++ effect.hand
   pub request : risen_text next plan.up (after_plays plan.plays (without plan.treated client)) ≡ spelled next pair effect.message
@@ -77,6 +68,6 @@ pub record Onward (next : ℕ) (pair : Option ℕ) (client : Client) (first : Li
   pub up : IsReadyUp (after_plays plan.plays (without plan.treated client)) plan.up
 
 -- A plan makes this change, and does what the machine does for a connection that shows this then.
-pub record GoesOnward (bases : Bases) (next : ℕ) (pair : Option ℕ) (lives : Client) (seen : List Sight) (described : Option (List ℕ)) (first : List ℕ) (change : Change) (plan : Plan) : Type 0 where
+pub record GoesOnward (bases : Bases) (next : ℕ) (pair : Option ℕ) (lives : Client) (seen : List Sight) (described : Option (List ℕ)) (first : List ℕ) (change : Change) (plan : PlannedStep) : Type 0 where
   pub change_is : plan.change ≡ change
   pub onward : (client : Client) → IsShown lives seen described client → Onward next pair client first plan (go bases pair client)

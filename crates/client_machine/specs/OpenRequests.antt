@@ -1,5 +1,5 @@
 -- What a request that goes up is, by what is kept of it until its reply comes (this project's own).
-use Rattle.std.specs.Prelude.{◌≡◌, ℕ, Bool, false, ◌||◌, codes, List, [], ◌∷◌, Option, Some, None}
+use Rattle.std.specs.Prelude.{◌≡◌, ℕ, Bool, false, ◌||◌, codes, List, [], ◌∷◌, Option, Some, None, IfSome}
 use Rattle.rtsp_head.specs.Items.{Shape}
 use Rattle.rtsp_small.specs.declared.method.Method.TheVariants.{Setup, Play}
 use Rattle.rtsp_small.specs.Methods.{method_name}
@@ -9,7 +9,7 @@ use Rattle.translate_up.specs.Setups.{is_setup_item}
 use Rattle.translate_up.specs.Upward.{method_up}
 use Rattle.client_slot.specs.declared.purpose.Purpose.{Purpose}
 use Rattle.client_slot.specs.declared.purpose.Purpose.TheVariants as purposes
-use Rattle.client_machine.specs.Effects.{Outgoing, asks, carries, Effect}
+use Rattle.client_machine.specs.Events.{Outgoing, asks, carries, Effect}
 
 -- A SETUP has the pair of its stream, and nothing else has one.
 abbrev pub IsAskedAs : Purpose → Request2 → Option ℕ → Type 0
@@ -25,8 +25,7 @@ IsOpenAs (Some purpose) request pair = IsAskedAs purpose request pair
 
 -- Where a request names a pair, that is the one that is free.
 abbrev pub IsFreeFor : Option ℕ → Option ℕ → Type 0
-IsFreeFor free None = Unit {0}
-IsFreeFor free (Some pair) = free ≡ Some pair
+IsFreeFor free named = IfSome named (λ pair. free ≡ Some pair)
 
 -- a request that went up is open, with the pair that was free
 pub record IsAsked (free : Option ℕ) (request : Request2) (pair : Option ℕ) (old new : Option Purpose) : Type 0 where

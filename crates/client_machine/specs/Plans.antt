@@ -14,7 +14,7 @@ use Rattle.session_two.specs.declared.names.Names.{Names}
 use Rattle.play_queue.specs.declared.queue.TheConstants.{MOST_PLAYS}
 use Rattle.translate_down.specs.Replies.{told_by}
 use Rattle.client_slot.specs.declared.limits.TheConstants.{LONGEST_URI, MOST_WAITING}
-use Rattle.client_slot.specs.Made.{id_made, described_made}
+use Rattle.client_slot.specs.NewSessions.{id_made, described_made}
 use Rattle.client_slot.specs.Session.{PlayerSession}
 use Rattle.client_slot.specs.Places.{session_at, changed_where}
 use Rattle.client_slot.specs.SessionChanges.{when_queued}
@@ -29,12 +29,10 @@ use Rattle.client_machine.specs.declared.parts.Change.{Change}
 use Rattle.client_machine.specs.declared.parts.Change.TheVariants as changes
 use Rattle.client_machine.specs.declared.parts.Up.{Up}
 use Rattle.client_machine.specs.declared.parts.Up.TheVariants as ups
-use Rattle.client_machine.specs.declared.parts.Plan.{Plan}
+use Rattle.client_machine.specs.declared.parts.PlannedStep.{PlannedStep}
 use Rattle.client_machine.specs.declared.parts.Done.{Done}
-use Rattle.client_machine.specs.Effects.{Effect}
-use Rattle.client_machine.specs.Releases.{after_plays}
-use Rattle.client_machine.specs.ServerItems.{Hearing, take, take_answer, take_note, closes}
-use Rattle.client_machine.specs.Step.{heard_step}
+use Rattle.client_machine.specs.Events.{Effect}
+use Rattle.client_machine.specs.Step.{after_plays, Hearing, take, take_answer, take_note, closes, heard_step}
 use Rattle.client_machine.specs.UpTexts.{spelled}
 
 -- what happens to a connection, without where it lies in memory
@@ -53,9 +51,7 @@ incoming_seen (comings.Notice id reason names) = notes id.now reason names
 -- An item that comes as a request is one.
 abbrev pub CanCome : Comes → Type 0
 CanCome (requests shape) = shape.kind ≡ kinds.Request
-CanCome (replies reply source) = Unit {0}
-CanCome (notes id reason names) = Unit {0}
-CanCome (shuts why) = Unit {0}
+CanCome comes = Unit {0}
 
 -- what the event does by itself, by the number of the open request
 abbrev pub heard_by : Bases → ℕ → Client → Comes → Hearing
@@ -78,11 +74,8 @@ changed number (changes.Closes why) client = after_close client
 
 -- the close that a plan brings
 abbrev pub shut_by : Change → Option CloseWhy
-shut_by changes.Nothing = None
-shut_by (changes.Waits shapes) = None
-shut_by (changes.Settles code made) = None
-shut_by (changes.Ends place names) = None
 shut_by (changes.Closes why) = Some why
+shut_by change = None
 
 -- so many requests that waited were treated
 abbrev pub without : ℕ → Client → Client
@@ -105,21 +98,18 @@ risen_text next (ups.Ask text asked track) client = Some text
 -- whether a request goes up by a plan
 abbrev pub is_up : Up → Bool
 is_up ups.Nothing = false
-is_up (ups.Due text) = true
-is_up ups.Leave = true
-is_up (ups.Ask text asked track) = true
+is_up up = true
 
 -- the connection once a plan was carried out but for what goes up
-abbrev pub ripe : ℕ → Client → Plan → Client
+abbrev pub ripe : ℕ → Client → PlannedStep → Client
 ripe number client plan = after_plays plan.plays (without plan.treated (changed number plan.change client))
 
 -- The change can be made: its memory is there, and a reply settles an open request.
 abbrev pub IsReadyChange : Client → Change → Type 0
-IsReadyChange client changes.Nothing = Unit {0}
 IsReadyChange client (changes.Waits shapes) = length client.waiting < MOST_WAITING
 IsReadyChange client (changes.Settles code made) = IsSome client.pending × (200 ≤ code) × (IsSome made → described_made made ≡ client.described)
 IsReadyChange client (changes.Ends place names) = IfSome place (λ one. one < MOST_SESSIONS)
-IsReadyChange client (changes.Closes why) = Unit {0}
+IsReadyChange client change = Unit {0}
 
 -- A PLAY can wait: its session is there, and has room for it.
 pub record IsQueueable (sessions : List PlayerSession) (play : Play) : Type 0 where
@@ -140,23 +130,21 @@ pub record IsReadyAsk (client : Client) (asked : Asked) (track : Option Track) :
 
 -- all memory for what goes up is there
 abbrev pub IsReadyUp : Client → Up → Type 0
-IsReadyUp client ups.Nothing = Unit {0}
-IsReadyUp client (ups.Due text) = Unit {0}
-IsReadyUp client ups.Leave = Unit {0}
 IsReadyUp client (ups.Ask text asked track) = IsReadyAsk client asked track
+IsReadyUp client up = Unit {0}
 
 -- A plan can be carried out, by the connection before it and that after its change.
-pub record IsReadyFrom (client after : Client) (plan : Plan) : Type 0 where
+pub record IsReadyFrom (client after : Client) (plan : PlannedStep) : Type 0 where
   pub change : IsReadyChange client plan.change
   pub plays : ArePlaced after.sessions plan.plays
   pub up : IsReadyUp (after_plays plan.plays (without plan.treated after)) plan.up
 
 -- all memory for a plan is there, whatever its number
-abbrev pub IsReady : Client → Plan → Type 0
+abbrev pub IsReady : Client → PlannedStep → Type 0
 IsReady client plan = (number : ℕ) → IsReadyFrom client (changed number plan.change client) plan
 
 -- What a plan says is what the machine does.
-pub record IsCarriedOut (next : ℕ) (pair : Option ℕ) (before : Client) (plan : Plan) (effect : Effect) : Type 0 where
+pub record IsCarriedOut (next : ℕ) (pair : Option ℕ) (before : Client) (plan : PlannedStep) (effect : Effect) : Type 0 where
   pub client : risen plan.up before ≡ effect.client
   pub hand : plan.hand ≡ effect.hand
   pub request : risen_text next plan.up before ≡ spelled next pair effect.message
@@ -165,7 +153,7 @@ pub record IsCarriedOut (next : ℕ) (pair : Option ℕ) (before : Client) (plan
 
 -- A plan for an event of a connection, for the next number and the lowest pair of channels that is free: it can be carried
 -- out, and it does what the machine does, whatever number the open request has.
-pub record IsPlan (bases : Bases) (next : ℕ) (pair : Option ℕ) (client : Client) (comes : Comes) (plan : Plan) : Type 0 where
+pub record IsPlan (bases : Bases) (next : ℕ) (pair : Option ℕ) (client : Client) (comes : Comes) (plan : PlannedStep) : Type 0 where
   pub ready : IsReady client plan
   pub does : (number : ℕ) → IsCarriedOut next pair (ripe number client plan) plan (effect_by bases number pair client comes)
 
@@ -179,13 +167,12 @@ pub record Does (next : ℕ) (pair : Option ℕ) (after : Client) (done : Done) 
 -- How long what a plan hands out may be: so that it, and with an answer before it what goes up, fits into 32 bits (this
 -- project's own).
 abbrev pub IsShortUp : Up → Type 0
-IsShortUp ups.Nothing = Unit {0}
 IsShortUp (ups.Due text) = length text < 2 ^ 31
-IsShortUp ups.Leave = Unit {0}
 IsShortUp (ups.Ask text asked track) = length text < 2 ^ 31
+IsShortUp up = Unit {0}
 
 -- what a plan hands out fits into a record
-abbrev pub IsShortPlan : Plan → Type 0
+abbrev pub IsShortPlan : PlannedStep → Type 0
 IsShortPlan plan = (length plan.hand < 2 ^ 32) × IsShortUp plan.up
 
 -- what was done hands out no more than fits into a record

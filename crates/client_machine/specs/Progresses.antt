@@ -1,10 +1,12 @@
 -- Requests that wait are treated one after another (this project's own).
-use Rattle.std.specs.Prelude.{◌≡◌, ℕ, ◌≤◌, List, [], ◌∷◌, ◌++◌, length, drop, map, Option, Some, None, ◌<◌, IsSome}
+use Rattle.std.specs.Prelude.{◌≡◌, ℕ, ◌≤◌, List, [], ◌∷◌, ◌++◌, length, drop, map, Option, Some, None, ◌<◌, IsSome, IfSome}
 use Rattle.rtsp_head.specs.Items.{Shape}
+use Rattle.rtsp_transport.specs.Channels.{AreApart}
 use Rattle.session_one.specs.declared.parts.Play.{Play}
 use Rattle.session_one.specs.declared.parts.TheConstants.{MOST_SESSIONS, MOST_TRACKS}
-use Rattle.translate_up.specs.Views.{SeenSession, Given, session_in}
-use Rattle.translate_up.specs.Placed.{NamesSession}
+use Rattle.translate_up.specs.Views.{SeenSession, Given, session_or_none}
+use Rattle.translate_up.specs.DecisionPlaces.{NamesSession}
+use Rattle.translate_up.specs.UriLengths.{AreGivenWithin}
 use Rattle.client_slot.specs.declared.limits.TheConstants.{LONGEST_URI}
 use Rattle.translate_up.specs.declared.decision.Decision.{Decision}
 use Rattle.translate_up.specs.declared.decision.Decision.TheVariants.{Answer, Forward, Queue, Setup}
@@ -13,7 +15,7 @@ use Rattle.client_machine.specs.declared.treat.Progress.{Progress}
 use Rattle.client_slot.specs.Session.{PlayerSession}
 use Rattle.client_slot.specs.Places.{changed_where}
 use Rattle.client_slot.specs.SessionChanges.{when_queued}
-use Rattle.client_machine.specs.Treatment.{session_seen, queued_more_where, decision_on, Going, Treated, treated}
+use Rattle.client_machine.specs.Treatment.{session_found, queued_more_where, decision_on, Going, Treated, treated, ahead}
 use Rattle.client_machine.specs.Plans.{ArePlaced}
 
 -- a request that goes up, without where it lies in memory
@@ -33,21 +35,12 @@ progressed (Setup request asked channels) progress = record progress { going = S
 
 -- what the next request finds of sessions
 abbrev pub sessions_then : Decision → List SeenSession → List SeenSession
-sessions_then (Answer text) sessions = sessions
 sessions_then (Queue play text) sessions = queued_more_where play.place sessions
-sessions_then (Forward request asked) sessions = sessions
-sessions_then (Setup request asked channels) sessions = sessions
+sessions_then decision sessions = sessions
 
 -- what it is judged by
 abbrev pub given_then : Decision → Given → Given
-given_then (Answer text) given = given
-given_then (Queue play text) given = record given { sessions = queued_more_where play.place given.sessions }
-given_then (Forward request asked) given = given
-given_then (Setup request asked channels) given = given
-
--- what becomes of requests, after what became of those before them
-abbrev pub ahead : List ℕ → List Play → Treated → Treated
-ahead hand plays later = record later { hand = hand ++ later.hand; plays = plays ++ later.plays }
+given_then decision given = record given { sessions = sessions_then decision given.sessions }
 
 -- what becomes of all, where these are left
 abbrev pub joined_at : Option Upward → List ℕ → List Play → Given → List Shape → Treated
@@ -65,20 +58,24 @@ sessions_queued (play ∷ plays) sessions = sessions_queued plays (changed_where
 
 -- The PLAYs can wait, one after another, and what is judged by counts them.
 pub record IsFilled (sessions : List PlayerSession) (given : Given) (progress : Progress) : Type 0 where
-  pub counts : given.sessions ≡ map session_seen (sessions_queued progress.plays sessions)
+  pub counts : given.sessions ≡ map session_found (sessions_queued progress.plays sessions)
   pub placed : ArePlaced sessions progress.plays
 
--- A request that goes up names a session that is there, or none, and a SETUP finds room for its stream.
+-- A request that goes up names a session that is there, or none, by a URI that is short enough; and a SETUP finds room for
+-- its stream, which has two channels.
 abbrev pub IsAskedIn : List SeenSession → Option Upward → Type 0
 IsAskedIn sessions None = Unit {0}
-IsAskedIn sessions (Some one) = NamesSession one.asked.place sessions × (IsSome one.channels → length (session_in one.asked.place sessions).tracks < MOST_TRACKS)
+IsAskedIn sessions (Some one) =
+    NamesSession one.asked.place sessions × (length one.asked.uri ≤ LONGEST_URI) × (IsSome one.channels → length (session_or_none one.asked.place sessions).tracks < MOST_TRACKS) × IfSome one.channels AreApart
 
--- So many of those that wait were treated, and what becomes of all is the same whatever comes after them.
+-- So many of those that wait were treated, and what becomes of all is the same whatever comes after them. What the next
+-- one is judged by has short URIs.
 pub record IsOnTheWay (first_given given : Given) (waiting : List Shape) (first : List ℕ) (progress : Progress) : Type 0 where
   pub within : progress.treated ≤ length waiting
   pub leads : (more : List Shape) → with_progress progress given (drop progress.treated waiting ++ more) ≡ ahead first [] (treated (waiting ++ more) first_given)
-  pub filled : (sessions : List PlayerSession) → first_given.sessions ≡ map session_seen sessions → IsFilled sessions given progress
+  pub filled : (sessions : List PlayerSession) → first_given.sessions ≡ map session_found sessions → IsFilled sessions given progress
   pub few : length given.sessions ≤ MOST_SESSIONS
+  pub known : AreGivenWithin LONGEST_URI given
   pub asked : IsAskedIn given.sessions progress.going
 
 -- They are treated until one goes up.
@@ -86,15 +83,7 @@ pub record IsTreated (first_given given : Given) (waiting : List Shape) (first :
   pub way : IsOnTheWay first_given given waiting first progress
   pub all : progress.going ≡ None → progress.treated ≡ length waiting
 
--- a PLAY that waits has a short URI
-abbrev pub IsShortQueue : Decision → Type 0
-IsShortQueue (Answer text) = Unit {0}
-IsShortQueue (Queue play text) = length play.uri ≤ LONGEST_URI
-IsShortQueue (Forward request asked) = Unit {0}
-IsShortQueue (Setup request asked channels) = Unit {0}
-
 -- One request more is treated, which is judged by this, and what the next one is judged by is known.
 pub record IsNextTreated (given : Given) (shape : Shape) (old new : Progress) (sessions : List SeenSession) : Type 0 where
   pub progress : new ≡ progressed (decision_on given shape) old
   pub found : sessions ≡ sessions_then (decision_on given shape) given.sessions
-  pub short : IsShortQueue (decision_on given shape)

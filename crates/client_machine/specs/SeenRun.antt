@@ -7,7 +7,7 @@ use Rattle.rtsp_head.specs.Items.{Shape}
 use Rattle.rtsp_head.specs.Messages.{Message, messages_of}
 use Rattle.rtsp_head.specs.Spellings.{begins_frame}
 use Rattle.rtsp_head.specs.declared.item.ItemKind.{ItemKind}
-use Rattle.rtsp_head.specs.declared.item.ItemKind.TheVariants.{Request, Response, Frame, Bad}
+use Rattle.rtsp_head.specs.declared.item.ItemKind.TheVariants.{Request}
 use Rattle.head_one.specs.declared.reply.Reply1.{Reply1}
 use Rattle.head_one.specs.declared.request.Request1.{Request1}
 use Rattle.head_one.specs.declared.refusal.Refusal.{Refusal}
@@ -22,6 +22,7 @@ use Rattle.translate_up.specs.Ids.{id_of}
 use Rattle.translate_up.specs.Leads.{method_asked, number_asked, led_by}
 use Rattle.client_slot.specs.Places.{is_session}
 use Rattle.client_machine.specs.Treatment.{fits_memory}
+use Rattle.std.specs.List.{AllByRecursion}
 
 -- the replies that messages are, where each is one (RFC 2326, 7)
 abbrev pub replies_among : List Message → Option (List Reply1)
@@ -47,13 +48,9 @@ pub record SeenStep : Type 0 where
   pub request : Shape
   pub reply : Reply1
 
--- the id that a Session field names (RFC 2326, 12.37)
-abbrev pub id_named : Option (List ℕ) → Option (List ℕ)
-id_named value = option_and_then id_of value
-
--- the id of the session that a reply tells where it made one: a success of a SETUP
+-- the id of the session that a reply tells by its Session field (RFC 2326, 12.37) where it made one: a success of a SETUP
 abbrev pub id_brought : Method → Reply1 → Option (List ℕ)
-id_brought method reply = if is_setup method && is_success reply.code then id_named (field_of reply.headers (codes "Session")) else None
+id_brought method reply = if is_setup method && is_success reply.code then option_and_then id_of (field_of reply.headers (codes "Session")) else None
 
 -- the id that a request names by its Session field, or else the one that its reply brings
 abbrev pub id_by : Option (List ℕ) → Method → Reply1 → Option (List ℕ)
@@ -91,9 +88,8 @@ IsWalk from [] to = to ≡ from
 IsWalk from (step ∷ more) to = (after : State) × IsSeenStep step from after × IsWalk after more to
 
 -- each reply tells the number of its request
-abbrev pub AreNumbered : List SeenStep → Type 0
-AreNumbered [] = Unit {0}
-AreNumbered (step ∷ more) = (step.reply.cseq ≡ number_asked (request_of_item step.request)) × AreNumbered more
+abbrev pub TellNumbers : List SeenStep → Type 0
+TellNumbers steps = AllByRecursion (λ step. step.reply.cseq ≡ number_asked (request_of_item step.request)) steps
 
 -- By a player's requests, the oldest first, and the pieces of bytes that it was handed, the newest first: the replies in
 -- the pieces answer the first of the requests, each one request in order and with its number; and for each id, a walk of
@@ -103,15 +99,13 @@ pub record IsTableRun (requests : List Shape) (pieces : List (List ℕ)) : Type 
   pub unanswered : List Shape
   pub requests_are : requests ≡ map (λ step. step.request) steps ++ unanswered
   pub replies_are : replies_handed pieces ≡ Some (map (λ step. step.reply) steps)
-  pub numbers : AreNumbered steps
+  pub numbers : TellNumbers steps
   pub walk : (id : List ℕ) → (last : State) × IsWalk Init (steps_about id steps) last
 
 -- The item of a player, where it is a request. One that no memory holds never comes.
 abbrev pub request_among : ItemKind → Shape → List Shape
 request_among Request shape = if fits_memory shape then shape ∷ [] else []
-request_among Response shape = []
-request_among Frame shape = []
-request_among (Bad kind) shape = []
+request_among kind shape = []
 
 -- the request that an item is, where it is one
 abbrev pub request_taken : Shape → List Shape

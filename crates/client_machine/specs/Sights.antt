@@ -1,17 +1,20 @@
 -- What sessions show to a request that is treated, and which PLAY they have due (this project's own).
 use Rattle.std.specs.Prelude.{◌≡◌, ℕ, zero, suc, ◌+◌, Bool, true, ◌&&◌, not, List, [], ◌∷◌, ◌++◌, length, map, slice_get, slice_index_or, Option, Some, None, is_some, if◌then◌else◌}
 use Rattle.std.specs.Borrow.{Bor}
-use Rattle.std.specs.Option.{option_copied}
+use Rattle.std.specs.List.{list_all}
+use Rattle.std.specs.Option.{option_copied, option_map_or, option_and_then}
 use Rattle.rtsp_uri.specs.declared.base.Bases.{Bases}
 use Rattle.session_one.specs.declared.table.State.{State}
 use Rattle.session_one.specs.declared.parts.Play.{Play}
 use Rattle.session_one.specs.declared.parts.Track.{Track}
 use Rattle.translate_up.specs.Views.{SeenSession, Given}
+use Rattle.client_slot.specs.ShortUris.{is_short_where}
 use Rattle.client_slot.specs.Session.{PlayerSession, new_session}
 use Rattle.client_slot.specs.SessionTurns.{Brought}
 use Rattle.client_machine.specs.declared.after.LentParts.{LentParts}
 use Rattle.client_machine.specs.declared.sight.Showing.{Showing}
 use Rattle.client_machine.specs.declared.sight.PlacedShowing.{PlacedShowing}
+use Rattle.client_machine.specs.Treatment.{given_shown}
 
 -- its state, its id, what it is about, its streams, whether a PLAY runs, the first PLAY that waits, and how many wait
 pub record Sight : Type 0 where
@@ -73,13 +76,11 @@ replaced_where (Some changed) sights = replaced changed.place (sight_of changed.
 
 -- the streams of the session that changes, as they will be
 abbrev pub streams_where : Option PlacedShowing → List Track
-streams_where None = []
-streams_where (Some changed) = (sight_of changed.session).tracks
+streams_where place = option_map_or (λ changed. (sight_of changed.session).tracks) place []
 
 -- the id of the session that changes
 abbrev pub id_changed : Option PlacedShowing → Option (Bor (List ℕ))
-id_changed None = None
-id_changed (Some changed) = changed.session.id
+id_changed place = option_and_then (λ changed. changed.session.id) place
 
 -- the first place, from a number on, whose sight passes a test
 abbrev pub first_sight : (Sight → Bool) → ℕ → List Sight → Option ℕ
@@ -107,17 +108,7 @@ filled_seen sights = first_sight (λ seen. is_some seen.id) 0 sights
 abbrev pub session_in_sight : Sight → SeenSession
 session_in_sight seen = record { id = seen.id; state = seen.state; tracks = seen.tracks; queued = seen.queued; control = seen.control }
 
--- what a request is judged by, by what it finds of sessions
-abbrev pub given_shown : Bases → Bool → List SeenSession → Option (List ℕ) → Given
-given_shown bases full sessions described = record {
-  sessions = sessions;
-  described = described;
-  full = full;
-  front = bases.front.text;
-  up = bases.up.text;
-}
-
--- by what is seen of them
+-- what a request is judged by, by what is seen of sessions
 abbrev pub given_by : Bases → Bool → List Sight → Option (List ℕ) → Given
 given_by bases full sights described = given_shown bases full (map session_in_sight sights) described
 
@@ -128,3 +119,7 @@ IsTidySight seen = (seen.id ≡ None → seen ≡ sight new_session) × (is_some
 -- so does each place
 abbrev pub AreTidySights : List Sight → Type 0
 AreTidySights sights = (place : ℕ) → IsTidySight (sight_at place sights)
+
+-- whether what each session is about has a short enough URI
+abbrev pub are_sights_short : List Sight → Bool
+are_sights_short sights = list_all (λ seen. is_short_where seen.control) sights

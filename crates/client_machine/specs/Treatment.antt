@@ -14,8 +14,8 @@ use Rattle.client_slot.specs.Session.{PlayerSession}
 use Rattle.client_slot.specs.Client.{Client}
 
 -- a session as a request finds it
-abbrev pub session_seen : PlayerSession → SeenSession
-session_seen session = record {
+abbrev pub session_found : PlayerSession → SeenSession
+session_found session = record {
   id = session.id;
   state = session.state;
   tracks = session.tracks;
@@ -23,15 +23,19 @@ session_seen session = record {
   control = session.control;
 }
 
--- what requests of a connection are judged by
-abbrev pub given : Bases → Bool → Client → Given
-given bases full client = record {
-  sessions = map session_seen client.sessions;
-  described = client.described;
+-- what a request is judged by, by what it finds of sessions
+abbrev pub given_shown : Bases → Bool → List SeenSession → Option (List ℕ) → Given
+given_shown bases full sessions described = record {
+  sessions = sessions;
+  described = described;
   full = full;
   front = bases.front.text;
   up = bases.up.text;
 }
+
+-- what requests of a connection are judged by
+abbrev pub given : Bases → Bool → Client → Given
+given bases full client = given_shown bases full (map session_found client.sessions) client.described
 
 -- one PLAY more waits in the session at a place
 abbrev pub queued_more : ℕ → List SeenSession → List SeenSession
@@ -78,18 +82,14 @@ none_treated = record { hand = []; plays = []; going = None; left = [] }
 abbrev pub goes_up : Going → List Shape → Treated
 goes_up going more = record { hand = []; plays = []; going = Some going; left = more }
 
--- an answer stands before what later requests are told
-abbrev pub with_answer : List ℕ → Treated → Treated
-with_answer text later = record later { hand = text ++ later.hand }
-
--- a queued PLAY and its answer stand before what later requests are told
-abbrev pub with_play : Play → List ℕ → Treated → Treated
-with_play play text later = record later { hand = text ++ later.hand; plays = play ∷ later.plays }
+-- Answers and PLAYs that wait stand before what becomes of later requests.
+abbrev pub ahead : List ℕ → List Play → Treated → Treated
+ahead hand plays later = record later { hand = hand ++ later.hand; plays = plays ++ later.plays }
 
 -- the first request by its decision; the next ones follow unless it goes up
 abbrev pub treated_first : Decision → Given → List Shape → (Given → Treated) → Treated
-treated_first (Answer text) given more again = with_answer text (again given)
-treated_first (Queue play text) given more again = with_play play text (again (one_queued play given))
+treated_first (Answer text) given more again = ahead text [] (again given)
+treated_first (Queue play text) given more again = ahead text (play ∷ []) (again (one_queued play given))
 treated_first (Forward request asked) given more again = goes_up (record { request = request; asked = asked; channels = None }) more
 treated_first (Setup request asked channels) given more again = goes_up (record { request = request; asked = asked; channels = Some channels }) more
 

@@ -11,7 +11,7 @@ use Rattle.head_two.specs.declared.reply.Reply2.{Reply2}
 use Rattle.head_two.specs.declared.request.Request2.{Request2}
 use Rattle.head_two.specs.Requests.{request_text}
 use Rattle.translate_up.specs.Upward.{with_transport}
-use Rattle.client_machine.specs.Effects.{Outgoing, asks, carries}
+use Rattle.client_machine.specs.Events.{Outgoing, asks, carries}
 
 -- the channels of a pair
 abbrev pub channels : ℕ → Pair
@@ -19,9 +19,8 @@ channels pair = record { rtp = 2 * pair; rtcp = 2 * pair + 1 }
 
 -- a SETUP with the pair that it asks for
 abbrev pub over_pair : Option ℕ → Option ℕ → Request2 → Request2
-over_pair None free request = request
-over_pair (Some number) None request = request
 over_pair (Some number) (Some pair) request = with_transport (channels pair) request
+over_pair named free request = request
 
 -- The text of a request with its number: a SETUP has the lowest pair that is free.
 abbrev pub text_up : ℕ → Option ℕ → Option ℕ → Request2 → List ℕ
@@ -34,8 +33,7 @@ text_of number free (carries pair half rest) = None
 
 -- the text of what goes up, where something does
 abbrev pub spelled : ℕ → Option ℕ → Option Outgoing → Option (List ℕ)
-spelled number free None = None
-spelled number free (Some message) = text_of number free message
+spelled number free message = option_and_then (text_of number free) message
 
 -- What a reply's Transport grants, and the source that it names (RFC 7826, 18.54).
 abbrev pub grant_said : Reply2 → Option Grant

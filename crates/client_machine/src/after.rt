@@ -16,7 +16,7 @@ ghost use Rattle.client_machine.specs.Outlooks.{sights_of};
 
 use crate::outlook::Outlook;
 use crate::sight::{PlacedShowing, Showing, seen};
-use client_slot::{Part, Pending, SessionTurn, Slot};
+use client_slot::{PartTurn, Pending, SessionTurn, Slot};
 use rtsp_small::Method;
 use session_one::{Asked, Play, State, Track, is_success};
 use session_two::Names;
@@ -215,7 +215,7 @@ fn after_turn<'a>(
 
 /// What becomes of the streams: those that stay, and the one that comes.
 fn streams_after<'a>(
-    part: Part,
+    part: PartTurn,
     was: &'a [Track],
     new: Option<&'a Track>,
 ) -> (&'a [Track], Option<&'a Track>)
@@ -223,47 +223,47 @@ fn streams_after<'a>(
         ≡ tracks_then part was.entry.now (option_copied new.entry) }
 {
     match part {
-        Part::Keeps => (was, None),
-        Part::Takes => (was, new),
-        Part::Loses => (&[], None),
+        PartTurn::Keeps => (was, None),
+        PartTurn::Takes => (was, new),
+        PartTurn::Loses => (&[], None),
     }
 }
 
 /// Whether a PLAY runs then.
-fn runs_after(part: Part, runs: bool) -> bool
+fn runs_after(part: PartTurn, runs: bool) -> bool
     ensures { (running : Option ℕ) (number : ℕ) → runs ≡ is_some running
         → result ≡ is_some (part_then part running (Some number)) }
 {
     match part {
-        Part::Keeps => runs,
-        Part::Takes => true,
-        Part::Loses => false,
+        PartTurn::Keeps => runs,
+        PartTurn::Takes => true,
+        PartTurn::Loses => false,
     }
 }
 
 /// What becomes of the PLAYs that wait: the first of them, and how many there are.
-fn queue_after(part: Part, first: Option<&Play>, queued: usize) -> (Option<&Play>, usize)
+fn queue_after(part: PartTurn, first: Option<&Play>, queued: usize) -> (Option<&Play>, usize)
     ensures { (queue : List Play) → option_copied first.entry ≡ slice_get queue 0 → queued ≡ length queue
         → (option_copied result.0 ≡ slice_get (queue_then part queue) 0)
         × (result.1 ≡ length (queue_then part queue)) }
 {
     match part {
-        Part::Keeps | Part::Takes => (first, queued),
-        Part::Loses => (None, 0),
+        PartTurn::Keeps | PartTurn::Takes => (first, queued),
+        PartTurn::Loses => (None, 0),
     }
 }
 
 /// What becomes of a text.
-fn part_after<'a>(part: Part, was: Option<&'a [u8]>, new: Option<&'a [u8]>) -> Option<&'a [u8]>
+fn part_after<'a>(part: PartTurn, was: Option<&'a [u8]>, new: Option<&'a [u8]>) -> Option<&'a [u8]>
     ensures valid { IfSome was.entry (λ one. is_session_id one.now ≡ true)
         → IfSome new.entry (λ one. is_session_id one.now ≡ true)
         → IfSome result (λ one. is_session_id one.now ≡ true) }
     ensures copied { option_copied result ≡ part_then part (option_copied was.entry) (option_copied new.entry) }
 {
     match part {
-        Part::Keeps => was,
-        Part::Takes => new,
-        Part::Loses => None,
+        PartTurn::Keeps => was,
+        PartTurn::Takes => new,
+        PartTurn::Loses => None,
     }
 }
 

@@ -2,17 +2,17 @@
 ghost use Rattle.std.specs.Prelude.{◌≡◌, ◌<◌, ◌^◌, ℕ, Option, is_some, length, IfSome};
 ghost use Rattle.rtsp_uri.specs.declared.base.Bases.{Bases};
 ghost use Rattle.client_slot.specs.Client.{Client};
-ghost use Rattle.client_machine.specs.Releases.{after_plays};
+ghost use Rattle.client_machine.specs.Step.{after_plays};
 ghost use Rattle.client_machine.specs.Plans.{Comes, effect_by, changed, shut_by, without, risen, risen_text, is_up, IsReadyChange, ArePlaced, IsReadyUp, IsReady, IsPlan, Does, IsShortUp, IsShortPlan, IsShortDone};
 
-use crate::parts::{Change, Done, Plan, Up};
+use crate::parts::{Change, Done, PlannedStep, Up};
 use crate::why::CloseWhy;
 use client_slot::Slot;
 use gate_bytes::Text;
 use session_one::Play;
 use std::collections::LinkedList;
 
-impl Plan {
+impl PlannedStep {
     /// Whether a request goes up.
     pub fn asks(&self) -> bool
         ensures { (bases : Bases) (number next : ℕ) (pair : Option ℕ) (client : Client) (comes : Comes)
@@ -31,7 +31,7 @@ impl Plan {
             → Does next pair slot.new result (effect_by bases number pair slot.old comes) }
         ensures short { IsShortPlan self → IsShortDone result }
     {
-        let Plan {
+        let PlannedStep {
             change,
             treated,
             plays,

@@ -7,7 +7,7 @@ ghost use Rattle.client_machine.specs.Plans.{notes, shuts, IsPlan, IsShortPlan};
 use crate::after::after_end;
 use crate::onward::{due_up, idle, leave, still};
 use crate::outlook::Outlook;
-use crate::parts::{Change, Plan, Up};
+use crate::parts::{Change, PlannedStep, Up};
 use crate::why::CloseWhy;
 use client_slot::Slot;
 use gate_bytes::{Memory, Text};
@@ -24,7 +24,7 @@ pub(crate) fn plan_notice(
     id: &[u8],
     reason: NotifyReason,
     names: Names,
-) -> Result<Plan, Memory>
+) -> Result<PlannedStep, Memory>
     ensures { (bases : Bases) (pair : Option ℕ)
         → IfOk result (IsPlan bases next pair slot.now (notes id.now reason names)) }
 {
@@ -35,7 +35,13 @@ pub(crate) fn plan_notice(
 }
 
 /// The plan for the end of what plays in the session with an id: the PLAY goes up that is due then.
-fn plan_end(alloc: Global, slot: &Slot, next: u32, id: &[u8], names: Names) -> Result<Plan, Memory>
+fn plan_end(
+    alloc: Global,
+    slot: &Slot,
+    next: u32,
+    id: &[u8],
+    names: Names,
+) -> Result<PlannedStep, Memory>
     ensures { (bases : Bases) (pair : Option ℕ)
         → IfOk result (IsPlan bases next pair slot.now (notes id.now EndOfStream names)) }
 {
@@ -51,7 +57,7 @@ fn plan_end(alloc: Global, slot: &Slot, next: u32, id: &[u8], names: Names) -> R
 }
 
 /// The plan for a connection that closes. It takes no memory.
-pub fn plan_close(alloc: Global, slot: &Slot, why: CloseWhy) -> Plan
+pub fn plan_close(alloc: Global, slot: &Slot, why: CloseWhy) -> PlannedStep
     ensures plan { (bases : Bases) (next : ℕ) (pair : Option ℕ)
         → IsPlan bases next pair slot.now (shuts why) result }
     ensures short { IsShortPlan result }

@@ -1,8 +1,7 @@
 //! Where frames of media go.
 ghost use Rattle.client_slot.specs.Places.{tracks_of};
 ghost use Rattle.std.specs.Prelude.{◌≡◌, option_map};
-ghost use Rattle.client_machine.specs.Frames.{half_for, channel_for};
-ghost use Rattle.client_machine.specs.Halves.{half_of};
+ghost use Rattle.client_machine.specs.Frames.{half_for, channel_for, half_of};
 
 use client_slot::Slot;
 use session_one::{MOST_SESSIONS, Track};

@@ -4,13 +4,11 @@ ghost use Rattle.rtsp_uri.specs.declared.base.Bases.{Bases};
 ghost use Rattle.client_slot.specs.Client.{Client};
 ghost use Rattle.client_slot.specs.Renumber.{client_under};
 ghost use Rattle.client_machine.specs.Alone.{private_after, is_live, is_empty_list, shut_alone};
-ghost use Rattle.client_machine.specs.Apart.{streams_of, AreAllStreamsApart};
+ghost use Rattle.client_machine.specs.Bounds.{streams_of, AreAllStreamsApart, IsBelow};
 ghost use Rattle.client_machine.specs.OpenRequests.{has_setup};
-ghost use Rattle.client_machine.specs.Bounds.{IsBelow};
 ghost use Rattle.client_machine.specs.Events.{PrivateEvent};
-ghost use Rattle.client_machine.specs.ServerItems.{hear};
+ghost use Rattle.client_machine.specs.Step.{hear, step};
 ghost use Rattle.client_machine.specs.Renumber.{effect_under, event_under, IsToldApart};
-ghost use Rattle.client_machine.specs.Step.{step};
 ghost use Rattle.std.specs.Prelude.{List};
 
 /// A step is the same under every numbering of requests and of pairs of channels that tells apart

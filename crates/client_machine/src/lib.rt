@@ -3,7 +3,7 @@
 //! The definitions in `specs/` are what the gateway's claim is made of: a connection alone, with its
 //! own numbers, and the same step under the numbers of the server's one connection. The functions
 //! here take that step in two parts: [`plan`] changes nothing and takes all memory, as [`plan_close`]
-//! does for a close, which needs none, and [`Plan::commit`] takes none and can't be refused.
+//! does for a close, which needs none, and [`PlannedStep::commit`] takes none and can't be refused.
 #![tactic(auto)]
 
 mod after;
@@ -30,7 +30,7 @@ pub use laws::{
     a_free_pair_matters_to_a_setup_alone, a_step_keeps_any_numbering, own_numbers_are_kept,
     own_streams_are_apart, what_is_not_closed_is_alive,
 };
-pub use parts::{Done, Plan};
+pub use parts::{Done, PlannedStep};
 pub use plans::plan;
 pub use player_reply::grant_said;
 pub use why::CloseWhy;

@@ -6,18 +6,17 @@ ghost use Rattle.head_two.specs.Requests.{request_text};
 ghost use Rattle.translate_up.specs.QueuedPlay.{play_up};
 ghost use Rattle.client_machine.specs.declared.parts.Change.TheVariants as changes;
 ghost use Rattle.client_machine.specs.declared.parts.Up.TheVariants as ups;
-ghost use Rattle.client_machine.specs.Releases.{track_of};
+ghost use Rattle.client_machine.specs.Step.{track_of};
 ghost use Rattle.client_machine.specs.UpTexts.{text_up};
 ghost use Rattle.translate_up.specs.Views.{Given};
 ghost use Rattle.client_machine.specs.Sights.{filled_seen, given_by};
 ghost use Rattle.client_machine.specs.Outlooks.{sights_of};
 ghost use Rattle.client_machine.specs.Progresses.{IsTreated};
-ghost use Rattle.client_machine.specs.Onward.{leave_up, up_for, due_for, IsShortAsk, IsFinished, GoesOnward};
+ghost use Rattle.client_machine.specs.Onward.{leave_up, up_for, due_for, IsFinished, GoesOnward};
 
 use crate::outlook::Outlook;
-use crate::parts::{Change, Plan, Up};
+use crate::parts::{Change, PlannedStep, Up};
 use crate::treat::{Progress, Upward, treat_waiting};
-use client_slot::LONGEST_URI;
 use gate_bytes::{Memory, Text};
 use head_two::{Request2, write_request};
 use rtsp_transport::Pair;
@@ -84,12 +83,10 @@ fn going_text(
     }
 }
 
-/// A request goes up beside so many streams. A URI over the longest is as if there were no memory
-/// for it.
+/// A request goes up, and a SETUP with the stream that it sets up.
 fn ask(alloc: Global, next: u32, pair: Option<u8>, going: Upward<'_>) -> Result<Up, Memory>
-    requires pair { IfSome pair (λ one. one < PAIRS) }
-    ensures up { IfOk result (λ up. up ≡ up_for next pair (Some going.entry)) }
-    ensures short { IfOk result IsShortAsk }
+    requires { IfSome pair (λ one. one < PAIRS) }
+    ensures { IfOk result (λ up. up ≡ up_for next pair (Some going.entry)) }
 {
     let Upward {
         request,
@@ -97,9 +94,6 @@ fn ask(alloc: Global, next: u32, pair: Option<u8>, going: Upward<'_>) -> Result<
         channels,
     } = going;
     let track = stream(alloc, asked.uri.as_bytes(), pair, channels)?;
-    if asked.uri.len() > LONGEST_URI {
-        return Err(Memory);
-    }
     let text = going_text(alloc, request, next, pair, channels.is_some())?;
     Ok(Up::Ask(text, asked, track))
 }
@@ -111,7 +105,7 @@ pub(crate) fn finished(
     pair: Option<u8>,
     change: Change,
     progress: Progress<'_>,
-) -> Result<Plan, Memory>
+) -> Result<PlannedStep, Memory>
     requires pair { IfSome pair (λ one. one < PAIRS) }
     ensures { IfOk result (IsFinished next pair change progress.entry) }
 {
@@ -126,7 +120,7 @@ pub(crate) fn finished(
         Some(going) => ask(alloc, next, pair, going)?,
         None => Up::Nothing,
     };
-    Ok(Plan {
+    Ok(PlannedStep {
         change,
         treated,
         plays,
@@ -136,10 +130,10 @@ pub(crate) fn finished(
 }
 
 /// The plan by which nothing goes up but this, and no request that waits is treated.
-pub(crate) fn still(alloc: Global, change: Change, hand: Text, up: Up) -> Plan
+pub(crate) fn still(alloc: Global, change: Change, hand: Text, up: Up) -> PlannedStep
     ensures { result ≡ record { change = change; treated = 0; plays = []; hand = hand; up = up } }
 {
-    Plan {
+    PlannedStep {
         change,
         treated: 0,
         plays: LinkedList::new(alloc),
@@ -149,7 +143,7 @@ pub(crate) fn still(alloc: Global, change: Change, hand: Text, up: Up) -> Plan
 }
 
 /// The plan by which nothing is done.
-pub(crate) fn idle(alloc: Global) -> Plan
+pub(crate) fn idle(alloc: Global) -> PlannedStep
     ensures { result
         ≡ record { change = changes.Nothing; treated = 0; plays = []; hand = []; up = ups.Nothing } }
 {
@@ -211,7 +205,7 @@ pub(crate) fn onward<'a>(
     outlook: &Outlook<'a>,
     change: Change,
     hand: Text,
-) -> Result<Plan, Memory>
+) -> Result<PlannedStep, Memory>
     requires { IfSome pair (λ one. one < PAIRS) }
     ensures { IfOk result (GoesOnward bases.entry.now next pair outlook.now.slot.now (sights_of outlook.now)
         (option_copied outlook.now.described) hand change) }

@@ -1,7 +1,9 @@
 //! A connection as it will be.
-ghost use Rattle.std.specs.Prelude.{◌≡◌, length, map};
+ghost use Rattle.std.specs.Prelude.{◌≡◌, true, length, map};
+ghost use Rattle.std.specs.Option.{option_copied};
 ghost use Rattle.session_one.specs.declared.parts.TheConstants.{MOST_SESSIONS};
-ghost use Rattle.client_machine.specs.Sights.{sight, replaced_where, AreTidySights};
+ghost use Rattle.client_slot.specs.ShortUris.{is_short_where};
+ghost use Rattle.client_machine.specs.Sights.{sight, replaced_where, AreTidySights, are_sights_short};
 
 use crate::sight::PlacedShowing;
 use client_slot::Slot;
@@ -17,4 +19,6 @@ pub(crate) struct Outlook<'a> {
     pub described: Option<&'a [u8]>,
     pub ghost places: { length slot.now.sessions ≡ MOST_SESSIONS },
     pub ghost tidy: { AreTidySights (replaced_where changed (map sight slot.now.sessions)) },
+    pub ghost controls: { are_sights_short (replaced_where changed (map sight slot.now.sessions)) ≡ true },
+    pub ghost short: { is_short_where (option_copied described) ≡ true },
 }

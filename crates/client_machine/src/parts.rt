@@ -38,7 +38,7 @@ pub(crate) enum Up {
 
 /// What an event will do to a connection. All memory for it is taken.
 #[derive(Drop)]
-pub struct Plan {
+pub struct PlannedStep {
     pub(crate) change: Change,
     pub(crate) treated: usize,
     pub(crate) plays: LinkedList<Play>,

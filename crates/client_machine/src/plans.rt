@@ -1,11 +1,11 @@
 //! Plans are made.
-ghost use Rattle.std.specs.Prelude.{◌<◌, IfOk, IfSome};
+ghost use Rattle.std.specs.Prelude.{◌≡◌, ◌<◌, true, IfOk, IfSome};
 ghost use Rattle.channel_map.specs.declared.map.TheConstants.{PAIRS};
 ghost use Rattle.client_machine.specs.Plans.{incoming_seen, CanCome, IsPlan, IsShortUp, IsShortPlan};
 
 use crate::ends::plan_notice;
 use crate::input::Incoming;
-use crate::parts::{Plan, Up};
+use crate::parts::{PlannedStep, Up};
 use crate::replies::plan_reply;
 use crate::requests::plan_request;
 use client_slot::Slot;
@@ -23,12 +23,9 @@ const LONGEST_REQUEST: usize = 0x7fff_ffff;
 /// lowest pair of channels that is free once the event is heard. Nothing changes, and all memory is
 /// taken.
 ///
-/// `Memory` is the answer where memory is wanting, and past four limits:
+/// `Memory` is the answer where memory is wanting, and past two limits:
 /// - the player would be handed 2^32 bytes or more, or a request of 2^31 bytes or more would go up;
-/// - [`MOST_WAITING`](client_slot::MOST_WAITING) requests wait, which no memory holds;
-/// - a URI of over [`LONGEST_URI`](client_slot::LONGEST_URI) bytes would go up or wait: a head and a
-///   base have fewer together;
-/// - the two channels of a stream on its player's connection are one: none are given that are.
+/// - [`MOST_WAITING`](client_slot::MOST_WAITING) requests wait, which no memory holds.
 #[inline(always)]
 pub fn plan(
     alloc: Global,
@@ -37,17 +34,27 @@ pub fn plan(
     next: u32,
     pair: Option<u8>,
     incoming: &Incoming<'_>,
-) -> Result<Plan, Memory>
+) -> Result<PlannedStep, Memory>
     requires sound { CanCome (incoming_seen incoming.now) }
     requires pair { IfSome pair (λ one. one < PAIRS) }
     ensures plan { IfOk result (IsPlan bases.now next pair slot.now (incoming_seen incoming.now)) }
     ensures short { IfOk result IsShortPlan }
 {
-    let plan = plan_any(alloc, bases, slot, next, pair, incoming)?;
-    if plan.is_short() {
-        Ok(plan)
+    let planned = plan_any(alloc, bases, slot, next, pair, incoming);
+    if is_short(&planned) {
+        planned
     } else {
         Err(Memory)
+    }
+}
+
+/// Whether a plan, where there is one, hands out what is short enough. It is looked at where it stands: a plan is large.
+fn is_short(planned: &Result<PlannedStep, Memory>) -> bool
+    ensures { result ≡ true → IfOk planned.now IsShortPlan }
+{
+    match planned {
+        Ok(plan) => plan.is_short(),
+        Err(Memory) => true,
     }
 }
 
@@ -59,7 +66,7 @@ fn plan_any(
     next: u32,
     pair: Option<u8>,
     incoming: &Incoming<'_>,
-) -> Result<Plan, Memory>
+) -> Result<PlannedStep, Memory>
     requires sound { CanCome (incoming_seen incoming.now) }
     requires pair { IfSome pair (λ one. one < PAIRS) }
     ensures { IfOk result (IsPlan bases.now next pair slot.now (incoming_seen incoming.now)) }
@@ -71,7 +78,7 @@ fn plan_any(
     }
 }
 
-impl Plan {
+impl PlannedStep {
     ghost use Rattle.std.specs.Prelude.{◌≡◌, true};
 
     /// Whether what it hands out is short enough. A longer one is not made, as if there were no memory

@@ -1,13 +1,14 @@
 //! What a reply of the server says, and what the player gets of it.
-ghost use Rattle.std.specs.Prelude.{◌≡◌, ◌≢◌, ◌<◌, ◌^◌, true, IfOk, IfSome, option_map};
+ghost use Rattle.std.specs.Prelude.{◌≡◌, ◌<◌, ◌^◌, true, Some, IfOk, IfSome, option_map};
 ghost use Rattle.std.specs.Option.{option_copied, option_and_then};
 ghost use Rattle.rtsp_small.specs.declared.session.TheConstants.{TIMEOUT_DIGITS};
 ghost use Rattle.rtsp_small.specs.Sessions.{is_session_id};
 ghost use Rattle.rtsp_small.specs.Views.{session_seen};
+ghost use Rattle.rtsp_transport.specs.Channels.{AreApart};
 ghost use Rattle.head_two.specs.declared.reply.Reply2.{Reply2};
 ghost use Rattle.translate_down.specs.Replies.{told_by, reply_text_of};
 ghost use Rattle.client_slot.specs.Purposes.{purpose_seen};
-ghost use Rattle.client_machine.specs.ServerItems.{session_told, new_id, reply_hand};
+ghost use Rattle.client_machine.specs.Step.{session_told, new_id, reply_hand};
 ghost use Rattle.client_machine.specs.UpTexts.{grant_said};
 
 use crate::input::ServerReply;
@@ -76,6 +77,7 @@ pub(crate) fn reply_hand<'a>(
     id: Option<&'a [u8]>,
     timeout: Option<u64>,
 ) -> Result<Text, Memory>
+    requires pending { slot.now.pending ≡ Some (purpose_seen pending) }
     requires id { IfSome id (λ one. is_session_id one.now ≡ true) }
     requires timeout { IfSome timeout (λ seconds. seconds < 10 ^ TIMEOUT_DIGITS) }
     ensures { IfOk result (λ text.
@@ -85,6 +87,7 @@ pub(crate) fn reply_hand<'a>(
         ≡ reply_hand bases.entry.now slot.entry.now.alive (purpose_seen pending.entry)
         (told_by answer.entry.reply.now) answer.entry.source (option_copied id.entry)) }
 {
+    slot.keeps();
     match pending {
         Pending::Client(asked, track) if slot.alive() => {
             reply_down(alloc, bases, asked, track, answer, id, timeout)
@@ -103,6 +106,7 @@ fn reply_down<'a>(
     id: Option<&'a [u8]>,
     timeout: Option<u64>,
 ) -> Result<Text, Memory>
+    requires apart { IfSome track (λ one. AreApart one.now.client) }
     requires id { IfSome id (λ one. is_session_id one.now ≡ true) }
     requires timeout { IfSome timeout (λ seconds. seconds < 10 ^ TIMEOUT_DIGITS) }
     ensures { IfOk result (λ text. text ≡ reply_text_of (record {
@@ -114,29 +118,24 @@ fn reply_down<'a>(
       timeout = timeout;
     }) asked.entry.now (told_by answer.entry.reply.now)) }
 {
-    let client = player_channels(track)?;
     let context = Context {
         bases,
         session: id,
-        client,
+        client: player_channels(track),
         ssrc: answer.source,
         timeout,
     };
     reply_one(alloc, &context, asked, answer.reply)
 }
 
-/// The channels that a player gets for a stream. They differ, since no others are given; so no memory
-/// is ever wanting here.
-fn player_channels<'a>(track: Option<&'a Track>) -> Result<Option<&'a Pair>, Memory>
-    ensures same { IfOk result (λ pair.
-        option_copied pair ≡ option_map (λ one. one.client) (option_copied track.entry)) }
-    ensures apart { IfOk result (λ pair. IfSome pair (λ one. one.now.rtp ≢ one.now.rtcp)) }
+/// The channels that a player gets for a stream.
+fn player_channels<'a>(track: Option<&'a Track>) -> Option<&'a Pair>
+    requires { IfSome track (λ one. AreApart one.now.client) }
+    ensures same { option_copied result ≡ option_map (λ one. one.client) (option_copied track.entry) }
+    ensures apart { IfSome result (λ one. AreApart one.now) }
 {
-    let Some(track) = track else {
-        return Ok(None);
-    };
-    if track.client.rtp == track.client.rtcp {
-        return Err(Memory);
+    match track {
+        Some(track) => Some(&track.client),
+        None => None,
     }
-    Ok(Some(&track.client))
 }

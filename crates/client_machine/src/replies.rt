@@ -5,13 +5,13 @@ ghost use Rattle.client_slot.specs.Purposes.{purpose_seen};
 ghost use Rattle.std.specs.Prelude.{true, IsSome};
 ghost use Rattle.std.specs.Option.{option_copied};
 ghost use Rattle.rtsp_small.specs.Sessions.{is_session_id};
-ghost use Rattle.client_slot.specs.Made.{id_made, described_made};
+ghost use Rattle.client_slot.specs.NewSessions.{id_made, described_made};
 ghost use Rattle.client_machine.specs.Plans.{replies, IsPlan};
 
 use crate::after::after_reply;
 use crate::input::ServerReply;
 use crate::onward::{idle, onward};
-use crate::parts::{Change, Plan};
+use crate::parts::{Change, PlannedStep};
 use crate::player_reply::{new_id, reply_hand, session_told, timeout_told};
 use client_slot::{MadeSession, Pending, Slot};
 use gate_bytes::{Memory, Text};
@@ -26,7 +26,7 @@ pub(crate) fn plan_reply(
     next: u32,
     pair: Option<u8>,
     answer: ServerReply<'_>,
-) -> Result<Plan, Memory>
+) -> Result<PlannedStep, Memory>
     requires { IfSome pair (λ one. one < PAIRS) }
     ensures { IfOk result
         (IsPlan bases.now next pair slot.now (replies answer.entry.reply.now answer.entry.source)) }
@@ -50,7 +50,7 @@ fn settle<'a>(
     pair: Option<u8>,
     pending: Pending<'a>,
     answer: ServerReply<'a>,
-) -> Result<Plan, Memory>
+) -> Result<PlannedStep, Memory>
     requires pair { IfSome pair (λ one. one < PAIRS) }
     requires pending { slot.now.pending ≡ Some (purpose_seen pending) }
     requires last { 200 ≤ answer.reply.now.code }

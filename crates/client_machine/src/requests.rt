@@ -9,7 +9,7 @@ ghost use Rattle.client_machine.specs.Plans.{requests, CanCome, IsPlan};
 
 use crate::onward::{due_up, finished, idle, still};
 use crate::outlook::Outlook;
-use crate::parts::{Change, Plan, Up};
+use crate::parts::{Change, PlannedStep, Up};
 use crate::treat::treat_waiting;
 use client_slot::{MOST_WAITING, Slot, Waiting};
 use gate_bytes::{Memory, Text};
@@ -26,7 +26,7 @@ pub(crate) fn plan_request(
     next: u32,
     pair: Option<u8>,
     item: &Item,
-) -> Result<Plan, Memory>
+) -> Result<PlannedStep, Memory>
     requires sound { CanCome (requests (shape_of item.now)) }
     requires pair { IfSome pair (λ one. one < PAIRS) }
     ensures { IfOk result (IsPlan bases.now next pair slot.now (requests (shape_of item.now))) }
@@ -68,7 +68,7 @@ fn treat_request<'a>(
     next: u32,
     pair: Option<u8>,
     item: &'a Item,
-) -> Result<Plan, Memory>
+) -> Result<PlannedStep, Memory>
     requires sound { CanCome (requests (shape_of item.now)) }
     requires pair { IfSome pair (λ one. one < PAIRS) }
     requires alive { slot.now.alive ≡ true }

@@ -5,8 +5,8 @@ ghost use Rattle.session_one.specs.declared.parts.TheConstants.{MOST_SESSIONS, M
 ghost use Rattle.rtsp_small.specs.Sessions.{is_session_id};
 ghost use Rattle.translate_up.specs.Views.{session_shown};
 ghost use Rattle.client_slot.specs.Places.{session_at};
-ghost use Rattle.client_machine.specs.Outlooks.{sights_of, streams_changed};
 ghost use Rattle.client_machine.specs.Sights.{sight, sight_of, sight_at, sight_where, with_added, due_seen, has_due_seen, filled_seen, session_in_sight, id_changed, IsTidySight};
+ghost use Rattle.client_machine.specs.Outlooks.{sights_of, streams_changed};
 
 use crate::outlook::Outlook;
 use client_slot::Slot;
@@ -118,6 +118,8 @@ impl<'a> Outlook<'a> {
         match self.changed {
             Some(changed) if changed.place == place => view_of(changed.session, streams),
             _ => {
+                // Most places are empty.
+                self.slot.session(place)?;
                 let now = seen(self.slot, place, self.slot.state(place));
                 view_of(now, now.tracks)
             }

@@ -1,17 +1,17 @@
 //! Requests that wait are treated.
-ghost use Rattle.std.specs.Prelude.{◌≡◌, ◌≤◌, ◌<◌, length, map, [], ◌∷◌, ◌++◌, Some, IfOk, IfSome, OnOk};
+ghost use Rattle.std.specs.Prelude.{◌≡◌, ◌≤◌, ◌<◌, length, map, [], ◌∷◌, ◌++◌, Some, IfOk, OnOk};
 ghost use Rattle.std.specs.Option.{option_copied};
 ghost use Rattle.session_one.specs.declared.parts.TheConstants.{MOST_SESSIONS};
 ghost use Rattle.client_slot.specs.declared.limits.TheConstants.{LONGEST_URI};
 ghost use Rattle.rtsp_head.specs.Shapes.{shape_of};
-ghost use Rattle.translate_up.specs.Views.{session_shown, session_in};
-ghost use Rattle.translate_up.specs.Placed.{NamesSession, IsDecidedIn};
-ghost use Rattle.client_machine.specs.Treatment.{queued_more_where, decision_on};
-ghost use Rattle.client_machine.specs.Sights.{given_shown};
+ghost use Rattle.translate_up.specs.Views.{session_shown, session_or_none};
+ghost use Rattle.translate_up.specs.DecisionPlaces.{NamesSession, IsDecidedIn};
+ghost use Rattle.translate_up.specs.UriLengths.{AreGivenWithin};
+ghost use Rattle.client_machine.specs.Treatment.{queued_more_where, decision_on, given_shown};
 ghost use Rattle.play_queue.specs.declared.queue.TheConstants.{MOST_PLAYS};
-ghost use Rattle.client_machine.specs.Progresses.{begun, progressed, sessions_then, IsTreated, IsShortQueue, IsNextTreated};
+ghost use Rattle.client_machine.specs.Progresses.{begun, progressed, sessions_then, IsTreated, IsNextTreated};
 
-use client_slot::{LONGEST_URI, Slot};
+use client_slot::Slot;
 use gate_bytes::{Memory, Text};
 use head_two::Request2;
 use rtsp_head::Item;
@@ -81,8 +81,7 @@ impl<'a> Progress<'a> {
 
     /// This becomes of one request more.
     fn decided(&mut self, decision: Decision<'a>) -> Result<(), Memory>
-        ensures treated { OnOk result (self.new ≡ progressed decision.entry self.old) }
-        ensures short { OnOk result (IsShortQueue decision.entry) }
+        ensures { OnOk result (self.new ≡ progressed decision.entry self.old) }
     {
         match decision {
             Decision::Answer(text) => self.answered(text),
@@ -102,7 +101,7 @@ impl<'a> Progress<'a> {
 impl<'a> Progress<'a> {
     /// One request is answered. The first answer is handed out as it is.
     fn answered(&mut self, text: Text) -> Result<(), Memory>
-        ensures treated { OnOk result (self.new ≡ record self.old { hand = self.old.hand ++ text }) }
+        ensures { OnOk result (self.new ≡ record self.old { hand = self.old.hand ++ text }) }
     {
         if self.hand.is_empty() {
             self.hand = text;
@@ -111,15 +110,11 @@ impl<'a> Progress<'a> {
         self.hand.push_slice(text.as_bytes())
     }
 
-    /// A PLAY waits, and is answered. A URI over the longest is as if there were no memory for it.
+    /// A PLAY waits, and is answered.
     fn put(&mut self, play: Play, text: Text) -> Result<(), Memory>
-        ensures treated { OnOk result
+        ensures { OnOk result
             (self.new ≡ record self.old { hand = self.old.hand ++ text; plays = self.old.plays ++ play ∷ [] }) }
-        ensures short { OnOk result (length play.uri ≤ LONGEST_URI) }
     {
-        if play.uri.len() > LONGEST_URI {
-            return Err(Memory);
-        }
         self.plays.push_back(play)?;
         self.answered(text)
     }
@@ -178,7 +173,7 @@ fn count(sessions: &mut [Option<SessionView<'_, '_>>], decision: &Decision<'_>)
 /// One PLAY more waits in the session at a place.
 fn count_play(sessions: &mut [Option<SessionView<'_, '_>>], place: Option<u8>)
     requires named { NamesSession place (map session_shown sessions.old) }
-    requires room { (session_in place (map session_shown sessions.old)).queued < MOST_PLAYS }
+    requires room { (session_or_none place (map session_shown sessions.old)).queued < MOST_PLAYS }
     ensures { map session_shown sessions.new ≡ queued_more_where place (map session_shown sessions.old) }
 {
     if let Some(place) = place {
@@ -189,7 +184,7 @@ fn count_play(sessions: &mut [Option<SessionView<'_, '_>>], place: Option<u8>)
 }
 
 /// Treats the requests that wait in order, until one of them goes up. Their answers follow the bytes
-/// that are handed already.
+/// that are handed already. The URIs that are known are short enough, and so is each one that goes up.
 pub(crate) fn treat_waiting<'a, 'v>(
     alloc: Global,
     sessions: &mut [Option<SessionView<'a, 'v>>],
@@ -200,6 +195,8 @@ pub(crate) fn treat_waiting<'a, 'v>(
     first: Text,
 ) -> Result<Progress<'a>, Memory>
     requires few { length sessions.old ≤ MOST_SESSIONS }
+    requires known { AreGivenWithin LONGEST_URI
+        (given_shown bases.now full (map session_shown sessions.old) (option_copied described)) }
     ensures { IfOk result (IsTreated
         (given_shown bases.entry.now full (map session_shown sessions.old) (option_copied described.entry))
         (given_shown bases.entry.now full (map session_shown sessions.new) (option_copied described.entry))

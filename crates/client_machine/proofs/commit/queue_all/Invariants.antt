@@ -1,5 +1,5 @@
 use Rattle.std.proofs.Common.{◌≡◌, length}
-use Rattle.client_machine.specs.Releases.{after_plays}
+use Rattle.client_machine.specs.Step.{after_plays}
 use Rattle.client_machine.specs.Plans.{ArePlaced}
 use Rattle.client_machine.proofs.commit.queue_all.Given as goal
 

@@ -2,8 +2,7 @@
 use Rattle.std.proofs.Common.{◌≡◌, ◌∙◌, ◌<◌, List, arith, refl, sym, ap, subst}
 use Rattle.std.specs.Prelude.{is_some}
 use Rattle.session_one.specs.declared.parts.Track.{Track}
-use Rattle.client_machine.specs.Frames.{half_for}
-use Rattle.client_machine.specs.Halves.{half_of}
+use Rattle.client_machine.specs.Frames.{half_for, half_of}
 use Rattle.client_machine.proofs.HalfLemmas.{mapped_some, found_here, found_later, found_nowhere, half_searches}
 use Rattle.client_machine.proofs.frames.half_for.Goals as goal
 

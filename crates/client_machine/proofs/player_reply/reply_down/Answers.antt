@@ -16,5 +16,5 @@ returns c =
       ssrc = ssrc;
       timeout = c.args.timeout;
     } in
-    let same = ap (λ client. setting client c.args.answer.source) c.in_ok-client.ensures.same in
+    let same = ap (λ client. setting client c.args.answer.source) c.player_channels.ensures.same in
     subst (λ (one : Setting). IfOk c.reply_one.result (λ text. text ≡ reply_text_of one c.args.asked.now (told_by c.args.answer.reply.now))) same c.reply_one.ensures

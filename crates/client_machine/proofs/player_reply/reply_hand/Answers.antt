@@ -7,8 +7,13 @@ use Rattle.translate_down.specs.Replies.{told_by, reply_text_of}
 use Rattle.client_slot.specs.Purposes.{purpose_seen}
 use Rattle.client_slot.specs.declared.purpose.Pending.{Pending}
 use Rattle.client_slot.specs.declared.purpose.Pending.TheVariants as lent
-use Rattle.client_machine.specs.ServerItems.{reply_for, reply_hand}
+use Rattle.client_machine.specs.Step.{reply_for, reply_hand}
+use Rattle.client_machine.proofs.PlayerReplyLemmas.{open_apart}
 use Rattle.client_machine.proofs.player_reply.reply_hand.Goals as goal
+
+pub reply_down-requires-clause-apart : goal.reply_down-requires-clause-apart
+reply_down-requires-clause-apart c =
+    open_apart c.args.pending c.in-Client.asked c.in-Client.track c.args.slot.now.pending c.args.slot.now.sessions c.requires.pending c.in-Client.is c.keeps.ensures.placed
 
 pub returns-in-Client : goal.returns-in-Client
 returns-in-Client c =

@@ -6,7 +6,7 @@ use Rattle.rtsp_small.specs.Sessions.{SessionParts}
 use Rattle.head_two.specs.ServerMessages.{ReplyParts}
 use Rattle.translate_down.specs.Replies.{told_by}
 use Rattle.client_slot.specs.Purposes.{purpose_seen}
-use Rattle.client_machine.specs.ServerItems.{session_told}
+use Rattle.client_machine.specs.Step.{session_told}
 use Rattle.client_machine.specs.Outlooks.{sights_of}
 use Rattle.client_machine.proofs.PlanLemmas.{settle_from}
 use Rattle.client_machine.proofs.replies.settle.Goals as goal

@@ -5,12 +5,19 @@ use Rattle.std.specs.Option.{option_copied}
 use Rattle.std.proofs.lemmas.Result.{IfOk-weaker}
 use Rattle.rtsp_head.specs.Shapes.{shape_of}
 use Rattle.translate_up.specs.Views.{session_shown}
-use Rattle.client_machine.specs.Treatment.{given, decision_on}
-use Rattle.client_machine.specs.Sights.{session_in_sight, given_shown, streams_where}
+use Rattle.translate_up.proofs.ItemHeadLemmas.{item_head}
+use Rattle.client_machine.specs.Treatment.{given, decision_on, given_shown}
+use Rattle.client_machine.specs.Sights.{session_in_sight, streams_where}
 use Rattle.client_machine.proofs.TreatLemmas.{shown_then}
 use Rattle.client_machine.proofs.OnwardLemmas.{none_is, judged_now, treated_now}
 use Rattle.client_machine.proofs.PlanLemmas.{plan_before, plan_with}
+use Rattle.client_machine.proofs.ShortUriLemmas.{known_shown}
 use Rattle.client_machine.proofs.requests.treat_request.Goals as goal
+
+pub treat_waiting-requires-clause-known : goal.treat_waiting-requires-clause-known
+treat_waiting-requires-clause-known c =
+    known_shown c.args.bases.now c.is_none-full.result c.now-outlook.result (map session_shown c.sessions-sessions.result)
+    (c.sessions-sessions.ensures (sym (ap streams_where c.now-outlook.ensures.same)))
 
 pub returns-then-is_some : goal.returns-then-is_some
 returns-then-is_some c =
@@ -41,6 +48,6 @@ returns c =
     IfOk-weaker c.finished-2.result _ _
     (λ plan finished.
     plan_with bases c.args.next c.args.pair slot last then shape c.in_ok-progress.progress c.then.new.self plan c.requires.sound c.requires.alive c.requires.idle c.requires.due all
-    (sym c.if-is_some.ensures) c.in_ok-then.ensures.progress c.in_ok-then.ensures.short
+    (sym c.if-is_some.ensures) (item_head c.args.item.now) c.in_ok-then.ensures.progress
     (shown_then bases c.is_none-full.result about (map session_shown c.treat_waiting.new.sessions) (decision_on last shape) (map session_shown c.then.new.sessions) c.in_ok-then.ensures.found) finished)
     c.finished-2.ensures

@@ -3,10 +3,10 @@ use Rattle.std.proofs.Common.{map, sym, subst}
 use Rattle.std.specs.Option.{option_copied}
 use Rattle.rtsp_head.specs.Shapes.{shape_of}
 use Rattle.translate_up.specs.Views.{session_shown}
-use Rattle.translate_up.specs.Placed.{IsDecidedIn}
-use Rattle.client_machine.specs.Sights.{given_shown}
+use Rattle.translate_up.specs.DecisionPlaces.{IsDecidedIn}
 use Rattle.client_machine.proofs.TreatLemmas.{decided_on}
 use Rattle.client_machine.proofs.treat.Progress.then.Goals as goal
+use Rattle.client_machine.specs.Treatment.{given_shown}
 
 pub count-requires : goal.count-requires
 count-requires c =

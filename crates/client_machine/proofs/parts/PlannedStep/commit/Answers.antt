@@ -1,8 +1,8 @@
 use Rattle.std.proofs.Common.{◌∙◌, ap, subst, sym}
 use Rattle.client_slot.specs.Client.{Client}
-use Rattle.client_machine.specs.Releases.{after_plays}
+use Rattle.client_machine.specs.Step.{after_plays}
 use Rattle.client_machine.specs.Plans.{without, IsReadyUp}
-use Rattle.client_machine.proofs.parts.Plan.commit.Goals as goal
+use Rattle.client_machine.proofs.parts.PlannedStep.commit.Goals as goal
 
 pub make-close-requires : goal.make-close-requires
 make-close-requires c = (c.requires c.args.number).change

@@ -1,5 +1,5 @@
 -- A session of a connection alone has few streams, an empty place has none, and what is open has its place.
-use Rattle.std.proofs.Common.{◌≡◌, ◌∙◌, ℕ, zero, suc, ◌+◌, ◌*◌, ◌<◌, ◌≤◌, Bool, true, false, cond, ◌&&◌, ◌||◌, List, [], ◌∷◌, ◌++◌, length, map, Option, Some, None, IsSome, Result, Ok, Err, refl, sym, ap, subst, arith}
+use Rattle.std.proofs.Common.{◌≡◌, ◌∙◌, ℕ, zero, suc, ◌+◌, ◌*◌, ◌<◌, ◌≤◌, Bool, true, false, cond, ◌&&◌, ◌||◌, List, [], ◌∷◌, ◌++◌, length, map, Option, Some, None, IsSome, Result, refl, sym, ap, subst, arith}
 use Rattle.std.specs.Prelude.{codes, is_none, is_some, slice_index_or}
 use Rattle.std.specs.Option.{option_or, option_to_list}
 use Rattle.std.proofs.lemmas.List.{length-append}
@@ -21,13 +21,13 @@ use Rattle.session_one.specs.Table.{same_method, is_success, state_after}
 use Rattle.translate_up.specs.Channels.{is_taken}
 use Rattle.translate_up.specs.Fields.{field}
 use Rattle.translate_up.proofs.DecisionLemmas.{SpeaksAs, decide_speaks, IsPlacedAs, decide_placed}
-use Rattle.translate_up.proofs.UnrefusedLemmas.{IsUpAs, IsUnrefusedIn, decided_unrefused, room_there}
-use Rattle.translate_up.specs.Views.{SeenSession, no_session, Given, all_tracks, has_empty, session_in, Judged, judged_by}
-use Rattle.translate_up.specs.Placed.{NamesSession, IsDecidedIn}
+use Rattle.translate_up.proofs.NoRefusalLemmas.{IsUpAs, IsUnrefusedIn, decided_unrefused, room_there}
+use Rattle.translate_up.specs.Views.{SeenSession, no_session, Given, all_tracks, has_empty, session_or_none, Judged, judged_by}
+use Rattle.translate_up.specs.DecisionPlaces.{NamesSession, IsDecidedIn}
 use Rattle.translate_up.specs.Decisions.{judged_read, judged_of, decide}
 use Rattle.translate_up.specs.declared.decision.Decision.{Decision}
-use Rattle.translate_up.specs.declared.decision.Decision.TheVariants.{Answer, Forward, Queue, Setup}
-use Rattle.translate_up.proofs.NamedLemmas.{decided_in}
+use Rattle.translate_up.specs.declared.decision.Decision.TheVariants.{Answer, Setup}
+use Rattle.translate_up.proofs.SessionPlaceLemmas.{decided_in}
 use Rattle.translate_up.proofs.PlaceLemmas.{HasPlace, decide_place}
 use Rattle.client_slot.specs.declared.purpose.Purpose.{Purpose}
 use Rattle.client_slot.specs.declared.purpose.Purpose.TheVariants as purposes
@@ -40,12 +40,10 @@ use Rattle.client_slot.specs.Client.{Client}
 use Rattle.client_slot.specs.Changes.{after_queueing, release_with, settled_place, session_after, sessions_after, settle_with}
 use Rattle.client_slot.proofs.PlaceLemmas.{place_is, where_length}
 use Rattle.client_slot.proofs.TidyLemmas.{tidy_at, tidy_where, ended_tidy, next_tidy, unqueued_tidy, queued_tidy, after_tidy, due_filled}
-use Rattle.client_slot.proofs.BoundLemmas.{due_queue}
+use Rattle.client_slot.proofs.LimitLemmas.{due_queue}
 use Rattle.client_machine.specs.Events.{PrivateEvent}
-use Rattle.client_machine.specs.Treatment.{session_seen, given, queued_more, queued_more_where, one_queued, fits_memory, Going, Treated, treated_first, treated}
-use Rattle.client_machine.specs.Releases.{track_of, after_plays, goes_at}
-use Rattle.client_machine.specs.ServerItems.{NextPart, Hearing, new_id, hear}
-use Rattle.client_machine.specs.Step.{going_on, step}
+use Rattle.client_machine.specs.Treatment.{session_found, given, queued_more, queued_more_where, fits_memory, Going, Treated, treated_first, treated}
+use Rattle.client_machine.specs.Step.{track_of, after_plays, goes_at, NextPart, Hearing, new_id, hear, going_on, step}
 use Rattle.client_machine.specs.Alone.{pair_alone, private_after}
 use Rattle.client_machine.proofs.WayLemmas.{hear_as, going_as, alone_as}
 use Rattle.client_machine.proofs.HoldLemmas.{IsSame, AreSame, all_same, same_then, same_at, same_first, changed_same, where_same, plays_steady, heard_as}
@@ -65,10 +63,9 @@ abbrev pub IsRoomy : List PlayerSession → Option ℕ → Option Track → Type
 IsRoomy sessions place track = (is_filled place sessions ≡ true) × (IsSome track → length (session_where place sessions).tracks < MOST_TRACKS) × (IsSome track → place ≡ None → IsSome (empty_place sessions))
 
 abbrev pub HasRoom : List PlayerSession → Option Purpose → Type 0
-HasRoom sessions None = Unit {0}
 HasRoom sessions (Some (purposes.Client asked track)) = IsRoomy sessions asked.place track
 HasRoom sessions (Some (purposes.Released play)) = is_filled play.place sessions ≡ true
-HasRoom sessions (Some (purposes.Closing place)) = Unit {0}
+HasRoom sessions purpose = Unit {0}
 
 pub record IsInPlace (client : Client) : Type 0 where
   pub places : length client.sessions ≡ MOST_SESSIONS
@@ -97,8 +94,7 @@ same_roomy a b (Some place) track same roomy =
     (ap (λ (id : Option (List ℕ)). is_some id) here.id ∙ roomy.0, λ some. subst (λ (tracks : List Track). length tracks < MOST_TRACKS) (sym here.tracks) (roomy.1 some), λ some none. cc)
 
 same_filled : (a b : List PlayerSession) (place : Option ℕ) → AreSame a b → is_filled place a ≡ true → is_filled place b ≡ true
-same_filled a b None same filled = refl
-same_filled a b (Some place) same filled = ap (λ (id : Option (List ℕ)). is_some id) (same_at place a b same).id ∙ filled
+same_filled a b place same filled = grind (arith, same_at)
 
 same_room : (a b : List PlayerSession) (pending : Option Purpose) → AreSame a b → HasRoom a pending → HasRoom b pending
 same_room a b None same room = tt
@@ -107,38 +103,22 @@ same_room a b (Some (purposes.Released play)) same room = same_filled a b play.p
 same_room a b (Some (purposes.Closing place)) same room = tt
 
 same_placed : (before after : Client) → AreSame before.sessions after.sessions → HasRoom before.sessions after.pending → AreTidy after.sessions → IsInPlace before → IsInPlace after
-same_placed before after same room tidy placed = record {
-  tidy = tidy;
-  places = same_length before.sessions after.sessions same ∙ placed.places;
-  few = same_few before.sessions after.sessions same placed.few;
-  pending = same_room before.sessions after.sessions after.pending same room;
-}
+same_placed before after same room tidy placed = grind (arith, same_length, same_few, same_room)
 
 -- A reply brings a stream to a session that has room for it.
 few_in : (id : Option (List ℕ)) (tracks : List Track) → AreFewIn id tracks → length tracks ≤ MOST_TRACKS
-few_in None tracks few = subst (λ (all : List Track). length all ≤ MOST_TRACKS) (sym few) (omega arith)
-few_in (Some id) tracks few = few
+few_in id tracks few = grind arith
 
 one_more_few : (tracks : List Track) (track : Option Track) → length tracks ≤ MOST_TRACKS → (IsSome track → length tracks < MOST_TRACKS) → length (tracks ++ option_to_list track) ≤ MOST_TRACKS
-one_more_few tracks None few room = subst (λ (n : ℕ). n ≤ MOST_TRACKS) (sym (length-append tracks [])) (omega (arith, few))
-one_more_few tracks (Some track) few room = subst (λ (n : ℕ). n ≤ MOST_TRACKS) (sym (length-append tracks (track ∷ []))) (omega (arith, room refl))
+one_more_few tracks track few room = grind (arith, length-append)
 
 setup_few : (was id : Option (List ℕ)) (tracks : List Track) (track : Option Track) → AreFewIn was tracks → (is_some was || is_some id) ≡ true → (IsSome track → length tracks < MOST_TRACKS)
     → AreFewIn (part_then (if_made (is_some id)) was id) (tracks ++ option_to_list track)
-setup_few was (Some id) tracks track few there room = one_more_few tracks track (few_in was tracks few) room
-setup_few (Some one) None tracks track few there room = one_more_few tracks track few room
-setup_few None None tracks track few there room = cc
+setup_few was id tracks track few there room = grind (arith, one_more_few, few_in)
 
 granted_few : (method : Method) (state : State) (brought : Brought) (session : PlayerSession) → AreFewIn session.id session.tracks → (is_some session.id || is_some brought.id) ≡ true → (IsSome brought.track → length session.tracks < MOST_TRACKS)
     → AreFewIn (turned (granted_turn method (is_some brought.id) state) brought session).id (turned (granted_turn method (is_some brought.id) state) brought session).tracks
-granted_few methods.Options state brought session few there room = few
-granted_few methods.Describe state brought session few there room = few
-granted_few methods.Setup state brought session few there room = setup_few session.id brought.id session.tracks brought.track few there room
-granted_few methods.Play state brought session few there room = few
-granted_few methods.Pause state brought session few there room = few
-granted_few methods.Teardown state brought session few there room = refl
-granted_few methods.GetParameter state brought session few there room = few
-granted_few methods.SetParameter state brought session few there room = few
+granted_few method state brought session few there room = grind (arith, setup_few)
 
 -- whose turn a reply is
 abbrev IsTurnAt : List PlayerSession → ℕ → Option (List ℕ) → Option Track → Type 0
@@ -150,16 +130,13 @@ few_at zero (one ∷ more) few = few.0
 few_at (suc place) (one ∷ more) few = few_at place more few.1
 
 or_first : (a b : Bool) → a ≡ true → (a || b) ≡ true
-or_first true b e = refl
-or_first false b e = cc
+or_first a b e = grind arith
 
 empty_none : (id : Option (List ℕ)) (tracks : List Track) → is_none id ≡ true → AreFewIn id tracks → length tracks < MOST_TRACKS
-empty_none None tracks none few = subst (λ (all : List Track). length all < MOST_TRACKS) (sym few) (omega arith)
-empty_none (Some id) tracks none few = cc
+empty_none id tracks none few = grind arith
 
 or_second : (a b : Bool) → b ≡ true → (a || b) ≡ true
-or_second true b e = refl
-or_second false b e = e
+or_second a b e = grind arith
 
 turn_at : (place : Option ℕ) (sets : Bool) (id : Option (List ℕ)) (track : Option Track) (sessions : List PlayerSession) → AreFew sessions → IsRoomy sessions place track → (at : ℕ)
     → option_or place (cond (sets && is_some id) (empty_place sessions) None) ≡ Some at → IsTurnAt sessions at id track
@@ -179,12 +156,10 @@ few_changed (suc place) change (one ∷ more) few here = (few.0, few_changed pla
 
 few_where : (place : Option ℕ) (change : PlayerSession → PlayerSession) (sessions : List PlayerSession) → AreFew sessions
     → ((at : ℕ) → place ≡ Some at → AreFewIn (change (session_at at sessions)).id (change (session_at at sessions)).tracks) → AreFew (changed_where place change sessions)
-few_where None change sessions few here = few
-few_where (Some place) change sessions few here = few_changed place change sessions few (here place refl)
+few_where place change sessions few here = grind (arith, few_changed)
 
 released_few : (success : Bool) (brought : Brought) (session : PlayerSession) → AreFewIn session.id session.tracks → AreFewIn (turned (released_turn success session.state) brought session).id (turned (released_turn success session.state) brought session).tracks
-released_few true brought session few = few
-released_few false brought session few = few
+released_few success brought session few = grind arith
 
 answered_few : (asked : Asked) (track : Option Track) (number code : ℕ) (described id : Option (List ℕ)) (sessions : List PlayerSession) (at : ℕ) → AreFew sessions → IsTurnAt sessions at id track
     → AreFewIn (session_after (purposes.Client asked track) number code described id (session_at at sessions)).id (session_after (purposes.Client asked track) number code described id (session_at at sessions)).tracks
@@ -207,9 +182,7 @@ after_few (purposes.Closing place) number code described id sessions few room =
     few_where (Some place) (session_after (purposes.Closing place) number code described id) sessions few (λ at is. refl)
 
 room_filled : (sessions : List PlayerSession) (purpose : Purpose) → HasRoom sessions (Some purpose) → is_filled (place_asked purpose) sessions ≡ true
-room_filled sessions (purposes.Client asked track) room = room.0
-room_filled sessions (purposes.Released play) room = room
-room_filled sessions (purposes.Closing place) room = refl
+room_filled sessions purpose room = grind arith
 
 hear_tidy : (bases : Bases) (number : ℕ) (client : Client) (event : PrivateEvent) → IsInPlace client → AreTidy (hear bases number client event).effect.client.sessions
 hear_tidy bases number client event placed = hear_as (λ heard. AreTidy heard.effect.client.sessions) bases number client event (record {
@@ -245,7 +218,7 @@ calm_kept part (suc place) zero (one ∷ more) blind = refl
 calm_kept part (suc place) (suc at) (one ∷ more) blind = calm_kept part place at more blind
 
 pub calm_in : {A : Type 0} (part : SeenSession → A) (place at : Option ℕ) (sessions : List SeenSession) → ((one : SeenSession) (n : ℕ) → part (record one { queued = n }) ≡ part one)
-    → part (session_in at (queued_more_where place sessions)) ≡ part (session_in at sessions)
+    → part (session_or_none at (queued_more_where place sessions)) ≡ part (session_or_none at sessions)
 calm_in part None at sessions blind = refl
 calm_in part (Some place) None sessions blind = refl
 calm_in part (Some place) (Some at) sessions blind = calm_kept part place at sessions blind
@@ -256,13 +229,12 @@ calm_tracks zero (one ∷ more) = refl
 calm_tracks (suc place) (one ∷ more) = ap (λ (later : List Track). one.tracks ++ later) (calm_tracks place more)
 
 calm_all : (place : Option ℕ) (sessions : List SeenSession) → all_tracks (queued_more_where place sessions) ≡ all_tracks sessions
-calm_all None sessions = refl
-calm_all (Some place) sessions = calm_tracks place sessions
+calm_all place sessions = grind (arith, calm_tracks)
 
 -- What goes up: the session that it names, and the channels of a SETUP.
 abbrev pub IsSeenRoomy : List SeenSession → Option ℕ → Option Pair → Type 0
 IsSeenRoomy sessions None channels = Unit {0}
-IsSeenRoomy sessions (Some place) channels = (is_some (session_in (Some place) sessions).id ≡ true) × (IsSome channels → length (session_in (Some place) sessions).tracks < MOST_TRACKS)
+IsSeenRoomy sessions (Some place) channels = (is_some (session_or_none (Some place) sessions).id ≡ true) × (IsSome channels → length (session_or_none (Some place) sessions).tracks < MOST_TRACKS)
 
 abbrev pub AreChannelsFree : List Track → Option Pair → Type 0
 AreChannelsFree tracks None = Unit {0}
@@ -273,12 +245,10 @@ IsGoingIn sessions None = Unit {0}
 IsGoingIn sessions (Some one) = IsSeenRoomy sessions one.asked.place one.channels × AreChannelsFree (all_tracks sessions) one.channels × (IsSome one.channels → one.asked.place ≡ None → has_empty sessions ≡ true)
 
 named_roomy : (sessions : List SeenSession) (place : Option ℕ) → NamesSession place sessions → IsSeenRoomy sessions place None
-named_roomy sessions None named = tt
-named_roomy sessions (Some place) named = (named.1, λ some. cc)
+named_roomy sessions place named = grind arith
 
-setup_roomy : (sessions : List SeenSession) (place : Option ℕ) (channels : Pair) → NamesSession place sessions → length (session_in place sessions).tracks < MOST_TRACKS → IsSeenRoomy sessions place (Some channels)
-setup_roomy sessions None channels named room = tt
-setup_roomy sessions (Some place) channels named room = (named.1, λ some. room)
+setup_roomy : (sessions : List SeenSession) (place : Option ℕ) (channels : Pair) → NamesSession place sessions → length (session_or_none place sessions).tracks < MOST_TRACKS → IsSeenRoomy sessions place (Some channels)
+setup_roomy sessions place channels named room = grind arith
 
 calm_roomy : (queued place : Option ℕ) (sessions : List SeenSession) (channels : Option Pair) → IsSeenRoomy (queued_more_where queued sessions) place channels → IsSeenRoomy sessions place channels
 calm_roomy queued None sessions channels roomy = tt
@@ -287,48 +257,36 @@ calm_roomy queued (Some place) sessions channels roomy = (
   λ some. subst (λ (n : ℕ). n < MOST_TRACKS) (calm_in (λ one. length one.tracks) queued (Some place) sessions (λ one n. refl)) (roomy.1 some),
 )
 
-calm_empty : (place : ℕ) (sessions : List SeenSession) → has_empty (queued_more place sessions) ≡ has_empty sessions
+pub calm_empty : (place : ℕ) (sessions : List SeenSession) → has_empty (queued_more place sessions) ≡ has_empty sessions
 calm_empty place [] = refl
 calm_empty zero (one ∷ more) = refl
 calm_empty (suc place) (one ∷ more) = ap (λ (later : Bool). is_none one.id || later) (calm_empty place more)
 
-calm_has : (place : Option ℕ) (sessions : List SeenSession) → has_empty (queued_more_where place sessions) ≡ has_empty sessions
-calm_has None sessions = refl
-calm_has (Some place) sessions = calm_empty place sessions
+pub calm_has : (place : Option ℕ) (sessions : List SeenSession) → has_empty (queued_more_where place sessions) ≡ has_empty sessions
+calm_has place sessions = grind (arith, calm_empty)
 
 calm_going : (queued : Option ℕ) (sessions : List SeenSession) (going : Option Going) → IsGoingIn (queued_more_where queued sessions) going → IsGoingIn sessions going
-calm_going queued sessions None is = tt
-calm_going queued sessions (Some one) is =
-    (calm_roomy queued one.asked.place sessions one.channels is.0, subst (λ (tracks : List Track). AreChannelsFree tracks one.channels) (calm_all queued sessions) is.1, λ some none. sym (calm_has queued sessions) ∙ is.2 some none)
+calm_going queued sessions going is = grind (arith, calm_roomy, calm_all, calm_has)
 
 judged_all : (given : Given) (read : Result Request1 Refusal) → (judged_read given read).all ≡ all_tracks given.sessions
-judged_all given (Ok request) = refl
-judged_all given (Err refusal) = refl
+judged_all given read = grind arith
 
 -- the place that a decision names, and whether there is an empty one
 empty_for : (given : Given) (shape : Shape) (asked : Asked) → asked.method ≡ methods.Setup → asked.place ≡ (judged_of given shape).place → IsUnrefusedIn given (request_of_item shape) asked.method → asked.place ≡ None → has_empty given.sessions ≡ true
 empty_for given shape asked setup place (request, found, method, un) none =
     let judged = judged_by given (field request (codes "Session")) in
     let none_there : judged.place ≡ None = ap (λ (read : Result Request1 Refusal). (judged_read given read).place) (sym found) ∙ sym place ∙ none in
-    room_there judged request un (method ∙ setup) (ap (λ (at : Option ℕ). (session_in at given.sessions).id) none_there)
+    room_there judged request un (method ∙ setup) (ap (λ (at : Option ℕ). (session_or_none at given.sessions).id) none_there)
 
 going_first : (judged : Judged) (given : Given) (decision : Decision) (more : List Shape) (again : Given → Treated) → judged.all ≡ all_tracks given.sessions → IsDecidedIn given.sessions decision → HasPlace judged decision
     → ((request : Request2) (asked : Asked) (channels : Pair) → decision ≡ Setup request asked channels → asked.place ≡ None → has_empty given.sessions ≡ true)
     → ((one : Given) → IsGoingIn one.sessions (again one).going) → IsGoingIn given.sessions (treated_first decision given more again).going
-going_first judged given (Answer text) more again all decided place empty later = later given
-going_first judged given (Queue play text) more again all decided place empty later = calm_going play.place given.sessions (again (one_queued play given)).going (later (one_queued play given))
-going_first judged given (Forward request asked) more again all decided place empty later = (named_roomy given.sessions asked.place decided, tt, λ some none. cc)
-going_first judged given (Setup request asked channels) more again all decided place empty later = (
-  setup_roomy given.sessions asked.place channels decided.0 decided.1,
-  subst (λ (tracks : List Track). length tracks ≤ 63 → is_taken tracks channels ≡ false) all place.1,
-  λ some none. empty request asked channels refl none,
-)
+going_first judged given decision more again all decided place empty later = grind (arith, calm_going, named_roomy, setup_roomy)
 
 going_fits : (fits : Bool) (judged : Judged) (given : Given) (decision : Decision) (more : List Shape) (again : Given → Treated) → judged.all ≡ all_tracks given.sessions → IsDecidedIn given.sessions decision → HasPlace judged decision
     → ((request : Request2) (asked : Asked) (channels : Pair) → decision ≡ Setup request asked channels → asked.place ≡ None → has_empty given.sessions ≡ true)
     → ((one : Given) → IsGoingIn one.sessions (again one).going) → IsGoingIn given.sessions (treated_first (cond fits decision (Answer [])) given more again).going
-going_fits true judged given decision more again all decided place empty later = going_first judged given decision more again all decided place empty later
-going_fits false judged given decision more again all decided place empty later = later given
+going_fits fits judged given decision more again all decided place empty later = grind (arith, going_first)
 
 setup_empty : (given : Given) (shape : Shape) (request : Request2) (asked : Asked) (channels : Pair) → decide given shape ≡ Setup request asked channels → asked.place ≡ None → has_empty given.sessions ≡ true
 setup_empty given shape request asked channels is none =
@@ -352,66 +310,52 @@ calm_plays queued sessions (play ∷ plays) are = (calm_roomy queued play.place 
 
 plays_first : (fits : Bool) (given : Given) (decision : Decision) (more : List Shape) (again : Given → Treated) → IsDecidedIn given.sessions decision → ((one : Given) → ArePlaysIn one.sessions (again one).plays)
     → ArePlaysIn given.sessions (treated_first (cond fits decision (Answer [])) given more again).plays
-plays_first false given decision more again decided later = later given
-plays_first true given (Answer text) more again decided later = later given
-plays_first true given (Queue play text) more again decided later = (named_roomy given.sessions play.place decided.0, calm_plays play.place given.sessions (again (one_queued play given)).plays (later (one_queued play given)))
-plays_first true given (Forward request asked) more again decided later = tt
-plays_first true given (Setup request asked channels) more again decided later = tt
+plays_first fits given decision more again decided later = grind (arith, named_roomy, calm_plays)
 
 plays_in : (shapes : List Shape) (given : Given) → ArePlaysIn given.sessions (treated shapes given).plays
 plays_in [] given = tt
 plays_in (shape ∷ more) given = plays_first (fits_memory shape) given (decide given shape) more (treated more) (decided_in given shape) (plays_in more)
 
 -- as the sessions have it
-pub seen_at : (place : ℕ) (sessions : List PlayerSession) → slice_index_or (map session_seen sessions) place no_session ≡ session_seen (session_at place sessions)
+pub seen_at : (place : ℕ) (sessions : List PlayerSession) → slice_index_or (map session_found sessions) place no_session ≡ session_found (session_at place sessions)
 seen_at place [] = refl
 seen_at zero (one ∷ more) = refl
 seen_at (suc place) (one ∷ more) = seen_at place more
 
-pub seen_tracks : (sessions : List PlayerSession) → all_tracks (map session_seen sessions) ≡ tracks_of sessions
+pub seen_tracks : (sessions : List PlayerSession) → all_tracks (map session_found sessions) ≡ tracks_of sessions
 seen_tracks [] = refl
 seen_tracks (one ∷ more) = ap (λ (later : List Track). one.tracks ++ later) (seen_tracks more)
 
-empty_seen : (from : ℕ) (sessions : List PlayerSession) → has_empty (map session_seen sessions) ≡ true → IsSome (first_place (λ session. is_none session.id) from sessions)
+pub empty_seen : (from : ℕ) (sessions : List PlayerSession) → has_empty (map session_found sessions) ≡ true → IsSome (first_place (λ session. is_none session.id) from sessions)
 empty_seen from [] e = cc
 empty_seen from (one ∷ more) e = by (is_none one.id) e (empty_seen (from + 1) more)
   where
-    by : (none : Bool) → (none || has_empty (map session_seen more)) ≡ true → (has_empty (map session_seen more) ≡ true → IsSome (first_place (λ session. is_none session.id) (from + 1) more))
+    by : (none : Bool) → (none || has_empty (map session_found more)) ≡ true → (has_empty (map session_found more) ≡ true → IsSome (first_place (λ session. is_none session.id) (from + 1) more))
         → IsSome (cond none (Some from) (first_place (λ session. is_none session.id) (from + 1) more))
     by true h later = refl
     by false h later = later h
 
 track_wanted : (uri : List ℕ) (pair : Option ℕ) (channels : Option Pair) → IsSome (track_of uri pair channels) → IsSome channels
-track_wanted uri None channels some = cc
-track_wanted uri (Some pair) None some = cc
-track_wanted uri (Some pair) (Some channels) some = refl
+track_wanted uri pair channels some = grind arith
 
-seen_roomy : (sessions : List PlayerSession) (place : Option ℕ) (uri : List ℕ) (pair : Option ℕ) (channels : Option Pair) → IsSeenRoomy (map session_seen sessions) place channels → (IsSome channels → place ≡ None → has_empty (map session_seen sessions) ≡ true) → IsRoomy sessions place (track_of uri pair channels)
-seen_roomy sessions None uri pair channels roomy empty = (refl, λ some. omega arith, λ some none. empty_seen 0 sessions (empty (track_wanted uri pair channels some) refl))
-seen_roomy sessions (Some place) uri pair channels roomy empty = (
-  ap (λ (one : SeenSession). is_some one.id) (sym (seen_at place sessions)) ∙ roomy.0,
-  λ some. subst (λ (one : SeenSession). length one.tracks < MOST_TRACKS) (seen_at place sessions) (roomy.1 (track_wanted uri pair channels some)),
-  λ some none. cc,
-)
+seen_roomy : (sessions : List PlayerSession) (place : Option ℕ) (uri : List ℕ) (pair : Option ℕ) (channels : Option Pair) → IsSeenRoomy (map session_found sessions) place channels → (IsSome channels → place ≡ None → has_empty (map session_found sessions) ≡ true) → IsRoomy sessions place (track_of uri pair channels)
+seen_roomy sessions place uri pair channels roomy empty = grind (arith, empty_seen, track_wanted, seen_at)
 
-goes_placed : (one : Option Going) (pair : Option ℕ) (text : List ℕ) (before client : Client) → IsGoingIn (map session_seen before.sessions) one → AreSame before.sessions client.sessions → client.pending ≡ None → AreTidy client.sessions → IsInPlace before
+goes_placed : (one : Option Going) (pair : Option ℕ) (text : List ℕ) (before client : Client) → IsGoingIn (map session_found before.sessions) one → AreSame before.sessions client.sessions → client.pending ≡ None → AreTidy client.sessions → IsInPlace before
     → IsInPlace (goes_at one pair text client).client
-goes_placed None pair text before client is same none tidy placed = same_placed before client same (subst (HasRoom before.sessions) (sym none) tt) tidy placed
-goes_placed (Some one) pair text before client is same none tidy placed =
-    same_placed before (goes_at (Some one) pair text client).client same (seen_roomy before.sessions one.asked.place one.asked.uri pair one.channels is.0 is.2) tidy placed
+goes_placed one pair text before client is same none tidy placed = grind (arith, same_placed, seen_roomy)
 
 pub plays_idle : (plays : List Play) (client : Client) → (after_plays plays client).pending ≡ client.pending
 plays_idle [] client = refl
 plays_idle (play ∷ plays) client = plays_idle plays (after_queueing play client)
 
-seen_filled : (sessions : List PlayerSession) (place : Option ℕ) → IsSeenRoomy (map session_seen sessions) place None → is_filled place sessions ≡ true
-seen_filled sessions None roomy = refl
-seen_filled sessions (Some place) roomy = ap (λ (one : SeenSession). is_some one.id) (sym (seen_at place sessions)) ∙ roomy.0
+seen_filled : (sessions : List PlayerSession) (place : Option ℕ) → IsSeenRoomy (map session_found sessions) place None → is_filled place sessions ≡ true
+seen_filled sessions place roomy = grind (arith, seen_at)
 
 place_filled : (place : Option ℕ) (at : ℕ) (sessions : List PlayerSession) → place ≡ Some at → is_filled place sessions ≡ true → is_some (session_at at sessions).id ≡ true
 place_filled place at sessions is filled = ap (λ (one : Option ℕ). is_filled one sessions) (sym is) ∙ filled
 
-plays_tidy : (plays : List Play) (before client : Client) → ArePlaysIn (map session_seen before.sessions) plays → AreSame before.sessions client.sessions → AreTidy client.sessions → AreTidy (after_plays plays client).sessions
+plays_tidy : (plays : List Play) (before client : Client) → ArePlaysIn (map session_found before.sessions) plays → AreSame before.sessions client.sessions → AreTidy client.sessions → AreTidy (after_plays plays client).sessions
 plays_tidy [] before client are same tidy = tidy
 plays_tidy (play ∷ plays) before client are same tidy =
     plays_tidy plays before (after_queueing play client) are.1
@@ -453,6 +397,4 @@ few_streams (one ∷ more) few =
     subst (λ (n : ℕ). n ≤ suc (length more) * MOST_TRACKS) (sym (length-append one.tracks (tracks_of more))) (omega (arith, few_in one.id one.tracks few.0, few_streams more few.1))
 
 pub few_all : (client : Client) → IsInPlace client → length (tracks_of client.sessions) ≤ 63
-few_all client placed =
-    let few : length (tracks_of client.sessions) ≤ MOST_SESSIONS * MOST_TRACKS = subst (λ (n : ℕ). length (tracks_of client.sessions) ≤ n * MOST_TRACKS) placed.places (few_streams client.sessions placed.few) in
-    omega (arith, few)
+few_all client placed = grind (arith, few_streams)
