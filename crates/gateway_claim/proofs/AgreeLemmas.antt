@@ -1,34 +1,133 @@
--- The induction over a history: the books and the record of each connection alone agree in it.
-use Rattle.std.proofs.Common.{◌≡◌, ◌≢◌, ◌∙◌, ℕ, zero, suc, ◌==◌, ◌&&◌, not, Bool, true, false, cond, List, [], ◌∷◌, ◌++◌, Option, Some, None, IsSome, ◌⊎◌, inl, inr, refl, sym, ap, subst}
-use Rattle.std.specs.Prelude.{is_some}
+-- The books and the record of each connection alone agree, entry by entry.
+use Rattle.std.proofs.Common.{◌≡◌, ◌≢◌, ◌∙◌, ℕ, ◌+◌, nat_lt, not, Bool, true, false, List, Option, Some, None, IfSome, inl, inr, refl, sym, ap, subst, arith, ◌==◌, ◌&&◌, cond, [], ◌∷◌, ◌++◌, IsSome, ◌⊎◌}
+use Rattle.std.proofs.lemmas.Bool.{ltb-true, eq-eqb, eqb-true}
+use Rattle.gateway_claim.proofs.FitLemmas.{IsFitClient, hear_fit, alone_fit}
+use Rattle.gateway_claim.proofs.TurnLemmas.{TellsBy, going_tells, joined_still, HasGone, none_more, going_gone}
 use Rattle.std.specs.Option.{option_map, option_to_list}
-use Rattle.std.proofs.lemmas.Bool.{eq-eqb, eqb-true}
 use Rattle.rtsp_uri.specs.declared.base.Bases.{Bases}
-use Rattle.client_slot.specs.Session.{PlayerSession, new_session}
-use Rattle.client_slot.specs.Places.{new_sessions, session_at}
-use Rattle.client_slot.specs.Client.{new_client}
-use Rattle.client_machine.specs.Alone.{Private, private_after, asked_in, is_live, effect_alone, is_empty_list}
-use Rattle.client_machine.specs.Effects.{Outgoing, Effect}
-use Rattle.client_machine.specs.Events.{PrivateEvent}
-use Rattle.client_machine.proofs.BelowLemmas.{alone_numbered}
+use Rattle.translate_down.specs.Replies.{told_by}
+use Rattle.client_slot.specs.Client.{Client, new_client}
+use Rattle.client_machine.specs.Alone.{Private, private_after, is_up_end, asked_in, effect_alone, is_live, is_empty_list}
+use Rattle.client_machine.specs.Bounds.{AreSessionsBelow}
+use Rattle.client_machine.specs.Events.{Effect, PrivateEvent, answer, Outgoing}
+use Rattle.client_machine.specs.Step.{NextPart, Hearing, hear, going_on, heard_step, step}
+use Rattle.client_machine.proofs.BelowLemmas.{IsMute, hear_mute, IsNumbered, hear_numbered, alone_numbered}
+use Rattle.client_machine.proofs.HoldLemmas.{hear_still, going_steady}
+use Rattle.gateway_claim.specs.Books.{RequestKind, kind_of, Books, Final, final_of, settles, free_in, Opened, new_books}
+use Rattle.gateway_claim.specs.Happenings.{Happening, HistoryEntry, entered, shut, fault_in}
+use Rattle.client_machine.specs.UpTexts.{source_said}
+use Rattle.gateway_claim.specs.OwnEvents.{turn, final_in, lends_where, books_of, own, is_turn, settled_by, has_shut}
+use Rattle.gateway_claim.specs.Follows.{private_in, said_breach, kind_breach, session_asked, session_of_private, spent, message_up, event_in, effect_at, effect_of_turn, effect, message_due, Follows, IsHistory}
+use Rattle.gateway_claim.specs.BooksAndSlots.{IsJoined, AreSound}
+use Rattle.gateway_claim.proofs.AnswerLemmas.{IsAnswered, answered}
+use Rattle.gateway_claim.proofs.CaseLemmas.{IsCase, turn_case, alone_steps, pair_where, IsMarked, step_marked, own_event, nobody_settles, both_none, not_over, own_absent, own_quiet}
+use Rattle.gateway_claim.proofs.LendLemmas.{other_lent}
+use Rattle.gateway_claim.proofs.OtherLemmas.{IsFinal, other_settled, differs}
+use Rattle.gateway_claim.proofs.SoundLemmas.{sound_settled, sound_lent, sound_new}
 use Rattle.client_machine.proofs.KeepLemmas.{live_unclosed}
-use Rattle.gateway_claim.specs.declared.event.ToUp.{ToUp}
-use Rattle.gateway_claim.specs.declared.event.UpCause.{UpCause}
-use Rattle.gateway_claim.specs.Kinds.{RequestKind, kind_of}
-use Rattle.gateway_claim.specs.Books.{Opened, Books, new_books}
-use Rattle.gateway_claim.specs.Settlement.{settles, free_in}
-use Rattle.gateway_claim.specs.Happenings.{Happening, HistoryEntry, fault_in, entered, shut, nothing_up}
-use Rattle.gateway_claim.specs.OwnEvents.{turn, is_turn, final_in, settled_by, lends_where, has_shut, books_after, books_of, own}
-use Rattle.gateway_claim.specs.Follows.{event_in, effect_at, effect_of_turn, effect, said_breach, spent, message_up, message_due, up_due, Follows, IsHistory}
-use Rattle.gateway_claim.specs.BooksAndSlots.{IsHolding, IsJoined, AreSound}
-use Rattle.gateway_claim.proofs.CaseLemmas.{IsCase, turn_case, nobody_settles, both_none, not_over, own_absent}
-use Rattle.gateway_claim.proofs.FitLemmas.{alone_fit}
-use Rattle.gateway_claim.proofs.HistoryLemmas.{same_number}
-use Rattle.gateway_claim.proofs.SlotLemmas.{alone, AreJoined, settled_sound, settled_other, lent_sound, lent_own, lent_other, IsStep, shared_step, step_is, step_gone, IsTurnStep, turn_step}
-use Rattle.gateway_claim.proofs.OtherLemmas.{differs}
-use Rattle.gateway_claim.proofs.OverLemmas.{own_event, own_quiet, breach_standing}
-use Rattle.gateway_claim.proofs.SoundLemmas.{sound_new}
-use Rattle.gateway_claim.proofs.TurnLemmas.{HasGone}
+use Rattle.gateway_claim.proofs.NextLemmas.{same_number}
+
+-- a connection alone, in a history
+abbrev pub alone : Bases → List HistoryEntry → ℕ → Private
+alone bases T i = private_after bases (own bases i T)
+
+abbrev pub AreJoined : Bases → List HistoryEntry → Type 0
+AreJoined bases T = AreSound (books_of T) × ((i : ℕ) → IsJoined (books_of T) i (alone bases T i).client (alone bases T i).count)
+
+-- A number is left for what goes up, which tells its session.
+tells_left : (bases : Bases) (pair : Option ℕ) (next : NextPart) (client : Client) (issued : ℕ) → IsFitClient client → spent issued (going_on bases pair next client).message ≡ None
+    → TellsBy (going_on bases pair next client).client.sessions (issued + 1) (going_on bases pair next client).message (going_on bases pair next client).client.pending
+tells_left bases pair next client issued fit left = grind (arith, nat_lt, ltb-true, going_tells)
+
+-- What goes up in all, by what was heard.
+heard_gone : (bases : Bases) (earlier books : Books) (i count : ℕ) (heard : Hearing) (shut : Bool) → IsMute heard.next heard.effect.message → IsJoined books i heard.effect.client count → AreSessionsBelow count heard.effect.client.sessions
+    → shut ≡ not heard.effect.client.alive → IsFitClient heard.effect.client → spent earlier.issued (heard_step bases (pair_where (free_in books) (count + 1)) heard).message ≡ None
+    → HasGone books i (heard_step bases (pair_where (free_in books) (count + 1)) heard).client count
+    (kind_of (option_map (message_up earlier books i) (heard_step bases (pair_where (free_in books) (count + 1)) heard).message) (free_in books) shut) (asked_in (heard_step bases (pair_where (free_in books) (count + 1)) heard).message)
+heard_gone bases earlier books i count heard shut mute joined below closed fit left = grind (arith, pair_where, going_gone, tells_left, none_more)
+
+-- The books after a final reply are sound, and join every other connection.
+abbrev pub AreFinal : Books → ℕ → Option Final → Type 0
+AreFinal books i final = IfSome final (λ one. IsFinal books one × (one.conn ≡ i))
+
+pub settled_sound : (books : Books) (i : ℕ) (final : Option Final) → AreFinal books i final → AreSound books → AreSound (settles final books)
+settled_sound books i None is sound = sound
+settled_sound books i (Some final) is sound = sound_settled books final is.0 sound
+
+pub settled_other : (books : Books) (i j : ℕ) (final : Option Final) (client : Client) (count : ℕ) → AreFinal books i final → AreSound books → j ≢ i → IsJoined books j client count → IsJoined (settles final books) j client count
+settled_other books i j None client count is sound ne joined = joined
+settled_other books i j (Some final) client count is sound ne joined = other_settled books final j client count is.0 sound (λ same. ne (same ∙ is.1)) joined
+
+-- and so are those after what went up
+pub lent_sound : (books : Books) (i count more : ℕ) (after : Client) (kind : Option RequestKind) → HasGone books i after count kind more → AreSound books → AreSound (lends_where (Some i) kind books)
+lent_sound books i count more after kind gone sound = grind (arith, sound_lent)
+
+pub lent_own : (books : Books) (i count more : ℕ) (after : Client) (kind : Option RequestKind) → HasGone books i after count kind more → IsJoined (lends_where (Some i) kind books) i after (count + more)
+lent_own books i count more after kind gone = grind arith
+
+pub lent_other : (books : Books) (i j count more : ℕ) (after : Client) (kind : Option RequestKind) (client : Client) (own_count : ℕ) → HasGone books i after count kind more → AreSound books → j ≢ i → IsJoined books j client own_count
+    → IsJoined (lends_where (Some i) kind books) j client own_count
+lent_other books i j count more after None client own_count gone sound ne joined = joined
+lent_other books i j count more after (Some kind) client own_count gone sound ne joined = other_lent books i kind j client own_count sound gone.0 ne joined
+
+-- What an event does to the connection whose turn it is, in the books after its reply.
+pub record IsStep (bases : Bases) (books : Books) (final : Option Final) (i : ℕ) (p : Private) (event : PrivateEvent) : Type 0 where
+  pub heard : IsJoined (settles final books) i (hear bases p.count p.client event).effect.client p.count
+  pub is_final : AreFinal books i final
+  pub marked : IsMarked (free_in (settles final books)) p.client.waiting event
+  pub plain : is_up_end event ≡ false
+
+abbrev pub shared_step : Bases → Books → Private → PrivateEvent → Effect
+shared_step bases settled p event = step bases p.count (pair_where (free_in settled) (p.count + 1)) p.client event
+
+pub step_is : (bases : Bases) (books : Books) (final : Option Final) (i : ℕ) (p : Private) (event : PrivateEvent) → p.over ≡ false → IsStep bases books final i p event → effect_alone bases p event ≡ shared_step bases (settles final books) p event
+step_is bases books final i p event over is = grind (arith, alone_steps, step_marked)
+
+pub step_gone : (bases : Bases) (books : Books) (final : Option Final) (i : ℕ) (p : Private) (event : PrivateEvent) (shut : Bool) → IsNumbered p.count p.client → IsStep bases books final i p event
+    → shut ≡ not (shared_step bases (settles final books) p event).client.alive → IsFitClient p.client → spent books.issued (shared_step bases (settles final books) p event).message ≡ None
+    → HasGone (settles final books) i (shared_step bases (settles final books) p event).client p.count
+    (kind_of (option_map (message_up books (settles final books) i) (shared_step bases (settles final books) p event).message) (free_in (settles final books)) shut) (asked_in (shared_step bases (settles final books) p event).message)
+step_gone bases books final i p event shut numbered is closed fit left =
+    heard_gone bases books (settles final books) i p.count (hear bases p.count p.client event) shut (hear_mute bases p.count p.client event) is.heard
+    (hear_numbered bases p.count p.client event numbered).0.sessions
+    (closed ∙ ap not (going_steady bases (pair_where (free_in (settles final books)) (p.count + 1)) (hear bases p.count p.client event).next (hear bases p.count p.client event).effect.client).alive)
+    (hear_fit bases p.count p.client event fit) left
+
+-- The step that a turn is, where the connection has an event.
+abbrev pub IsTurnStep : Bases → Books → ℕ → Private → Option PrivateEvent → Option Final → Type 0
+IsTurnStep bases books i p None final = final ≡ None
+IsTurnStep bases books i p (Some event) final = IsStep bases books final i p event
+
+is_step : (bases : Bases) (T : List HistoryEntry) (i : ℕ) (h : Happening) (p : Private) (event : Option PrivateEvent) (final : Option Final) → IsJoined (books_of T) i p.client p.count → private_in bases i T ≡ Some p
+    → said_breach bases T h ≡ None → IsCase (books_of T) i p.client.waiting event final h (free_in (settles final (books_of T))) → IsTurnStep bases (books_of T) i p event final
+is_step bases T i h p event final joined here right (inl (none, no_final)) =
+    subst (λ (one : Option PrivateEvent). IsTurnStep bases (books_of T) i p one final) (sym none) no_final
+is_step bases T i h p event final joined here right (inr (inl (one, is, plain, up, no_final, mark))) =
+    subst (λ (some : Option PrivateEvent). IsTurnStep bases (books_of T) i p some final) (sym is)
+    (record {
+      heard = subst (λ (f : Option Final). IsJoined (settles f (books_of T)) i (hear bases p.count p.client one).effect.client p.count) (sym no_final)
+          (joined_still (books_of T) i p.client (hear bases p.count p.client one).effect.client p.count (hear_still bases p.count p.client one plain) joined);
+      is_final = subst (λ (f : Option Final). AreFinal (books_of T) i f) (sym no_final) tt;
+      marked = mark;
+      plain = up;
+    })
+is_step bases T i h p event final joined here right (inr (inr (reply, opened, full, is_open, conn, is, is_final, mark, breaches))) =
+    let session : session_of_private (private_in bases opened.conn T) ≡ session_asked p.client.sessions p.client.pending = ap (λ j. session_of_private (private_in bases j T)) conn ∙ ap session_of_private here in
+    let wrong : kind_breach (books_of T) opened.kind (session_of_private (private_in bases opened.conn T)) reply ≡ None = sym (breaches bases T refl) ∙ right in
+    let now : IsAnswered (books_of T) i p.count (final_of reply (Some opened)) (hear bases p.count p.client (answer (told_by reply) (source_said reply) full)) =
+    answered bases (books_of T) i p.count p.client reply opened (source_said reply) joined is_open conn (ap (λ id. kind_breach (books_of T) opened.kind id reply) (sym session) ∙ wrong) in
+    subst (λ (some : Option PrivateEvent). IsTurnStep bases (books_of T) i p some final) (sym is)
+    (record {
+      heard = subst (λ (f : Option Final). IsJoined (settles f (books_of T)) i (hear bases p.count p.client (answer (told_by reply) (source_said reply) full)).effect.client p.count) (sym is_final) now.0;
+      is_final = subst (λ (f : Option Final). AreFinal (books_of T) i f) (sym is_final) now.1;
+      marked = mark;
+      plain = refl;
+    })
+
+-- The connection whose turn it is makes that step.
+pub turn_step : (bases : Bases) (T : List HistoryEntry) (i : ℕ) (h : Happening) → IsJoined (books_of T) i (alone bases T i).client (alone bases T i).count → entered i T ≡ true → turn (books_of T) h ≡ Some i → said_breach bases T h ≡ None
+    → IsTurnStep bases (books_of T) i (alone bases T i) (own_event bases T i h) (final_in (books_of T) h)
+turn_step bases T i h joined en turns right = grind (arith, is_step, own_event, turn_case)
 
 -- the books after what happened, by whose turn it is, by the message that goes up, and by whether its connection has shut
 abbrev pub books_with : Books → Happening → Option ℕ → Option Outgoing → Bool → Books
@@ -37,10 +136,7 @@ books_with books h who message shut =
 
 pub books_next : (bases : Bases) (T : List HistoryEntry) (e : HistoryEntry) → Follows bases T e → fault_in (e ∷ T) ≡ None
     → books_of (e ∷ T) ≡ books_with (books_of T) e.happening (turn (books_of T) e.happening) (effect bases T e.happening).message (has_shut (turn (books_of T) e.happening) (e ∷ T))
-books_next bases T e f standing =
-    ap (λ (fault : Option UpCause). cond (is_some fault) (books_of T) (books_after (books_of T) T e)) standing
-    ∙ ap (λ (up : ToUp). lends_where (turn (books_of T) e.happening) (kind_of up.message (free_in (settled_by (books_of T) e.happening)) (has_shut (turn (books_of T) e.happening) (e ∷ T))) (settled_by (books_of T) e.happening))
-    (f.spelled ∙ ap (λ (fault : Option UpCause). cond (is_some fault) nothing_up (up_due bases T e.happening)) standing)
+books_next bases T e f standing = grind arith
 
 -- a connection alone after one more event, where it has one
 abbrev pub alone_with : Bases → List PrivateEvent → Option PrivateEvent → Private
@@ -60,8 +156,7 @@ AreJoinedWith bases T h who message shut =
     × ((j : ℕ) → IsJoined (books_with (books_of T) h who message shut) j (alone_with bases (own bases j T) (event_for bases T h who j)).client (alone_with bases (own bases j T) (event_for bases T h who j)).count)
 
 no_event : (bases : Bases) (events : List PrivateEvent) (en : Bool) (event : Option PrivateEvent) → event ≡ None → alone_with bases events (cond en event None) ≡ private_after bases events
-no_event bases events true event e = ap (alone_with bases events) e
-no_event bases events false event e = refl
+no_event bases events en event e = grind arith
 
 -- nothing changes for a connection without an event
 quiet_joined : (bases : Bases) (books : Books) (j : ℕ) (events : List PrivateEvent) (en : Bool) (event : Option PrivateEvent) → event ≡ None → IsJoined books j (private_after bases events).client (private_after bases events).count
@@ -111,37 +206,20 @@ absent_final bases T h i joined turns absent = by (turn_case (books_of T) i (alo
 
 -- whether it is entered and has an event, when it is its turn
 turn_quiet : (bases : Bases) (T : List HistoryEntry) (h : Happening) (i : ℕ) (en : Bool) (event : Option PrivateEvent) → (en ≡ false) ⊎ (event ≡ None) → alone_with bases (own bases i T) (cond en (cond (i == i) event None) None) ≡ alone bases T i
-turn_quiet bases T h i en event (inl absent) = ap (λ t. alone_with bases (own bases i T) (cond t (cond (i == i) event None) None)) absent
-turn_quiet bases T h i en event (inr none) =
-    no_event bases (own bases i T) en (cond (i == i) event None) (ap (λ one. cond {A = Option PrivateEvent} (i == i) one None) none ∙ by (i == i))
-  where
-    by : (t : Bool) → cond {A = Option PrivateEvent} t None None ≡ None
-    by true = refl
-    by false = refl
+turn_quiet bases T h i en event h6 = grind arith
 
 all_quiet : (bases : Bases) (T : List HistoryEntry) (h : Happening) (i : ℕ) → (entered i T ≡ false) ⊎ (own_event bases T i h ≡ None) → (j : ℕ) → alone_with bases (own bases j T) (event_for bases T h (Some i) j) ≡ alone bases T j
-all_quiet bases T h i quiet j = by (i == j) refl
-  where
-    by : (t : Bool) → (i == j) ≡ t → alone_with bases (own bases j T) (event_for bases T h (Some i) j) ≡ alone bases T j
-    by true e =
-        let same : i ≡ j = eqb-true i j e in
-        subst (λ (k : ℕ). alone_with bases (own bases k T) (event_for bases T h (Some i) k) ≡ alone bases T k) same (turn_quiet bases T h i (entered i T) (own_event bases T i h) quiet)
-    by false e = other_quiet bases T h i j (λ same. true_is_false (sym (eq-eqb i j (sym same)) ∙ e))
-      where
-        true_is_false : true ≡ false → ⊥
-        true_is_false e = cc
+all_quiet bases T h i quiet j = grind (arith, alone, eqb-true, turn_quiet, own_event, other_quiet, eq-eqb)
 
 -- what the machine does at the turn of a connection
 pub effect_absent : (bases : Bases) (T : List HistoryEntry) (h : Happening) (i : ℕ) → entered i T ≡ false → (effect_of_turn bases T (Some i) h).message ≡ None
 effect_absent bases T h i absent = ap (λ t. (effect_at bases (cond t (Some (alone bases T i)) None) (event_in (books_of T) i (cond t (Some (alone bases T i)) None) h)).message) absent
 
 pub effect_present : (bases : Bases) (T : List HistoryEntry) (h : Happening) (i : ℕ) (event : Option PrivateEvent) → entered i T ≡ true → own_event bases T i h ≡ event → effect_of_turn bases T (Some i) h ≡ effect_at bases (Some (alone bases T i)) event
-effect_present bases T h i event en is =
-    ap (λ t. effect_at bases (cond t (Some (alone bases T i)) None) (event_in (books_of T) i (cond t (Some (alone bases T i)) None) h)) en ∙ ap (effect_at bases (Some (alone bases T i))) is
+effect_present bases T h i event en is = grind arith
 
 pub event_present : (bases : Bases) (T : List HistoryEntry) (h : Happening) (i : ℕ) (event : PrivateEvent) → entered i T ≡ true → own_event bases T i h ≡ Some event → event_for bases T h (Some i) i ≡ Some event
-event_present bases T h i event en is =
-    ap (λ t. cond t (cond (i == i) (own_event bases T i h) None) None) en ∙ ap (λ t. cond t (own_event bases T i h) None) (same_number i) ∙ is
+event_present bases T h i event en is = grind (arith, own_event, same_number)
 
 -- It is the turn of a connection, which makes a step.
 step_joined : (bases : Bases) (T : List HistoryEntry) (h : Happening) (i : ℕ) (event : PrivateEvent) (shut : Bool) → AreJoined bases T → fault_in T ≡ None → entered i T ≡ true → own_event bases T i h ≡ Some event
@@ -222,9 +300,7 @@ joined_by bases T e (Some i) history standing joined turns right left = turned b
 
 -- Nothing is wrong with what was said, and a number is left, where nothing ended the connection to the server.
 unbroken : (bases : Bases) (T : List HistoryEntry) (e : HistoryEntry) → Follows bases T e → fault_in (e ∷ T) ≡ None → (said_breach bases T e.happening ≡ None) × (spent (books_of T).issued (effect bases T e.happening).message ≡ None)
-unbroken bases T e f standing =
-    let quiet = both_none (fault_in T) e.outcome.fault standing in
-    both_none (said_breach bases T e.happening) (spent (books_of T).issued (effect bases T e.happening).message) (sym (breach_standing bases T e.happening quiet.0) ∙ sym f.fault ∙ quiet.1)
+unbroken bases T e f standing = grind arith
 
 pub said_right : (bases : Bases) (T : List HistoryEntry) (e : HistoryEntry) → Follows bases T e → fault_in (e ∷ T) ≡ None → said_breach bases T e.happening ≡ None
 said_right bases T e f standing = (unbroken bases T e f standing).0
@@ -240,20 +316,7 @@ joined_next bases T e history standing joined =
     )
 
 joined_new : (i : ℕ) → IsJoined new_books i new_client 0
-joined_new i = record { counted = refl; tracks = holds_none; granted = λ p id here. cc; pending = tt; last = λ g opened here conn. cc; holds = λ place id here. absurd (no_id place id here); session = λ id here. cc; once = λ a b id at_a at_b. absurd (no_id a id at_a) }
-  where
-    new_at : (place : ℕ) → session_at place new_sessions ≡ new_session
-    new_at zero = refl
-    new_at (suc zero) = refl
-    new_at (suc (suc zero)) = refl
-    new_at (suc (suc (suc zero))) = refl
-    new_at (suc (suc (suc (suc place)))) = refl
-
-    holds_none : (place : ℕ) → IsHolding new_books i (session_at place new_sessions).id (session_at place new_sessions).tracks
-    holds_none place = subst (λ (one : PlayerSession). IsHolding new_books i one.id one.tracks) (sym (new_at place)) refl
-
-    no_id : (place : ℕ) (id : List ℕ) → (session_at place new_sessions).id ≡ Some id → ⊥
-    no_id place id here = let none : None ≡ Some id = ap (λ (one : PlayerSession). one.id) (sym (new_at place)) ∙ here in cc
+joined_new i = grind arith
 
 pub joined : (bases : Bases) (T : List HistoryEntry) → IsHistory bases T → fault_in T ≡ None → AreJoined bases T
 joined bases [] history standing = (sound_new, joined_new)

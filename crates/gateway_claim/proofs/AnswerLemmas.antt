@@ -1,11 +1,11 @@
 -- What a reply changes for the connection that asked, where nothing is wrong with it.
-use Rattle.std.proofs.Common.{◌≡◌, ◌∙◌, ℕ, ◌&&◌, nat_lt, not, Bool, true, false, cond, List, [], ◌∷◌, ◌++◌, Option, Some, None, IfSome, IsSome, refl, sym, ap, subst}
+use Rattle.std.proofs.Common.{◌≡◌, ◌∙◌, ℕ, ◌&&◌, nat_lt, Bool, true, false, cond, List, [], ◌∷◌, ◌++◌, Option, Some, None, IfSome, IsSome, refl, sym, ap, subst, arith}
 use Rattle.std.specs.Prelude.{is_none, is_some, codes}
-use Rattle.std.specs.Option.{option_or, option_map, option_and_then}
+use Rattle.std.specs.Option.{option_or, option_and_then}
 use Rattle.std.proofs.lemmas.Slice.Eq.{bytes_eq-Decides}
 use Rattle.rtsp_head.specs.Headers.{field_of}
 use Rattle.rtsp_head.specs.Messages.{own_fields}
-use Rattle.rtsp_small.specs.Sessions.{SessionParts, session_of}
+use Rattle.rtsp_small.specs.Sessions.{session_of}
 use Rattle.rtsp_small.specs.declared.method.Method.{Method}
 use Rattle.rtsp_small.specs.declared.method.Method.TheVariants as methods
 use Rattle.rtsp_uri.specs.declared.base.Bases.{Bases}
@@ -28,12 +28,9 @@ use Rattle.client_slot.specs.Places.{session_at, session_where, changed_at, chan
 use Rattle.client_slot.specs.Changes.{session_after, settled_place, settle_with}
 use Rattle.client_slot.specs.Client.{Client}
 use Rattle.client_slot.proofs.PlaceLemmas.{kept_each, IsAtPlace, place_is}
-use Rattle.client_machine.specs.ServerItems.{Hearing, idles, session_told, new_id_at, new_id, settled, settle_at, take_answer}
-use Rattle.gateway_claim.specs.declared.event.UpCause.TheVariants.{BadGrant, SessionTaken}
-use Rattle.gateway_claim.specs.Kinds.{RequestKind, sets_up, plain, teardown_kind}
-use Rattle.gateway_claim.specs.Books.{Opened, Books}
-use Rattle.gateway_claim.specs.Settlement.{Final, final_of, id_said, torn_by, bound_by, is_id, settles}
-use Rattle.gateway_claim.specs.Follows.{grants, is_session_for, is_granted, is_bound, grant_breach, kind_breach, session_asked}
+use Rattle.client_machine.specs.Step.{Hearing, idles, session_told, new_id_at, new_id, settled, settle_at, take_answer}
+use Rattle.gateway_claim.specs.Books.{RequestKind, sets_up, plain, teardown_kind, Opened, Books, Final, final_of, id_said, torn_by, bound_by, is_id, settles}
+use Rattle.gateway_claim.specs.Follows.{is_session_for, is_bound, grant_breach, kind_breach, session_asked}
 use Rattle.gateway_claim.specs.BooksAndSlots.{kind_for, IsHolding, IsForSession, IsPurpose, opened_for, IsOpenFor, IsJoined}
 use Rattle.gateway_claim.proofs.OtherLemmas.{IsHeldKind, IsFinal}
 use Rattle.gateway_claim.proofs.SettleLemmas.{AreAlike, IsOwnFinal, alike_settled, torn_settled, IsSessionSet, granted_settled, filled_within, same_id}
@@ -43,19 +40,7 @@ abbrev pub final_to : Books → ℕ → ℕ → List PlayerSession → Purpose �
 final_to books i number sessions purpose success said = record { number = number; conn = i; kind = kind_for (books.pair_of i) sessions purpose; success = success; id = said }
 
 held_kind : (books : Books) (i : ℕ) (sessions : List PlayerSession) (purpose : Purpose) → IsPurpose books i sessions purpose → IsHeldKind books i (kind_for (books.pair_of i) sessions purpose)
-held_kind books i sessions (purposes.Client asked (Some track)) purpose = purpose.0.0
-held_kind books i sessions (purposes.Client asked None) purpose = by (same_method asked.method methods.Teardown) (session_where asked.place sessions).id
-  where
-    by : (t : Bool) (id : Option (List ℕ)) → IsHeldKind books i (cond t (teardown_kind false id) plain)
-    by true None = tt
-    by true (Some id) = tt
-    by false id = tt
-held_kind books i sessions (purposes.Released play) purpose = tt
-held_kind books i sessions (purposes.Closing place) purpose = by (session_at place sessions).id
-  where
-    by : (id : Option (List ℕ)) → IsHeldKind books i (teardown_kind true id)
-    by None = tt
-    by (Some id) = tt
+held_kind books i sessions purpose h4 = grind arith
 
 own_final : (books : Books) (i number : ℕ) (sessions : List PlayerSession) (purpose : Purpose) (success : Bool) (said : Option (List ℕ)) → IsPurpose books i sessions purpose → IsOwnFinal books i number (final_to books i number sessions purpose success said)
 own_final books i number sessions purpose success said is = record { number_is = refl; conn = refl; held = held_kind books i sessions purpose is }
@@ -70,34 +55,16 @@ alike_where (Some place) change sessions id tracks = λ at. (kept_each (λ sessi
 abbrev KeepsHeld : SessionTurn → Brought → PlayerSession → Type 0
 KeepsHeld turn brought session = ((turned turn brought session).id ≡ session.id) × ((turned turn brought session).tracks ≡ session.tracks)
 
-plain_keeps : (method : Method) (made : Bool) (state : State) (brought : Brought) (session : PlayerSession) → is_setup method ≡ false → same_method method methods.Teardown ≡ false → KeepsHeld (granted_turn method made state) brought session
-plain_keeps methods.Options made state brought session s t = (refl, refl)
-plain_keeps methods.Describe made state brought session s t = (refl, refl)
-plain_keeps methods.Setup made state brought session s t = cc
-plain_keeps methods.Play made state brought session s t = (refl, refl)
-plain_keeps methods.Pause made state brought session s t = (refl, refl)
-plain_keeps methods.Teardown made state brought session s t = cc
-plain_keeps methods.GetParameter made state brought session s t = (refl, refl)
-plain_keeps methods.SetParameter made state brought session s t = (refl, refl)
-
 -- A player's request, by whether it succeeds.
 abbrev asked_turn : Asked → ℕ → Bool → State → Bool → SessionTurn
 asked_turn asked code made state success = cond success (granted_turn asked.method made (state_after state asked.method code)) (moved_turn state)
 
 asked_keeps : (asked : Asked) (code : ℕ) (made : Bool) (brought : Brought) (session : PlayerSession) (success : Bool) → ((success ≡ true) → (is_setup asked.method ≡ false) × (same_method asked.method methods.Teardown ≡ false))
     → KeepsHeld (asked_turn asked code made session.state success) brought session
-asked_keeps asked code made brought session true other = plain_keeps asked.method made (state_after session.state asked.method code) brought session (other refl).0 (other refl).1
-asked_keeps asked code made brought session false other = (refl, refl)
+asked_keeps asked code made brought session success other = grind arith
 
 teardown_is : (method : Method) → same_method method methods.Teardown ≡ true → method ≡ methods.Teardown
-teardown_is methods.Options e = cc
-teardown_is methods.Describe e = cc
-teardown_is methods.Setup e = cc
-teardown_is methods.Play e = cc
-teardown_is methods.Pause e = cc
-teardown_is methods.Teardown e = refl
-teardown_is methods.GetParameter e = cc
-teardown_is methods.SetParameter e = cc
+teardown_is method e = grind arith
 
 -- What the reply to a SETUP that succeeds says of the session: the one that was named, or a new one that nobody has.
 abbrev pub SaysAt : Books → Option ℕ → List PlayerSession → Option (List ℕ) → Option (List ℕ) → Type 0
@@ -106,10 +73,7 @@ SaysAt books (Some place) sessions said new = (said ≡ (session_at place sessio
 
 abbrev pub SaysFor : Books → Purpose → List PlayerSession → Bool → Option (List ℕ) → Option (List ℕ) → Type 0
 SaysFor books (purposes.Client asked (Some track)) sessions true said new = SaysAt books asked.place sessions said new
-SaysFor books (purposes.Client asked (Some track)) sessions false said new = Unit {0}
-SaysFor books (purposes.Client asked None) sessions success said new = Unit {0}
-SaysFor books (purposes.Released play) sessions success said new = Unit {0}
-SaysFor books (purposes.Closing place) sessions success said new = Unit {0}
+SaysFor books purpose sessions other said new = Unit {0}
 
 -- So the connection is joined then.
 abbrev IsSettledSo : Books → ℕ → ℕ → ℕ → Client → Purpose → Bool → Option (List ℕ) → Option (List ℕ) → Type 0
@@ -133,14 +97,10 @@ gone : (books : Books) (i count code place : ℕ) (client : Client) (purpose : P
 gone books i count code place client purpose success shut said new joined is kind ends sessions no_id no_tracks = by (session_at place client.sessions).id refl
   where
     bound_none : (shut : Bool) (id : Option (List ℕ)) → bound_by (teardown_kind shut id) success said ≡ None
-    bound_none shut None = refl
-    bound_none true (Some id) = refl
-    bound_none false (Some id) = refl
+    bound_none shut id = grind arith
 
     torn_some : (shut success : Bool) (id : List ℕ) → (cond shut true success) ≡ true → torn_by (teardown_kind shut (Some id)) success ≡ Some id
-    torn_some true success id e = refl
-    torn_some false true id e = refl
-    torn_some false false id e = cc
+    torn_some shut success id e = grind arith
 
     by : (id : Option (List ℕ)) → (session_at place client.sessions).id ≡ id → IsSettledSo books i count code client purpose success said new
     by None e =
@@ -157,21 +117,7 @@ gone books i count code place client purpose success shut said new joined is kin
 
 -- A player's request that is no SETUP.
 plain_place : (asked : Asked) (id : Option (List ℕ)) (sessions : List PlayerSession) → is_setup asked.method ≡ false → settled_place (purposes.Client asked None) id sessions ≡ asked.place
-plain_place asked id sessions other = ap (λ t. option_or asked.place (cond (t && is_some id) (empty_place sessions) None)) (no_setup asked.method other) ∙ by asked.place
-  where
-    no_setup : (method : Method) → is_setup method ≡ false → same_method method methods.Setup ≡ false
-    no_setup methods.Options e = refl
-    no_setup methods.Describe e = refl
-    no_setup methods.Setup e = cc
-    no_setup methods.Play e = refl
-    no_setup methods.Pause e = refl
-    no_setup methods.Teardown e = refl
-    no_setup methods.GetParameter e = refl
-    no_setup methods.SetParameter e = refl
-
-    by : (place : Option ℕ) → option_or place None ≡ place
-    by None = refl
-    by (Some place) = refl
+plain_place asked id sessions other = grind arith
 
 asked_settled : (books : Books) (i count code : ℕ) (client : Client) (asked : Asked) (said new : Option (List ℕ)) → IsJoined books i client count → IsPurpose books i client.sessions (purposes.Client asked None)
     → IsSettledSo books i count code client (purposes.Client asked None) (is_success code) said new
@@ -182,9 +128,7 @@ asked_settled books i count code client asked said new joined is = by (same_meth
 
     keeps : (t success : Bool) → same_method asked.method methods.Teardown ≡ t → is_success code ≡ success → (cond success t false) ≡ false → (session : PlayerSession)
         → KeepsHeld (reply_turn (purposes.Client asked None) code (is_some new) session.state) (brought_by (purposes.Client asked None) count client.described new) session
-    keeps t success tears e other session =
-        subst (λ (s : Bool). KeepsHeld (asked_turn asked code (is_some new) session.state s) (brought_by (purposes.Client asked None) count client.described new) session) (sym e)
-        (asked_keeps asked code (is_some new) (brought_by (purposes.Client asked None) count client.described new) session success (λ sure. (is, tears ∙ sym (ap (λ s. cond s t false) sure) ∙ other)))
+    keeps t success tears e other session = grind (arith, asked_keeps)
 
     kind_is : (t : Bool) → same_method asked.method methods.Teardown ≡ t → kind_for (books.pair_of i) client.sessions (purposes.Client asked None) ≡ cond t (teardown_kind false (session_where asked.place client.sessions).id) plain
     kind_is t e = ap (λ b. cond b (teardown_kind false (session_where asked.place client.sessions).id) plain) e
@@ -194,12 +138,10 @@ asked_settled books i count code client asked said new joined is = by (same_meth
     alike same = alike_where (settled_place (purposes.Client asked None) new client.sessions) change client.sessions (same (session_where (settled_place (purposes.Client asked None) new client.sessions) client.sessions)).0 (same (session_where (settled_place (purposes.Client asked None) new client.sessions) client.sessions)).1
 
     unbound : (success : Bool) (id : Option (List ℕ)) → bound_by (teardown_kind false id) success said ≡ None
-    unbound success None = refl
-    unbound success (Some id) = refl
+    unbound success id = grind arith
 
     untorn : (id : Option (List ℕ)) → torn_by (teardown_kind false id) false ≡ None
-    untorn None = refl
-    untorn (Some id) = refl
+    untorn id = grind arith
 
     torn_at : (place : Option ℕ) → asked.place ≡ place → is_success code ≡ true → same_method asked.method methods.Teardown ≡ true → IsSettledSo books i count code client (purposes.Client asked None) true said new
     torn_at None at sure tears =
@@ -263,14 +205,10 @@ setup_settled books i count code client asked track true said new e joined is sa
         by (Some id) = refl
 
     tracks_then : (session : PlayerSession) → (change session).tracks ≡ session.tracks ++ track ∷ []
-    tracks_then session =
-        ap (λ s. (turned (asked_turn asked code (is_some new) session.state s) (brought_by (purposes.Client asked (Some track)) count client.described new) session).tracks) e
-        ∙ ap (λ m. (turned (granted_turn m (is_some new) (state_after session.state asked.method code)) (brought_by (purposes.Client asked (Some track)) count client.described new) session).tracks) is.1
+    tracks_then session = grind arith
 
     placed : (place : Option ℕ) → asked.place ≡ place → settled_place (purposes.Client asked (Some track)) new client.sessions ≡ option_or place (cond (is_some new) (empty_place client.sessions) None)
-    placed place at =
-        ap (λ one. option_or one (cond (same_method asked.method methods.Setup && is_some new) (empty_place client.sessions) None)) at
-        ∙ ap (λ m. option_or place (cond (same_method m methods.Setup && is_some new) (empty_place client.sessions) None)) is.1
+    placed place at = grind arith
 
     with_id : (k : ℕ) (session : Option (List ℕ)) → (session_at k client.sessions).id ≡ session → asked.place ≡ Some k → IsSome session → said ≡ session → new ≡ None → IsSettledSo books i count code client (purposes.Client asked (Some track)) true said new
     with_id k None at_k at some is_said none = cc
@@ -310,8 +248,7 @@ released_settled books i count code client play success said new e joined =
     (alike_where play.place (session_after (purposes.Released play) count code client.described new) client.sessions (keeps (is_success code) (session_where play.place client.sessions)).0 (keeps (is_success code) (session_where play.place client.sessions)).1)
   where
     keeps : (t : Bool) (session : PlayerSession) → KeepsHeld (released_turn t session.state) (brought_by (purposes.Released play) count client.described new) session
-    keeps true session = (refl, refl)
-    keeps false session = (refl, refl)
+    keeps t session = grind arith
 
 pub own_settled : (books : Books) (i count code : ℕ) (client : Client) (purpose : Purpose) (said new : Option (List ℕ)) → IsJoined books i client count → IsPurpose books i client.sessions purpose
     → SaysFor books purpose client.sessions (is_success code) said new → IsSettledSo books i count code client purpose (is_success code) said new
@@ -329,36 +266,24 @@ abbrev RightGrant : Books → Option (List ℕ) → Reply2 → Type 0
 RightGrant books session reply = (is_session_for session (id_said reply) ≡ true) × ((is_none session && is_bound books (id_said reply)) ≡ false)
 
 both_true : (a b : Bool) → (a && b) ≡ true → b ≡ true
-both_true true b e = e
-both_true false b e = cc
+both_true a b e = grind arith
 
 right_grant : (books : Books) (pair : ℕ) (session : Option (List ℕ)) (reply : Reply2) → grant_breach books pair session reply ≡ None → RightGrant books session reply
-right_grant books pair session reply none = by (is_granted pair session reply) (is_none session && is_bound books (id_said reply)) refl refl none
-  where
-    by : (granted taken : Bool) → is_granted pair session reply ≡ granted → (is_none session && is_bound books (id_said reply)) ≡ taken
-        → cond (not granted) (Some (BadGrant reply.cseq)) (cond taken (Some (SessionTaken reply.cseq)) None) ≡ None → RightGrant books session reply
-    by true true g o e = cc
-    by true false g o e = (both_true (grants pair (field_of reply.head.headers (codes "Transport"))) (is_session_for session (id_said reply)) g, o)
-    by false taken g o e = cc
+right_grant books pair session reply none = grind arith
 
 -- So the session is the one that was named, or a new one that nobody has.
 free_holder : (holder : Option ℕ) → is_some holder ≡ false → holder ≡ None
-free_holder None e = refl
-free_holder (Some conn) e = cc
+free_holder holder e = grind arith
 
 says_new : (books : Books) (said new : Option (List ℕ)) → new ≡ said → is_session_for None said ≡ true → is_bound books said ≡ false → (id : List ℕ) × (said ≡ Some id) × (new ≡ Some id) × (books.holder id ≡ None)
-says_new books None new is e free = cc
-says_new books (Some id) new is e free = (id, refl, is, free_holder (books.holder id) free)
+says_new books said new is e free = grind arith
 
 says_same : (session said : Option (List ℕ)) → IsSome session → is_session_for session said ≡ true → said ≡ session
-says_same None said some e = cc
-says_same (Some session) None some e = cc
-says_same (Some session) (Some id) some e = ap (λ one. Some one) (sym ((bytes_eq-Decides session id).0 e))
+says_same session said some e = grind (arith, bytes_eq-Decides)
 
 says_at : (books : Books) (place : Option ℕ) (sessions : List PlayerSession) (reply : Reply2) (new : Option (List ℕ)) → new ≡ new_id_at true place (told_by reply) → IsForSession place sessions → RightGrant books (session_where place sessions).id reply
     → SaysAt books place sessions (id_said reply) new
-says_at books None sessions reply new is there right = says_new books (id_said reply) new (is ∙ ap (λ (told : Option SessionParts). option_map (λ one. one.id) told) (told_session reply)) right.0 right.1
-says_at books (Some place) sessions reply new is there right = (says_same (session_at place sessions).id (id_said reply) there right.0, is)
+says_at books place sessions reply new is there right = grind (arith, says_new, told_session, says_same)
 
 -- Nobody else has the session that is bound.
 own_bound : (books : Books) (i count : ℕ) (client : Client) (place : Option ℕ) (said new : Option (List ℕ)) → IsJoined books i client count → SaysAt books place client.sessions said new
@@ -389,9 +314,7 @@ said_setup books i count client asked track true reply joined is none =
 said_setup books i count client asked track false reply joined is none = record { says = tt; bound = λ id j bound here. cc }
 
 unbound_kind : (shut : Bool) (session : Option (List ℕ)) (success : Bool) (said : Option (List ℕ)) → bound_by (teardown_kind shut session) success said ≡ None
-unbound_kind shut None success said = refl
-unbound_kind true (Some id) success said = refl
-unbound_kind false (Some id) success said = refl
+unbound_kind shut session success said = grind arith
 
 nothing_bound : (books : Books) (i : ℕ) (kind : RequestKind) (success : Bool) (said : Option (List ℕ)) → bound_by kind success said ≡ None → (id : List ℕ) (j : ℕ) → is_id (bound_by kind success said) id ≡ true → books.holder id ≡ Some j → j ≡ i
 nothing_bound books i kind success said none id j is here = let e : false ≡ true = sym (ap (λ (some : Option (List ℕ)). is_id some id) none) ∙ is in cc
@@ -404,8 +327,7 @@ said_for books i count client (purposes.Client asked (Some track)) reply joined 
 said_for books i count client (purposes.Client asked None) reply joined e is none = record { says = tt; bound = nothing_bound books i (kind_for (books.pair_of i) client.sessions (purposes.Client asked None)) (is_success reply.code) (id_said reply) (by (same_method asked.method methods.Teardown)) }
   where
     by : (t : Bool) → bound_by (cond t (teardown_kind false (session_where asked.place client.sessions).id) plain) (is_success reply.code) (id_said reply) ≡ None
-    by true = unbound_kind false (session_where asked.place client.sessions).id (is_success reply.code) (id_said reply)
-    by false = refl
+    by t = grind (arith, unbound_kind)
 said_for books i count client (purposes.Released play) reply joined e is none = record { says = tt; bound = λ id j bound here. cc }
 said_for books i count client (purposes.Closing place) reply joined e is none = record { says = tt; bound = nothing_bound books i (teardown_kind true (session_at place client.sessions).id) (is_success reply.code) (id_said reply) (unbound_kind true (session_at place client.sessions).id (is_success reply.code) (id_said reply)) }
 
@@ -425,8 +347,7 @@ own_torn books i count client (purposes.Client asked (Some track)) success id jo
 own_torn books i count client (purposes.Client asked None) success id joined torn = by (same_method asked.method methods.Teardown) torn
   where
     by : (t : Bool) → is_id (torn_by (cond t (teardown_kind false (session_where asked.place client.sessions).id) plain) success) id ≡ true → books.holder id ≡ Some i
-    by true torn = torn_place books i count client false success asked.place id joined torn
-    by false torn = cc
+    by t torn = grind (arith, torn_place)
 own_torn books i count client (purposes.Released play) success id joined torn = cc
 own_torn books i count client (purposes.Closing place) success id joined torn = torn_place books i count client true success (Some place) id joined torn
 
@@ -437,12 +358,7 @@ IsAnswered books i count final heard = IsJoined (settles final books) i heard.ef
 purpose_answered : (bases : Bases) (books : Books) (i count : ℕ) (client : Client) (reply : Reply2) (ssrc : Option ℕ) (purpose : Purpose) → IsJoined books i client count → client.pending ≡ Some purpose
     → books.opened (books.number_of i count) ≡ Some (opened_for books i client.sessions purpose) → IsPurpose books i client.sessions purpose → IsSaid books i purpose client.sessions (is_success reply.code) reply
     → IsAnswered books i count (Some (final_to books i (books.number_of i count) client.sessions purpose (is_success reply.code) (id_said reply))) (settled bases count purpose (told_by reply) ssrc client)
-purpose_answered bases books i count client reply ssrc purpose joined e open_now is_purpose said = (
-  subst (λ (pending : Option Purpose). IsJoined (settles (Some (final_to books i (books.number_of i count) client.sessions purpose (is_success reply.code) (id_said reply))) books) i
-      (settle_with pending count reply.code (new_id purpose (told_by reply)) client) count) (sym e)
-      (own_settled books i count reply.code client purpose (id_said reply) (new_id purpose (told_by reply)) joined is_purpose said.says),
-  (record { opened = open_now; held = held_kind books i client.sessions purpose is_purpose; bound = said.bound; torn = λ id torn. own_torn books i count client purpose (is_success reply.code) id joined torn }, refl),
-)
+purpose_answered bases books i count client reply ssrc purpose joined e open_now is_purpose said = grind (arith, own_settled, held_kind, own_torn)
 
 pub answered : (bases : Bases) (books : Books) (i count : ℕ) (client : Client) (reply : Reply2) (opened : Opened) (ssrc : Option ℕ) → IsJoined books i client count → books.opened reply.cseq ≡ Some opened → opened.conn ≡ i
     → kind_breach books opened.kind (session_asked client.sessions client.pending) reply ≡ None → IsAnswered books i count (final_of reply (Some opened)) (take_answer bases count (told_by reply) ssrc client)
@@ -462,13 +378,11 @@ answered bases books i count client reply opened ssrc joined here conn right = e
         (said_for books i count client purpose reply joined e now.1 (subst (λ (one : Opened). kind_breach books one.kind (session_asked client.sessions client.pending) reply ≡ None) same right))))
 
     none_some : (pending : Option Purpose) → pending ≡ None → IsSome pending → ⊥
-    none_some None e h = cc
-    none_some (Some purpose) e h = cc
+    none_some pending e h = grind arith
 
     at_pending : (pending : Option Purpose) → client.pending ≡ pending → IsOpenFor books i (books.number_of i count) client.sessions pending
         → IsAnswered books i count (Some (record { number = reply.cseq; conn = opened.conn; kind = opened.kind; success = is_success reply.code; id = id_said reply })) (settle_at bases count pending (told_by reply) ssrc client)
-    at_pending None e now = absurd (none_some client.pending e last.1)
-    at_pending (Some purpose) e now = at_purpose purpose e now
+    at_pending pending e now = grind (arith, none_some, last, at_purpose)
 
     early_or : (early : Bool)
         → IsAnswered books i count (cond early None (Some (record { number = reply.cseq; conn = opened.conn; kind = opened.kind; success = is_success reply.code; id = id_said reply })))

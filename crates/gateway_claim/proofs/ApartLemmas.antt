@@ -1,64 +1,48 @@
 -- No two streams have one pair of channels, and no two connections have one session.
-use Rattle.std.proofs.Common.{◌≡◌, ◌∙◌, ℕ, suc, zero, map, List, [], ◌∷◌, ◌++◌, Option, Some, None, refl, sym, ap, subst}
+use Rattle.std.proofs.Common.{◌≡◌, ◌∙◌, ℕ, suc, zero, map, List, [], ◌∷◌, Option, Some, None, refl, sym, ap, subst, arith}
 use Rattle.std.specs.Prelude.{slice_get}
 use Rattle.rtsp_uri.specs.declared.base.Bases.{Bases}
 use Rattle.session_one.specs.declared.parts.Track.{Track}
 use Rattle.client_slot.specs.declared.purpose.Purpose.{Purpose}
-use Rattle.client_slot.specs.declared.purpose.Purpose.TheVariants as purposes
 use Rattle.client_slot.specs.Session.{PlayerSession}
 use Rattle.client_slot.specs.Places.{session_at, tracks_of}
 use Rattle.client_slot.specs.Client.{Client}
-use Rattle.client_machine.specs.Apart.{stream_asked, streams_of, AreStreamsApart, IsStreamApart, AreAllStreamsApart}
+use Rattle.client_machine.specs.Bounds.{stream_asked, streams_of, AreStreamsApart, IsStreamApart, AreAllStreamsApart}
 use Rattle.client_machine.proofs.ApartLemmas.{alone_apart}
-use Rattle.gateway_claim.specs.Books.{HeldPair, Books}
+use Rattle.gateway_claim.specs.Books.{Books}
 use Rattle.gateway_claim.specs.Happenings.{HistoryEntry, fault_in}
 use Rattle.gateway_claim.specs.OwnEvents.{books_of, own}
 use Rattle.gateway_claim.specs.Follows.{IsHistory}
-use Rattle.gateway_claim.specs.BooksAndSlots.{IsHeldFor, AreHeld, IsHolding, IsOpenFor, IsJoined}
+use Rattle.gateway_claim.specs.BooksAndSlots.{IsHeldFor, IsHolding, IsOpenFor, IsJoined}
 use Rattle.gateway_claim.specs.Turns.{client_alone}
 use Rattle.gateway_claim.specs.Apart.{pairs_held, session_held}
-use Rattle.gateway_claim.proofs.AgreeLemmas.{joined}
-use Rattle.gateway_claim.proofs.SlotLemmas.{AreJoined}
+use Rattle.gateway_claim.proofs.AgreeLemmas.{joined, AreJoined}
+use Rattle.client_machine.proofs.EachLemmas.{each_so, both_so}
+use Rattle.std.specs.List.{AllByRecursion}
 
 -- What is so of each stream that is held for a session is so of all that are set up.
-abbrev pub EachIs : (Track → Type 0) → List Track → Type 0
-EachIs P [] = Unit {0}
-EachIs P (track ∷ tracks) = P track × EachIs P tracks
-
-both_are : (P : Track → Type 0) (tracks more : List Track) → EachIs P tracks → EachIs P more → EachIs P (tracks ++ more)
-both_are P [] more first later = later
-both_are P (track ∷ tracks) more first later = (first.0, both_are P tracks more first.1 later)
-
 module _ (P : Track → Type 0) (books : Books) (i : ℕ) (so : (id : List ℕ) (track : Track) → IsHeldFor books i (Some id) track.pair → P track) where
-  held_are : (id : List ℕ) (tracks : List Track) → AreHeld books i (Some id) tracks → EachIs P tracks
-  held_are id [] held = tt
-  held_are id (track ∷ tracks) held = (so id track held.0, held_are id tracks held.1)
+  holding_are : (session : Option (List ℕ)) (tracks : List Track) → IsHolding books i session tracks → AllByRecursion P tracks
+  holding_are None tracks held = subst (λ (all : List Track). AllByRecursion P all) (sym held) tt
+  holding_are (Some id) tracks held = each_so (λ track. IsHeldFor books i (Some id) track.pair) P tracks (so id) held
 
-  holding_are : (session : Option (List ℕ)) (tracks : List Track) → IsHolding books i session tracks → EachIs P tracks
-  holding_are None tracks held = subst (λ (all : List Track). EachIs P all) (sym held) tt
-  holding_are (Some id) tracks held = held_are id tracks held
-
-  pub all_are : (sessions : List PlayerSession) → ((place : ℕ) → IsHolding books i (session_at place sessions).id (session_at place sessions).tracks) → EachIs P (tracks_of sessions)
+  pub all_are : (sessions : List PlayerSession) → ((place : ℕ) → IsHolding books i (session_at place sessions).id (session_at place sessions).tracks) → AllByRecursion P (tracks_of sessions)
   all_are [] held = tt
-  all_are (one ∷ more) held = both_are P one.tracks (tracks_of more) (holding_are one.id one.tracks (held zero)) (all_are more (λ place. held (suc place)))
+  all_are (one ∷ more) held = both_so P one.tracks (tracks_of more) (holding_are one.id one.tracks (held zero)) (all_are more (λ place. held (suc place)))
 
 -- Each stream of a connection has a pair that is held for it.
 abbrev IsHeldSo : Books → ℕ → Track → Type 0
 IsHeldSo books i track = (session : Option (List ℕ)) × IsHeldFor books i session track.pair
 
 abbrev AreEachHeld : Books → ℕ → List Track → Type 0
-AreEachHeld books i tracks = EachIs (IsHeldSo books i) tracks
+AreEachHeld books i tracks = AllByRecursion (IsHeldSo books i) tracks
 
 asked_held : (books : Books) (i number : ℕ) (sessions : List PlayerSession) (pending : Option Purpose) → IsOpenFor books i number sessions pending → AreEachHeld books i (stream_asked pending)
-asked_held books i number sessions None is_open = tt
-asked_held books i number sessions (Some (purposes.Client asked (Some track))) is_open = ((None, is_open.1.0), tt)
-asked_held books i number sessions (Some (purposes.Client asked None)) is_open = tt
-asked_held books i number sessions (Some (purposes.Released play)) is_open = tt
-asked_held books i number sessions (Some (purposes.Closing place)) is_open = tt
+asked_held books i number sessions pending is_open = grind arith
 
 streams_held : (books : Books) (i count : ℕ) (client : Client) → IsJoined books i client count → AreEachHeld books i (streams_of client)
 streams_held books i count client joins =
-    both_are (IsHeldSo books i) (tracks_of client.sessions) (stream_asked client.pending) (all_are (IsHeldSo books i) books i (λ id track held. (Some id, held)) client.sessions joins.tracks)
+    both_so (IsHeldSo books i) (tracks_of client.sessions) (stream_asked client.pending) (all_are (IsHeldSo books i) books i (λ id track held. (Some id, held)) client.sessions joins.tracks)
     (asked_held books i (books.number_of i count) client.sessions client.pending joins.pending)
 
 -- the stream with a pair of a connection, at its place
@@ -98,19 +82,10 @@ record IsPairOf (books : Books) (i pair own : ℕ) : Type 0 where
   named : books.own_pair pair ≡ own
 
 pair_of_stream : (books : Books) (i : ℕ) (tracks : List Track) (place pair : ℕ) (track : Track) → AreEachHeld books i tracks → IsAt (books.pair_of i) tracks place pair track → IsPairOf books i pair track.pair
-pair_of_stream books i tracks place pair track held at =
-    let here = held_at books i tracks place track held at.0 in
-    record {
-      held = (here.0, subst (λ (p : ℕ). books.held p ≡ Some (record { conn = i; session = here.0 })) at.1 here.1.0);
-      named = ap books.own_pair (sym at.1) ∙ here.1.1;
-    }
-
-one_conn : (one other : HeldPair) → Some one ≡ Some other → one.conn ≡ other.conn
-one_conn one other e = let same : one ≡ other = cc in ap (λ (held : HeldPair). held.conn) same
+pair_of_stream books i tracks place pair track held at = grind (arith, held_at)
 
 same_conn : (books : Books) (i j pair one other : ℕ) → IsPairOf books i pair one → IsPairOf books j pair other → i ≡ j
-same_conn books i j pair one other first second =
-    one_conn (record { conn = i; session = first.held.0 }) (record { conn = j; session = second.held.0 }) (sym first.held.1 ∙ second.held.1)
+same_conn books i j pair one other first second = grind arith
 
 pub pairs_apart : (bases : Bases) (T : List HistoryEntry) (i j a b pair : ℕ) → IsHistory bases T → fault_in T ≡ None → slice_get (pairs_held bases T i) a ≡ Some pair → slice_get (pairs_held bases T j) b ≡ Some pair → (i ≡ j) × (a ≡ b)
 pairs_apart bases T i j a b pair history standing at_i at_j =

@@ -1,52 +1,99 @@
--- What the server is asked for a connection is what its machine alone sends up, by the books.
-use Rattle.std.proofs.Common.{◌≡◌, ◌∙◌, ℕ, ◌+◌, ◌*◌, ◌≤◌, ◌==◌, Bool, true, false, cond, List, [], ◌∷◌, ◌++◌, Option, Some, None, refl, sym, ap, subst, arith}
-use Rattle.std.specs.Prelude.{is_some}
+-- What the server is asked for a connection is what it asks alone, and a history of one connection has nothing else.
+use Rattle.std.proofs.Common.{◌≡◌, ◌∙◌, ℕ, Bool, true, false, ◌==◌, ◌&&◌, ◌||◌, List, [], ◌∷◌, ◌++◌, map, Option, refl, ap, subst, arith, ◌+◌, ◌≤◌, cond, Some, None, sym, inl, inr}
+use Rattle.std.specs.Prelude.{is_none, is_some}
+use Rattle.std.proofs.lemmas.Bool.{or_parts, eq-eqb, eqb-true, cases_Bool}
+use Rattle.rtsp_uri.specs.declared.base.Bases.{Bases}
+use Rattle.client_machine.specs.declared.why.CloseWhy.{CloseWhy}
+use Rattle.client_machine.specs.Alone.{is_empty_list, Private, private_after, pair_alone, asked_in, effect_alone}
+use Rattle.gateway_claim.specs.declared.event.Closed.{Closed}
+use Rattle.gateway_claim.specs.declared.event.Closed.TheVariants.{One}
+use Rattle.gateway_claim.specs.declared.event.UpCause.{UpCause}
+use Rattle.gateway_claim.specs.Happenings.{HistoryEntry, fault_in, enters_here, entered, closes_of, shut, is_alive, entering, Happening, nothing_up, pieces_to, sent}
+use Rattle.gateway_claim.specs.Cores.{IsCoreHistory, ever_entered, stays_alive, IsOrderlyAfter, IsOrderly, HandsToLiving}
 use Rattle.std.specs.Option.{option_map, option_or, option_to_list}
-use Rattle.std.proofs.lemmas.Bool.{eq-eqb, eqb-true}
 use Rattle.rtsp_small.specs.declared.method.Method.TheVariants as methods
 use Rattle.rtsp_small.specs.Methods.{method_name}
-use Rattle.rtsp_uri.specs.declared.base.Bases.{Bases}
-use Rattle.head_two.specs.declared.request.Request2.{Request2}
-use Rattle.head_two.specs.Requests.{request_text}
 use Rattle.client_slot.specs.declared.purpose.Purpose.{Purpose}
-use Rattle.client_slot.specs.declared.purpose.Purpose.TheVariants as purposes
 use Rattle.client_slot.specs.Client.{Client}
 use Rattle.client_slot.specs.Places.{tracks_of}
-use Rattle.client_machine.specs.Alone.{Private, private_after, pair_alone, asked_in, effect_alone}
-use Rattle.client_machine.specs.OpenRequests.{IsOpenAs, IsFreeFor, AsksBy}
+use Rattle.client_machine.specs.OpenRequests.{AsksBy}
 use Rattle.client_machine.specs.Bounds.{ArePairsBelow}
-use Rattle.client_machine.specs.Effects.{Outgoing, asks, carries, Effect}
-use Rattle.client_machine.specs.Events.{PrivateEvent, up_end}
-use Rattle.client_machine.specs.Frames.{frame_text}
-use Rattle.client_machine.specs.ServerItems.{NextPart, rests, releases, goes_on, hear}
-use Rattle.client_machine.specs.UpTexts.{text_up}
-use Rattle.client_machine.specs.Step.{going_on, step}
+use Rattle.client_machine.specs.Events.{Outgoing, asks, carries, Effect, PrivateEvent, up_end}
+use Rattle.client_machine.specs.Step.{NextPart, rests, releases, goes_on, going_on, step}
 use Rattle.client_machine.proofs.AskLemmas.{going_asks}
 use Rattle.client_machine.proofs.BelowLemmas.{IsMute, hear_mute, alone_below, tracks_below}
 use Rattle.client_machine.proofs.WayLemmas.{alone_as}
-use Rattle.client_machine.proofs.KeepLemmas.{IsOver, over_stays, end_up}
+use Rattle.client_machine.proofs.KeepLemmas.{IsOver}
 use Rattle.gateway_claim.specs.declared.event.ToUp.{ToUp}
 use Rattle.gateway_claim.specs.declared.event.UpMessage.{UpMessage}
-use Rattle.gateway_claim.specs.declared.event.UpMessage.TheVariants.{Request, Frame}
-use Rattle.gateway_claim.specs.declared.event.UpCause.{UpCause}
-use Rattle.gateway_claim.specs.UpRequests.{asked_for, asked_up, spelled_for, spelled_up}
-use Rattle.gateway_claim.specs.Kinds.{RequestKind, sets_up, kind_of_text, kind_of}
-use Rattle.gateway_claim.specs.Books.{Books, pair_asked, lends}
-use Rattle.gateway_claim.specs.Settlement.{Final, settles, free_in}
-use Rattle.gateway_claim.specs.Happenings.{Happening, HistoryEntry, fault_in, entered, nothing_up}
+use Rattle.gateway_claim.specs.OnePlayer.{asked_for, asked_up, spelled_for, spelled_up, IsOnlyPlayer, all_handed, all_asked, piece_for, HasAll}
+use Rattle.gateway_claim.specs.Books.{RequestKind, kind_of, Books, Final, settles, free_in}
 use Rattle.gateway_claim.specs.OwnEvents.{turn, is_turn, final_in, settled_by, lends_where, has_shut, books_after, books_of, own}
 use Rattle.gateway_claim.specs.Follows.{said_breach, effect_of_turn, message_up, message_due, up_due, IsHistory}
 use Rattle.gateway_claim.specs.BooksAndSlots.{IsJoined}
-use Rattle.gateway_claim.proofs.AgreeLemmas.{books_with, books_next, event_for, effect_absent, effect_present, event_present, said_right, joined}
-use Rattle.gateway_claim.proofs.CaseLemmas.{both_none, not_over}
-use Rattle.gateway_claim.proofs.HistoryLemmas.{same_number}
-use Rattle.gateway_claim.proofs.SlotLemmas.{alone, IsStep, step_is, IsTurnStep, turn_step}
-use Rattle.gateway_claim.proofs.KindLemmas.{setup_asks}
-use Rattle.gateway_claim.proofs.LendLemmas.{number_same, pair_same, old_number, old_pair, new_number, new_pair}
-use Rattle.gateway_claim.proofs.MarkLemmas.{pair_where}
+use Rattle.gateway_claim.proofs.AgreeLemmas.{books_with, books_next, event_for, effect_absent, effect_present, event_present, said_right, joined, alone, IsStep, step_is, IsTurnStep, turn_step}
+use Rattle.gateway_claim.proofs.CaseLemmas.{both_none, not_over, pair_where, own_event, own_quiet, own_ended, faults_over}
+use Rattle.gateway_claim.proofs.NextLemmas.{same_number, sent_as_alone, shut_as_alone}
 use Rattle.gateway_claim.proofs.OtherLemmas.{differs}
-use Rattle.gateway_claim.proofs.OverLemmas.{own_event, own_quiet, own_ended, faults_over}
-use Rattle.gateway_claim.proofs.TurnNextLemmas.{CarriesBelow, step_below}
+use Rattle.gateway_claim.proofs.TurnLawLemmas.{CarriesBelow, step_below}
+use Rattle.gateway_claim.specs.declared.event.ToClient.{ToClient}
+use Rattle.gateway_claim.proofs.OrderLemmas.{follows_orderly}
+
+-- what follows, for a core
+abbrev pub Following : Type 1
+Following = Bases → List HistoryEntry → HistoryEntry → Type 0
+
+abbrev pub FollowsOnce : Following → Type 0
+FollowsOnce follows = (between : Bases) (T : List HistoryEntry) (one other : HistoryEntry) → follows between T one → follows between T other → one.happening ≡ other.happening → one ≡ other
+
+abbrev pub FollowsOrderly : Following → Type 0
+FollowsOrderly follows = (between : Bases) (T : List HistoryEntry) (entry : HistoryEntry) → IsCoreHistory follows between T → follows between T entry → IsOrderly T entry
+
+-- There is at most one history of given happenings.
+pub one_core_history : (follows : Following) → FollowsOnce follows → (bases : Bases) (S T : List HistoryEntry) → IsCoreHistory follows bases S → IsCoreHistory follows bases T
+    → map (λ (e : HistoryEntry). e.happening) S ≡ map (λ (e : HistoryEntry). e.happening) T → S ≡ T
+one_core_history follows once bases [] [] s t same = refl
+one_core_history follows once bases [] (e ∷ T) s t same = cc
+one_core_history follows once bases (d ∷ S) [] s t same = cc
+one_core_history follows once bases (d ∷ S) (e ∷ T) s t same =
+    let before : S ≡ T = one_core_history follows once bases S T s.0 t.0 (cc) in
+    let now : d ≡ e = once bases T d e (subst (λ (l : List HistoryEntry). follows bases l d) before s.1) t.1 (cc) in
+    ap (λ (l : List HistoryEntry). d ∷ l) before ∙ ap (λ (x : HistoryEntry). x ∷ T) now
+
+-- Who is alive after an event: who was, but for those that it closed.
+pub alive_after : (i : ℕ) (T : List HistoryEntry) (e : HistoryEntry) → enters_here i e.happening ≡ false → is_alive i (e ∷ T) ≡ stays_alive i e.outcome.closed (is_alive i T)
+alive_after i T e stranger = grind arith
+
+-- What an entry closes was alive.
+entry_after : (T : List HistoryEntry) (e : HistoryEntry) (i : ℕ) (why : CloseWhy) (ended : Option UpCause) → e.outcome.closed ≡ One i why → IsOrderlyAfter ended T e → is_alive i T ≡ true
+entry_after T e i why ended is orderly = grind arith
+
+pub entry_closed : (T : List HistoryEntry) (e : HistoryEntry) (i : ℕ) (why : CloseWhy) → e.outcome.closed ≡ One i why → IsOrderly T e → is_alive i T ≡ true
+entry_closed T e i why is orderly = entry_after T e i why (fault_in T) is orderly
+
+-- A connection that took no part was not closed.
+unclosed_by : (T : List HistoryEntry) (e : HistoryEntry) (i : ℕ) (one : Closed) → entered i T ≡ false → IsOrderly T e → e.outcome.closed ≡ one → closes_of i (entered i T && is_empty_list (shut i T)) one ≡ []
+unclosed_by T e i one absent orderly is = grind arith
+
+pub unentered_open : (follows : Following) → FollowsOrderly follows → (bases : Bases) (T : List HistoryEntry) (i : ℕ) → IsCoreHistory follows bases T → entered i T ≡ false → shut i T ≡ []
+unentered_open follows orderly bases [] i history absent = refl
+unentered_open follows orderly bases (e ∷ T) i history absent =
+    let before : entered i T ≡ false = (or_parts (enters_here i e.happening && is_none (fault_in T)) (entered i T) absent).1 in
+    ap (λ (l : List CloseWhy). l ++ shut i T) (unclosed_by T e i e.outcome.closed before (orderly bases T e history.0 history.1) refl)
+    ∙ unentered_open follows orderly bases T i history.0 before
+
+neither : (here standing en : Bool) → here ≡ false → en ≡ false → ((here && standing) || en) ≡ false
+neither here standing en e f = grind arith
+
+pub never_part : (T : List HistoryEntry) (i : ℕ) → ever_entered i T ≡ false → entered i T ≡ false
+never_part [] i never = refl
+never_part (e ∷ T) i never =
+    let parts = or_parts (enters_here i e.happening) (ever_entered i T) never in
+    neither (enters_here i e.happening) (is_none (fault_in T)) (entered i T) parts.0 (never_part T i parts.1)
+
+-- Who is alive after an entering: who was, and the connection that entered, where the connection to the server stands.
+pub alive_entering : (i conn : ℕ) (T : List HistoryEntry) → shut conn T ≡ [] → is_alive i (entering conn ∷ T) ≡ ((conn == i && is_none (fault_in T)) || is_alive i T)
+alive_entering i conn T open_still = grind arith
 
 -- Books that have the same numbers and pairs for a connection's requests, as many as went up, spell what it sent up alike.
 abbrev AreAlike : Books → Books → ℕ → ℕ → Type 0
@@ -60,13 +107,7 @@ alone_carries bases p event below = alone_as (λ effect. CarriesBelow p.count ef
 
 message_alike : (one other : Books) (i n : ℕ) (message : Option Outgoing) → AreAlike one other i (n + asked_in message) → CarriesBelow n message
     → option_map (spelled_for one i (n + 1)) message ≡ option_map (spelled_for other i (n + 1)) message
-message_alike one other i n None alike below = refl
-message_alike one other i n (Some (asks request named)) alike below =
-    ap (λ number. Some (Request (text_up number (Some (one.pair_of i (n + 1))) named request))) (alike.0 (n + 1) (grind arith))
-    ∙ ap (λ pair. Some (Request (text_up (other.number_of i (n + 1)) (Some pair) named request))) (alike.1 (n + 1) (grind arith))
-message_alike one other i n (Some (carries pair half rest)) alike below =
-    let high : pair ≤ n = below.1 in
-    ap (λ p. Some (Frame (frame_text (2 * p + half) rest))) (alike.1 pair (grind arith))
+message_alike one other i n message alike below = grind arith
 
 events_alike : (bases : Bases) (one other : Books) (i : ℕ) (events : List PrivateEvent) → AreAlike one other i (private_after bases events).count → spelled_up one i bases events ≡ spelled_up other i bases events
 events_alike bases one other i [] alike = refl
@@ -78,41 +119,20 @@ events_alike bases one other i (event ∷ events) alike =
     (events_alike bases one other i events (fewer_alike one other i (private_after bases events).count (asked_in (effect_alone bases (private_after bases events) event).message) alike))
 
 -- After the end of the connection to the server, and at it, nothing goes up.
-spelled_over : (bases : Bases) (books : Books) (i : ℕ) (events : List PrivateEvent) (one : Option PrivateEvent) → IsOver bases events → spelled_up books i bases (option_to_list one ++ events) ≡ spelled_up books i bases events
-spelled_over bases books i events None over = refl
-spelled_over bases books i events (Some event) over =
-    ap (λ (done : Effect). option_to_list (option_map (spelled_for books i ((private_after bases events).count + 1)) done.message) ++ spelled_up books i bases events) (over_stays bases (private_after bases events) event over)
-
 spelled_end : (bases : Bases) (books : Books) (i : ℕ) (events : List PrivateEvent) (en : Bool) → spelled_up books i bases (cond en (up_end ∷ []) [] ++ events) ≡ spelled_up books i bases events
-spelled_end bases books i events false = refl
-spelled_end bases books i events true =
-    ap (λ message. option_to_list (option_map (spelled_for books i ((private_after bases events).count + 1)) message) ++ spelled_up books i bases events) (end_up bases (private_after bases events))
+spelled_end bases books i events en = grind arith
 
 spelled_quiet : (bases : Bases) (books : Books) (i : ℕ) (events : List PrivateEvent) (en : Bool) (event : Option PrivateEvent) → (en ≡ true → IsOver bases events)
     → spelled_up books i bases (option_to_list (cond en event None) ++ events) ≡ spelled_up books i bases events
-spelled_quiet bases books i events false event over = refl
-spelled_quiet bases books i events true event over = spelled_over bases books i events event (over refl)
+spelled_quiet bases books i events en event over = grind arith
 
 -- A request that names a pair is a SETUP, and a pair is free.
 abbrev IsNamed : Option ℕ → Option Outgoing → Type 0
-IsNamed free None = Unit {0}
-IsNamed free (Some (asks request None)) = Unit {0}
 IsNamed free (Some (asks request (Some mine))) = (p : ℕ) × (free ≡ Some p) × (request.method ≡ method_name methods.Setup)
-IsNamed free (Some (carries pair half rest)) = Unit {0}
-
-open_named : (free : Option ℕ) (next : ℕ) (request : Request2) (named : Option ℕ) (pending : Option Purpose) → IsOpenAs pending request named → IsFreeFor (pair_where free next) named → IsNamed free (Some (asks request named))
-open_named free next request None pending is_open is_free = tt
-open_named free next request (Some mine) None is_open is_free = absurd is_open
-open_named free next request (Some mine) (Some (purposes.Client asked None)) (none, method, plain) is_free = cc
-open_named None next request (Some mine) (Some (purposes.Client asked (Some track))) is_open is_free = cc
-open_named (Some p) next request (Some mine) (Some (purposes.Client asked (Some track))) (some, method, setup) is_free = (p, refl, method)
-open_named free next request (Some mine) (Some (purposes.Released play)) (none, more) is_free = cc
-open_named free next request (Some mine) (Some (purposes.Closing place)) (none, more) is_free = cc
+IsNamed free message = Unit {0}
 
 going_named : (free : Option ℕ) (next : ℕ) (old : Option Purpose) (message : Option Outgoing) (new : Option Purpose) → AsksBy (pair_where free next) old message new → IsNamed free message
-going_named free next old None new h = tt
-going_named free next old (Some (asks request named)) new h = open_named free next request named new h.after h.named
-going_named free next old (Some (carries pair half rest)) new h = tt
+going_named free next old message new h = grind arith
 
 first_named : (after : NextPart) (first : Option Outgoing) (bases : Bases) (free : Option ℕ) (next : ℕ) (client : Client) → IsMute after first → IsNamed free (option_or first (going_on bases (pair_where free next) after client).message)
 first_named after None bases free next client mute =
@@ -123,37 +143,20 @@ first_named goes_on (Some (asks request named)) bases free next client mute = ab
 first_named after (Some (carries pair half rest)) bases free next client mute = tt
 
 step_named : (bases : Bases) (number : ℕ) (free : Option ℕ) (next : ℕ) (client : Client) (event : PrivateEvent) → IsNamed free (step bases number (pair_where free next) client event).message
-step_named bases number free next client event =
-    first_named (hear bases number client event).next (hear bases number client event).effect.message bases free next (hear bases number client event).effect.client (hear_mute bases number client event)
+step_named bases number free next client event = grind (arith, first_named, hear_mute)
 
 -- The message that goes up is spelled in the number and the pair that it is given.
 message_asked : (books : Books) (final : Option Final) (i n : ℕ) (shut : Bool) (message : Option Outgoing) → n ≡ books.counts i → IsNamed (free_in (settles final books)) message
     → option_map (message_up books (settles final books) i) message
     ≡ option_map (spelled_for (lends_where (Some i) (kind_of (option_map (message_up books (settles final books) i) message) (free_in (settles final books)) shut) (settles final books)) i (n + 1)) message
-message_asked books final i n shut None counted named = refl
-message_asked books final i n shut (Some (carries pair half rest)) counted named = refl
-message_asked books final i n shut (Some (asks request None)) counted named =
-    let kind : RequestKind = kind_of_text (text_up (books.issued + 1) (free_in (settles final books)) None request) (free_in (settles final books)) shut in
-    ap (λ number. Some (Request (request_text number request))) (sym (ap (λ k. (lends i kind (settles final books)).number_of i (k + 1)) counted ∙ new_number (settles final books) i kind))
-message_asked books final i n shut (Some (asks request (Some mine))) counted (p, free, method) =
-    let kind : RequestKind = kind_of_text (text_up (books.issued + 1) (free_in (settles final books)) (Some mine) request) (free_in (settles final books)) shut in
-    let is : kind ≡ sets_up p = ap (λ one. kind_of_text (text_up (books.issued + 1) one (Some mine) request) one shut) free ∙ setup_asks (books.issued + 1) request p shut mine method in
-    let number : (lends i kind (settles final books)).number_of i (n + 1) ≡ books.issued + 1 = ap (λ k. (lends i kind (settles final books)).number_of i (k + 1)) counted ∙ new_number (settles final books) i kind in
-    let pair : (lends i kind (settles final books)).pair_of i (n + 1) ≡ p = ap (λ k. (lends i kind (settles final books)).pair_of i (k + 1)) counted ∙ new_pair (settles final books) i kind p (ap pair_asked is) in
-    ap (λ one. Some (Request (text_up (books.issued + 1) one (Some mine) request))) (free ∙ ap (λ q. Some q) (sym pair))
-    ∙ ap (λ one. Some (Request (text_up one (Some ((lends i kind (settles final books)).pair_of i (n + 1))) (Some mine) request))) (sym number)
+message_asked books final i n shut message counted named = grind arith
 
 -- What was given stays as it is.
 own_alike : (books : Books) (final : Option Final) (i n : ℕ) (kind : Option RequestKind) → n ≡ books.counts i → AreAlike books (lends_where (Some i) kind (settles final books)) i n
-own_alike books final i n None counted = (λ k le. refl, λ k le. refl)
-own_alike books final i n (Some kind) counted = (
-  λ k le. sym (old_number (settles final books) i kind k (subst (λ (m : ℕ). k ≤ m) counted le)),
-  λ k le. sym (old_pair (settles final books) i kind k (subst (λ (m : ℕ). k ≤ m) counted le)),
-)
+own_alike books final i n kind counted = grind arith
 
 other_alike : (books : Books) (final : Option Final) (i j n : ℕ) (kind : Option RequestKind) → (j == i) ≡ false → AreAlike books (lends_where (Some i) kind (settles final books)) j n
-other_alike books final i j n None e = (λ k le. refl, λ k le. refl)
-other_alike books final i j n (Some kind) e = (λ k le. sym (number_same (settles final books) i kind j k e), λ k le. sym (pair_same (settles final books) i kind j k e))
+other_alike books final i j n kind e = grind arith
 
 -- What is to be shown of an entry, by whose turn it is and the message that goes up.
 abbrev pub IsSpelled : Bases → List HistoryEntry → ℕ → Type 0
@@ -166,17 +169,13 @@ IsSpelledWith bases T h i who message shut =
 
 kept : (bases : Bases) (T : List HistoryEntry) (i : ℕ) (here : List UpMessage) (after : Books) (event : Option PrivateEvent) → here ≡ [] → event ≡ None → AreAlike (books_of T) after i (alone bases T i).count → IsSpelled bases T i
     → here ++ asked_up i T ≡ spelled_up after i bases (option_to_list event ++ own bases i T)
-kept bases T i here after event nothing none alike before =
-    ap (λ one. one ++ asked_up i T) nothing ∙ before ∙ events_alike bases (books_of T) after i (own bases i T) alike
-    ∙ sym (ap (λ one. spelled_up after i bases (option_to_list one ++ own bases i T)) none)
+kept bases T i here after event nothing none alike before = grind (arith, events_alike)
 
 either_none : (en : Bool) (event : Option PrivateEvent) → event ≡ None → cond en event None ≡ None
-either_none true event e = e
-either_none false event e = refl
+either_none en event e = grind arith
 
 either_empty : (here : Bool) (message : Option UpMessage) → message ≡ None → cond here (option_to_list message) [] ≡ []
-either_empty true message e = ap option_to_list e
-either_empty false message e = refl
+either_empty here message e = grind arith
 
 -- It is the turn of the connection, by whether it entered and has an event.
 turn_spelled : (bases : Bases) (T : List HistoryEntry) (h : Happening) (i : ℕ) (shut : Bool) → IsHistory bases T → fault_in T ≡ None → IsSpelled bases T i → turn (books_of T) h ≡ Some i → said_breach bases T h ≡ None
@@ -236,13 +235,7 @@ who_spelled bases T e i (Some j) history standing before turns = by (j == i) ref
 
 -- while it stands
 standing_next : (bases : Bases) (T : List HistoryEntry) (e : HistoryEntry) (i : ℕ) → IsHistory bases (e ∷ T) → fault_in (e ∷ T) ≡ None → IsSpelled bases T i → IsSpelled bases (e ∷ T) i
-standing_next bases T e i history standing before =
-    let quiet : e.outcome.fault ≡ None = (both_none (fault_in T) e.outcome.fault standing).1 in
-    let up : e.outcome.to_up ≡ up_due bases T e.happening = history.1.spelled ∙ ap (λ (fault : Option UpCause). cond (is_some fault) nothing_up (up_due bases T e.happening)) standing in
-    ap (λ (one : ToUp). asked_for i (turn (books_of T) e.happening) one ++ asked_up i T) up
-    ∙ who_spelled bases T e i (turn (books_of T) e.happening) history standing before refl
-    ∙ ap (λ (books : Books). spelled_up books i bases (option_to_list (event_for bases T e.happening (turn (books_of T) e.happening) i) ++ own bases i T)) (sym (books_next bases T e history.1 standing))
-    ∙ ap (spelled_up (books_of (e ∷ T)) i bases) (sym (own_quiet bases T e i quiet))
+standing_next bases T e i history standing before = grind (arith, both_none, who_spelled, event_for, books_next, own_quiet)
 
 -- and from its end on, when nothing goes up and the books stay as they are
 over_next : (bases : Bases) (T : List HistoryEntry) (e : HistoryEntry) (i : ℕ) (cause : UpCause) (now : Option UpCause) → IsHistory bases (e ∷ T) → fault_in (e ∷ T) ≡ Some cause → e.outcome.fault ≡ now
@@ -254,8 +247,7 @@ over_next bases T e i cause None history ended now =
     (faults_over bases T history.0 cause (first_of (fault_in T) (sym (ap (option_or (fault_in T)) now) ∙ ended)) i)
   where
     first_of : (fault : Option UpCause) → option_or fault None ≡ Some cause → fault ≡ Some cause
-    first_of None e = cc
-    first_of (Some one) e = e
+    first_of fault e = grind arith
 
 ended_next : (bases : Bases) (T : List HistoryEntry) (e : HistoryEntry) (i : ℕ) (cause : UpCause) → IsHistory bases (e ∷ T) → fault_in (e ∷ T) ≡ Some cause → IsSpelled bases T i → IsSpelled bases (e ∷ T) i
 ended_next bases T e i cause history ended before =
@@ -275,3 +267,80 @@ asked bases (e ∷ T) i history = by (fault_in (e ∷ T)) refl (asked bases T i 
     by : (fault : Option UpCause) → fault_in (e ∷ T) ≡ fault → IsSpelled bases T i → IsSpelled bases (e ∷ T) i
     by None standing before = standing_next bases T e i history standing before
     by (Some cause) ended before = ended_next bases T e i cause history ended before
+
+-- the older entries have the one player too
+only_before : (i : ℕ) (T : List HistoryEntry) (e : HistoryEntry) → IsOnlyPlayer i (e ∷ T) → IsOnlyPlayer i T
+only_before i T e only j other = (or_parts (enters_here j e.happening) (ever_entered j T) (only j other)).1
+
+-- whoever takes part is that player
+part_is_only : (i : ℕ) (T : List HistoryEntry) (j : ℕ) → IsOnlyPlayer i T → entered j T ≡ true → j ≡ i
+part_is_only i T j only part = grind (arith, cases_Bool, eqb-true, eq-eqb, never_part)
+
+alive_is_only : (i : ℕ) (T : List HistoryEntry) (j : ℕ) → IsOnlyPlayer i T → is_alive j T ≡ true → j ≡ i
+alive_is_only i T j only alive = part_is_only i T j only (was (entered j T) (is_empty_list (shut j T)) alive)
+  where
+    was : (en unshut : Bool) → (en && unshut) ≡ true → en ≡ true
+    was en unshut is = grind arith
+
+-- an orderly entry hands bytes to a connection that is alive
+entry_hands : (T : List HistoryEntry) (e : HistoryEntry) (before now : Option UpCause) → fault_in T ≡ before → e.outcome.fault ≡ now → IsOrderlyAfter before T e → HandsToLiving T e.outcome.to_client
+entry_hands T e before now over done is = grind arith
+
+hands : (T : List HistoryEntry) (e : HistoryEntry) → IsOrderly T e → HandsToLiving T e.outcome.to_client
+hands T e is = entry_hands T e (fault_in T) e.outcome.fault refl refl is
+
+-- so it hands the bytes to that player
+piece_is_its : (i : ℕ) (T : List HistoryEntry) (piece : Option ToClient) → IsOnlyPlayer i T → HandsToLiving T piece → option_to_list piece ≡ map (piece_for i) (pieces_to i piece)
+piece_is_its i T None only living = refl
+piece_is_its i T (Some piece) only living =
+    let same : piece.conn ≡ i = alive_is_only i T piece.conn only living in
+    let here = eq-eqb piece.conn i same in
+    rw here (ap (λ (n : ℕ). piece_for n piece.bytes ∷ []) same)
+
+-- map over two lists
+map_both : {A B : Type 0} (f : A → B) (xs ys : List A) → map f (xs ++ ys) ≡ map f xs ++ map f ys
+map_both f [] ys = refl
+map_both f (x ∷ xs) ys = ap (λ l. f x ∷ l) (map_both f xs ys)
+
+handed_all : (bases : Bases) (T : List HistoryEntry) (i : ℕ) → IsHistory bases T → IsOnlyPlayer i T → all_handed T ≡ map (piece_for i) (sent i T)
+handed_all bases [] i history only = refl
+handed_all bases (e ∷ T) i history only =
+    let before = only_before i T e only in
+    ap (λ l. l ++ all_handed T) (piece_is_its i T e.outcome.to_client before (hands T e (follows_orderly bases T e history.0 history.1)))
+    ∙ ap (λ l. map (piece_for i) (pieces_to i e.outcome.to_client) ++ l) (handed_all bases T i history.0 before)
+    ∙ sym (map_both (piece_for i) (pieces_to i e.outcome.to_client) (sent i T))
+
+-- A message goes up in the turn of a connection that takes part.
+absent_asks : (books settled : Books) (bases : Bases) (T : List HistoryEntry) (happening : Happening) (j : ℕ) → entered j T ≡ false → message_due books settled (Some j) (effect_of_turn bases T (Some j) happening).message ≡ None
+absent_asks books settled bases T happening j absent = ap (λ m. message_due books settled (Some j) m) (effect_absent bases T happening j absent)
+
+turn_message : (bases : Bases) (T : List HistoryEntry) (i : ℕ) (happening : Happening) (books settled : Books) (who : Option ℕ) → IsOnlyPlayer i T
+    → option_to_list (message_due books settled who (effect_of_turn bases T who happening).message) ≡ cond (is_turn i who) (option_to_list (message_due books settled who (effect_of_turn bases T who happening).message)) []
+turn_message bases T i happening books settled None only = refl
+turn_message bases T i happening books settled (Some j) only =
+    elim (cases_Bool (entered j T)) [
+      | inl part ↦ (let same : (j == i) ≡ true = eq-eqb j i (part_is_only i T j only part) in rw same refl)
+      | inr absent ↦ (let none = absent_asks books settled bases T happening j absent in rw none (empty_both (j == i)))
+    ]
+  where
+    empty_both : (here : Bool) → ◌≡◌ {A = List UpMessage} [] (cond here [] [])
+    empty_both here = grind arith
+
+up_message : (bases : Bases) (T : List HistoryEntry) (e : HistoryEntry) (i : ℕ) (over : Bool) (up : ToUp) → IsOnlyPlayer i T → up ≡ cond over nothing_up (up_due bases T e.happening)
+    → option_to_list up.message ≡ asked_for i (turn (books_of T) e.happening) up
+up_message bases T e i over up only is = grind (arith, turn_message)
+
+asked_all : (bases : Bases) (T : List HistoryEntry) (i : ℕ) → IsHistory bases T → IsOnlyPlayer i T → all_asked T ≡ asked_up i T
+asked_all bases [] i history only = refl
+asked_all bases (e ∷ T) i history only =
+    let before = only_before i T e only in
+    ap (λ l. l ++ all_asked T) (up_message bases T e i (is_some (fault_in (e ∷ T))) e.outcome.to_up before history.1.spelled)
+    ∙ ap (λ l. asked_for i (turn (books_of T) e.happening) e.outcome.to_up ++ l) (asked_all bases T i history.0 before)
+
+pub one_player : (bases : Bases) (T : List HistoryEntry) (i : ℕ) → IsHistory bases T → IsOnlyPlayer i T → HasAll bases i T
+one_player bases T i history only = record {
+  handed = handed_all bases T i history only ∙ ap (map (piece_for i)) (sent_as_alone bases T history i);
+  asked = asked_all bases T i history only ∙ asked bases T i history;
+  closed = shut_as_alone bases T history i;
+  nobody_else = λ j other. unentered_open _ follows_orderly bases T j history (never_part T j (only j other));
+}

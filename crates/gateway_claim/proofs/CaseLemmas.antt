@@ -1,25 +1,120 @@
--- What happens to the connection whose turn it is, by cases; and that no connection is over while the server's stands.
-use Rattle.std.proofs.Common.{◌≡◌, ◌∙◌, ℕ, ◌+◌, ◌||◌, Bool, true, false, cond, List, [], ◌∷◌, ◌++◌, Option, Some, None, Result, Ok, Err, ◌⊎◌, inl, inr, refl, ap}
+-- The event that an entry is to a connection: by its mark, by what it is, and once the connection to the server has ended.
+use Rattle.std.proofs.Common.{◌≡◌, ◌∙◌, ℕ, ◌&&◌, ◌||◌, Bool, false, List, [], ◌∷◌, ◌++◌, Option, Some, refl, arith, true, cond, None, sym, ap, ◌+◌, Result, ◌⊎◌, inl, inr}
+use Rattle.std.specs.Prelude.{is_none, is_some}
 use Rattle.std.specs.Option.{option_map, option_or, option_to_list}
 use Rattle.rtsp_head.specs.Items.{Shape}
 use Rattle.rtsp_uri.specs.declared.base.Bases.{Bases}
+use Rattle.translate_up.specs.Setups.{is_setup_item}
+use Rattle.client_slot.specs.Client.{Client}
+use Rattle.client_machine.specs.Alone.{pair_unless, pair_alone, private_after, Private, is_up_end, effect_alone}
+use Rattle.client_machine.specs.Events.{PrivateEvent, arrive, answer, up_end, note, media}
+use Rattle.client_machine.specs.OpenRequests.{has_setup}
+use Rattle.client_machine.specs.Step.{hear, step}
+use Rattle.client_machine.proofs.FullLemmas.{step_unmarked}
+use Rattle.client_machine.proofs.KeepLemmas.{IsOver}
+use Rattle.gateway_claim.specs.declared.event.UpCause.{UpCause}
+use Rattle.gateway_claim.specs.Happenings.{Happening, HistoryEntry, fault_in, entered, hears}
+use Rattle.gateway_claim.specs.OwnEvents.{turn, is_turn, books_of, event_of, own, heard_event, is_full, heard_turn, heard_final, final_in, settled_by, notice_event, event_by, own_here}
+use Rattle.gateway_claim.specs.Follows.{said_breach, spent, effect, breach, Follows, IsHistory, reply_breach}
+use Rattle.client_machine.specs.UpTexts.{source_said}
+use Rattle.gateway_claim.specs.Books.{Books, Opened, Final, final_of, settles, free_in}
+use Rattle.gateway_claim.specs.ServerItems.{Heard, replies, requests, frames, faults, heard, HeardNotice, notice_of}
+use Rattle.rtsp_small.specs.declared.notify.NotifyReason.{NotifyReason}
+use Rattle.session_two.specs.declared.names.Names.{Names}
 use Rattle.head_two.specs.declared.reply.Reply2.{Reply2}
 use Rattle.translate_down.specs.Replies.{told_by}
-use Rattle.client_machine.specs.Alone.{Private, private_after, or_else, is_up_end, effect_alone, effect_while, pair_alone}
-use Rattle.client_machine.specs.Events.{PrivateEvent, arrive, answer, note, media, end, slow, up_end}
-use Rattle.client_machine.specs.Step.{step}
 use Rattle.client_machine.proofs.HoldLemmas.{IsNoAnswer}
-use Rattle.gateway_claim.specs.declared.event.UpCause.{UpCause}
-use Rattle.gateway_claim.specs.Books.{Opened, Books}
-use Rattle.gateway_claim.specs.Happenings.{Happening, enters, takes, ends, lags, hears, up_ends, HistoryEntry, fault_in, entered}
-use Rattle.gateway_claim.specs.ServerItems.{Heard, replies, requests, frames, faults, heard}
-use Rattle.gateway_claim.specs.Notices.{HeardNotice, notice_of}
-use Rattle.gateway_claim.specs.Settlement.{Final, final_of, settles, free_in}
-use Rattle.client_machine.specs.UpTexts.{source_said}
-use Rattle.gateway_claim.specs.OwnEvents.{heard_turn, turn, is_turn, heard_final, final_in, settled_by, books_of, is_full, notice_event, heard_event, event_by, event_of, own_here, own}
-use Rattle.gateway_claim.specs.Follows.{reply_breach, heard_breach, said_breach}
-use Rattle.gateway_claim.proofs.MarkLemmas.{IsMarked}
-use Rattle.gateway_claim.proofs.OverLemmas.{own_event, own_quiet}
+
+-- the pair that a connection alone would have, where one is free
+abbrev pub pair_where : Option ℕ → ℕ → Option ℕ
+pair_where free number = option_map (λ p. number) free
+
+either_false : (t first later : Bool) → (first ≡ false → later ≡ false) → (t || first) ≡ false → (t || later) ≡ false
+either_false t first later h e = grind arith
+
+none_without : (shapes : List Shape) (shape : Shape) → has_setup (shapes ++ shape ∷ []) ≡ false → has_setup shapes ≡ false
+none_without [] shape none = refl
+none_without (first ∷ more) shape none = either_false (is_setup_item first) (has_setup (more ++ shape ∷ [])) (has_setup more) (none_without more shape) none
+
+-- no SETUP waits once an event was heard that brings none
+hear_waits : (bases : Bases) (count : ℕ) (client : Client) (event : PrivateEvent) → has_setup client.waiting ≡ false → ((shape : Shape) (full : Bool) → event ≡ arrive shape full → has_setup (client.waiting ++ shape ∷ []) ≡ false)
+    → has_setup (hear bases count client event).effect.client.waiting ≡ false
+hear_waits bases count client event none more = grind arith
+
+-- with a mark that tells whether none is free and a SETUP waits
+marked : (bases : Bases) (count next : ℕ) (free : Option ℕ) (setup : Bool) (client : Client) (event : PrivateEvent) → (setup ≡ false → has_setup (hear bases count client event).effect.client.waiting ≡ false)
+    → step bases count (pair_unless (is_none free && setup) next) client event ≡ step bases count (pair_where free next) client event
+marked bases count next free setup client event waits = grind (arith, step_unmarked)
+
+-- an event that has no mark
+abbrev IsUnmarked : PrivateEvent → Type 0
+IsUnmarked (arrive shape full) = ⊥
+IsUnmarked (answer told ssrc full) = ⊥
+IsUnmarked event = Unit {0}
+
+unmarked : (bases : Bases) (count next : ℕ) (free : Option ℕ) (client : Client) (event : PrivateEvent) → IsUnmarked event → step bases count (Some next) client event ≡ step bases count (pair_where free next) client event
+unmarked bases count next free client event none = grind arith
+
+-- The mark of an event as a history has it.
+abbrev pub IsMarked : Option ℕ → List Shape → PrivateEvent → Type 0
+IsMarked free waiting (arrive shape full) = full ≡ (is_none free && has_setup (waiting ++ shape ∷ []))
+IsMarked free waiting (answer told ssrc full) = full ≡ (is_none free && has_setup waiting)
+IsMarked free waiting event = Unit {0}
+
+pub step_marked : (bases : Bases) (count next : ℕ) (free : Option ℕ) (client : Client) (event : PrivateEvent) → IsMarked free client.waiting event
+    → step bases count (pair_alone event next) client event ≡ step bases count (pair_where free next) client event
+step_marked bases count next free client event mark = grind (arith, marked, hear_waits, none_without, unmarked)
+
+-- what happens to connection i at an entry without a fault
+abbrev pub own_event : Bases → List HistoryEntry → ℕ → Happening → Option PrivateEvent
+own_event bases T i h = event_of (books_of T) i (private_after bases (own bases i T)).client.waiting h
+
+-- What the server says is no event, or a reply, a notify or a frame.
+pub heard_event_as : (P : Option PrivateEvent → Type 0) (books settled : Books) (i : ℕ) (waiting : List Shape) (said : Heard) → P None
+    → ((reply : Reply2) → said ≡ replies reply → P (Some (answer (told_by reply) (source_said reply) (is_full settled waiting)))) → ((id : List ℕ) (reason : NotifyReason) (names : Names) → P (Some (note id reason names)))
+    → ((pair half : ℕ) (rest : List ℕ) → P (Some (media pair half rest))) → P (heard_event books settled i waiting said)
+heard_event_as P books settled i waiting said none answers notes frame = grind arith
+
+own_one : (en here : Bool) (event : Option PrivateEvent) → cond en (cond here (option_to_list event) []) [] ≡ option_to_list (cond en (cond here event None) None)
+own_one en here event = grind arith
+
+pub own_quiet : (bases : Bases) (T : List HistoryEntry) (e : HistoryEntry) (i : ℕ) → e.outcome.fault ≡ None →
+    own bases i (e ∷ T) ≡ option_to_list (cond (entered i T) (cond (is_turn i (turn (books_of T) e.happening)) (own_event bases T i e.happening) None) None) ++ own bases i T
+own_quiet bases T e i quiet = grind arith
+
+-- at an entry with one
+pub own_ended : (bases : Bases) (T : List HistoryEntry) (e : HistoryEntry) (i : ℕ) (cause : UpCause) → e.outcome.fault ≡ Some cause → own bases i (e ∷ T) ≡ cond (entered i T) (up_end ∷ []) [] ++ own bases i T
+own_ended bases T e i cause now = grind arith
+
+-- an entering does not end the connection to the server
+either_none : (b : Bool) → cond {A = Option UpCause} b None None ≡ None
+either_none b = grind arith
+
+-- after that end there is no other one
+pub quiet_after : (bases : Bases) (T : List HistoryEntry) (h : Happening) (cause : UpCause) → fault_in T ≡ Some cause → breach bases T h ≡ None
+quiet_after bases T h cause before = ap (λ (was : Option UpCause). cond (is_some was) None (option_or (said_breach bases T h) (spent (books_of T).issued (effect bases T h).message))) before
+
+-- while it stands, what is wrong ends it
+pub breach_standing : (bases : Bases) (T : List HistoryEntry) (h : Happening) → fault_in T ≡ None → breach bases T h ≡ option_or (said_breach bases T h) (spent (books_of T).issued (effect bases T h).message)
+breach_standing bases T h standing = ap (λ (was : Option UpCause). cond (is_some was) None (option_or (said_breach bases T h) (spent (books_of T).issued (effect bases T h).message))) standing
+
+ended_before : (bases : Bases) (T : List HistoryEntry) (e : HistoryEntry) (i : ℕ) (cause : UpCause) → Follows bases T e → fault_in T ≡ Some cause → (entered i T ≡ true → IsOver bases (own bases i T)) →
+    entered i (e ∷ T) ≡ true → IsOver bases (own bases i (e ∷ T))
+ended_before bases T e i cause f before over en = grind arith
+
+ended_here : (bases : Bases) (T : List HistoryEntry) (e : HistoryEntry) (i : ℕ) (cause : UpCause) (was : Bool) → Follows bases T e → e.outcome.fault ≡ Some cause → entered i T ≡ was →
+    entered i (e ∷ T) ≡ true → IsOver bases (own bases i (e ∷ T))
+ended_here bases T e i cause was f now h8 en = grind arith
+
+ended_by : (bases : Bases) (T : List HistoryEntry) (e : HistoryEntry) (i : ℕ) (cause : UpCause) (before : Option UpCause) → Follows bases T e → fault_in (e ∷ T) ≡ Some cause → fault_in T ≡ before →
+    ((earlier : UpCause) → fault_in T ≡ Some earlier → entered i T ≡ true → IsOver bases (own bases i T)) → entered i (e ∷ T) ≡ true → IsOver bases (own bases i (e ∷ T))
+ended_by bases T e i cause (Some earlier) f ended b over en = ended_before bases T e i earlier f b (over earlier b) en
+ended_by bases T e i cause None f ended b over en = ended_here bases T e i cause (entered i T) f (sym (ap (λ was. option_or was e.outcome.fault) b) ∙ ended) refl en
+
+-- In a history that ended, every connection that took part is over.
+pub faults_over : (bases : Bases) (T : List HistoryEntry) → IsHistory bases T → (cause : UpCause) → fault_in T ≡ Some cause → (i : ℕ) → entered i T ≡ true → IsOver bases (own bases i T)
+faults_over bases [] h cause ended i en = cc
+faults_over bases (e ∷ T) h cause ended i en = ended_by bases T e i cause (fault_in T) h.1 ended refl (λ earlier b here. faults_over bases T h.0 earlier b i here) en
 
 -- no event, and no final reply
 abbrev pub IsIdle : Option PrivateEvent → Option Final → Type 0
@@ -43,26 +138,12 @@ plain_case : (books : Books) (i : ℕ) (waiting : List Shape) (one : PrivateEven
 plain_case books i waiting one happening free plain up mark = inr (inl (one, refl, plain, up, refl, mark))
 
 notice_case : (books : Books) (i : ℕ) (waiting : List Shape) (notice : Result HeardNotice ℕ) (happening : Happening) (free : Option ℕ) → IsCase books i waiting (notice_event books i notice) None happening free
-notice_case books i waiting (Ok notice) happening free = plain_case books i waiting _ happening free tt refl tt
-notice_case books i waiting (Err code) happening free = inl (refl, refl)
+notice_case books i waiting notice happening free = grind arith
 
 reply_case : (books : Books) (i : ℕ) (waiting : List Shape) (reply : Reply2) (shape : Shape) (opened : Option Opened) → heard shape ≡ replies reply → books.opened reply.cseq ≡ opened → option_map (λ (one : Opened). one.conn) opened ≡ Some i
     → IsCase books i waiting (Some (answer (told_by reply) (source_said reply) (is_full (settles (final_of reply (books.opened reply.cseq)) books) waiting))) (final_of reply (books.opened reply.cseq)) (hears shape)
     (free_in (settles (final_of reply (books.opened reply.cseq)) books))
-reply_case books i waiting reply shape None says here turns = cc
-reply_case books i waiting reply shape (Some opened) says here turns =
-    let conn : opened.conn ≡ i = cc in
-    inr (inr (
-      reply,
-      opened,
-      is_full (settles (final_of reply (books.opened reply.cseq)) books) waiting,
-      here,
-      conn,
-      refl,
-      ap (final_of reply) here,
-      refl,
-      λ bases earlier same. ap (heard_breach bases earlier) says ∙ ap (reply_breach bases earlier reply) (ap (λ (one : Books). one.opened reply.cseq) same ∙ here),
-    ))
+reply_case books i waiting reply shape opened says here turns = grind arith
 
 heard_case : (books : Books) (i : ℕ) (waiting : List Shape) (shape : Shape) (said : Heard) → heard shape ≡ said → heard_turn books said ≡ Some i
     → IsCase books i waiting (heard_event books (settles (heard_final books said) books) i waiting said) (heard_final books said) (hears shape) (free_in (settles (heard_final books said) books))
@@ -73,67 +154,28 @@ heard_case books i waiting shape (faults fault) says turns = cc
 
 pub turn_case : (books : Books) (i : ℕ) (waiting : List Shape) (happening : Happening) → turn books happening ≡ Some i
     → IsCase books i waiting (event_of books i waiting happening) (final_in books happening) happening (free_in (settled_by books happening))
-turn_case books i waiting (enters conn) turns = cc
-turn_case books i waiting (takes conn shape) turns = plain_case books i waiting _ (takes conn shape) (free_in (settles None books)) tt refl refl
-turn_case books i waiting (ends conn) turns = plain_case books i waiting end (ends conn) (free_in (settles None books)) tt refl tt
-turn_case books i waiting (lags conn) turns = plain_case books i waiting slow (lags conn) (free_in (settles None books)) tt refl tt
-turn_case books i waiting (hears shape) turns = heard_case books i waiting shape (heard shape) refl turns
-turn_case books i waiting (up_ends cause) turns = cc
+turn_case books i waiting happening turns = grind (arith, plain_case, heard_case)
 
 -- What is nobody's turn settles nothing.
-heard_nobody : (books : Books) (said : Heard) → heard_turn books said ≡ None → heard_final books said ≡ None
-heard_nobody books (replies reply) turns = by (books.opened reply.cseq) turns
-  where
-    by : (opened : Option Opened) → option_map (λ (one : Opened). one.conn) opened ≡ None → final_of reply opened ≡ None
-    by None e = refl
-    by (Some opened) e = cc
-heard_nobody books (requests request) turns = refl
-heard_nobody books (frames channel rest) turns = refl
-heard_nobody books (faults fault) turns = refl
-
 pub nobody_settles : (books : Books) (happening : Happening) → turn books happening ≡ None → final_in books happening ≡ None
-nobody_settles books (enters conn) turns = refl
-nobody_settles books (takes conn shape) turns = refl
-nobody_settles books (ends conn) turns = refl
-nobody_settles books (lags conn) turns = refl
-nobody_settles books (hears shape) turns = heard_nobody books (heard shape) turns
-nobody_settles books (up_ends cause) turns = refl
+nobody_settles books happening turns = grind arith
 
 -- None of these events is the end of the server's connection.
 abbrev IsNotEnd : Option PrivateEvent → Type 0
 IsNotEnd None = Unit {0}
 IsNotEnd (Some event) = is_up_end event ≡ false
 
-notice_not_end : (books : Books) (i : ℕ) (notice : Result HeardNotice ℕ) → IsNotEnd (notice_event books i notice)
-notice_not_end books i (Ok notice) = refl
-notice_not_end books i (Err code) = tt
-
-heard_not_end : (books settled : Books) (i : ℕ) (waiting : List Shape) (said : Heard) → IsNotEnd (heard_event books settled i waiting said)
-heard_not_end books settled i waiting (replies reply) = refl
-heard_not_end books settled i waiting (requests request) = notice_not_end books i (notice_of books.holder request)
-heard_not_end books settled i waiting (frames channel rest) = refl
-heard_not_end books settled i waiting (faults fault) = tt
-
 not_end : (books settled : Books) (i : ℕ) (waiting : List Shape) (happening : Happening) → IsNotEnd (event_by books settled i waiting happening)
-not_end books settled i waiting (enters conn) = tt
-not_end books settled i waiting (takes conn shape) = refl
-not_end books settled i waiting (ends conn) = refl
-not_end books settled i waiting (lags conn) = refl
-not_end books settled i waiting (hears shape) = heard_not_end books settled i waiting (heard shape)
-not_end books settled i waiting (up_ends cause) = tt
+not_end books settled i waiting happening = grind arith
 
 one_not_over : (bases : Bases) (event : Option PrivateEvent) (events : List PrivateEvent) → IsNotEnd event → (private_after bases events).over ≡ false → (private_after bases (option_to_list event ++ events)).over ≡ false
-one_not_over bases None events plain over = over
-one_not_over bases (Some event) events plain over = ap (λ t. or_else t (private_after bases events).over) plain ∙ over
+one_not_over bases event events h3 over = grind arith
 
 maybe_not_end : (en here : Bool) (event : Option PrivateEvent) → IsNotEnd event → IsNotEnd (cond en (cond here event None) None)
-maybe_not_end true true event h = h
-maybe_not_end true false event h = tt
-maybe_not_end false here event h = tt
+maybe_not_end en here event h = grind arith
 
 pub both_none : (a b : Option UpCause) → option_or a b ≡ None → (a ≡ None) × (b ≡ None)
-both_none None b e = (refl, e)
-both_none (Some a) b e = cc
+both_none a b e = grind arith
 
 pub not_over : (bases : Bases) (T : List HistoryEntry) → fault_in T ≡ None → (i : ℕ) → (private_after bases (own bases i T)).over ≡ false
 not_over bases [] standing i = refl
@@ -146,8 +188,7 @@ not_over bases (e ∷ T) standing i =
 
 -- Before it entered a connection has no events.
 either_absent : (here en : Bool) → (here || en) ≡ false → en ≡ false
-either_absent true en e = cc
-either_absent false en e = e
+either_absent here en e = grind arith
 
 pub own_absent : (bases : Bases) (T : List HistoryEntry) (i : ℕ) → entered i T ≡ false → own bases i T ≡ []
 own_absent bases [] i absent = refl
@@ -157,13 +198,4 @@ own_absent bases (e ∷ T) i absent =
 
 -- While the server's connection stands, a connection alone makes a step.
 pub alone_steps : (bases : Bases) (p : Private) (event : PrivateEvent) → p.over ≡ false → is_up_end event ≡ false → effect_alone bases p event ≡ step bases p.count (pair_alone event (p.count + 1)) p.client event
-alone_steps bases p event over plain = ap (λ t. effect_while t bases p event) over ∙ by event plain
-  where
-    by : (event : PrivateEvent) → is_up_end event ≡ false → effect_while false bases p event ≡ step bases p.count (pair_alone event (p.count + 1)) p.client event
-    by (arrive shape full) e = refl
-    by (answer told ssrc full) e = refl
-    by (note id reason names) e = refl
-    by (media pair half rest) e = refl
-    by end e = refl
-    by slow e = refl
-    by up_end e = cc
+alone_steps bases p event over h4 = grind arith

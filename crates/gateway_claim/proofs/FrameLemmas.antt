@@ -1,9 +1,7 @@
 -- Whom a frame reaches, in a history.
-use Rattle.std.proofs.Common.{◌≡◌, ◌∙◌, ℕ, suc, zero, ◌+◌, ◌*◌, ◌/◌, ◌%◌, ◌<◌, ◌==◌, Bool, true, false, cond, List, [], ◌∷◌, ◌++◌, length, Option, Some, None, IfSome, ◌⊎◌, inl, inr, refl, sym, ap, subst, arith}
+use Rattle.std.proofs.Common.{◌≡◌, ◌∙◌, ℕ, suc, zero, ◌+◌, ◌/◌, ◌%◌, ◌<◌, Bool, true, false, cond, List, [], ◌∷◌, ◌++◌, length, Option, Some, None, IfSome, inl, refl, sym, ap, subst, arith}
 use Rattle.std.specs.Prelude.{is_some, slice_index_or}
-use Rattle.std.specs.List.{Contains}
-use Rattle.std.proofs.lemmas.Bool.{eqb-true}
-use Rattle.gate_bytes.specs.Ascii.{dollar}
+use Rattle.std.specs.List.{Contains, AllByRecursion}
 use Rattle.std.specs.Option.{option_or}
 use Rattle.rtsp_head.specs.Items.{Shape}
 use Rattle.rtsp_head.specs.declared.item.ItemKind.TheVariants as item
@@ -11,34 +9,26 @@ use Rattle.rtsp_uri.specs.declared.base.Bases.{Bases}
 use Rattle.session_one.specs.declared.parts.Track.{Track}
 use Rattle.client_slot.specs.Places.{tracks_of}
 use Rattle.client_machine.specs.Alone.{new_private, pair_alone, effect_alone}
-use Rattle.client_machine.specs.Effects.{Outgoing, asks, carries, Effect, stays}
-use Rattle.client_machine.specs.Events.{PrivateEvent, arrive, media}
-use Rattle.client_machine.specs.Frames.{channel_in, behind_channel, frame_text, player_channel}
+use Rattle.client_machine.specs.Events.{Outgoing, Effect, stays, PrivateEvent, arrive, media}
+use Rattle.client_machine.specs.Frames.{channel_in, behind_channel}
 use Rattle.client_machine.specs.Step.{step}
-use Rattle.client_machine.proofs.CarryLemmas.{IsHandedOn, IsMediaGiven, media_given, IsCarriedBy, IsFrameCarried, frame_carried}
+use Rattle.client_machine.proofs.CarryLemmas.{IsMediaGiven, media_given, IsCarriedBy, IsFrameCarried, frame_carried}
 use Rattle.gateway_claim.specs.declared.event.Closed.TheVariants.{Nobody}
-use Rattle.gateway_claim.specs.declared.event.ToClient.{ToClient}
 use Rattle.gateway_claim.specs.declared.event.ToUp.{ToUp}
-use Rattle.gateway_claim.specs.declared.event.UpMessage.TheVariants.{Frame}
 use Rattle.gateway_claim.specs.declared.event.UpCause.{UpCause}
 use Rattle.gateway_claim.specs.declared.event.Outcome.{Outcome}
 use Rattle.gateway_claim.specs.ServerItems.{Heard, frames, heard}
-use Rattle.gateway_claim.specs.Books.{HeldPair, Books}
-use Rattle.gateway_claim.specs.Settlement.{settles}
+use Rattle.gateway_claim.specs.Books.{Books, settles}
 use Rattle.gateway_claim.specs.Happenings.{Happening, takes, hears, HistoryEntry, fault_in, entered, nothing_up, silent}
 use Rattle.gateway_claim.specs.OwnEvents.{owner_of, heard_turn, turn, heard_final, settled_by, books_of, is_full, heard_event}
-use Rattle.gateway_claim.specs.Follows.{event_in, effect_at, effect_of_turn, effect, heard_breach, spent, breach, heard_answer, message_due, up_due, Follows, IsHistory}
+use Rattle.gateway_claim.specs.Follows.{event_in, effect_at, effect_of_turn, effect, heard_breach, spent, breach, heard_answer, message_due, up_due, Follows, IsHistory, outcome_with, next}
 use Rattle.gateway_claim.specs.BooksAndSlots.{AreSound}
-use Rattle.gateway_claim.proofs.ApartLemmas.{EachIs, all_are}
-use Rattle.gateway_claim.specs.Next.{client_piece, one_closed, outcome_with, next}
+use Rattle.gateway_claim.proofs.ApartLemmas.{all_are}
 use Rattle.gateway_claim.specs.Turns.{client_alone}
 use Rattle.gateway_claim.specs.Apart.{IsFrameDown, IsFrameUp}
-use Rattle.gateway_claim.proofs.AgreeLemmas.{effect_present, joined}
-use Rattle.gateway_claim.proofs.CaseLemmas.{not_over, alone_steps}
-use Rattle.gateway_claim.proofs.HistoryLemmas.{one_next}
-use Rattle.gateway_claim.proofs.SlotLemmas.{alone}
-use Rattle.gateway_claim.proofs.NextLemmas.{next_follows}
-use Rattle.gateway_claim.proofs.OverLemmas.{own_event, breach_standing}
+use Rattle.gateway_claim.proofs.AgreeLemmas.{effect_present, joined, alone}
+use Rattle.gateway_claim.proofs.CaseLemmas.{not_over, alone_steps, own_event, breach_standing}
+use Rattle.gateway_claim.proofs.NextLemmas.{one_next, next_follows}
 
 -- What follows is what is computed.
 pub outcome_is : (bases : Bases) (T : List HistoryEntry) (e : HistoryEntry) → IsHistory bases T → Follows bases T e → e.outcome ≡ next bases T e.happening
@@ -49,12 +39,7 @@ outcome_is bases T e history follows =
 -- by the parts of it, while the connection to the server stands
 outcome_at : (bases : Bases) (T : List HistoryEntry) (h : Happening) (who : Option ℕ) (up : ToUp) (made : Effect) → fault_in T ≡ None → breach bases T h ≡ None → turn (books_of T) h ≡ who → up_due bases T h ≡ up → effect bases T h ≡ made
     → next bases T h ≡ outcome_with None who up made
-outcome_at bases T h who up made standing right turns ups is =
-    ap (λ (fault : Option UpCause). cond (is_some fault) silent (outcome_with (breach bases T h) (turn (books_of T) h) (up_due bases T h) (effect bases T h))) standing
-    ∙ ap (λ (wrong : Option UpCause). outcome_with wrong (turn (books_of T) h) (up_due bases T h) (effect bases T h)) right
-    ∙ ap (λ (one : Option ℕ). outcome_with None one (up_due bases T h) (effect bases T h)) turns
-    ∙ ap (λ (one : ToUp). outcome_with None who one (effect bases T h)) ups
-    ∙ ap (λ (one : Effect). outcome_with None who up one) is
+outcome_at bases T h who up made standing right turns ups is = grind arith
 
 -- after its end nothing is handed out
 outcome_over : (bases : Bases) (T : List HistoryEntry) (h : Happening) (cause : UpCause) → fault_in T ≡ Some cause → next bases T h ≡ silent
@@ -97,51 +82,16 @@ pub record GoesDown (bases : Bases) (T : List HistoryEntry) (channel : ℕ) (res
   pub closed : out.closed ≡ Nobody
   pub fault : out.fault ≡ None
 
-owner_held : (place : Option HeldPair) (i : ℕ) → owner_of place ≡ Some i → (held : HeldPair) × (place ≡ Some held) × (held.conn ≡ i)
-owner_held None i e = cc
-owner_held (Some held) i e = by (is_some held.session) e
-  where
-    by : (granted : Bool) → cond granted (Some held.conn) None ≡ Some i → (one : HeldPair) × (Some held ≡ Some one) × (one.conn ≡ i)
-    by true h = let same : held.conn ≡ i = cc in (held, refl, same)
-    by false h = cc
-
-own_found : (books : Books) (i pair : ℕ) → AreSound books → owner_of (books.held pair) ≡ Some i → books.pair_of i (books.own_pair pair) ≡ pair
-own_found books i pair sound owner =
-    let place = owner_held (books.held pair) i owner in
-    ap (λ conn. books.pair_of conn (books.own_pair pair)) (sym place.2) ∙ (sound.pairs pair place.0 place.1).0
-
-some_piece : (i first : ℕ) (more : List ℕ) → client_piece (Some i) (first ∷ more) ≡ Some (record { conn = i; bytes = first ∷ more })
-some_piece i first more = ap (λ t. cond t None (Some (record { conn = i; bytes = first ∷ more }))) (by (suc (length more) == 0) refl)
-  where
-    by : (t : Bool) → (suc (length more) == 0) ≡ t → t ≡ false
-    by true e = let none : suc (length more) ≡ 0 = eqb-true (suc (length more)) 0 e in cc
-    by false e = refl
-
-piece_down : (bases : Bases) (T : List HistoryEntry) (channel : ℕ) (rest : List ℕ) (i : ℕ) (bytes : List ℕ) → AreSound (books_of T) → owner_of ((books_of T).held (channel / 2)) ≡ Some i
-    → (bytes ≡ []) ⊎ IsHandedOn (tracks_of (client_alone bases T i).sessions) ((books_of T).own_pair (channel / 2)) (channel % 2) rest bytes → IfSome (client_piece (Some i) bytes) (IsFrameDown bases T channel rest)
-piece_down bases T channel rest i bytes sound owner (inl none) = subst (λ (one : List ℕ). IfSome (client_piece (Some i) one) (IsFrameDown bases T channel rest)) (sym none) tt
-piece_down bases T channel rest i bytes sound owner (inr (track, stream, pair, is)) =
-    subst (λ (one : Option ToClient). IfSome one (IsFrameDown bases T channel rest)) (sym (ap (client_piece (Some i)) is ∙ some_piece i dollar (player_channel (channel % 2) track ∷ rest)))
-    ((track, record { stream = stream; named = ap ((books_of T).pair_of i) pair ∙ own_found (books_of T) i (channel / 2) sound owner; owner = owner }, refl))
-
 goes_down : (bases : Bases) (T : List HistoryEntry) (channel : ℕ) (rest : List ℕ) (who : Option ℕ) (made : Effect) → AreSound (books_of T) → owner_of ((books_of T).held (channel / 2)) ≡ who → IsGivenTo bases T channel rest who made
     → GoesDown bases T channel rest (outcome_with None who nothing_up made)
-goes_down bases T channel rest None made sound owner given = record { piece = tt; up = refl; closed = refl; fault = refl }
-goes_down bases T channel rest (Some i) made sound owner given = record {
-  piece = piece_down bases T channel rest i made.hand sound owner given.hand;
-  up = refl;
-  closed = ap (one_closed (Some i)) given.close;
-  fault = refl;
-}
+goes_down bases T channel rest who made sound owner given = grind arith
 
 -- no message is due
 none_given : (bases : Bases) (T : List HistoryEntry) (channel : ℕ) (rest : List ℕ) (who : Option ℕ) (made : Effect) → IsGivenTo bases T channel rest who made → made.message ≡ None
-none_given bases T channel rest None made given = given.0
-none_given bases T channel rest (Some i) made given = given.message
+none_given bases T channel rest who made given = grind arith
 
 none_due : (books settled : Books) (who : Option ℕ) → message_due books settled who None ≡ None
-none_due books settled None = refl
-none_due books settled (Some i) = refl
+none_due books settled who = grind arith
 
 down_standing : (bases : Bases) (T : List HistoryEntry) (shape : Shape) (channel : ℕ) (rest : List ℕ) → IsHistory bases T → fault_in T ≡ None → heard shape ≡ frames channel rest → GoesDown bases T channel rest (next bases T (hears shape))
 down_standing bases T shape channel rest history standing says =
@@ -185,36 +135,21 @@ pub record GoesUp (bases : Bases) (T : List HistoryEntry) (i : ℕ) (shape : Sha
 abbrev IsOwned : Books → ℕ → Track → Type 0
 IsOwned books i track = owner_of (books.held (books.pair_of i track.pair)) ≡ Some i
 
-held_for : (books : Books) (i : ℕ) (tracks : List Track) (track : Track) → EachIs (IsOwned books i) tracks → Contains tracks track → IsOwned books i track
+held_for : (books : Books) (i : ℕ) (tracks : List Track) (track : Track) → AllByRecursion (IsOwned books i) tracks → Contains tracks track → IsOwned books i track
 held_for books i tracks track held (place, within, is) = by tracks place held within is
   where
-    by : (all : List Track) (k : ℕ) → EachIs (IsOwned books i) all → k < length all → slice_index_or all k track ≡ track → IsOwned books i track
+    by : (all : List Track) (k : ℕ) → AllByRecursion (IsOwned books i) all → k < length all → slice_index_or all k track ≡ track → IsOwned books i track
     by [] k h w e = absurd (omega (arith, w))
     by (first ∷ all) zero h w e = subst (λ (one : Track). IsOwned books i one) e h.0
     by (first ∷ all) (suc k) h w e = by all k h.1 (omega (arith, w)) e
 
-message_goes : (bases : Bases) (T : List HistoryEntry) (i : ℕ) (shape : Shape) (message : Option Outgoing) → EachIs (IsOwned (books_of T) i) (tracks_of (client_alone bases T i).sessions)
+message_goes : (bases : Bases) (T : List HistoryEntry) (i : ℕ) (shape : Shape) (message : Option Outgoing) → AllByRecursion (IsOwned (books_of T) i) (tracks_of (client_alone bases T i).sessions)
     → IsCarriedBy (tracks_of (client_alone bases T i).sessions) (channel_in shape) (behind_channel shape) message → (settled : Books)
     → IfSome (message_due (books_of T) settled (Some i) message) (IsFrameUp bases T i shape)
-message_goes bases T i shape None held carried settled = tt
-message_goes bases T i shape (Some (asks request pair)) held carried settled = absurd carried
-message_goes bases T i shape (Some (carries pair half sent)) held (track, stream, own, side, same) settled = (
-  track,
-  half,
-  (books_of T).pair_of i pair,
-  record {
-    stream = stream;
-    named = ap ((books_of T).pair_of i) own;
-    owner = subst (λ (one : ℕ). owner_of ((books_of T).held ((books_of T).pair_of i one)) ≡ Some i) own (held_for (books_of T) i (tracks_of (client_alone bases T i).sessions) track held stream);
-  },
-  side,
-  ap (λ bytes. Frame (frame_text (2 * (books_of T).pair_of i pair + half) bytes)) same,
-)
+message_goes bases T i shape message held carried settled = grind (arith, held_for)
 
 none_spent : (issued : ℕ) (tracks : List Track) (channel : ℕ) (rest : List ℕ) (message : Option Outgoing) → IsCarriedBy tracks channel rest message → spent issued message ≡ None
-none_spent issued tracks channel rest None carried = refl
-none_spent issued tracks channel rest (Some (asks request pair)) carried = absurd carried
-none_spent issued tracks channel rest (Some (carries pair half sent)) carried = refl
+none_spent issued tracks channel rest message carried = grind arith
 
 carried_by : (bases : Bases) (T : List HistoryEntry) (i : ℕ) (shape : Shape) → fault_in T ≡ None → shape.kind ≡ item.Frame
     → IsFrameCarried (tracks_of (client_alone bases T i).sessions) (channel_in shape) (behind_channel shape) (effect bases T (takes i shape))
@@ -230,16 +165,10 @@ carried_by bases T i shape standing kind = by (entered i T) refl
     by false en = subst (λ (made : Effect). IsFrameCarried (tracks_of (client_alone bases T i).sessions) (channel_in shape) (behind_channel shape) made)
         (sym (effect_stays bases T (takes i shape) i en)) (record { hand = refl; close = refl; message = tt })
 
-goes_up : (bases : Bases) (T : List HistoryEntry) (i : ℕ) (shape : Shape) (made : Effect) (settled : Books) → EachIs (IsOwned (books_of T) i) (tracks_of (client_alone bases T i).sessions)
+goes_up : (bases : Bases) (T : List HistoryEntry) (i : ℕ) (shape : Shape) (made : Effect) (settled : Books) → AllByRecursion (IsOwned (books_of T) i) (tracks_of (client_alone bases T i).sessions)
     → IsFrameCarried (tracks_of (client_alone bases T i).sessions) (channel_in shape) (behind_channel shape) made
     → GoesUp bases T i shape (outcome_with None (Some i) (record { answer = None; message = message_due (books_of T) settled (Some i) made.message }) made)
-goes_up bases T i shape made settled held carried = record {
-  message = message_goes bases T i shape made.message held carried.message settled;
-  answer = refl;
-  piece = ap (client_piece (Some i)) carried.hand;
-  closed = ap (one_closed (Some i)) carried.close;
-  fault = refl;
-}
+goes_up bases T i shape made settled held carried = grind (arith, message_goes)
 
 up_next : (bases : Bases) (T : List HistoryEntry) (i : ℕ) (shape : Shape) (fault : Option UpCause) → IsHistory bases T → fault_in T ≡ fault → shape.kind ≡ item.Frame → GoesUp bases T i shape (next bases T (takes i shape))
 up_next bases T i shape None history standing kind =

@@ -1,6 +1,6 @@
 -- A request that goes up with the next number: what it changes for its connection, and that it changes nothing for others.
 use Rattle.std.proofs.Common.{◌≡◌, ◌≢◌, ℕ, zero, suc, ◌+◌, ◌≤◌, ◌==◌, ◌&&◌, Bool, true, false, cond, List, [], ◌∷◌, Option, None, Some, IsSome, ◌⊎◌, inl, inr, refl, sym, ◌∙◌, ap, subst, arith}
-use Rattle.std.proofs.lemmas.Bool.{eq-eqb, eqb-true}
+use Rattle.std.proofs.lemmas.Bool.{eq-eqb}
 use Rattle.rtsp_small.specs.declared.method.Method.TheVariants as methods
 use Rattle.session_one.specs.declared.parts.Track.{Track}
 use Rattle.session_one.specs.Table.{same_method}
@@ -11,11 +11,12 @@ use Rattle.client_slot.specs.Session.{PlayerSession}
 use Rattle.client_slot.specs.Places.{session_at, session_where}
 use Rattle.client_slot.specs.Client.{Client}
 use Rattle.client_machine.specs.Bounds.{ArePairsBelow, AreSessionsBelow}
-use Rattle.gateway_claim.specs.Kinds.{RequestKind, sets_up, plain, teardown_kind}
-use Rattle.gateway_claim.specs.Books.{Opened, HeldPair, Books, pair_asked, is_pair, pair_else, lends}
-use Rattle.gateway_claim.specs.BooksAndSlots.{kind_for, IsHeldFor, AreHeld, IsHolding, HasPair, IsStreamPair, IsForSession, IsPurpose, opened_for, IsOpenFor, IsOnlyOpen, IsJoined, AreSound}
+use Rattle.gateway_claim.specs.Books.{RequestKind, sets_up, plain, teardown_kind, Opened, HeldPair, Books, pair_asked, is_pair, lends}
+use Rattle.gateway_claim.specs.BooksAndSlots.{kind_for, IsHeldFor, AreHeld, IsHolding, HasPair, IsStreamPair, IsForSession, IsPurpose, IsOpenFor, IsOnlyOpen, IsJoined, AreSound}
 use Rattle.gateway_claim.proofs.OtherLemmas.{differs}
 use Rattle.gateway_claim.proofs.SettleLemmas.{AreAlike}
+use Rattle.std.specs.Prelude.{unwrap_or}
+use Rattle.client_machine.proofs.EachLemmas.{each_so}
 
 pub below_differs : (x n : ℕ) → x ≤ n → (x == n + 1) ≡ false
 below_differs x n le = differs x (n + 1) (λ same. grind arith)
@@ -27,17 +28,11 @@ IsFree books (Some pair) = books.held pair ≡ None
 
 -- what is held is not what is asked for
 held_apart : (books : Books) (asked : Option ℕ) (p : ℕ) (held : HeldPair) → IsFree books asked → books.held p ≡ Some held → is_pair asked p ≡ false
-held_apart books None p held free here = refl
-held_apart books (Some pair) p held free here = differs pair p (λ same.
-    let none : None ≡ Some held = sym free ∙ ap books.held same ∙ here in
-    nothing none)
-  where
-    nothing : None ≡ Some held → ⊥
-    nothing e = cc
+held_apart books asked p held free here = grind arith
 
 -- for another connection
 pub pair_same : (books : Books) (i : ℕ) (kind : RequestKind) (j own : ℕ) → (j == i) ≡ false → (lends i kind books).pair_of j own ≡ books.pair_of j own
-pair_same books i kind j own e = ap (λ t. cond (t && own == books.counts i + 1) (pair_else (pair_asked kind) (books.pair_of j own)) (books.pair_of j own)) e
+pair_same books i kind j own e = ap (λ t. cond (t && own == books.counts i + 1) (unwrap_or (pair_asked kind) (books.pair_of j own)) (books.pair_of j own)) e
 
 pub number_same : (books : Books) (i : ℕ) (kind : RequestKind) (j own : ℕ) → (j == i) ≡ false → (lends i kind books).number_of j own ≡ books.number_of j own
 number_same books i kind j own e = ap (λ t. cond (t && own == books.counts i + 1) (books.issued + 1) (books.number_of j own)) e
@@ -51,52 +46,24 @@ own_same books i kind p held free here = ap (λ t. cond t (books.counts i + 1) (
 -- what is held for a connection whose own pair is an old one stays held for it
 held_on : (books : Books) (i : ℕ) (kind : RequestKind) (j : ℕ) (session : Option (List ℕ)) (own : ℕ) → IsFree books (pair_asked kind) → (lends i kind books).pair_of j own ≡ books.pair_of j own
     → IsHeldFor books j session own → IsHeldFor (lends i kind books) j session own
-held_on books i kind j session own free same h =
-    subst (λ (q : ℕ). ((lends i kind books).held q ≡ Some (record { conn = j; session = session })) × ((lends i kind books).own_pair q ≡ own)) (sym same)
-    (held_same books i kind (books.pair_of j own) (record { conn = j; session = session }) free h.0, own_same books i kind (books.pair_of j own) (record { conn = j; session = session }) free h.0 ∙ h.1)
-
-others_held : (books : Books) (i : ℕ) (kind : RequestKind) (j : ℕ) (session : Option (List ℕ)) (tracks : List Track) → IsFree books (pair_asked kind) → (j == i) ≡ false → AreHeld books j session tracks → AreHeld (lends i kind books) j session tracks
-others_held books i kind j session [] free e h = tt
-others_held books i kind j session (track ∷ tracks) free e h = (held_on books i kind j session track.pair free (pair_same books i kind j track.pair e) h.0, others_held books i kind j session tracks free e h.1)
+held_on books i kind j session own free same h = grind arith
 
 others_holding : (books : Books) (i : ℕ) (kind : RequestKind) (j : ℕ) (session : Option (List ℕ)) (tracks : List Track) → IsFree books (pair_asked kind) → (j == i) ≡ false → IsHolding books j session tracks → IsHolding (lends i kind books) j session tracks
-others_holding books i kind j None tracks free e h = h
-others_holding books i kind j (Some id) tracks free e h = others_held books i kind j (Some id) tracks free e h
+others_holding books i kind j session tracks free e h = grind (arith, each_so, held_on, pair_same)
 
 -- what is held for a session then was held for it
 pub granted_was : (books : Books) (i : ℕ) (kind : RequestKind) (j p : ℕ) (id : List ℕ) → (lends i kind books).held p ≡ Some (record { conn = j; session = Some id }) → books.held p ≡ Some (record { conn = j; session = Some id })
-granted_was books i kind j p id here = by (is_pair (pair_asked kind) p) here
-  where
-    by : (t : Bool) → cond t (Some (record { conn = i; session = None })) (books.held p) ≡ Some (record { conn = j; session = Some id }) → books.held p ≡ Some (record { conn = j; session = Some id })
-    by true e =
-        let same : record { conn = i; session = None } ≡ record { conn = j; session = Some id } = cc in
-        let none : None ≡ Some id = ap (λ (one : HeldPair). one.session) same in cc
-    by false e = e
+granted_was books i kind j p id here = grind arith
 
 -- the pairs of a numbering that agrees on the streams
-pair_had : (pairs other : ℕ → ℕ) (p : ℕ) (tracks : List Track) → ((own : ℕ) → other own ≡ pairs own) → HasPair pairs p tracks → HasPair other p tracks
-pair_had pairs other p [] same has = has
-pair_had pairs other p (track ∷ tracks) same (inl here) = inl (same track.pair ∙ here)
-pair_had pairs other p (track ∷ tracks) same (inr later) = inr (pair_had pairs other p tracks same later)
-
 other_stream : (books : Books) (i : ℕ) (kind : RequestKind) (j : ℕ) (sessions : List PlayerSession) (id : List ℕ) (p : ℕ) → (j == i) ≡ false → IsStreamPair (books.pair_of j) sessions id p → IsStreamPair ((lends i kind books).pair_of j) sessions id p
-other_stream books i kind j sessions id p e stream = record {
-  place = stream.place;
-  named = stream.named;
-  has = pair_had (books.pair_of j) ((lends i kind books).pair_of j) p (session_at stream.place sessions).tracks (λ own. pair_same books i kind j own e) stream.has;
-}
+other_stream books i kind j sessions id p e stream = grind arith
 
 other_purpose : (books : Books) (i : ℕ) (kind : RequestKind) (j : ℕ) (sessions : List PlayerSession) (purpose : Purpose) → IsFree books (pair_asked kind) → (j == i) ≡ false → IsPurpose books j sessions purpose → IsPurpose (lends i kind books) j sessions purpose
-other_purpose books i kind j sessions (purposes.Client asked (Some track)) free e h = (held_on books i kind j None track.pair free (pair_same books i kind j track.pair e) h.0, h.1, h.2)
-other_purpose books i kind j sessions (purposes.Client asked None) free e h = h
-other_purpose books i kind j sessions (purposes.Released play) free e h = tt
-other_purpose books i kind j sessions (purposes.Closing place) free e h = tt
+other_purpose books i kind j sessions purpose free e h = grind arith
 
 other_kind : (books : Books) (i : ℕ) (kind : RequestKind) (j : ℕ) (sessions : List PlayerSession) (purpose : Purpose) → (j == i) ≡ false → kind_for (books.pair_of j) sessions purpose ≡ kind_for ((lends i kind books).pair_of j) sessions purpose
-other_kind books i kind j sessions (purposes.Client asked (Some track)) e = ap (λ p. sets_up p) (sym (pair_same books i kind j track.pair e))
-other_kind books i kind j sessions (purposes.Client asked None) e = refl
-other_kind books i kind j sessions (purposes.Released play) e = refl
-other_kind books i kind j sessions (purposes.Closing place) e = refl
+other_kind books i kind j sessions purpose e = grind arith
 
 -- an open number is not the next one
 open_on : (books : Books) (i : ℕ) (kind : RequestKind) (g : ℕ) (opened : Opened) → AreSound books → books.opened g ≡ Some opened → (lends i kind books).opened g ≡ Some opened
@@ -104,73 +71,35 @@ open_on books i kind g opened sound here = ap (λ t. cond t (Some (record { conn
 
 other_open : (books : Books) (i : ℕ) (kind : RequestKind) (j count : ℕ) (sessions : List PlayerSession) (pending : Option Purpose) → AreSound books → IsFree books (pair_asked kind) → (j == i) ≡ false → IsOpenFor books j (books.number_of j count) sessions pending
     → IsOpenFor (lends i kind books) j ((lends i kind books).number_of j count) sessions pending
-other_open books i kind j count sessions None sound free e h = tt
-other_open books i kind j count sessions (Some purpose) sound free e h = (
-  ap (lends i kind books).opened (number_same books i kind j count e)
-      ∙ open_on books i kind (books.number_of j count) (opened_for books j sessions purpose) sound h.0
-      ∙ ap (λ one. Some (record { conn = j; kind = one })) (other_kind books i kind j sessions purpose e),
-  other_purpose books i kind j sessions purpose free e h.1,
-)
+other_open books i kind j count sessions pending sound free e h = grind (arith, number_same, open_on, other_kind, other_purpose)
 
 -- what is open was open, or is the new request
 open_was : (books : Books) (i : ℕ) (kind : RequestKind) (g : ℕ) (opened : Opened) → (lends i kind books).opened g ≡ Some opened → ((g ≡ books.issued + 1) × (opened.conn ≡ i)) ⊎ (books.opened g ≡ Some opened)
-open_was books i kind g opened h = by (g == books.issued + 1) refl h
-  where
-    by : (t : Bool) → (g == books.issued + 1) ≡ t → cond t (Some (record { conn = i; kind = kind })) (books.opened g) ≡ Some opened → ((g ≡ books.issued + 1) × (opened.conn ≡ i)) ⊎ (books.opened g ≡ Some opened)
-    by true f e = let conn : i ≡ opened.conn = cc in inl (eqb-true g (books.issued + 1) f, sym conn)
-    by false f e = inr e
+open_was books i kind g opened h = grind arith
 
 other_last : (books : Books) (i : ℕ) (kind : RequestKind) (j count : ℕ) (pending : Option Purpose) → (j == i) ≡ false → j ≢ i → IsOnlyOpen books j (books.number_of j count) pending
     → IsOnlyOpen (lends i kind books) j ((lends i kind books).number_of j count) pending
-other_last books i kind j count pending e ne last = λ g opened here conn. by g opened conn (open_was books i kind g opened here)
-  where
-    by : (g : ℕ) (opened : Opened) → opened.conn ≡ j → ((g ≡ books.issued + 1) × (opened.conn ≡ i)) ⊎ (books.opened g ≡ Some opened) → (g ≡ (lends i kind books).number_of j count) × IsSome pending
-    by g opened conn (inl new) = absurd (ne (sym conn ∙ new.1))
-    by g opened conn (inr old) = let was : (g ≡ books.number_of j count) × IsSome pending = last g opened old conn in (was.0 ∙ sym (number_same books i kind j count e), was.1)
+other_last books i kind j count pending e ne last = grind arith
 
 -- Another connection is joined as before.
 pub other_lent : (books : Books) (i : ℕ) (kind : RequestKind) (j : ℕ) (client : Client) (count : ℕ) → AreSound books → IsFree books (pair_asked kind) → j ≢ i → IsJoined books j client count → IsJoined (lends i kind books) j client count
-other_lent books i kind j client count sound free ne joined =
-    let e : (j == i) ≡ false = differs j i ne in
-    record {
-      counted = joined.counted ∙ sym (ap (λ t. cond t (books.counts i + 1) (books.counts j)) e);
-      tracks = λ place. others_holding books i kind j (session_at place client.sessions).id (session_at place client.sessions).tracks free e (joined.tracks place);
-      granted = λ p id here. other_stream books i kind j client.sessions id p e (joined.granted p id (granted_was books i kind j p id here));
-      pending = other_open books i kind j count client.sessions client.pending sound free e joined.pending;
-      last = other_last books i kind j count client.pending e ne joined.last;
-      holds = joined.holds;
-      session = joined.session;
-      once = joined.once;
-    }
+other_lent books i kind j client count sound free ne joined = grind (arith, differs, others_holding, other_stream, granted_was, other_open, other_last)
 
 -- For the connection itself, whose own numbers so far are at most its count.
 yes : (n : ℕ) → (n == n) ≡ true
 yes n = eq-eqb n n refl
 
 pub old_pair : (books : Books) (i : ℕ) (kind : RequestKind) (own : ℕ) → own ≤ books.counts i → (lends i kind books).pair_of i own ≡ books.pair_of i own
-old_pair books i kind own le = ap (λ t. cond ((i == i) && t) (pair_else (pair_asked kind) (books.pair_of i own)) (books.pair_of i own)) (below_differs own (books.counts i) le) ∙ by (i == i)
-  where
-    by : (t : Bool) → cond (t && false) (pair_else (pair_asked kind) (books.pair_of i own)) (books.pair_of i own) ≡ books.pair_of i own
-    by true = refl
-    by false = refl
+old_pair books i kind own le = grind arith
 
 pub new_pair : (books : Books) (i : ℕ) (kind : RequestKind) (p : ℕ) → pair_asked kind ≡ Some p → (lends i kind books).pair_of i (books.counts i + 1) ≡ p
-new_pair books i kind p asked =
-    ap (λ t. cond (t && (books.counts i + 1 == books.counts i + 1)) (pair_else (pair_asked kind) (books.pair_of i (books.counts i + 1))) (books.pair_of i (books.counts i + 1))) (yes i)
-    ∙ ap (λ t. cond t (pair_else (pair_asked kind) (books.pair_of i (books.counts i + 1))) (books.pair_of i (books.counts i + 1))) (yes (books.counts i + 1))
-    ∙ ap (λ (one : Option ℕ). pair_else one (books.pair_of i (books.counts i + 1))) asked
+new_pair books i kind p asked = grind arith
 
 pub new_number : (books : Books) (i : ℕ) (kind : RequestKind) → (lends i kind books).number_of i (books.counts i + 1) ≡ books.issued + 1
-new_number books i kind =
-    ap (λ t. cond (t && (books.counts i + 1 == books.counts i + 1)) (books.issued + 1) (books.number_of i (books.counts i + 1))) (yes i)
-    ∙ ap (λ t. cond t (books.issued + 1) (books.number_of i (books.counts i + 1))) (yes (books.counts i + 1))
+new_number books i kind = grind arith
 
 pub old_number : (books : Books) (i : ℕ) (kind : RequestKind) (own : ℕ) → own ≤ books.counts i → (lends i kind books).number_of i own ≡ books.number_of i own
-old_number books i kind own le = ap (λ t. cond ((i == i) && t) (books.issued + 1) (books.number_of i own)) (below_differs own (books.counts i) le) ∙ by (i == i)
-  where
-    by : (t : Bool) → cond (t && false) (books.issued + 1) (books.number_of i own) ≡ books.number_of i own
-    by true = refl
-    by false = refl
+old_number books i kind own le = grind arith
 
 old_held : (books : Books) (i : ℕ) (kind : RequestKind) (count : ℕ) (session : Option (List ℕ)) (tracks : List Track) → IsFree books (pair_asked kind) → count ≡ books.counts i → ArePairsBelow count tracks → AreHeld books i session tracks → AreHeld (lends i kind books) i session tracks
 old_held books i kind count session [] free counted below h = tt
@@ -178,8 +107,7 @@ old_held books i kind count session (track ∷ tracks) free counted below h =
     (held_on books i kind i session track.pair free (old_pair books i kind track.pair (subst (λ (n : ℕ). track.pair ≤ n) counted below.0.1)) h.0, old_held books i kind count session tracks free counted below.1 h.1)
 
 old_holding : (books : Books) (i : ℕ) (kind : RequestKind) (count : ℕ) (session : Option (List ℕ)) (tracks : List Track) → IsFree books (pair_asked kind) → count ≡ books.counts i → ArePairsBelow count tracks → IsHolding books i session tracks → IsHolding (lends i kind books) i session tracks
-old_holding books i kind count None tracks free counted below h = h
-old_holding books i kind count (Some id) tracks free counted below h = old_held books i kind count (Some id) tracks free counted below h
+old_holding books i kind count session tracks free counted below h = grind (arith, old_held)
 
 old_has : (books : Books) (i : ℕ) (kind : RequestKind) (count p : ℕ) (tracks : List Track) → count ≡ books.counts i → ArePairsBelow count tracks → HasPair (books.pair_of i) p tracks → HasPair ((lends i kind books).pair_of i) p tracks
 old_has books i kind count p [] counted below has = has
@@ -200,42 +128,17 @@ IsLentFor books count kind sessions (purposes.Client asked None) = (kind ≡ con
 IsLentFor books count kind sessions (purposes.Released play) = kind ≡ plain
 IsLentFor books count kind sessions (purposes.Closing place) = kind ≡ teardown_kind true (session_at place sessions).id
 
-teardown_free : (books : Books) (shut : Bool) (id : Option (List ℕ)) → IsFree books (pair_asked (teardown_kind shut id))
-teardown_free books shut None = tt
-teardown_free books true (Some id) = tt
-teardown_free books false (Some id) = tt
-
 asked_free : (books : Books) (t : Bool) (id : Option (List ℕ)) → IsFree books (pair_asked (cond t (teardown_kind false id) plain))
-asked_free books true id = teardown_free books false id
-asked_free books false id = tt
+asked_free books t id = grind arith
 
 pub lent_free : (books : Books) (count : ℕ) (kind : RequestKind) (sessions : List PlayerSession) (purpose : Purpose) → IsLentFor books count kind sessions purpose → IsFree books (pair_asked kind)
-lent_free books count kind sessions (purposes.Client asked (Some track)) (p, is, free, own, setup, there) = subst (λ (k : RequestKind). IsFree books (pair_asked k)) (sym is) free
-lent_free books count kind sessions (purposes.Client asked None) (is, setup) = subst (λ (k : RequestKind). IsFree books (pair_asked k)) (sym is) (asked_free books (same_method asked.method methods.Teardown) (session_where asked.place sessions).id)
-lent_free books count kind sessions (purposes.Released play) is = subst (λ (k : RequestKind). IsFree books (pair_asked k)) (sym is) tt
-lent_free books count kind sessions (purposes.Closing place) is = subst (λ (k : RequestKind). IsFree books (pair_asked k)) (sym is) (teardown_free books true (session_at place sessions).id)
+lent_free books count kind sessions purpose is = grind arith
 
 new_kind : (books : Books) (i count : ℕ) (kind : RequestKind) (sessions : List PlayerSession) (purpose : Purpose) → count ≡ books.counts i → IsLentFor books count kind sessions purpose → kind ≡ kind_for ((lends i kind books).pair_of i) sessions purpose
-new_kind books i count kind sessions (purposes.Client asked (Some track)) counted (p, is, free, own, setup, there) =
-    is ∙ ap (λ q. sets_up q) (sym (ap ((lends i kind books).pair_of i) (own ∙ ap (λ n. n + 1) counted) ∙ new_pair books i kind p (ap pair_asked is)))
-new_kind books i count kind sessions (purposes.Client asked None) counted (is, setup) = is
-new_kind books i count kind sessions (purposes.Released play) counted is = is
-new_kind books i count kind sessions (purposes.Closing place) counted is = is
-
-new_held : (books : Books) (i count : ℕ) (kind : RequestKind) (p own : ℕ) → count ≡ books.counts i → kind ≡ sets_up p → own ≡ count + 1 → IsHeldFor (lends i kind books) i None own
-new_held books i count kind p own counted is next =
-    let same : (lends i kind books).pair_of i own ≡ p = ap (λ n. (lends i kind books).pair_of i n) (next ∙ ap (λ n. n + 1) counted) ∙ new_pair books i kind p (ap pair_asked is) in
-    let asks : is_pair (pair_asked kind) p ≡ true = ap (λ k. is_pair (pair_asked k) p) is ∙ yes p in
-    subst (λ (q : ℕ). ((lends i kind books).held q ≡ Some (record { conn = i; session = None })) × ((lends i kind books).own_pair q ≡ own)) (sym same) (
-      ap (λ t. cond t (Some (record { conn = i; session = None })) (books.held p)) asks,
-      ap (λ t. cond t (books.counts i + 1) (books.own_pair p)) asks ∙ sym (next ∙ ap (λ n. n + 1) counted),
-    )
+new_kind books i count kind sessions purpose counted is = grind arith
 
 new_purpose : (books : Books) (i count : ℕ) (kind : RequestKind) (sessions : List PlayerSession) (purpose : Purpose) → count ≡ books.counts i → IsLentFor books count kind sessions purpose → IsPurpose (lends i kind books) i sessions purpose
-new_purpose books i count kind sessions (purposes.Client asked (Some track)) counted (p, is, free, own, setup, there) = (new_held books i count kind p track.pair counted is own, setup, there)
-new_purpose books i count kind sessions (purposes.Client asked None) counted (is, setup) = setup
-new_purpose books i count kind sessions (purposes.Released play) counted is = tt
-new_purpose books i count kind sessions (purposes.Closing place) counted is = tt
+new_purpose books i count kind sessions purpose counted is = grind arith
 
 next_number : (books : Books) (i count : ℕ) (kind : RequestKind) → count ≡ books.counts i → (lends i kind books).number_of i (count + 1) ≡ books.issued + 1
 next_number books i count kind counted = ap (λ n. (lends i kind books).number_of i (n + 1)) counted ∙ new_number books i kind
@@ -270,13 +173,10 @@ own_lent books i kind purpose client after count joined below idle pending alike
 }
   where
     was_some : (old : Option Purpose) → old ≡ None → IsSome old → ⊥
-    was_some None e h = cc
-    was_some (Some one) e h = cc
+    was_some old e h = grind arith
 
     is_some_now : (new : Option Purpose) → new ≡ Some purpose → IsSome new
-    is_some_now None e = cc
-    is_some_now (Some one) e = refl
+    is_some_now new e = grind arith
 
     last_by : (g : ℕ) (opened : Opened) → opened.conn ≡ i → ((g ≡ books.issued + 1) × (opened.conn ≡ i)) ⊎ (books.opened g ≡ Some opened) → (g ≡ (lends i kind books).number_of i (count + 1)) × IsSome after.pending
-    last_by g opened conn (inl new) = (new.0 ∙ sym (next_number books i count kind joined.counted), is_some_now after.pending pending)
-    last_by g opened conn (inr old) = absurd (was_some client.pending idle (joined.last g opened old conn).1)
+    last_by g opened conn h3 = grind (arith, next_number, is_some_now, was_some)

@@ -1,33 +1,114 @@
--- What is computed as the next entry follows the history.
-use Rattle.std.proofs.Common.{◌≡◌, ℕ, Bool, true, false, cond, ◌&&◌, ◌==◌, List, [], ◌∷◌, ◌++◌, length, Option, None, Some, refl, sym, ◌∙◌, ap, subst}
+-- The next entry follows a history, and no other one does.
+use Rattle.std.proofs.Common.{◌≡◌, ℕ, Bool, true, cond, ◌&&◌, ◌==◌, List, [], ◌∷◌, ◌++◌, map, Option, None, Some, refl, sym, ◌∙◌, ap, subst, arith, false}
 use Rattle.std.specs.Prelude.{is_some}
 use Rattle.std.specs.Option.{option_or, option_to_list}
-use Rattle.std.proofs.lemmas.Bool.{eqb-true}
+use Rattle.std.proofs.lemmas.List.{append_cancel_right}
+use Rattle.std.proofs.lemmas.Bool.{eq-eqb, eqb-true}
 use Rattle.rtsp_uri.specs.declared.base.Bases.{Bases}
 use Rattle.client_machine.specs.declared.why.CloseWhy.{CloseWhy}
-use Rattle.client_machine.specs.declared.why.CloseWhy.TheVariants as why
-use Rattle.client_machine.specs.Effects.{Effect}
-use Rattle.client_machine.specs.Events.{PrivateEvent, up_end}
-use Rattle.client_machine.specs.Alone.{effect_alone, private_after, piece, hand, shut_alone, is_empty_list}
-use Rattle.client_machine.proofs.KeepLemmas.{IsOver, over_hand, over_shut, ends_hand, ends_shut, live_unclosed}
+use Rattle.client_machine.specs.Alone.{hand, shut_alone, is_empty_list, private_after, piece}
+use Rattle.gateway_claim.specs.declared.event.Closed.{Closed}
+use Rattle.gateway_claim.specs.declared.event.Closed.TheVariants.{Nobody, One, All}
+use Rattle.gateway_claim.specs.declared.event.ToClient.{ToClient}
 use Rattle.gateway_claim.specs.declared.event.UpCause.{UpCause}
+use Rattle.gateway_claim.specs.Happenings.{HistoryEntry, fault_in, entered, pieces_to, closes_of, sent, shut, is_all, nothing_up, Happening, silent}
+use Rattle.gateway_claim.specs.OwnEvents.{own, turn, is_turn, books_of, event_of}
+use Rattle.gateway_claim.specs.Follows.{breach, up_due, Follows, IsHistory, event_in, effect_at, effect_of_turn, effect, client_piece, one_closed, outcome_with, next}
+use Rattle.client_machine.specs.declared.why.CloseWhy.TheVariants as why
+use Rattle.client_machine.specs.Events.{Effect, PrivateEvent, up_end}
+use Rattle.client_machine.proofs.KeepLemmas.{IsOver, ends_shut, live_unclosed}
 use Rattle.gateway_claim.specs.declared.event.Outcome.{Outcome}
 use Rattle.gateway_claim.specs.Books.{Books}
-use Rattle.gateway_claim.specs.Happenings.{Happening, HistoryEntry, fault_in, entered, pieces_to, closes_of, sent, shut, is_all, nothing_up, silent}
-use Rattle.gateway_claim.specs.OwnEvents.{turn, is_turn, books_of, event_of, own}
-use Rattle.gateway_claim.specs.Follows.{event_in, effect_at, effect_of_turn, effect, breach, up_due, Follows, IsHistory}
-use Rattle.gateway_claim.specs.Next.{client_piece, one_closed, outcome_with, next}
-use Rattle.gateway_claim.proofs.HistoryLemmas.{sent_as_alone, shut_as_alone, same_number}
-use Rattle.gateway_claim.proofs.OverLemmas.{own_event, own_quiet, quiet_after, faults_over}
+use Rattle.gateway_claim.proofs.CaseLemmas.{own_event, own_quiet, quiet_after, faults_over}
+
+-- a history as a whole is one of the private machine for each connection
+pub sent_as_alone : (bases : Bases) (T : List HistoryEntry) → IsHistory bases T → (i : ℕ) → sent i T ≡ hand bases (own bases i T)
+sent_as_alone bases [] h i = refl
+sent_as_alone bases (e ∷ T) h i = h.1.sent i
+
+pub shut_as_alone : (bases : Bases) (T : List HistoryEntry) → IsHistory bases T → (i : ℕ) → shut i T ≡ shut_alone bases (own bases i T)
+shut_as_alone bases [] h i = refl
+shut_as_alone bases (e ∷ T) h i = h.1.shut i
+
+-- a number equals itself
+pub same_number : (n : ℕ) → (n == n) ≡ true
+same_number n = eq-eqb n n refl
+
+piece_kept : (n : ℕ) (bytes : List ℕ) → cond (n == n) (bytes ∷ []) [] ≡ bytes ∷ []
+piece_kept n bytes = ap (λ b. cond b (bytes ∷ []) []) (same_number n)
+
+close_kept : (n : ℕ) (why : CloseWhy) → cond (n == n) (why ∷ []) [] ≡ why ∷ []
+close_kept n why = ap (λ b. cond b (why ∷ []) []) (same_number n)
+
+-- records are equal where their fields are
+equal_entries : (d e : HistoryEntry) → d.happening ≡ e.happening → d.outcome.to_client ≡ e.outcome.to_client → d.outcome.to_up ≡ e.outcome.to_up →
+    d.outcome.closed ≡ e.outcome.closed → d.outcome.fault ≡ e.outcome.fault → d ≡ e
+equal_entries d e happening piece up closed fault = grind arith
+
+-- a piece that goes to the same connection is the same
+same_piece : (t : Bool) (p q : ToClient) → (q.conn == p.conn) ≡ t → p.bytes ∷ [] ≡ cond t (q.bytes ∷ []) [] → p ≡ q
+same_piece t p q e h = grind arith
+
+-- what every connection is handed tells what was handed out
+one_piece : (p q : Option ToClient) → ((i : ℕ) → pieces_to i p ≡ pieces_to i q) → p ≡ q
+one_piece None None h = refl
+one_piece None (Some q) h = let none : [] ≡ q.bytes ∷ [] = h q.conn ∙ piece_kept q.conn q.bytes in cc
+one_piece (Some p) None h = let none : p.bytes ∷ [] ≡ [] = sym (piece_kept p.conn p.bytes) ∙ h p.conn in cc
+one_piece (Some p) (Some q) h = ap (λ x. Some x) (same_piece (q.conn == p.conn) p q refl (sym (piece_kept p.conn p.bytes) ∙ h p.conn))
+
+same_close : (t : Bool) (i j : ℕ) (v w : CloseWhy) → (j == i) ≡ t → v ∷ [] ≡ cond t (w ∷ []) [] → One i v ≡ One j w
+same_close t i j v w e h = grind arith
+
+-- how every connection is closed, and whether all are, tells what was closed
+one_close : (p q : Closed) (alive : ℕ → Bool) → is_all p ≡ is_all q → ((i : ℕ) → closes_of i (alive i) p ≡ closes_of i (alive i) q) → p ≡ q
+one_close Nobody Nobody alive a h = refl
+one_close Nobody (One j w) alive a h = let none : [] ≡ w ∷ [] = h j ∙ close_kept j w in cc
+one_close Nobody All alive a h = cc
+one_close (One i v) Nobody alive a h = let none : v ∷ [] ≡ [] = sym (close_kept i v) ∙ h i in cc
+one_close (One i v) (One j w) alive a h = same_close (j == i) i j v w refl (sym (close_kept i v) ∙ h i)
+one_close (One i v) All alive a h = cc
+one_close All Nobody alive a h = cc
+one_close All (One j w) alive a h = cc
+one_close All All alive a h = refl
+
+-- the events of a connection are told by what happened and by whether the connection to the server ended
+own_same : (bases : Bases) (T : List HistoryEntry) (d e : HistoryEntry) → d.happening ≡ e.happening → d.outcome.fault ≡ e.outcome.fault → (i : ℕ) → own bases i (d ∷ T) ≡ own bases i (e ∷ T)
+own_same bases T d e same faults i = grind arith
+
+-- at most one entry with a given happening follows
+pub one_next : (bases : Bases) (T : List HistoryEntry) (d e : HistoryEntry) → Follows bases T d → Follows bases T e → d.happening ≡ e.happening → d ≡ e
+one_next bases T d e fd fe same =
+    let faults : d.outcome.fault ≡ e.outcome.fault = fd.fault ∙ ap (breach bases T) same ∙ sym fe.fault in
+    let owns : (i : ℕ) → own bases i (d ∷ T) ≡ own bases i (e ∷ T) = own_same bases T d e same faults in
+    let pieces : d.outcome.to_client ≡ e.outcome.to_client = one_piece d.outcome.to_client e.outcome.to_client
+    (λ i. append_cancel_right _ _ (sent i T) (fd.sent i ∙ ap (hand bases) (owns i) ∙ sym (fe.sent i))) in
+    let closes : d.outcome.closed ≡ e.outcome.closed = one_close d.outcome.closed e.outcome.closed (λ i. entered i T && is_empty_list (shut i T))
+    (fd.all ∙ ap is_some faults ∙ sym fe.all)
+    (λ i. append_cancel_right _ _ (shut i T) (fd.shut i ∙ ap (shut_alone bases) (owns i) ∙ sym (fe.shut i))) in
+    let ups : d.outcome.to_up ≡ e.outcome.to_up =
+    fd.spelled
+    ∙ ap (λ (f : Option UpCause). cond (is_some (option_or (fault_in T) f)) nothing_up (up_due bases T d.happening)) faults
+    ∙ ap (λ h. cond (is_some (fault_in (e ∷ T))) nothing_up (up_due bases T h)) same
+    ∙ sym fe.spelled in
+    equal_entries d e same pieces ups closes faults
+
+-- at most one history of a list of happenings
+pub one_history : (bases : Bases) (S T : List HistoryEntry) → IsHistory bases S → IsHistory bases T → map (λ (e : HistoryEntry). e.happening) S ≡ map (λ (e : HistoryEntry). e.happening) T → S ≡ T
+one_history bases [] [] hs ht same = refl
+one_history bases [] (e ∷ T) hs ht same = cc
+one_history bases (d ∷ S) [] hs ht same = cc
+one_history bases (d ∷ S) (e ∷ T) hs ht same =
+    let rests : map (λ (e : HistoryEntry). e.happening) S ≡ map (λ (e : HistoryEntry). e.happening) T = cc in
+    let here : d.happening ≡ e.happening = cc in
+    let earlier : S ≡ T = one_history bases S T hs.0 ht.0 rests in
+    ap (λ U. d ∷ U) earlier ∙ ap (λ x. x ∷ T) (one_next bases T d e (subst (λ (U : List HistoryEntry). Follows bases U d) earlier hs.1) ht.1 here)
 
 -- what happens to a connection that is over, or took no part, changes nothing
 quiet_hand : (bases : Bases) (en : Bool) (event : Option PrivateEvent) (events : List PrivateEvent) → (en ≡ true → IsOver bases events) → hand bases (option_to_list (cond en event None) ++ events) ≡ hand bases events
-quiet_hand bases true event events over = over_hand bases events event (over refl)
-quiet_hand bases false event events over = refl
+quiet_hand bases en event events over = grind arith
 
 quiet_shut : (bases : Bases) (en : Bool) (event : Option PrivateEvent) (events : List PrivateEvent) → (en ≡ true → IsOver bases events) → shut_alone bases (option_to_list (cond en event None) ++ events) ≡ shut_alone bases events
-quiet_shut bases true event events over = over_shut bases events event (over refl)
-quiet_shut bases false event events over = refl
+quiet_shut bases en event events over = grind arith
 
 -- After the end of the connection to the server an entry that hands out nothing follows.
 silent_follows : (bases : Bases) (T : List HistoryEntry) (h : Happening) (cause : UpCause) → IsHistory bases T → fault_in T ≡ Some cause → Follows bases T (record { happening = h; outcome = silent })
@@ -44,49 +125,28 @@ silent_follows bases T h cause history ended =
 
 -- Where the connection to the server ends, it ends for every connection.
 fault_hand : (bases : Bases) (en : Bool) (events : List PrivateEvent) → hand bases (cond en (up_end ∷ []) [] ++ events) ≡ hand bases events
-fault_hand bases true events = ends_hand bases events
-fault_hand bases false events = refl
+fault_hand bases en events = grind arith
 
 fault_shut : (bases : Bases) (en : Bool) (closed : List CloseWhy) (events : List PrivateEvent) → closed ≡ shut_alone bases events →
     cond (en && is_empty_list closed) (why.Upstream ∷ []) [] ++ closed ≡ shut_alone bases (cond en (up_end ∷ []) [] ++ events)
-fault_shut bases true closed events same =
-    ap (λ all. cond (is_empty_list all) (why.Upstream ∷ []) [] ++ all) same
-    ∙ sym (ends_shut bases events ∙ ap (λ b. cond b (why.Upstream ∷ []) [] ++ shut_alone bases events) (live_unclosed bases events))
-fault_shut bases false closed events same = same
+fault_shut bases en closed events same = grind (arith, ends_shut, live_unclosed)
 
 fault_follows : (bases : Bases) (T : List HistoryEntry) (h : Happening) (cause : UpCause) → IsHistory bases T → fault_in T ≡ None → breach bases T h ≡ Some cause →
     Follows bases T (record { happening = h; outcome = outcome_with (Some cause) (turn (books_of T) h) (up_due bases T h) (effect bases T h) })
-fault_follows bases T h cause history standing wrong =
-    record {
-      sent = λ i. sent_as_alone bases T history i ∙ sym (fault_hand bases (entered i T) (own bases i T));
-      shut = λ i. fault_shut bases (entered i T) (shut i T) (own bases i T) (shut_as_alone bases T history i);
-      spelled = sym (ap (λ (f : Option UpCause). cond (is_some (option_or f (Some cause))) nothing_up (up_due bases T h)) standing);
-      fault = sym wrong;
-      all = refl;
-    }
+fault_follows bases T h cause history standing wrong = grind (arith, sent_as_alone, fault_hand, fault_shut, shut_as_alone)
 
 -- a piece for the connection is what it is handed
 kept_piece : (i : ℕ) (bytes : List ℕ) → pieces_to i (client_piece (Some i) bytes) ≡ piece bytes
-kept_piece i bytes = by_length (length bytes == 0)
-  where
-    by_length : (empty : Bool) → pieces_to i (cond empty None (Some (record { conn = i; bytes = bytes }))) ≡ cond empty [] (bytes ∷ [])
-    by_length true = refl
-    by_length false = ap (λ b. cond b (bytes ∷ []) []) (same_number i)
+kept_piece i bytes = grind arith
 
 other_piece : (i j : ℕ) (bytes : List ℕ) → (j == i) ≡ false → pieces_to i (client_piece (Some j) bytes) ≡ []
-other_piece i j bytes other = by_length (length bytes == 0)
-  where
-    by_length : (empty : Bool) → pieces_to i (cond empty None (Some (record { conn = j; bytes = bytes }))) ≡ []
-    by_length true = refl
-    by_length false = ap (λ b. cond b (bytes ∷ []) []) other
+other_piece i j bytes other = grind arith
 
 kept_close : (i : ℕ) (alive : Bool) (one : Option CloseWhy) → closes_of i alive (one_closed (Some i) one) ≡ option_to_list one
-kept_close i alive None = refl
-kept_close i alive (Some one) = ap (λ b. cond b (one ∷ []) []) (same_number i)
+kept_close i alive one = grind arith
 
 other_close : (i j : ℕ) (alive : Bool) (one : Option CloseWhy) → (j == i) ≡ false → closes_of i alive (one_closed (Some j) one) ≡ []
-other_close i j alive None other = refl
-other_close i j alive (Some one) other = ap (λ b. cond b (one ∷ []) []) other
+other_close i j alive one other = grind arith
 
 -- what the machine does at the event of a connection that took part, or not
 abbrev machine_does : Bases → Books → ℕ → Bool → List PrivateEvent → Happening → Effect
@@ -95,34 +155,27 @@ machine_does bases books i en events h = effect_at bases (cond en (Some (private
 -- of the connection whose turn it is
 event_hand : (bases : Bases) (i : ℕ) (event : Option PrivateEvent) (events : List PrivateEvent) →
     pieces_to i (client_piece (Some i) (effect_at bases (Some (private_after bases events)) event).hand) ++ hand bases events ≡ hand bases (option_to_list event ++ events)
-event_hand bases i None events = refl
-event_hand bases i (Some event) events = ap (λ pieces. pieces ++ hand bases events) (kept_piece i (effect_alone bases (private_after bases events) event).hand)
+event_hand bases i event events = grind (arith, kept_piece)
 
 turn_hand : (bases : Bases) (books : Books) (i : ℕ) (en : Bool) (events : List PrivateEvent) (h : Happening) →
     pieces_to i (client_piece (Some i) (machine_does bases books i en events h).hand) ++ hand bases events
     ≡ hand bases (cond en (option_to_list (event_of books i (private_after bases events).client.waiting h)) [] ++ events)
-turn_hand bases books i true events h = event_hand bases i (event_of books i (private_after bases events).client.waiting h) events
-turn_hand bases books i false events h = refl
+turn_hand bases books i en events h = grind (arith, event_hand)
 
 event_shut : (bases : Bases) (i : ℕ) (alive : Bool) (event : Option PrivateEvent) (events : List PrivateEvent) →
     closes_of i alive (one_closed (Some i) (effect_at bases (Some (private_after bases events)) event).close) ++ shut_alone bases events ≡ shut_alone bases (option_to_list event ++ events)
-event_shut bases i alive None events = refl
-event_shut bases i alive (Some event) events = ap (λ closed. closed ++ shut_alone bases events) (kept_close i alive (effect_alone bases (private_after bases events) event).close)
+event_shut bases i alive event events = grind (arith, kept_close)
 
 turn_shut : (bases : Bases) (books : Books) (i : ℕ) (alive en : Bool) (events : List PrivateEvent) (h : Happening) →
     closes_of i alive (one_closed (Some i) (machine_does bases books i en events h).close) ++ shut_alone bases events
     ≡ shut_alone bases (cond en (option_to_list (event_of books i (private_after bases events).client.waiting h)) [] ++ events)
-turn_shut bases books i alive true events h = event_shut bases i alive (event_of books i (private_after bases events).client.waiting h) events
-turn_shut bases books i alive false events h = refl
+turn_shut bases books i alive en events h = grind (arith, event_shut)
 
 one_not_all : (turn : Option ℕ) (one : Option CloseWhy) → is_all (one_closed turn one) ≡ false
-one_not_all None one = refl
-one_not_all (Some i) None = refl
-one_not_all (Some i) (Some one) = refl
+one_not_all turn one = grind arith
 
 nobody : (en : Bool) (events : List PrivateEvent) → cond en [] [] ++ events ≡ events
-nobody true events = refl
-nobody false events = refl
+nobody en events = grind arith
 
 -- What each connection is handed, and how it is closed, at an entry without a fault.
 IsSent : Bases → List HistoryEntry → Happening → ℕ → Option ℕ → Type 0

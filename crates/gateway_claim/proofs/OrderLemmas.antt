@@ -1,36 +1,84 @@
--- The next entry of a history hands out and closes what an entry may.
-use Rattle.std.proofs.Common.{◌≡◌, ◌∙◌, ℕ, ◌++◌, nat_lt, Bool, true, false, cond, ◌==◌, ◌&&◌, not, List, [], ◌∷◌, length, Option, Some, None, Result, Ok, Err, refl, sym, ap, subst, inl, inr}
-use Rattle.std.specs.Prelude.{is_some, is_none, ◌⊎◌}
-use Rattle.std.specs.Option.{option_or}
-use Rattle.rtsp_head.specs.Items.{Shape}
+-- Entries are orderly: a connection that is not alive is handed nothing and is not closed, and one that is alive is closed by
+-- what closes it.
+use Rattle.std.proofs.Common.{◌≡◌, ◌∙◌, ℕ, ◌+◌, Bool, true, false, cond, ◌&&◌, not, List, [], ◌++◌, Option, Some, None, refl, subst, arith, sym, ap}
+use Rattle.std.specs.Prelude.{◌⊎◌, is_some}
 use Rattle.rtsp_uri.specs.declared.base.Bases.{Bases}
-use Rattle.rtsp_small.specs.declared.cseq.TheConstants.{LAST_CSEQ_TWO}
-use Rattle.head_two.specs.declared.reply.Reply2.{Reply2}
-use Rattle.session_one.specs.Table.{is_success}
+use Rattle.client_slot.specs.Client.{Client}
 use Rattle.client_machine.specs.declared.why.CloseWhy.{CloseWhy}
 use Rattle.client_machine.specs.declared.why.CloseWhy.TheVariants as why
-use Rattle.client_machine.specs.Effects.{Outgoing, asks, carries, Effect}
-use Rattle.client_machine.specs.Events.{PrivateEvent, arrive, answer, note, media, end, slow, up_end}
-use Rattle.client_machine.specs.Alone.{Private, is_live, private_after, is_empty_list}
+use Rattle.client_machine.specs.Events.{PrivateEvent, arrive, answer, note, media, end, slow, up_end, Outgoing, Effect}
+use Rattle.client_machine.specs.Treatment.{Going}
+use Rattle.client_machine.specs.Step.{goes_at, Hearing, hear, going_on, step}
+use Rattle.client_machine.proofs.WayLemmas.{alone_by}
+use Rattle.client_machine.specs.Alone.{Private, is_live, pair_alone, effect_while, effect_alone, private_after, is_empty_list}
+use Rattle.std.specs.Option.{option_or}
+use Rattle.rtsp_head.specs.Items.{Shape}
+use Rattle.head_two.specs.declared.reply.Reply2.{Reply2}
 use Rattle.client_machine.proofs.KeepLemmas.{live_unclosed}
 use Rattle.gateway_claim.specs.declared.event.UpCause.{UpCause}
-use Rattle.gateway_claim.specs.declared.event.UpCause.TheVariants as causes
-use Rattle.gateway_claim.specs.declared.event.Closed.TheVariants.{Nobody, One}
 use Rattle.gateway_claim.specs.declared.event.ToUp.{ToUp}
-use Rattle.gateway_claim.specs.ServerItems.{Heard, replies, requests, frames, faults, heard}
-use Rattle.gateway_claim.specs.Notices.{HeardNotice, notice_of}
-use Rattle.gateway_claim.specs.Kinds.{RequestKind, sets_up, tears_down, closes, plain}
-use Rattle.gateway_claim.specs.Books.{Books, Opened}
+use Rattle.gateway_claim.specs.ServerItems.{Heard, heard}
+use Rattle.gateway_claim.specs.Books.{RequestKind, Books, Opened}
 use Rattle.gateway_claim.specs.Happenings.{Happening, enters, takes, ends, lags, hears, up_ends, HistoryEntry, fault_in, entered, is_alive, silent}
-use Rattle.gateway_claim.specs.OwnEvents.{turn, heard_turn, heard_event, is_full, notice_event, settled_by, books_of, own}
-use Rattle.gateway_claim.specs.Follows.{effect_at, event_in, effect_of_turn, effect, is_granted, is_bound, grant_breach, kind_breach, reply_breach, heard_breach, said_breach, session_of_private, private_in, spent, breach, up_due, Follows, IsHistory}
-use Rattle.gateway_claim.specs.Settlement.{id_said}
-use Rattle.gateway_claim.specs.Next.{client_piece, one_closed, outcome_with, next}
-use Rattle.gateway_claim.specs.Orderly.{HandsToLiving, ClosesAtMostOne, closed_if_alive, IsOrderlyEvent, is_from_outside, MayEndServer, IsOrderlyBy, IsOrderlyAfter, IsOrderly}
-use Rattle.gateway_claim.proofs.DeadLemmas.{ClosesBy, alone_closes, alone_mute, end_mute, slow_mute}
-use Rattle.gateway_claim.proofs.HistoryLemmas.{shut_as_alone, one_next}
-use Rattle.gateway_claim.proofs.NextLemmas.{next_follows}
-use Rattle.gateway_claim.proofs.OverLemmas.{breach_standing}
+use Rattle.gateway_claim.specs.OwnEvents.{turn, heard_turn, heard_event, settled_by, books_of, own}
+use Rattle.gateway_claim.specs.Follows.{effect_at, event_in, effect_of_turn, effect, kind_breach, reply_breach, heard_breach, said_breach, spent, breach, up_due, Follows, IsHistory, client_piece, one_closed, outcome_with, next}
+use Rattle.gateway_claim.specs.Cores.{HandsToLiving, ClosesAtMostOne, IsOrderlyEvent, is_from_outside, MayEndServer, IsOrderlyBy, IsOrderlyAfter, IsOrderly}
+use Rattle.gateway_claim.proofs.NextLemmas.{shut_as_alone, one_next, next_follows}
+use Rattle.gateway_claim.proofs.CaseLemmas.{breach_standing, heard_event_as}
+
+-- Nor does an event by itself, after which it is not alive either.
+record IsMuted (heard : Hearing) : Type 0 where
+  hand : heard.effect.hand ≡ []
+  alive : heard.effect.client.alive ≡ false
+
+-- its reply, which a connection that is not alive does not get
+hear_muted : (bases : Bases) (number : ℕ) (client : Client) (event : PrivateEvent) → client.alive ≡ false → IsMuted (hear bases number client event)
+hear_muted bases number client event dead = grind arith
+
+muted_on : (bases : Bases) (pair : Option ℕ) (heard : Hearing) → IsMuted heard → (heard.effect.hand ++ (going_on bases pair heard.next heard.effect.client).hand) ≡ []
+muted_on bases pair heard muted = grind arith
+
+step_mute : (bases : Bases) (number : ℕ) (pair : Option ℕ) (client : Client) (event : PrivateEvent) → client.alive ≡ false → (step bases number pair client event).hand ≡ []
+step_mute bases number pair client event dead = muted_on bases pair (hear bases number client event) (hear_muted bases number client event dead)
+
+-- What goes up closes nothing.
+goes_open : (one : Option Going) (pair : Option ℕ) (text : List ℕ) (client : Client) → (goes_at one pair text client).close ≡ None
+goes_open one pair text client = grind arith
+
+-- How an event closes a connection, by whether it is alive.
+abbrev pub ClosesBy : Bool → PrivateEvent → Option CloseWhy → Type 0
+ClosesBy alive (arrive shape full) close = (close ≡ None) ⊎ ((alive ≡ true) × (close ≡ Some why.BadItem))
+ClosesBy alive (answer told ssrc full) close = close ≡ None
+ClosesBy alive (note id reason names) close = close ≡ None
+ClosesBy alive (media pair half rest) close = close ≡ None
+ClosesBy alive end close = close ≡ cond alive (Some why.Ended) None
+ClosesBy alive slow close = close ≡ cond alive (Some why.Slow) None
+ClosesBy alive up_end close = Unit {0}
+
+step_closes : (bases : Bases) (number : ℕ) (pair : Option ℕ) (client : Client) (event : PrivateEvent) → ClosesBy client.alive event (step bases number pair client event).close
+step_closes bases number pair client event = grind arith
+
+-- One that is not alive is not closed.
+pub unclosed : (event : PrivateEvent) → ClosesBy false event None
+unclosed event = grind arith
+
+-- So it is for a connection alone: one that is over is not alive.
+closes_while : (over : Bool) (bases : Bases) (p : Private) (event : PrivateEvent) → ClosesBy (not over && p.client.alive) event (effect_while over bases p event).close
+closes_while true bases p event = unclosed event
+closes_while false bases p (arrive shape full) = step_closes bases p.count (pair_alone (arrive shape full) (p.count + 1)) p.client (arrive shape full)
+closes_while false bases p (answer told ssrc full) = step_closes bases p.count (pair_alone (answer told ssrc full) (p.count + 1)) p.client (answer told ssrc full)
+closes_while false bases p (note id reason names) = step_closes bases p.count (pair_alone (note id reason names) (p.count + 1)) p.client (note id reason names)
+closes_while false bases p (media pair half rest) = step_closes bases p.count (pair_alone (media pair half rest) (p.count + 1)) p.client (media pair half rest)
+closes_while false bases p end = step_closes bases p.count (pair_alone end (p.count + 1)) p.client end
+closes_while false bases p slow = step_closes bases p.count (pair_alone slow (p.count + 1)) p.client slow
+closes_while false bases p up_end = tt
+
+pub alone_closes : (bases : Bases) (p : Private) (event : PrivateEvent) → ClosesBy (is_live p) event (effect_alone bases p event).close
+alone_closes bases p event = closes_while p.over bases p event
+
+pub alone_mute : (bases : Bases) (p : Private) (event : PrivateEvent) → is_live p ≡ false → (effect_alone bases p event).hand ≡ []
+alone_mute bases p event dead = alone_by (λ effect. effect.hand ≡ []) bases p event (λ over. refl) (λ over up. refl)
+    (λ over other. step_mute bases p.count (pair_alone event (p.count + 1)) p.client event (subst (λ (b : Bool). (not b && p.client.alive) ≡ false) over dead))
 
 -- A connection is alive in a history exactly where it took part and is alive alone.
 alive_alone : (bases : Bases) (T : List HistoryEntry) (i : ℕ) → IsHistory bases T → is_alive i T ≡ (entered i T && is_live (private_after bases (own bases i T)))
@@ -41,48 +89,15 @@ abbrev does : Bases → Bool → Private → Option PrivateEvent → Effect
 does bases en p event = effect_at bases (cond en (Some p) None) event
 
 does_mute : (bases : Bases) (en : Bool) (p : Private) (event : Option PrivateEvent) → (en && is_live p) ≡ false → (does bases en p event).hand ≡ []
-does_mute bases true p None dead = refl
-does_mute bases true p (Some event) dead = alone_mute bases p event dead
-does_mute bases false p event dead = refl
-
-does_end_mute : (bases : Bases) (en : Bool) (p : Private) → (does bases en p (Some end)).hand ≡ []
-does_end_mute bases true p = end_mute bases p
-does_end_mute bases false p = refl
-
-does_slow_mute : (bases : Bases) (en : Bool) (p : Private) → (does bases en p (Some slow)).hand ≡ []
-does_slow_mute bases true p = slow_mute bases p
-does_slow_mute bases false p = refl
-
-does_closes : (bases : Bases) (en : Bool) (p : Private) (event : PrivateEvent) → ClosesBy (en && is_live p) event (does bases en p (Some event)).close
-does_closes bases true p event = alone_closes bases p event
-does_closes bases false p (arrive shape full) = inl refl
-does_closes bases false p (answer told ssrc full) = refl
-does_closes bases false p (note id reason names) = refl
-does_closes bases false p (media pair half rest) = refl
-does_closes bases false p end = refl
-does_closes bases false p slow = refl
-does_closes bases false p up_end = tt
+does_mute bases en p event dead = grind (arith, alone_mute)
 
 -- An event that the server causes closes nothing.
 abbrev IsHeardEvent : Option PrivateEvent → Type 0
-IsHeardEvent None = Unit {0}
 IsHeardEvent (Some (arrive shape full)) = ⊥
-IsHeardEvent (Some (answer told ssrc full)) = Unit {0}
-IsHeardEvent (Some (note id reason names)) = Unit {0}
-IsHeardEvent (Some (media pair half rest)) = Unit {0}
 IsHeardEvent (Some end) = ⊥
 IsHeardEvent (Some slow) = ⊥
 IsHeardEvent (Some up_end) = ⊥
-
-notice_heard : (books : Books) (i : ℕ) (notice : Result HeardNotice ℕ) → IsHeardEvent (notice_event books i notice)
-notice_heard books i (Ok notice) = tt
-notice_heard books i (Err code) = tt
-
-event_heard : (books settled : Books) (i : ℕ) (waiting : List Shape) (said : Heard) → IsHeardEvent (heard_event books settled i waiting said)
-event_heard books settled i waiting (replies reply) = tt
-event_heard books settled i waiting (requests request) = notice_heard books i (notice_of books.holder request)
-event_heard books settled i waiting (frames channel rest) = tt
-event_heard books settled i waiting (faults fault) = tt
+IsHeardEvent event = Unit {0}
 
 does_open : (bases : Bases) (en : Bool) (p : Private) (event : Option PrivateEvent) → IsHeardEvent event → (does bases en p event).close ≡ None
 does_open bases false p event is = refl
@@ -100,22 +115,7 @@ no_piece : (i : ℕ) (bytes : List ℕ) → bytes ≡ [] → client_piece (Some 
 no_piece i bytes none = ap (client_piece (Some i)) none
 
 piece_living : (T : List HistoryEntry) (i : ℕ) (bytes : List ℕ) (alive : Bool) → is_alive i T ≡ alive → (alive ≡ false → bytes ≡ []) → HandsToLiving T (client_piece (Some i) bytes)
-piece_living T i bytes true is mute = by (length bytes == 0)
-  where
-    by : (empty : Bool) → HandsToLiving T (cond empty None (Some (record { conn = i; bytes = bytes })))
-    by true = tt
-    by false = is
-piece_living T i bytes false is mute = subst (λ piece. HandsToLiving T piece) (sym (no_piece i bytes (mute refl))) tt
-
-close_bad : (T : List HistoryEntry) (i : ℕ) (close : Option CloseWhy) (alive : Bool) → is_alive i T ≡ alive → (close ≡ None) ⊎ ((alive ≡ true) × (close ≡ Some why.BadItem))
-    → ClosesAtMostOne T (λ j reason. (j ≡ i) × (reason ≡ why.BadItem)) (one_closed (Some i) close)
-close_bad T i close alive is (inl none) = subst (λ (one : Option CloseWhy). ClosesAtMostOne T (λ j reason. (j ≡ i) × (reason ≡ why.BadItem)) (one_closed (Some i) one)) (sym none) tt
-close_bad T i close alive is (inr bad) =
-    subst (λ (one : Option CloseWhy). ClosesAtMostOne T (λ j reason. (j ≡ i) × (reason ≡ why.BadItem)) (one_closed (Some i) one)) (sym bad.1) (is ∙ bad.0, (refl, refl))
-
-close_living : (i : ℕ) (reason : CloseWhy) (alive : Bool) → one_closed (Some i) (cond alive (Some reason) None) ≡ cond alive (One i reason) Nobody
-close_living i reason true = refl
-close_living i reason false = refl
+piece_living T i bytes alive is mute = grind arith
 
 -- An event that does not end the connection to the server, by whether the connection whose turn it is took part.
 turn_hears : (bases : Bases) (T : List HistoryEntry) (shape : Shape) (up : ToUp) (i : ℕ) (en : Bool) (p : Private) → is_alive i T ≡ (en && is_live p)
@@ -124,7 +124,7 @@ turn_hears bases T shape up i true p is =
     let event : Option PrivateEvent = heard_event (books_of T) (settled_by (books_of T) (hears shape)) i p.client.waiting (heard shape) in (
       piece_living T i (effect_at bases (Some p) event).hand (is_live p) is (does_mute bases true p event),
       subst (λ (close : Option CloseWhy). ClosesAtMostOne T (λ j reason. reason ≡ why.Ended) (one_closed (Some i) close))
-          (sym (does_open bases true p event (event_heard (books_of T) (settled_by (books_of T) (hears shape)) i p.client.waiting (heard shape)))) tt,
+          (sym (does_open bases true p event (heard_event_as IsHeardEvent (books_of T) (settled_by (books_of T) (hears shape)) i p.client.waiting (heard shape) tt (λ reply is. tt) (λ id reason names. tt) (λ pair half rest. tt)))) tt,
     )
 turn_hears bases T shape up i false p is = (tt, tt)
 
@@ -135,34 +135,16 @@ orderly_hears bases T shape up (Some i) history = turn_hears bases T shape up i 
 
 turn_takes : (bases : Bases) (T : List HistoryEntry) (shape : Shape) (up : ToUp) (i : ℕ) (en : Bool) (p : Private) → is_alive i T ≡ (en && is_live p)
     → IsOrderlyEvent T (takes i shape) (outcome_with None (Some i) up (effect_at bases (cond en (Some p) None) (event_in (books_of T) i (cond en (Some p) None) (takes i shape))))
-turn_takes bases T shape up i true p is =
-    let full : Bool = is_full (settled_by (books_of T) (takes i shape)) (p.client.waiting ++ shape ∷ []) in (
-      piece_living T i (effect_at bases (Some p) (Some (arrive shape full))).hand (is_live p) is (does_mute bases true p (Some (arrive shape full))),
-      close_bad T i (effect_at bases (Some p) (Some (arrive shape full))).close (is_live p) is (does_closes bases true p (arrive shape full)),
-    )
-turn_takes bases T shape up i false p is = (tt, tt)
+turn_takes bases T shape up i en p is = grind arith
 
 -- the end of a client, and its full queue
-living_closed : (T : List HistoryEntry) (i : ℕ) (reason : CloseWhy) (close : Option CloseWhy) (alive : Bool) → is_alive i T ≡ alive → close ≡ cond alive (Some reason) None
-    → one_closed (Some i) close ≡ closed_if_alive T i reason
-living_closed T i reason close alive is so =
-    ap (one_closed (Some i)) so ∙ close_living i reason alive ∙ ap (λ b. cond b (One i reason) Nobody) (sym is)
-
 turn_ends : (bases : Bases) (T : List HistoryEntry) (up : ToUp) (i : ℕ) (en : Bool) (p : Private) → is_alive i T ≡ (en && is_live p)
     → IsOrderlyEvent T (ends i) (outcome_with None (Some i) up (effect_at bases (cond en (Some p) None) (event_in (books_of T) i (cond en (Some p) None) (ends i))))
-turn_ends bases T up i true p is = (
-  no_piece i (effect_at bases (Some p) (Some end)).hand (does_end_mute bases true p),
-  living_closed T i why.Ended (effect_at bases (Some p) (Some end)).close (is_live p) is (does_closes bases true p end),
-)
-turn_ends bases T up i false p is = (refl, living_closed T i why.Ended None false is refl)
+turn_ends bases T up i en p is = grind arith
 
 turn_lags : (bases : Bases) (T : List HistoryEntry) (up : ToUp) (i : ℕ) (en : Bool) (p : Private) → is_alive i T ≡ (en && is_live p)
     → IsOrderlyEvent T (lags i) (outcome_with None (Some i) up (effect_at bases (cond en (Some p) None) (event_in (books_of T) i (cond en (Some p) None) (lags i))))
-turn_lags bases T up i true p is = (
-  no_piece i (effect_at bases (Some p) (Some slow)).hand (does_slow_mute bases true p),
-  living_closed T i why.Slow (effect_at bases (Some p) (Some slow)).close (is_live p) is (does_closes bases true p slow),
-)
-turn_lags bases T up i false p is = (refl, living_closed T i why.Slow None false is refl)
+turn_lags bases T up i en p is = grind arith
 
 -- What ends the connection to the server is no cause from outside, but where that connection ends.
 abbrev is_outside : Option UpCause → Bool
@@ -170,41 +152,22 @@ is_outside None = false
 is_outside (Some cause) = is_from_outside cause
 
 spent_inside : (issued : ℕ) (message : Option Outgoing) → is_outside (spent issued message) ≡ false
-spent_inside issued None = refl
-spent_inside issued (Some (asks request pair)) = by (nat_lt issued LAST_CSEQ_TWO)
-  where
-    by : (fits : Bool) → is_outside (cond fits None (Some causes.CseqSpent)) ≡ false
-    by true = refl
-    by false = refl
-spent_inside issued (Some (carries pair half rest)) = refl
+spent_inside issued message = grind arith
 
 either_inside : (one other : Option UpCause) → is_outside one ≡ false → is_outside other ≡ false → is_outside (option_or one other) ≡ false
-either_inside None other first second = second
-either_inside (Some cause) other first second = first
+either_inside one other first second = grind arith
 
 cond_inside : (t : Bool) (one other : Option UpCause) → is_outside one ≡ false → is_outside other ≡ false → is_outside (cond t one other) ≡ false
-cond_inside true one other first second = first
-cond_inside false one other first second = second
+cond_inside t one other first second = grind arith
 
 kind_inside : (books : Books) (kind : RequestKind) (session : Option (List ℕ)) (reply : Reply2) → is_outside (kind_breach books kind session reply) ≡ false
-kind_inside books (sets_up pair) session reply =
-    cond_inside (is_success reply.code) (grant_breach books pair session reply) None
-    (cond_inside (not (is_granted pair session reply)) (Some (causes.BadGrant reply.cseq)) (cond (is_none session && is_bound books (id_said reply)) (Some (causes.SessionTaken reply.cseq)) None)
-    refl (cond_inside (is_none session && is_bound books (id_said reply)) (Some (causes.SessionTaken reply.cseq)) None refl refl))
-    refl
-kind_inside books (tears_down id) session reply = refl
-kind_inside books (closes id) session reply = refl
-kind_inside books plain session reply = refl
+kind_inside books kind session reply = grind (arith, cond_inside)
 
 reply_inside : (bases : Bases) (T : List HistoryEntry) (reply : Reply2) (opened : Option Opened) → is_outside (reply_breach bases T reply opened) ≡ false
-reply_inside bases T reply None = refl
-reply_inside bases T reply (Some opened) = kind_inside (books_of T) opened.kind (session_of_private (private_in bases opened.conn T)) reply
+reply_inside bases T reply opened = grind (arith, kind_inside)
 
 heard_inside : (bases : Bases) (T : List HistoryEntry) (said : Heard) → is_outside (heard_breach bases T said) ≡ false
-heard_inside bases T (replies reply) = reply_inside bases T reply ((books_of T).opened reply.cseq)
-heard_inside bases T (requests request) = refl
-heard_inside bases T (frames channel rest) = refl
-heard_inside bases T (faults fault) = refl
+heard_inside bases T said = grind (arith, reply_inside)
 
 told_inside : (said sent : Option UpCause) (cause : UpCause) → is_outside said ≡ false → is_outside sent ≡ false → option_or said sent ≡ Some cause → is_from_outside cause ≡ false
 told_inside said sent cause first second is = ap is_outside (sym is) ∙ either_inside said sent first second
@@ -236,13 +199,11 @@ orderly_event bases T (up_ends reason) history none = cc
 judged_orderly : (bases : Bases) (T : List HistoryEntry) (h : Happening) (wrong : Option UpCause) → IsHistory bases T
     → option_or (said_breach bases T h) (spent (books_of T).issued (effect bases T h).message) ≡ wrong
     → IsOrderlyBy (outcome_with wrong (turn (books_of T) h) (up_due bases T h) (effect bases T h)).fault T (record { happening = h; outcome = outcome_with wrong (turn (books_of T) h) (up_due bases T h) (effect bases T h) })
-judged_orderly bases T h None history is = orderly_event bases T h history is
-judged_orderly bases T h (Some cause) history is = (may_end bases T h cause is, refl)
+judged_orderly bases T h wrong history is = grind (arith, orderly_event, may_end)
 
 next_orderly : (bases : Bases) (T : List HistoryEntry) (h : Happening) (ended : Option UpCause) → IsHistory bases T → fault_in T ≡ ended
     → IsOrderlyAfter ended T (record { happening = h; outcome = cond (is_some ended) silent (outcome_with (breach bases T h) (turn (books_of T) h) (up_due bases T h) (effect bases T h)) })
-next_orderly bases T h (Some cause) history is = refl
-next_orderly bases T h None history is = judged_orderly bases T h (breach bases T h) history (sym (breach_standing bases T h is))
+next_orderly bases T h ended history is = grind (arith, judged_orderly, breach_standing)
 
 -- What follows a history is the next entry.
 pub follows_orderly : (bases : Bases) (T : List HistoryEntry) (e : HistoryEntry) → IsHistory bases T → Follows bases T e → IsOrderly T e

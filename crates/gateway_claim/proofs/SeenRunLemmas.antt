@@ -1,53 +1,40 @@
 -- What a player sees in a history walks the table.
-use Rattle.std.proofs.Common.{◌≡◌, ◌∙◌, ◌==◌, ◌&&◌, ◌+◌, ◌*◌, ◌≤◌, ℕ, zero, suc, Bool, true, false, cond, not, List, [], ◌∷◌, ◌++◌, length, take, drop, filter, Option, None, Some, IfSome, IfOk, Result, Ok, Err, option_to_list, refl, sym, ap, subst, arith}
-use Rattle.std.specs.Prelude.{nat_lt, slice_index}
-use Rattle.std.specs.Option.{option_map, option_or}
+use Rattle.std.proofs.Common.{◌≡◌, ◌∙◌, ◌==◌, ◌+◌, ◌≤◌, ℕ, Bool, true, false, cond, List, [], ◌∷◌, ◌++◌, length, take, drop, filter, Option, None, Some, IfSome, IfOk, Result, Ok, option_to_list, refl, sym, ap, subst, arith}
+use Rattle.std.specs.Option.{option_map}
 use Rattle.std.specs.List.{list_all}
 use Rattle.std.proofs.lemmas.List.{append-nil, length-drop}
-use Rattle.std.proofs.lemmas.Bool.{and_parts, ltb-false, eqb-true}
+use Rattle.std.proofs.lemmas.Bool.{and_parts}
 use Rattle.std.proofs.lemmas.Slice.Eq.{bytes_eq-Decides}
 use Rattle.gate_bytes.specs.Ascii.{dollar}
-use Rattle.rtsp_head.specs.Items.{Shape, bad_span, message_kind, when_whole, body_span, judged_span, headed_span, message_span, frame_span, span_of, head_len, blank_lines}
-use Rattle.rtsp_head.specs.Heads.{head_of, facts_of}
-use Rattle.rtsp_head.specs.Lines.{result_map}
-use Rattle.rtsp_head.specs.Messages.{is_added, own_fields}
+use Rattle.rtsp_head.specs.Items.{Shape, body_span, judged_span, headed_span, message_span, frame_span, span_of, head_len, blank_lines}
+use Rattle.rtsp_head.specs.Heads.{head_of}
 use Rattle.rtsp_head.specs.HeadText.{is_header, CanBeWritten}
 use Rattle.rtsp_head.specs.declared.facts.Facts.{Facts}
 use Rattle.rtsp_head.specs.declared.facts.Length.{Length}
-use Rattle.rtsp_head.specs.declared.facts.Length.TheVariants as lengths
 use Rattle.rtsp_head.specs.declared.head.Head.{Head}
 use Rattle.rtsp_head.specs.declared.header.Header.{Header}
-use Rattle.rtsp_head.specs.HeadParts.{Start}
-use Rattle.rtsp_head.specs.HeadParts as starts
 use Rattle.rtsp_head.specs.declared.fault.HeadFault.{HeadFault}
-use Rattle.rtsp_head.specs.declared.item.BadKind.TheVariants as bad
 use Rattle.rtsp_head.specs.declared.item.Span.{Span}
 use Rattle.rtsp_head.specs.declared.item.Extent.{Extent}
 use Rattle.rtsp_head.specs.declared.item.ItemKind.{ItemKind}
 use Rattle.rtsp_head.specs.declared.item.ItemKind.TheVariants.{Request, Response, Frame, Bad}
 use Rattle.rtsp_head.specs.declared.item.TheConstants.{MOST_BODY, MOST_HEAD}
 use Rattle.rtsp_head.proofs.SoundLemmas.{read_sound}
-use Rattle.rtsp_small.specs.declared.method.Method.{Method}
-use Rattle.rtsp_small.specs.declared.method.Method.TheVariants as methods
 use Rattle.rtsp_uri.specs.declared.base.Bases.{Bases}
 use Rattle.head_two.specs.declared.ask.Ask2.{Ask2}
 use Rattle.head_two.specs.declared.fault.TwoFault.{TwoFault}
 use Rattle.head_two.specs.declared.reply.Reply2.{Reply2}
-use Rattle.head_two.specs.Messages.{checked_cseq}
-use Rattle.head_two.specs.Replies.{reply_at_start, reply_of_head, reply_of_item, ask_of_item}
+use Rattle.head_two.specs.Replies.{reply_of_head, reply_of_item, ask_of_item}
 use Rattle.session_one.specs.Table.{is_success}
-use Rattle.translate_up.specs.Fields.{is_setup}
-use Rattle.translate_down.specs.Replies.{is_no_transport, told_by}
-use Rattle.translate_down.specs.Sessions.{sets_up as tells_setup}
+use Rattle.translate_down.specs.Replies.{told_by}
 use Rattle.client_slot.specs.declared.purpose.Purpose.{Purpose}
-use Rattle.client_slot.specs.declared.purpose.Purpose.TheVariants as purposes
 use Rattle.client_slot.specs.Session.{PlayerSession}
 use Rattle.client_slot.specs.Places.{session_at, first_place, is_session, place_with}
 use Rattle.client_slot.specs.Client.{Client}
 use Rattle.client_slot.proofs.PlaceLemmas.{place_is}
 use Rattle.client_machine.specs.Alone.{Private, is_live, private_after, hand}
 use Rattle.client_machine.specs.Events.{PrivateEvent, arrive, end, slow, up_end}
-use Rattle.client_machine.specs.ServerItems.{new_id_at, new_id}
+use Rattle.client_machine.specs.Step.{new_id}
 use Rattle.client_machine.specs.SeenRun.{request_taken, IsTableRun}
 use Rattle.client_machine.proofs.SeenHearLemmas.{asked_by, IsReadableEvent, IsNew, IsFreshEvent}
 use Rattle.client_machine.proofs.SeenSettleLemmas.{AreDistinct}
@@ -55,18 +42,15 @@ use Rattle.client_machine.proofs.SeenRunLemmas.{IsRun, seen_run, run_begins, run
 use Rattle.gateway_claim.specs.declared.event.UpCause.{UpCause}
 use Rattle.gateway_claim.specs.Books.{Opened, Books}
 use Rattle.gateway_claim.specs.BooksAndSlots.{kind_for, IsPurpose, opened_for, IsOpenFor, IsJoined}
-use Rattle.gateway_claim.specs.ServerItems.{Heard, replies, requests, frames, faults, heard_reply, heard_ask, heard_at, heard}
-use Rattle.gateway_claim.specs.Notices.{HeardNotice, notice_of}
-use Rattle.gateway_claim.specs.Settlement.{id_said}
+use Rattle.gateway_claim.specs.ServerItems.{Heard, replies, heard_reply, heard_ask, heard_at, heard}
 use Rattle.gateway_claim.specs.Happenings.{Happening, enters, takes, ends, lags, hears, up_ends, HistoryEntry, fault_in, entered, sent}
-use Rattle.gateway_claim.specs.OwnEvents.{is_turn, settled_by, heard_turn, books_of, notice_event, heard_event, own_here, own}
-use Rattle.gateway_claim.specs.Follows.{IsHistory, private_in, kind_breach, session_asked, session_of_private, reply_breach, heard_breach, said_breach}
+use Rattle.gateway_claim.specs.OwnEvents.{is_turn, settled_by, heard_turn, books_of, heard_event, own_here, own}
+use Rattle.gateway_claim.specs.Follows.{IsHistory, private_in, kind_breach, session_asked, session_of_private, reply_breach, heard_breach}
 use Rattle.gateway_claim.specs.SeenRun.{request_here, requests_from, IsItemHeard, AreItemsHeard, IsSeenRun}
-use Rattle.gateway_claim.proofs.AgreeLemmas.{joined, said_right}
-use Rattle.gateway_claim.proofs.AnswerLemmas.{SaysAt, SaysFor, IsSaid, said_for}
-use Rattle.gateway_claim.proofs.HistoryLemmas.{sent_as_alone}
-use Rattle.gateway_claim.proofs.OverLemmas.{faults_over}
-use Rattle.gateway_claim.proofs.SlotLemmas.{alone}
+use Rattle.gateway_claim.proofs.AgreeLemmas.{joined, said_right, alone}
+use Rattle.gateway_claim.proofs.AnswerLemmas.{IsSaid, said_for}
+use Rattle.gateway_claim.proofs.NextLemmas.{sent_as_alone}
+use Rattle.gateway_claim.proofs.CaseLemmas.{faults_over, heard_event_as}
 
 -- What a reply of the server tells has headers of a head that was read.
 filtered : (test keep : Header → Bool) (headers : List Header) → list_all test headers ≡ true → list_all test (filter keep headers) ≡ true
@@ -76,47 +60,23 @@ filtered test keep (header ∷ headers) all =
     by (keep header) (filter keep headers) parts.0 (filtered test keep headers parts.1)
   where
     by : (kept : Bool) (others : List Header) → test header ≡ true → list_all test others ≡ true → list_all test (cond kept (header ∷ others) others) ≡ true
-    by true others one more = ap (λ b. b && list_all test others) one ∙ more
-    by false others one more = more
+    by kept others one more = grind arith
 
 -- The body of a reply is not longer than that of an item.
 abbrev HasShortBody : Option Span → Type 0
 HasShortBody span = IfSome span (λ one. one.kind ≡ Response → one.len ≤ one.head + MOST_BODY)
 
-whole_short : (come : ℕ) (span : Span) → HasShortBody (Some span) → HasShortBody (when_whole come span)
-whole_short come span short = by (nat_lt come span.len)
-  where
-    by : (t : Bool) → HasShortBody (cond t None (Some span))
-    by true = tt
-    by false = short
-
 body_short : (kind : ItemKind) (come n : ℕ) (named : Length) → HasShortBody (body_span kind come n named)
-body_short kind come n lengths.Absent = whole_short come (record { kind = kind; len = n; head = n }) (λ is. omega arith)
-body_short kind come n (lengths.Bytes body) = by (nat_lt MOST_BODY body) refl
-  where
-    by : (t : Bool) → nat_lt MOST_BODY body ≡ t → HasShortBody (cond t (Some (bad_span bad.Body n)) (when_whole come (record { kind = kind; len = n + body; head = n })))
-    by true e = λ is. cc
-    by false e = let few : body ≤ MOST_BODY = ltb-false MOST_BODY body e in whole_short come (record { kind = kind; len = n + body; head = n }) (λ is. omega (arith, few))
-body_short kind come n lengths.Bad = λ is. cc
+body_short kind come n named = grind arith
 
 judged_short : (come n : ℕ) (facts : Result Facts HeadFault) → HasShortBody (judged_span come n facts)
-judged_short come n (Ok facts) = body_short (message_kind facts.request) come n facts.length
-judged_short come n (Err fault) = λ is. cc
+judged_short come n facts = grind arith
 
 headed_short : (bytes : List ℕ) (len : Option ℕ) → HasShortBody (headed_span bytes len)
-headed_short bytes None = by (nat_lt (length bytes) MOST_HEAD)
-  where
-    by : (t : Bool) → HasShortBody (cond t None (Some (bad_span bad.Head MOST_HEAD)))
-    by true = tt
-    by false = λ is. cc
-headed_short bytes (Some n) = judged_short (length bytes) n (facts_of (take n bytes))
+headed_short bytes len = grind (arith, judged_short)
 
 frame_short : (bytes : List ℕ) → HasShortBody (frame_span bytes)
-frame_short bytes = by (nat_lt (length bytes) 4)
-  where
-    by : (t : Bool) → HasShortBody (cond t None (when_whole (length bytes) (record { kind = Frame; len = 4 + (256 * slice_index bytes 2 + slice_index bytes 3); head = 0 })))
-    by true = tt
-    by false = whole_short (length bytes) (record { kind = Frame; len = 4 + (256 * slice_index bytes 2 + slice_index bytes 3); head = 0 }) (λ is. cc)
+frame_short bytes = grind arith
 
 span_short : (bytes : List ℕ) → HasShortBody (span_of bytes)
 span_short [] = tt
@@ -134,42 +94,24 @@ item_short shape is kind = by (span_of (drop (blank_lines shape.bytes) shape.byt
   where
     by : (span : Option Span) → HasShortBody span → option_map {U = Extent} (λ (one : Span). record { skipped = blank_lines shape.bytes; span = one }) span ≡ Some (record { skipped = 0; span = record { kind = shape.kind; len = length shape.bytes; head = shape.head } })
         → length (drop shape.head shape.bytes) ≤ MOST_BODY
-    by None short e = cc
-    by (Some span) short e =
-        let same : span ≡ record { kind = shape.kind; len = length shape.bytes; head = shape.head } = same_span (blank_lines shape.bytes) 0 span (record { kind = shape.kind; len = length shape.bytes; head = shape.head }) e in
-        let few : length shape.bytes ≤ shape.head + MOST_BODY = subst (λ (one : Span). one.kind ≡ Response → one.len ≤ one.head + MOST_BODY) same short kind in
-        omega (arith, few, length-drop shape.head shape.bytes)
+    by span short e = grind (arith, same_span, length-drop)
 
 abbrev IsReadableReply : Reply2 → Type 0
 IsReadableReply reply = (list_all is_header reply.head.headers ≡ true) × (length reply.body ≤ MOST_BODY)
 
-read_cseq : (number : Result ℕ TwoFault) (code : ℕ) (head : Head) (body : List ℕ) → list_all is_header head.headers ≡ true → length body ≤ MOST_BODY
-    → IfOk (result_map (λ cseq. record { code = code; cseq = cseq; head = head; body = body }) number) IsReadableReply
-read_cseq (Ok cseq) code head body all short = (all, short)
-read_cseq (Err fault) code head body all short = tt
-
-read_start : (start : Start) (head : Head) (body : List ℕ) → list_all is_header head.headers ≡ true → length body ≤ MOST_BODY → IfOk (reply_at_start start head body) IsReadableReply
-read_start (starts.Status version code reason) head body all short = read_cseq (checked_cseq version head.headers) code head body all short
-read_start (starts.Request method uri version) head body all short = tt
-
 read_head : (found : Result Head HeadFault) (body : List ℕ) → ((head : Head) → found ≡ Ok head → CanBeWritten head.start head.headers) → length body ≤ MOST_BODY → IfOk (reply_of_head found body) IsReadableReply
-read_head (Ok head) body can short = read_start head.start head body (can head refl).headers short
-read_head (Err fault) body can short = tt
+read_head found body can short = grind arith
 
 -- what is heard of the server
 abbrev IsReadableHeard : Heard → Type 0
 IsReadableHeard (replies reply) = IsReadableReply reply
-IsReadableHeard (requests request) = Unit {0}
-IsReadableHeard (frames channel rest) = Unit {0}
-IsReadableHeard (faults fault) = Unit {0}
+IsReadableHeard one = Unit {0}
 
 reply_readable : (found : Result Reply2 TwoFault) → IfOk found IsReadableReply → IsReadableHeard (heard_reply found)
-reply_readable (Ok reply) all = all
-reply_readable (Err fault) all = tt
+reply_readable found all = grind arith
 
 ask_readable : (found : Result Ask2 TwoFault) → IsReadableHeard (heard_ask found)
-ask_readable (Ok request) = tt
-ask_readable (Err fault) = tt
+ask_readable found = grind arith
 
 kind_readable : (kind : ItemKind) (shape : Shape) → shape.kind ≡ kind → IsItemHeard (hears shape) → IsReadableHeard (heard_at kind shape)
 kind_readable Request shape is item = ask_readable (ask_of_item shape)
@@ -182,22 +124,13 @@ kind_readable (Bad kind) shape is item = tt
 abbrev IsQuiet : Private → PrivateEvent → Type 0
 IsQuiet p event = IsReadableEvent event × (asked_by event ≡ []) × (is_live p ≡ true → IsFreshEvent p.client event)
 
-notice_quiet : (p : Private) (books : Books) (i : ℕ) (notice : Result HeardNotice ℕ) → IfSome (notice_event books i notice) (IsQuiet p)
-notice_quiet p books i (Ok notice) = (tt, refl, λ live. tt)
-notice_quiet p books i (Err code) = tt
-
 heard_quiet : (p : Private) (books settled : Books) (i : ℕ) (waiting : List Shape) (one : Heard) → IsReadableHeard one → ((reply : Reply2) → one ≡ replies reply → is_live p ≡ true → IsNew p.client.sessions p.client.pending (told_by reply))
     → IfSome (heard_event books settled i waiting one) (IsQuiet p)
-heard_quiet p books settled i waiting (replies reply) readable fresh =
-    ((filtered is_header is_no_transport (own_fields reply.head.headers) (filtered is_header (λ header. not (is_added header)) reply.head.headers readable.0), readable.1), refl, fresh reply refl)
-heard_quiet p books settled i waiting (requests request) readable fresh = notice_quiet p books i (notice_of books.holder request)
-heard_quiet p books settled i waiting (frames channel rest) readable fresh = (tt, refl, λ live. tt)
-heard_quiet p books settled i waiting (faults fault) readable fresh = tt
+heard_quiet p books settled i waiting one readable fresh = grind (arith, heard_event_as, filtered)
 
 -- The sessions of a connection whose books agree are distinct.
 id_is : (id : List ℕ) (one : Option (List ℕ)) → is_session id one ≡ true → one ≡ Some id
-id_is id None e = cc
-id_is id (Some one) e = ap (λ some. Some some) ((bytes_eq-Decides one id).0 e)
+id_is id one e = grind (arith, bytes_eq-Decides)
 
 found_at : (place : ℕ) (id : List ℕ) (sessions : List PlayerSession) → place_with id sessions ≡ Some place → (session_at place sessions).id ≡ Some id
 found_at place id sessions e = id_is id (session_at place sessions).id (place_is (λ session. is_session id session.id) place sessions e).passes
@@ -208,9 +141,7 @@ none_found id from (one ∷ more) e place here = by place (is_session id one.id)
   where
     by : (place : ℕ) (t : Bool) → is_session id one.id ≡ t → cond t (Some from) (first_place (λ session. is_session id session.id) (from + 1) more) ≡ None → (session_at place (one ∷ more)).id ≡ Some id
         → (first_place (λ session. is_session id session.id) (from + 1) more ≡ None → (at : ℕ) → (session_at at more).id ≡ Some id → ⊥) → ⊥
-    by place true is e here later = cc
-    by zero false is e here later = let no : false ≡ true = sym is ∙ ap (is_session id) here ∙ (bytes_eq-Decides id id).1 refl in cc
-    by (suc place) false is e here later = later e place here
+    by place t is e here later = grind (arith, bytes_eq-Decides)
 
 distinct : (books : Books) (i : ℕ) (client : Client) (count : ℕ) → IsJoined books i client count → AreDistinct client.sessions
 distinct books i client count joined place id here = by (place_with id client.sessions) refl
@@ -229,29 +160,10 @@ unheld books i client count id joined free = by (place_with id client.sessions) 
 -- The session that a success makes is none that is there, where nothing is wrong with the reply.
 new_free : (books : Books) (i count : ℕ) (client : Client) (purpose : Purpose) (reply : Reply2) → IsPurpose books i client.sessions purpose → IsSaid books i purpose client.sessions (is_success reply.code) reply → is_success reply.code ≡ true
     → (id : List ℕ) → new_id purpose (told_by reply) ≡ Some id → books.holder id ≡ None
-new_free books i count client (purposes.Client asked (Some track)) reply is said success id new =
-    by asked.place (subst (λ (t : Bool). SaysFor books (purposes.Client asked (Some track)) client.sessions t (id_said reply) (new_id (purposes.Client asked (Some track)) (told_by reply))) success said.says)
-  where
-    by : (place : Option ℕ) → SaysAt books place client.sessions (id_said reply) (new_id (purposes.Client asked (Some track)) (told_by reply)) → books.holder id ≡ None
-    by None (one, is_said, is_new, free) = let both : Some id ≡ Some one = sym new ∙ is_new in let same : id ≡ one = cc in ap books.holder same ∙ free
-    by (Some place) says = let none : Some id ≡ None = sym new ∙ says.1 in cc
-new_free books i count client (purposes.Client asked None) reply is said success id new = let none : Some id ≡ None = sym new ∙ other asked.method is in cc
-  where
-    other : (method : Method) → is_setup method ≡ false → new_id_at (tells_setup method) asked.place (told_by reply) ≡ None
-    other methods.Options e = refl
-    other methods.Describe e = refl
-    other methods.Setup e = cc
-    other methods.Play e = refl
-    other methods.Pause e = refl
-    other methods.Teardown e = refl
-    other methods.GetParameter e = refl
-    other methods.SetParameter e = refl
-new_free books i count client (purposes.Released play) reply is said success id new = cc
-new_free books i count client (purposes.Closing place) reply is said success id new = cc
+new_free books i count client purpose reply is said success id new = grind arith
 
 turn_is : (i : ℕ) (who : Option ℕ) → is_turn i who ≡ true → who ≡ Some i
-turn_is i None e = cc
-turn_is i (Some conn) e = ap (λ n. Some n) (eqb-true conn i e)
+turn_is i who e = grind arith
 
 fresh_reply : (bases : Bases) (T : List HistoryEntry) (i : ℕ) (reply : Reply2) → IsJoined (books_of T) i (alone bases T i).client (alone bases T i).count → private_in bases i T ≡ Some (alone bases T i)
     → heard_turn (books_of T) (replies reply) ≡ Some i → heard_breach bases T (replies reply) ≡ None → IsNew (alone bases T i).client.sessions (alone bases T i).client.pending (told_by reply)
@@ -286,11 +198,7 @@ fresh_reply bases T i reply joins here turns right = by ((books_of T).opened rep
 
 -- The connection to the server stands while a connection is live.
 live_standing : (bases : Bases) (T : List HistoryEntry) (i : ℕ) → IsHistory bases T → entered i T ≡ true → is_live (alone bases T i) ≡ true → fault_in T ≡ None
-live_standing bases T i history en live = by (fault_in T) refl
-  where
-    by : (fault : Option UpCause) → fault_in T ≡ fault → fault ≡ None
-    by None e = refl
-    by (Some cause) e = let no : false ≡ true = ap (λ t. not t && (alone bases T i).client.alive) (sym (faults_over bases T history cause e i en)) ∙ live in cc
+live_standing bases T i history en live = grind (arith, alone, faults_over)
 
 -- A run with the events of one entry more.
 same_requests : (bases : Bases) (events : List PrivateEvent) (all : List Shape) → IsRun bases events all → IsRun bases events (all ++ [])
@@ -343,10 +251,7 @@ entry_more bases T e i all None history item en is run = happening_more bases T 
     distinct_at live = distinct (books_of T) i (alone bases T i).client (alone bases T i).count (joins live)
 
     fresh : (shape : Shape) (reply : Reply2) → e.happening ≡ hears shape → heard shape ≡ replies reply → heard_turn (books_of T) (heard shape) ≡ Some i → is_live (alone bases T i) ≡ true → IsNew (alone bases T i).client.sessions (alone bases T i).client.pending (told_by reply)
-    fresh shape reply here says turns live =
-        let standing : fault_in (e ∷ T) ≡ None = ap (λ fault. option_or fault e.outcome.fault) (live_standing bases T i history.0 en live) ∙ is in
-        fresh_reply bases T i reply (joins live) (ap (λ t. cond t (Some (alone bases T i)) None) en) (ap (heard_turn (books_of T)) (sym says) ∙ turns)
-        (sym (ap (said_breach bases T) here ∙ ap (heard_breach bases T) says) ∙ said_right bases T e history.1 standing)
+    fresh shape reply here says turns live = grind (arith, live_standing, fresh_reply, joins, alone, said_right)
 
 own_run : (bases : Bases) (history : List HistoryEntry) (i : ℕ) → IsHistory bases history → AreItemsHeard history → IsRun bases (own bases i history) (requests_from i history)
 own_run bases [] i is items = run_begins bases
@@ -354,8 +259,7 @@ own_run bases (entry ∷ earlier) i is items = by (entered i earlier) refl (own_
   where
     by : (en : Bool) → entered i earlier ≡ en → IsRun bases (own bases i earlier) (requests_from i earlier)
         → Extends bases (own bases i earlier) (requests_from i earlier) (cond en (own_here (books_of earlier) i (alone bases earlier i).client.waiting entry.outcome.fault entry.happening) []) (cond en (request_here i entry.happening) [])
-    by true en run = entry_more bases earlier entry i (requests_from i earlier) entry.outcome.fault is items.0 en refl run
-    by false en run = same_requests bases (own bases i earlier) (requests_from i earlier) run
+    by en h1 run = grind (arith, entry_more, same_requests)
 
 -- The replies that a player was handed answer the first of its requests, and walk the table.
 pub history_seen : (bases : Bases) (history : List HistoryEntry) (i : ℕ) → IsHistory bases history → AreItemsHeard history → IsSeenRun i history

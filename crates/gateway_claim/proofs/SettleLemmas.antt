@@ -9,11 +9,10 @@ use Rattle.client_slot.specs.Session.{PlayerSession}
 use Rattle.client_slot.specs.Places.{session_at, changed_at}
 use Rattle.client_slot.specs.Client.{Client}
 use Rattle.client_slot.proofs.PlaceLemmas.{changed_here, changed_other}
-use Rattle.gateway_claim.specs.Kinds.{RequestKind, sets_up, tears_down, closes, plain}
-use Rattle.gateway_claim.specs.Books.{HeldPair, Books, pair_asked, is_pair}
-use Rattle.gateway_claim.specs.Settlement.{Final, torn_by, bound_by, is_id, held_left, granted_to, settles}
+use Rattle.gateway_claim.specs.Books.{RequestKind, sets_up, HeldPair, Books, pair_asked, is_pair, Final, torn_by, bound_by, is_id, settles}
 use Rattle.gateway_claim.specs.BooksAndSlots.{IsHeldFor, AreHeld, IsHolding, HasPair, IsStreamPair, IsOpenFor, IsOnlyOpen, IsJoined}
-use Rattle.gateway_claim.proofs.OtherLemmas.{IsHeldKind, held_stays, WasHeld, was_held, was_open, holder_stays, holder_was}
+use Rattle.gateway_claim.proofs.OtherLemmas.{IsHeldKind, held_stays, WasHeld, was_held, holder_stays, holder_was}
+use Rattle.client_machine.proofs.EachLemmas.{both_so}
 
 false_is_true : false ≡ true → ⊥
 false_is_true e = cc
@@ -33,13 +32,7 @@ filled_within (suc place) id (one ∷ more) e = omega (arith, filled_within plac
 -- What is so of a session that changed, and of each other one, is so of each then.
 pub each_changed : (P : ℕ → PlayerSession → Type 0) (k : ℕ) (change : PlayerSession → PlayerSession) (sessions : List PlayerSession) → k < length sessions → P k (change (session_at k sessions))
     → ((place : ℕ) → place ≢ k → P place (session_at place sessions)) → (place : ℕ) → P place (session_at place (changed_at k change sessions))
-each_changed P k change sessions within here others place = by (place == k) refl
-  where
-    by : (t : Bool) → (place == k) ≡ t → P place (session_at place (changed_at k change sessions))
-    by true e =
-        let same : place ≡ k = eqb-true place k e in
-        subst (λ (at : ℕ). P at (session_at at (changed_at k change sessions))) (sym same) (subst (λ (one : PlayerSession). P k one) (sym (changed_here k change sessions within)) here)
-    by false e = subst (λ (one : PlayerSession). P place one) (sym (changed_other k place change sessions (eqb-false place k e))) (others place (eqb-false place k e))
+each_changed P k change sessions within here others place = grind (arith, eqb-true, changed_here, changed_other, eqb-false)
 
 -- The places have the same sessions and streams.
 abbrev pub AreAlike : List PlayerSession → List PlayerSession → Type 0
@@ -47,10 +40,7 @@ AreAlike sessions others = (place : ℕ) → ((session_at place others).id ≡ (
 
 -- No other request of the connection was open.
 none_open : (books : Books) (i number : ℕ) (final : Final) (pending : Option Purpose) → final.number ≡ number → IsOnlyOpen books i number pending → IsOnlyOpen (settles (Some final) books) i number None
-none_open books i number final pending same last = λ g opened here conn.
-    let was : ((g == final.number) ≡ false) × (books.opened g ≡ Some opened) = was_open books final g opened here in
-    let is : g ≡ final.number = (last g opened was.1 conn).0 ∙ sym same in
-    absurd (false_is_true (sym was.0 ∙ eq-eqb g final.number is))
+none_open books i number final pending same last = grind arith
 
 -- A final reply to what is open.
 pub record IsOwnFinal (books : Books) (i number : ℕ) (final : Final) : Type 0 where
@@ -67,39 +57,21 @@ tracks_stay books i final id (track ∷ tracks) held left h =
 
 holding_stays : (books : Books) (i : ℕ) (final : Final) (session : Option (List ℕ)) (tracks : List Track) → IsHeldKind books final.conn final.kind
     → ((id : List ℕ) → session ≡ Some id → is_id (torn_by final.kind final.success) id ≡ false) → IsHolding books i session tracks → IsHolding (settles (Some final) books) i session tracks
-holding_stays books i final None tracks held left h = h
-holding_stays books i final (Some id) tracks held left h = tracks_stay books i final id tracks held (left id refl) h
+holding_stays books i final session tracks held left h = grind (arith, tracks_stay)
 
 -- a pair that is granted is granted for the session that is bound
 pub granted_bound : (kind : RequestKind) (success : Bool) (said : Option (List ℕ)) (p : ℕ) → is_pair (pair_asked kind) p ≡ true → success ≡ true → bound_by kind success said ≡ said
-granted_bound (sets_up pair) true said p asks e = refl
-granted_bound (sets_up pair) false said p asks e = cc
-granted_bound (tears_down id) success said p asks e = cc
-granted_bound (closes id) success said p asks e = cc
-granted_bound plain success said p asks e = cc
+granted_bound kind success said p asks e = grind arith
 
 -- Where nothing is bound, what is held for a session was held for it, and does not end.
 kept_pair : (books : Books) (i : ℕ) (final : Final) (p : ℕ) (id : List ℕ) → bound_by final.kind final.success final.id ≡ None → (settles (Some final) books).held p ≡ Some (record { conn = i; session = Some id })
     → (books.held p ≡ Some (record { conn = i; session = Some id })) × (is_id (torn_by final.kind final.success) id ≡ false)
-kept_pair books i final p id none here = by (was_held books final p (record { conn = i; session = Some id }) here)
-  where
-    by : WasHeld books final p (record { conn = i; session = Some id }) → (books.held p ≡ Some (record { conn = i; session = Some id })) × (is_id (torn_by final.kind final.success) id ≡ false)
-    by was = cases was.session
-      where
-        cases : ((is_pair (pair_asked final.kind) p ≡ true) × (final.success ≡ true) × (Some id ≡ final.id)) ⊎ ((was.before ≡ record { conn = i; session = Some id }) × (is_id (torn_by final.kind final.success) id ≡ false))
-            → (books.held p ≡ Some (record { conn = i; session = Some id })) × (is_id (torn_by final.kind final.success) id ≡ false)
-        cases (inl granted) = let some : Some id ≡ None = granted.2 ∙ sym (granted_bound final.kind final.success final.id p granted.0 granted.1) ∙ none in cc
-        cases (inr same) = (was.was ∙ ap (λ (one : HeldPair). Some one) same.0, same.1)
+kept_pair books i final p id none here = grind arith
 
 -- Where nothing is bound, who has a session had it, and it does not end.
 kept_holder : (books : Books) (i : ℕ) (final : Final) (id : List ℕ) → bound_by final.kind final.success final.id ≡ None → (settles (Some final) books).holder id ≡ Some i
     → (is_id (torn_by final.kind final.success) id ≡ false) × (books.holder id ≡ Some i)
-kept_holder books i final id none here = by (holder_was books final id i here)
-  where
-    by : ((is_id (bound_by final.kind final.success final.id) id ≡ true) × (final.conn ≡ i)) ⊎ ((is_id (torn_by final.kind final.success) id ≡ false) × (books.holder id ≡ Some i))
-        → (is_id (torn_by final.kind final.success) id ≡ false) × (books.holder id ≡ Some i)
-    by (inl bound) = absurd (false_is_true (sym (ap (λ (one : Option (List ℕ)). is_id one id) none) ∙ bound.0))
-    by (inr was) = was
+kept_holder books i final id none here = grind arith
 
 unbound : (final : Final) (id : List ℕ) → bound_by final.kind final.success final.id ≡ None → is_id (bound_by final.kind final.success final.id) id ≡ false
 unbound final id none = ap (λ (one : Option (List ℕ)). is_id one id) none
@@ -174,24 +146,15 @@ torn_settled books i count k client after change torn final own joined none ends
     untorn place id here apart = ap (λ (one : Option (List ℕ)). is_id one id) ends ∙ other_id books i count client k place torn id joined at_k here apart
 
     not_torn : (place : ℕ) (id : List ℕ) → (session_at place client.sessions).id ≡ Some id → is_id (torn_by final.kind final.success) id ≡ false → place ≢ k
-    not_torn place id named left same =
-        let both : Some id ≡ Some torn = sym named ∙ ap (λ at. (session_at at client.sessions).id) same ∙ at_k in
-        let one : id ≡ torn = cc in
-        false_is_true (sym left ∙ ap (λ (ended : Option (List ℕ)). is_id ended id) ends ∙ ap (bytes_eq id) (sym one) ∙ is_own_id id)
+    not_torn place id named left same = grind (arith, false_is_true, is_own_id)
 
     at_other : {A : Type 0} (place : ℕ) → place ≢ k → (part : PlayerSession → A) → part (session_at place after.sessions) ≡ part (session_at place client.sessions)
     at_other place apart part = ap (λ sessions. part (session_at place sessions)) is ∙ ap part (changed_other k place change client.sessions apart)
 
     filled_apart : (place : ℕ) (id : List ℕ) → (session_at place after.sessions).id ≡ Some id → place ≢ k
-    filled_apart place id here same =
-        let empty : None ≡ Some id = sym no_id ∙ ap (λ (session : PlayerSession). session.id) (sym (changed_here k change client.sessions within)) ∙ ap (λ sessions. (session_at k sessions).id) (sym is) ∙ ap (λ at. (session_at at after.sessions).id) (sym same) ∙ here in
-        cc
+    filled_apart place id here same = grind (arith, changed_here, within)
 
 -- One stream more.
-more_tracks : (books : Books) (i : ℕ) (session : Option (List ℕ)) (tracks : List Track) (track : Track) → AreHeld books i session tracks → IsHeldFor books i session track.pair → AreHeld books i session (tracks ++ track ∷ [])
-more_tracks books i session [] track h one = (one, tt)
-more_tracks books i session (first ∷ tracks) track h one = (h.0, more_tracks books i session tracks track h.1 one)
-
 had_pair : (pairs : ℕ → ℕ) (p : ℕ) (tracks : List Track) (track : Track) → HasPair pairs p tracks → HasPair pairs p (tracks ++ track ∷ [])
 had_pair pairs p [] track has = absurd has
 had_pair pairs p (first ∷ tracks) track (inl here) = inl here
@@ -207,9 +170,7 @@ IsSessionSet books None id = books.holder id ≡ None
 IsSessionSet books (Some session) id = session ≡ id
 
 held_before : (books : Books) (i : ℕ) (session : Option (List ℕ)) (id : List ℕ) (tracks : List Track) → IsSessionSet books session id → IsHolding books i session tracks → AreHeld books i (Some id) tracks
-held_before books i None id [] set h = tt
-held_before books i None id (track ∷ tracks) set h = cc
-held_before books i (Some session) id tracks set h = subst (λ (one : List ℕ). AreHeld books i (Some one) tracks) set h
+held_before books i session id tracks set h = grind arith
 
 -- The success of a SETUP, for the session at a place, which has one stream more then.
 pub granted_settled : (books : Books) (i count k : ℕ) (client after : Client) (change : PlayerSession → PlayerSession) (track : Track) (id : List ℕ) (final : Final) → IsOwnFinal books i (books.number_of i count) final → IsJoined books i client count
@@ -222,9 +183,9 @@ granted_settled books i count k client after change track id final own joined se
       (each_changed (λ place session. IsHolding (settles (Some final) books) i session.id session.tracks) k change client.sessions within
       (subst (λ (session : Option (List ℕ)). IsHolding (settles (Some final) books) i session (change (session_at k client.sessions)).tracks) (sym new_id)
       (subst (λ (tracks : List Track). AreHeld (settles (Some final) books) i (Some id) tracks) (sym new_tracks)
-      (more_tracks (settles (Some final) books) i (Some id) (session_at k client.sessions).tracks track
+      (both_so (λ one. IsHeldFor (settles (Some final) books) i (Some id) one.pair) (session_at k client.sessions).tracks (track ∷ [])
       (tracks_stay books i final id (session_at k client.sessions).tracks own.held (untorn id) (held_before books i (session_at k client.sessions).id id (session_at k client.sessions).tracks set (joined.tracks k)))
-      (granted_now, setup.1))))
+      ((granted_now, setup.1), tt))))
       (λ place apart. holding_stays books i final (session_at place client.sessions).id (session_at place client.sessions).tracks own.held (λ one e. untorn one) (joined.tracks place)));
   granted = λ p one here. granted_by p one (was_held books final p (record { conn = i; session = Some one }) here);
   pending = subst (λ (pending : Option Purpose). IsOpenFor (settles (Some final) books) i (books.number_of i count) after.sessions pending) (sym idle) tt;
@@ -253,17 +214,11 @@ granted_settled books i count k client after change track id final own joined se
     tracks_at_k = at_k (λ session. session.tracks) ∙ new_tracks
 
     granted_now : (settles (Some final) books).held (books.pair_of i track.pair) ≡ Some (record { conn = i; session = Some id })
-    granted_now =
-        ap (λ k. cond (is_pair (pair_asked k) (books.pair_of i track.pair)) (granted_to final.success final.id (books.held (books.pair_of i track.pair))) (held_left (torn_by k final.success) (books.held (books.pair_of i track.pair)))) kind
-        ∙ ap (λ t. cond t (granted_to final.success final.id (books.held (books.pair_of i track.pair))) (held_left None (books.held (books.pair_of i track.pair)))) (eq-eqb (books.pair_of i track.pair) (books.pair_of i track.pair) refl)
-        ∙ ap (granted_to final.success final.id) setup.0
-        ∙ ap (λ t. granted_to t final.id (Some (record { conn = i; session = None }))) success
-        ∙ ap (λ one. Some (record { conn = i; session = one })) said
+    granted_now = grind (arith, eq-eqb)
 
     -- who was there with an id that k has is there
     was_id : (one : List ℕ) (session : Option (List ℕ)) → IsSessionSet books session id → session ≡ Some one → id ≡ one
-    was_id one None same e = cc
-    was_id one (Some session) same e = let here : session ≡ one = cc in sym same ∙ here
+    was_id one session same e = grind arith
 
     moved : (one : List ℕ) (p place : ℕ) → (session_at place client.sessions).id ≡ Some one → HasPair (books.pair_of i) p (session_at place client.sessions).tracks → (t : Bool) → (place == k) ≡ t → IsStreamPair (books.pair_of i) after.sessions one p
     moved one p place named has false e = record { place = place; named = at_other place (eqb-false place k e) (λ session. session.id) ∙ named; has = subst (λ (tracks : List Track). HasPair (books.pair_of i) p tracks) (sym (at_other place (eqb-false place k e) (λ session. session.tracks))) has }
@@ -301,9 +256,7 @@ granted_settled books i count k client after change track id final own joined se
         by false = ap (λ t. cond {A = Option ℕ} t None (books.holder one)) (untorn one) ∙ was
 
     holder_set : (settles (Some final) books).holder id ≡ Some i
-    holder_set =
-        ap (λ t. cond t (Some final.conn) (cond (is_id (torn_by final.kind final.success) id) None (books.holder id))) (ap (λ (one : Option (List ℕ)). is_id one id) bound ∙ is_own_id id)
-        ∙ ap (λ n. Some n) own.conn
+    holder_set = grind (arith, bound, is_own_id)
 
     holds_by : (place : ℕ) (one : List ℕ) → (session_at place after.sessions).id ≡ Some one → (t : Bool) → (place == k) ≡ t → (settles (Some final) books).holder one ≡ Some i
     holds_by place one here false e = holder_now one (joined.holds place one (sym (at_other place (eqb-false place k e) (λ session. session.id)) ∙ here))

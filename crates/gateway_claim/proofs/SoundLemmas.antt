@@ -1,13 +1,12 @@
 -- What was given can be found back in the books of every history.
-use Rattle.std.proofs.Common.{◌≡◌, ◌≢◌, ℕ, ◌+◌, ◌≤◌, ◌==◌, ◌&&◌, Bool, true, false, cond, Option, None, Some, ◌⊎◌, inl, inr, List, refl, sym, ◌∙◌, ap, subst, arith}
+use Rattle.std.proofs.Common.{◌≡◌, ℕ, ◌+◌, ◌≤◌, ◌==◌, ◌&&◌, Bool, true, false, cond, Option, None, Some, ◌⊎◌, inl, inr, List, refl, sym, ◌∙◌, ap, subst, arith}
 use Rattle.std.proofs.lemmas.Bool.{eq-eqb, eqb-true}
-use Rattle.gateway_claim.specs.Kinds.{RequestKind, sets_up, tears_down, closes, plain}
-use Rattle.gateway_claim.specs.Books.{Opened, HeldPair, Books, new_books, pair_asked, is_pair, pair_else, lends}
-use Rattle.gateway_claim.specs.Settlement.{Final, torn_by, bound_by, is_id, is_torn_with, settles}
+use Rattle.gateway_claim.specs.Books.{RequestKind, Opened, HeldPair, Books, new_books, pair_asked, is_pair, lends, Final, torn_by, bound_by, is_id, is_torn_with, settles}
 use Rattle.gateway_claim.specs.BooksAndSlots.{AreSound}
+use Rattle.gateway_claim.proofs.LendLemmas.{granted_was, new_pair, new_number}
 use Rattle.gateway_claim.proofs.OtherLemmas.{IsHeldKind, IsFinal, WasHeld, was_held, was_open}
 use Rattle.gateway_claim.proofs.SettleLemmas.{granted_bound, is_own_id}
-use Rattle.gateway_claim.proofs.LendLemmas.{below_differs, granted_was, new_pair, new_number}
+use Rattle.std.specs.Prelude.{unwrap_or}
 
 -- A reply keeps them.
 pub sound_settled : (books : Books) (final : Final) → IsFinal books final → AreSound books → AreSound (settles (Some final) books)
@@ -34,13 +33,7 @@ sound_settled books final is_final sound = record {
         by false e = ap (λ t. cond {A = Option ℕ} t None (books.holder id)) left ∙ here
 
     granted_conn : (kind : RequestKind) (before : HeldPair) (p : ℕ) → IsHeldKind books final.conn kind → is_pair (pair_asked kind) p ≡ true → books.held p ≡ Some before → final.conn ≡ before.conn
-    granted_conn (sets_up pair) before p is_held asks was =
-        let both : Some (record { conn = final.conn; session = None }) ≡ Some before = sym is_held ∙ ap books.held (eqb-true pair p asks) ∙ was in
-        let one : record { conn = final.conn; session = None } ≡ before = cc in
-        ap (λ (held : HeldPair). held.conn) one
-    granted_conn (tears_down id) before p is_held asks was = cc
-    granted_conn (closes id) before p is_held asks was = cc
-    granted_conn plain before p is_held asks was = cc
+    granted_conn kind before p is_held asks was = grind (arith, eqb-true)
 
     bound_by_was : (p : ℕ) (held : HeldPair) (id : List ℕ) → held.session ≡ Some id → WasHeld books final p held → (settles (Some final) books).holder id ≡ Some held.conn
     bound_by_was p held id named was = cases was.session
@@ -64,32 +57,20 @@ counts_new : (books : Books) (i : ℕ) (kind : RequestKind) → (lends i kind bo
 counts_new books i kind = ap (λ t. cond t (books.counts i + 1) (books.counts i)) (yes i)
 
 counts_more : (books : Books) (i j : ℕ) (kind : RequestKind) → books.counts j ≤ (lends i kind books).counts j
-counts_more books i j kind = by (j == i) refl
-  where
-    by : (t : Bool) → (j == i) ≡ t → books.counts j ≤ cond t (books.counts i + 1) (books.counts j)
-    by true e = let same : j ≡ i = eqb-true j i e in subst (λ (n : ℕ). books.counts n ≤ books.counts i + 1) (sym same) (grind arith)
-    by false e = grind arith
+counts_more books i j kind = grind arith
 
 -- an old own number has the number and the pair that it had
 old_place : (books : Books) (i j own : ℕ) → own ≤ books.counts j → (j == i && own == books.counts i + 1) ≡ false
-old_place books i j own le = by (j == i) refl
-  where
-    by : (t : Bool) → (j == i) ≡ t → (t && own == books.counts i + 1) ≡ false
-    by true e = let same : j ≡ i = eqb-true j i e in below_differs own (books.counts i) (subst (λ (n : ℕ). own ≤ books.counts n) same le)
-    by false e = refl
+old_place books i j own le = grind arith
 
 old_number : (books : Books) (i j own : ℕ) (kind : RequestKind) → own ≤ books.counts j → (lends i kind books).number_of j own ≡ books.number_of j own
 old_number books i j own kind le = ap (λ t. cond t (books.issued + 1) (books.number_of j own)) (old_place books i j own le)
 
 old_pair : (books : Books) (i j own : ℕ) (kind : RequestKind) → own ≤ books.counts j → (lends i kind books).pair_of j own ≡ books.pair_of j own
-old_pair books i j own kind le = ap (λ t. cond t (pair_else (pair_asked kind) (books.pair_of j own)) (books.pair_of j own)) (old_place books i j own le)
+old_pair books i j own kind le = ap (λ t. cond t (unwrap_or (pair_asked kind) (books.pair_of j own)) (books.pair_of j own)) (old_place books i j own le)
 
 low_lent : (books : Books) (i : ℕ) (kind : RequestKind) → AreSound books → (g : ℕ) (opened : Opened) → (lends i kind books).opened g ≡ Some opened → g ≤ books.issued + 1
-low_lent books i kind sound g opened here = by (g == books.issued + 1) refl here
-  where
-    by : (t : Bool) → (g == books.issued + 1) ≡ t → cond t (Some (record { conn = i; kind = kind })) (books.opened g) ≡ Some opened → g ≤ books.issued + 1
-    by true e h = let same : g ≡ books.issued + 1 = eqb-true g (books.issued + 1) e in grind arith
-    by false e h = let low : g ≤ books.issued = sound.low g opened h in grind arith
+low_lent books i kind sound g opened here = grind arith
 
 abbrev IsGiven : Books → ℕ → ℕ → ℕ → Type 0
 IsGiven books g j own = (g ≤ books.issued) × (books.number_of j own ≡ g) × (1 ≤ own) × (own ≤ books.counts j)
@@ -98,8 +79,7 @@ given_lent : (books : Books) (i : ℕ) (kind : RequestKind) → AreSound books �
 given_lent books i kind sound g j here = by (g == books.issued + 1) refl here
   where
     new : g ≡ books.issued + 1 → i ≡ j → IsGiven (lends i kind books) g j (books.counts i + 1)
-    new same conn = subst (λ (n : ℕ). IsGiven (lends i kind books) g n (books.counts i + 1)) conn
-        ((grind arith, new_number books i kind ∙ sym same, grind arith, subst (λ (n : ℕ). books.counts i + 1 ≤ n) (sym (counts_new books i kind)) (grind arith)))
+    new same conn = grind (arith, new_number, counts_new)
 
     old : books.giver g ≡ Some j → IsGiven (lends i kind books) g j (books.own_number g)
     old here =
@@ -110,42 +90,13 @@ given_lent books i kind sound g j here = by (g == books.issued + 1) refl here
         (grind arith, old_number books i j (books.own_number g) kind le ∙ was.1, was.2, grind arith)
 
     by : (t : Bool) → (g == books.issued + 1) ≡ t → cond t (Some i) (books.giver g) ≡ Some j → IsGiven (lends i kind books) g j (cond t (books.counts i + 1) (books.own_number g))
-    by true e h = let conn : i ≡ j = cc in new (eqb-true g (books.issued + 1) e) conn
-    by false e h = old h
+    by t e h = grind (arith, new, eqb-true, old)
 
 abbrev IsNumbered : Books → ℕ → ℕ → ℕ → Type 0
 IsNumbered books j own g = (books.giver g ≡ Some j) × (books.own_number g ≡ own)
 
 numbers_lent : (books : Books) (i : ℕ) (kind : RequestKind) → AreSound books → (j own : ℕ) → 1 ≤ own → own ≤ (lends i kind books).counts j → IsNumbered (lends i kind books) j own ((lends i kind books).number_of j own)
-numbers_lent books i kind sound j own low le = by (j == i) (own == books.counts i + 1) refl refl le
-  where
-    new : j ≡ i → own ≡ books.counts i + 1 → IsNumbered (lends i kind books) j own (books.issued + 1)
-    new conn same = (
-      ap (λ t. cond t (Some i) (books.giver (books.issued + 1))) (yes (books.issued + 1)) ∙ ap (λ n. Some n) (sym conn),
-      ap (λ t. cond t (books.counts i + 1) (books.own_number (books.issued + 1))) (yes (books.issued + 1)) ∙ sym same,
-    )
-
-    old : own ≤ books.counts j → IsNumbered (lends i kind books) j own (books.number_of j own)
-    old small =
-        let was = sound.numbers j own low small in
-        let other : (books.number_of j own == books.issued + 1) ≡ false = below_differs (books.number_of j own) books.issued (sound.given (books.number_of j own) j was.0).0 in (
-          ap (λ t. cond t (Some i) (books.giver (books.number_of j own))) other ∙ was.0,
-          ap (λ t. cond t (books.counts i + 1) (books.own_number (books.number_of j own))) other ∙ was.1,
-        )
-
-    smaller : (own == books.counts i + 1) ≡ false → own ≤ books.counts i + 1 → own ≤ books.counts i
-    smaller e le = less (λ same. true_is_false (sym (eq-eqb own (books.counts i + 1) same) ∙ e))
-      where
-        true_is_false : true ≡ false → ⊥
-        true_is_false e = cc
-
-        less : own ≢ books.counts i + 1 → own ≤ books.counts i
-        less ne = grind arith
-
-    by : (s t : Bool) → (j == i) ≡ s → (own == books.counts i + 1) ≡ t → own ≤ cond s (books.counts i + 1) (books.counts j) → IsNumbered (lends i kind books) j own (cond (s && t) (books.issued + 1) (books.number_of j own))
-    by true true es et le = new (eqb-true j i es) (eqb-true own (books.counts i + 1) et)
-    by true false es et le = old (subst (λ (n : ℕ). own ≤ books.counts n) (sym (eqb-true j i es)) (smaller et le))
-    by false t es et le = old le
+numbers_lent books i kind sound j own low le = grind arith
 
 abbrev IsPaired : Books → ℕ → HeldPair → ℕ → Type 0
 IsPaired books p held own = (books.pair_of held.conn own ≡ p) × (own ≤ books.counts held.conn)
@@ -154,8 +105,7 @@ pairs_lent : (books : Books) (i : ℕ) (kind : RequestKind) → AreSound books �
 pairs_lent books i kind sound p held here = by (pair_asked kind) refl here
   where
     new : pair_asked kind ≡ Some p → record { conn = i; session = None } ≡ held → IsPaired (lends i kind books) p held (books.counts i + 1)
-    new asks is = subst (λ (one : HeldPair). IsPaired (lends i kind books) p one (books.counts i + 1)) is
-        ((new_pair books i kind p asks, subst (λ (n : ℕ). books.counts i + 1 ≤ n) (sym (counts_new books i kind)) (grind arith)))
+    new asks is = grind (arith, new_pair, counts_new)
 
     old : books.held p ≡ Some held → IsPaired (lends i kind books) p held (books.own_pair p)
     old here =
@@ -166,13 +116,11 @@ pairs_lent books i kind sound p held here = by (pair_asked kind) refl here
 
     some : (q : ℕ) (t : Bool) → pair_asked kind ≡ Some q → (q == p) ≡ t → cond t (Some (record { conn = i; session = None })) (books.held p) ≡ Some held
         → IsPaired (lends i kind books) p held (cond t (books.counts i + 1) (books.own_pair p))
-    some q true asks e h = let is : record { conn = i; session = None } ≡ held = cc in new (asks ∙ ap (λ n. Some n) (eqb-true q p e)) is
-    some q false asks e h = old h
+    some q t asks e h = grind (arith, new, eqb-true, old)
 
     by : (asked : Option ℕ) → pair_asked kind ≡ asked → cond (is_pair asked p) (Some (record { conn = i; session = None })) (books.held p) ≡ Some held
         → IsPaired (lends i kind books) p held (cond (is_pair asked p) (books.counts i + 1) (books.own_pair p))
-    by None asks h = old h
-    by (Some q) asks h = some q (q == p) asks refl h
+    by asked asks h = grind (arith, old, some)
 
 pub sound_lent : (books : Books) (i : ℕ) (kind : RequestKind) → AreSound books → AreSound (lends i kind books)
 sound_lent books i kind sound = record {
@@ -188,10 +136,4 @@ sound_lent books i kind sound = record {
 
 -- Nothing was given at first.
 pub sound_new : AreSound new_books
-sound_new = record {
-  low = λ g opened here. cc;
-  given = λ g i here. cc;
-  numbers = λ i own low le. grind arith;
-  pairs = λ p held here. cc;
-  bound = λ p held id here named. cc;
-}
+sound_new = grind arith

@@ -1,12 +1,9 @@
 -- What is so of every connection alone: while it is alive, no PLAY is due after an event, since one that is due goes up at
 -- once; and none of its requests waits any longer once it is closed.
-use Rattle.std.proofs.Common.{◌≡◌, ◌≢◌, ◌∙◌, ℕ, zero, suc, ◌+◌, ◌==◌, ◌^◌, ◌&&◌, not, Bool, true, false, cond, List, [], ◌∷◌, ◌++◌, map, drop, length, Option, Some, None, Result, Ok, Err, slice_get, is_none, ◌⊎◌, inl, inr, refl, sym, ap, subst, unwrap_or}
+use Rattle.std.proofs.Common.{◌≡◌, ◌≢◌, ◌∙◌, ℕ, zero, suc, ◌+◌, ◌==◌, ◌^◌, ◌&&◌, not, Bool, true, false, cond, List, [], ◌∷◌, ◌++◌, map, drop, length, Option, Some, None, Result, slice_get, is_none, ◌⊎◌, inl, inr, refl, sym, ap, subst, unwrap_or, arith}
 use Rattle.std.specs.Prelude.{is_some, slice_index_or}
-use Rattle.std.proofs.lemmas.Bool.{ltb-true, eq-eqb, eqb-true, eqb-false}
-use Rattle.std.proofs.lemmas.List.{nil_from_length}
+use Rattle.std.proofs.lemmas.Bool.{ltb-true, eqb-true, eqb-false}
 use Rattle.rtsp_head.specs.Items.{Shape}
-use Rattle.rtsp_small.specs.declared.method.Method.{Method}
-use Rattle.rtsp_small.specs.declared.method.Method.TheVariants as methods
 use Rattle.rtsp_uri.specs.declared.base.Bases.{Bases}
 use Rattle.head_one.specs.declared.request.Request1.{Request1}
 use Rattle.head_one.specs.declared.refusal.Refusal.{Refusal}
@@ -16,36 +13,35 @@ use Rattle.session_one.specs.declared.parts.Play.{Play}
 use Rattle.session_one.specs.declared.table.State.{State}
 use Rattle.session_one.specs.declared.table.State.TheVariants.{Init, Ready, Playing}
 use Rattle.session_one.specs.Table.{next_of, is_success}
-use Rattle.session_two.specs.Ends.{end_counts}
-use Rattle.translate_up.specs.Views.{SeenSession, no_session, Given, session_in}
+use Rattle.translate_up.specs.Views.{SeenSession, no_session, Given, session_or_none}
 use Rattle.translate_up.specs.Decisions.{judged_read, judged_of, decide}
 use Rattle.translate_up.specs.declared.decision.Decision.{Decision}
-use Rattle.translate_up.specs.declared.decision.Decision.TheVariants.{Answer, Forward, Queue, Setup}
+use Rattle.translate_up.specs.declared.decision.Decision.TheVariants.{Answer, Queue}
 use Rattle.translate_up.specs.Sound.{AreFit}
 use Rattle.translate_up.proofs.DecisionLemmas.{IsPlacedAs, decide_placed}
-use Rattle.translate_up.proofs.JudgedLemmas.{judged_fit}
+use Rattle.translate_up.proofs.JudgementLemmas.{judged_fit}
 use Rattle.translate_up.proofs.StateLemmas.{IsDecided, decided}
 use Rattle.client_slot.specs.declared.purpose.Purpose.{Purpose}
 use Rattle.client_slot.specs.declared.purpose.Purpose.TheVariants as purposes
 use Rattle.client_slot.specs.declared.session_turn.SessionTurn.{SessionTurn}
 use Rattle.client_slot.specs.Session.{PlayerSession, new_session}
-use Rattle.client_slot.specs.SessionChanges.{when_ended, when_next, when_queued}
+use Rattle.client_slot.specs.SessionChanges.{when_next, when_queued}
 use Rattle.client_slot.specs.SessionTurns.{moved_turn, granted_turn, released_turn, part_then, queue_then}
-use Rattle.client_slot.specs.Places.{new_sessions, session_at, changed_at, changed_where, first_place, place_with, has_due, queued_at}
+use Rattle.client_slot.specs.Places.{new_sessions, session_at, changed_at, changed_where, first_place, has_due, queued_at}
 use Rattle.client_slot.specs.Client.{Client}
 use Rattle.client_slot.specs.Changes as changes
 use Rattle.client_slot.proofs.PlaceLemmas.{changed_other, kept_each, IsAtPlace, place_is}
 use Rattle.client_machine.specs.Alone.{pair_alone, private_after}
 use Rattle.client_machine.specs.Events.{PrivateEvent}
-use Rattle.client_machine.specs.Treatment.{session_seen, given, queued_more_where, one_queued, fits_memory, decision_on, Going, Treated, treated_first, treated}
-use Rattle.client_machine.specs.Releases as going
-use Rattle.client_machine.specs.ServerItems.{NextPart, rests, releases, goes_on, new_id, hear}
-use Rattle.client_machine.specs.Step.{going_on}
-use Rattle.client_machine.proofs.PlacedLemmas.{calm_in, seen_at}
-use Rattle.client_machine.proofs.WayLemmas.{hear_as, going_as, alone_as}
+use Rattle.client_machine.specs.Treatment.{session_found, given, queued_more_where, fits_memory, decision_on, Going, Treated, treated_first, treated}
+use Rattle.client_machine.specs.Step as going
+use Rattle.client_machine.specs.Step.{NextPart, rests, releases, goes_on, hear, going_on}
+use Rattle.client_machine.proofs.PlaceLemmas.{calm_in, seen_at}
+use Rattle.client_machine.proofs.WayLemmas.{hear_as, alone_as}
 use Rattle.client_machine.proofs.HoldLemmas.{going_steady}
 use Rattle.gateway_claim.specs.Books.{is_pair}
 use Rattle.gateway_claim.proofs.FitLemmas.{IsFitClient, given_fit, queued_fit, hear_fit, alone_fit}
+use Rattle.client_machine.proofs.KeepLemmas.{plays_alive}
 
 -- While streams play, a PLAY runs, or one waits, or one that waited has gone up; by whether that is open, what runs and what
 -- waits.
@@ -66,10 +62,8 @@ IsOrdered released session = IsInOrder session.state released session.running se
 
 -- whether the PLAY that waited at a place is open
 abbrev is_released : Option Purpose → ℕ → Bool
-is_released None place = false
-is_released (Some (purposes.Client asked track)) place = false
 is_released (Some (purposes.Released play)) place = is_pair play.place place
-is_released (Some (purposes.Closing at)) place = false
+is_released purpose place = false
 
 abbrev AreOrdered : (ℕ → Bool) → List PlayerSession → Type 0
 AreOrdered released sessions = (place : ℕ) → IsOrdered (released place) (session_at place sessions)
@@ -93,15 +87,7 @@ changed_or_new (suc k) change (one ∷ more) = changed_or_new k change more
 
 each_place : (P : ℕ → PlayerSession → Type 0) (k : ℕ) (change : PlayerSession → PlayerSession) (sessions : List PlayerSession) → P k new_session → P k (change (session_at k sessions))
     → ((place : ℕ) → place ≢ k → P place (session_at place sessions)) → (place : ℕ) → P place (session_at place (changed_at k change sessions))
-each_place P k change sessions empty here others place = by (place == k) refl
-  where
-    at_k : (session_at k (changed_at k change sessions) ≡ change (session_at k sessions)) ⊎ (session_at k (changed_at k change sessions) ≡ new_session) → P k (session_at k (changed_at k change sessions))
-    at_k (inl is) = subst (λ (one : PlayerSession). P k one) (sym is) here
-    at_k (inr is) = subst (λ (one : PlayerSession). P k one) (sym is) empty
-
-    by : (t : Bool) → (place == k) ≡ t → P place (session_at place (changed_at k change sessions))
-    by true e = subst (λ (at : ℕ). P at (session_at at (changed_at k change sessions))) (sym (eqb-true place k e)) (at_k (changed_or_new k change sessions))
-    by false e = subst (λ (one : PlayerSession). P place one) (sym (changed_other k place change sessions (eqb-false place k e))) (others place (eqb-false place k e))
+each_place P k change sessions empty here others place = grind (arith, eqb-true, changed_or_new, changed_other, eqb-false)
 
 changed_order : (f g : ℕ → Bool) (at : Option ℕ) (change : PlayerSession → PlayerSession) (sessions : List PlayerSession) → AreOrdered f sessions → ((k : ℕ) (session : PlayerSession) → at ≡ Some k → IsOrdered (f k) session → IsOrdered (g k) (change session))
     → ((place : ℕ) → at ≢ Some place → g place ≡ f place) → AreOrdered g (changed_where at change sessions)
@@ -114,53 +100,19 @@ changed_order f g (Some k) change sessions order here others =
 abbrev IsTurnedSo : SessionTurn → ℕ → Option ℕ → List Play → Type 0
 IsTurnedSo turn number running queue = IsInOrder turn.state false (part_then turn.running running (Some number)) (queue_then turn.queue queue)
 
-granted_order : (method : Method) (made : Bool) (state : State) (number : ℕ) (running : Option ℕ) (queue : List Play) → IsInOrder state false running queue → IsTurnedSo (granted_turn method made (unwrap_or (next_of state method) state)) number running queue
-granted_order methods.Options made Init number running queue order = order
-granted_order methods.Options made Ready number running queue order = order
-granted_order methods.Options made Playing number running queue order = order
-granted_order methods.Describe made Init number running queue order = order
-granted_order methods.Describe made Ready number running queue order = order
-granted_order methods.Describe made Playing number running queue order = order
-granted_order methods.Setup made Init number running queue order = order
-granted_order methods.Setup made Ready number running queue order = order
-granted_order methods.Setup made Playing number running queue order = order
-granted_order methods.Play made Init number running queue order = order
-granted_order methods.Play made Ready number running queue order = tt
-granted_order methods.Play made Playing number running queue order = tt
-granted_order methods.Pause made Init number running queue order = refl
-granted_order methods.Pause made Ready number running queue order = refl
-granted_order methods.Pause made Playing number running queue order = refl
-granted_order methods.Teardown made state number running queue order = refl
-granted_order methods.GetParameter made Init number running queue order = order
-granted_order methods.GetParameter made Ready number running queue order = order
-granted_order methods.GetParameter made Playing number running queue order = order
-granted_order methods.SetParameter made Init number running queue order = order
-granted_order methods.SetParameter made Ready number running queue order = order
-granted_order methods.SetParameter made Playing number running queue order = order
-
 asked_order : (success : Bool) (asked : Asked) (made : Bool) (number : ℕ) (session : PlayerSession) → IsOrdered false session
     → IsTurnedSo (cond success (granted_turn asked.method made (cond success (unwrap_or (next_of session.state asked.method) session.state) session.state)) (moved_turn session.state)) number session.running session.queue
-asked_order true asked made number session order = granted_order asked.method made session.state number session.running session.queue order
-asked_order false asked made number session order = order
+asked_order success asked made number session order = grind arith
 
 played_order : (success : Bool) (state : State) (number : ℕ) (running : Option ℕ) (queue : List Play) → IsInOrder state true running queue → IsTurnedSo (released_turn success state) number running queue
-played_order true Init number running queue order = order
-played_order true Ready number running queue order = order
-played_order true Playing number running queue order = tt
-played_order false state number running queue order = refl
+played_order success state number running queue order = grind arith
 
 -- A final reply.
 at_pair : (place : Option ℕ) (k : ℕ) → place ≡ Some k → is_pair place k ≡ true
-at_pair None k e = cc
-at_pair (Some one) k e = let same : one ≡ k = cc in eq-eqb one k same
+at_pair place k e = grind arith
 
 off_pair : (place : Option ℕ) (k : ℕ) → place ≢ Some k → false ≡ is_pair place k
-off_pair None k apart = refl
-off_pair (Some one) k apart = by (one == k) refl
-  where
-    by : (t : Bool) → (one == k) ≡ t → false ≡ t
-    by false e = refl
-    by true e = absurd (apart (ap (λ n. Some n) (eqb-true one k e)))
+off_pair place k apart = grind arith
 
 settled_order : (purpose : Purpose) (number code : ℕ) (id : Option (List ℕ)) (client : Client) → AreOrdered (is_released (Some purpose)) client.sessions → PlaysInOrder (changes.settle_with (Some purpose) number code id client)
 settled_order (purposes.Client asked track) number code id client order =
@@ -174,15 +126,10 @@ settled_order (purposes.Closing place) number code id client order =
 
 -- The end of what plays.
 none_left : (empty : Bool) (queue : List Play) (released : Bool) (running : Option ℕ) (state : State) → (length queue == 0) ≡ empty → IsInOrder state released running queue → IsInOrder (cond empty Ready state) released None queue
-none_left true queue released running state e order = nil_from_length queue (eqb-true (length queue) 0 e)
-none_left false [] released running state e order = cc
-none_left false (play ∷ plays) released running Init e order = order
-none_left false (play ∷ plays) released running Ready e order = order
-none_left false (play ∷ plays) released running Playing e order = tt
+none_left empty queue released running state e order = grind arith
 
 ended_order : (counts : Bool) (released : Bool) (session : PlayerSession) → IsOrdered released session → IsOrdered released (cond counts (record session { state = cond (length session.queue == 0) Ready session.state; running = None }) session)
-ended_order true released session order = none_left (length session.queue == 0) session.queue released session.running session.state refl order
-ended_order false released session order = order
+ended_order counts released session order = grind (arith, none_left)
 
 -- What was heard, by whether the connection is alive, and by what may go up.
 abbrev IsHeardSo : Bool → NextPart → Client → Type 0
@@ -192,30 +139,13 @@ IsHeardSo true goes_on client = PlaysInOrder client
 IsHeardSo false next client = client.waiting ≡ []
 
 rested : (alive : Bool) (client : Client) → IsTidyBy alive client → IsHeardSo alive rests client
-rested true client tidy = tidy
-rested false client tidy = tidy
+rested alive client tidy = grind arith
 
 moved : (alive : Bool) (next : NextPart) (before after : Client) → IsTidyBy alive before → after.waiting ≡ before.waiting → (PlaysInOrder before → PlaysInOrder after) → (next ≢ rests) → IsHeardSo alive next after
-moved true rests before after tidy waits order other = absurd (other refl)
-moved true releases before after tidy waits order other = order tidy.0
-moved true goes_on before after tidy waits order other = order tidy.0
-moved false next before after tidy waits order other = waits ∙ tidy
+moved alive next before after tidy waits order other = grind arith
 
 hear_tidy : (bases : Bases) (number : ℕ) (client : Client) (event : PrivateEvent) → IsTidy client → IsHeardSo (hear bases number client event).effect.client.alive (hear bases number client event).next (hear bases number client event).effect.client
-hear_tidy bases number client event tidy = hear_as (λ heard. IsHeardSo heard.effect.client.alive heard.next heard.effect.client) bases number client event (record {
-  idle = rested client.alive client tidy;
-  closing = λ reason alive. refl;
-  waits = λ shape full here is alive. subst (λ (b : Bool). IsHeardSo b goes_on (changes.after_waiting (shape ∷ []) client)) (sym alive) (subst (λ (b : Bool). IsTidyBy b client) alive tidy).0;
-  carrying = λ shape full half here is. rested client.alive client tidy;
-  settles = λ purpose told ssrc full here late is.
-      subst (λ (one : Option Purpose). IsHeardSo (changes.settle_with one number told.code (new_id purpose told) client).alive goes_on (changes.settle_with one number told.code (new_id purpose told) client)) (sym is)
-      (moved client.alive goes_on client (changes.settle_with (Some purpose) number told.code (new_id purpose told) client) tidy refl
-      (λ order. settled_order purpose number told.code (new_id purpose told) client (subst (λ (one : Option Purpose). AreOrdered (is_released one) client.sessions) is order)) (λ (e : goes_on ≡ rests). cc));
-  notes = λ id names here. moved client.alive releases client (changes.after_note (place_with id client.sessions) names client) tidy refl
-      (λ order. changed_order (is_released client.pending) (is_released client.pending) (place_with id client.sessions) (when_ended names) client.sessions order (λ k session at was. ended_order (end_counts session.running names) (is_released client.pending k) session was) (λ place apart. refl))
-      (λ (e : releases ≡ rests). cc);
-  gives = λ pair half channel rest here is alive. rested client.alive client tidy;
-})
+hear_tidy bases number client event tidy = grind (arith, hear_as, rested, moved, settled_order, changed_order, ended_order)
 
 -- Where a request is treated, no PLAY is due, so one runs while streams play.
 abbrev IsRunning : State → Option ℕ → List Play → Type 0
@@ -231,31 +161,13 @@ abbrev AllRun : List PlayerSession → Type 0
 AllRun sessions = (place : ℕ) → Runs (session_at place sessions)
 
 runs_idle : (state : State) (running : Option ℕ) (queue : List Play) → IsInOrder state false running queue → (is_none running && not (length queue == 0)) ≡ false → IsRunning state running queue
-runs_idle Init running queue order none = order
-runs_idle Ready running queue order none = order
-runs_idle Playing (Some number) queue order none = tt
-runs_idle Playing None [] order none = order
-runs_idle Playing None (play ∷ queue) order none = by (length (play ∷ queue) == 0) refl none
-  where
-    by : (t : Bool) → (length (play ∷ queue) == 0) ≡ t → not t ≡ false → ⊥
-    by true e h = let no : length (play ∷ queue) ≡ 0 = eqb-true (length (play ∷ queue)) 0 e in cc
-    by false e h = cc
+runs_idle state running queue order none = grind arith
 
 order_kept : (state : State) (released : Bool) (running : Option ℕ) (queue : List Play) → IsRunning state running queue → IsInOrder state released running queue
-order_kept Init released running queue runs = runs
-order_kept Ready released running queue runs = runs
-order_kept Playing released (Some number) queue runs = tt
-order_kept Playing released None queue runs = absurd runs
-
-none_calm : (running : Option ℕ) (queue : List Play) → queue ≡ [] → (is_none running && not (length queue == 0)) ≡ false
-none_calm None queue none = ap (λ (plays : List Play). not (length plays == 0)) none
-none_calm (Some number) queue none = refl
+order_kept state released running queue runs = grind arith
 
 calm : (state : State) (running : Option ℕ) (queue : List Play) → IsRunning state running queue → (is_none running && not (length queue == 0)) ≡ false
-calm Init running queue runs = none_calm running queue runs
-calm Ready running queue runs = none_calm running queue runs
-calm Playing (Some number) queue runs = refl
-calm Playing None queue runs = absurd runs
+calm state running queue runs = grind arith
 
 -- No PLAY is due where none is at any place, and back.
 none_due : (from : ℕ) (sessions : List PlayerSession) → ((place : ℕ) → has_due (session_at place sessions) ≡ false) → first_place has_due from sessions ≡ None
@@ -267,30 +179,22 @@ due_none from [] e place = refl
 due_none from (one ∷ more) e place = by place (has_due one) refl e (due_none (from + 1) more)
   where
     by : (place : ℕ) (t : Bool) → has_due one ≡ t → cond t (Some from) (first_place has_due (from + 1) more) ≡ None → (first_place has_due (from + 1) more ≡ None → (at : ℕ) → has_due (session_at at more) ≡ false) → has_due (session_at place (one ∷ more)) ≡ false
-    by place true is e later = cc
-    by zero false is e later = is
-    by (suc place) false is e later = later e place
+    by place t is e later = grind arith
 
 -- A PLAY waits only while streams play.
 abbrev AreQueueing : List SeenSession → List Play → Type 0
 AreQueueing sessions [] = Unit {0}
-AreQueueing sessions (play ∷ plays) = ((session_in play.place sessions).state ≡ Playing) × AreQueueing sessions plays
+AreQueueing sessions (play ∷ plays) = ((session_or_none play.place sessions).state ≡ Playing) × AreQueueing sessions plays
 
 abbrev QueuesIn : List SeenSession → Decision → Type 0
-QueuesIn sessions (Answer text) = Unit {0}
-QueuesIn sessions (Queue play text) = (session_in play.place sessions).state ≡ Playing
-QueuesIn sessions (Forward request asked) = Unit {0}
-QueuesIn sessions (Setup request asked channels) = Unit {0}
+QueuesIn sessions (Queue play text) = (session_or_none play.place sessions).state ≡ Playing
+QueuesIn sessions decision = Unit {0}
 
-judged_state : (given : Given) (read : Result Request1 Refusal) → (session_in (judged_read given read).place given.sessions).state ≡ (judged_read given read).state
-judged_state given (Ok request) = refl
-judged_state given (Err refusal) = refl
+judged_state : (given : Given) (read : Result Request1 Refusal) → (session_or_none (judged_read given read).place given.sessions).state ≡ (judged_read given read).state
+judged_state given read = grind arith
 
 queues_so : (given : Given) (shape : Shape) (decision : Decision) → IsDecided (judged_of given shape).state (request_of_item shape) decision → IsPlacedAs (judged_of given shape) decision → QueuesIn given.sessions decision
-queues_so given shape (Answer text) is placed = tt
-queues_so given shape (Queue play text) is placed = ap (λ place. (session_in place given.sessions).state) placed ∙ judged_state given (request_of_item shape) ∙ is.1
-queues_so given shape (Forward request asked) is placed = tt
-queues_so given shape (Setup request asked channels) is placed = tt
+queues_so given shape decision is placed = grind arith
 
 decision_queues : (given : Given) (shape : Shape) → AreFit given → QueuesIn given.sessions (decision_on given shape)
 decision_queues given shape fit = by (fits_memory shape) refl
@@ -305,64 +209,45 @@ still_queueing queued sessions (play ∷ plays) queues = (sym (calm_in (λ one. 
 
 first_queues : (decision : Decision) (given : Given) (more : List Shape) (again : Given → Treated) → QueuesIn given.sessions decision → AreFit given → ((one : Given) → AreFit one → AreQueueing one.sessions (again one).plays)
     → AreQueueing given.sessions (treated_first decision given more again).plays
-first_queues (Answer text) given more again queues fit later = later given fit
-first_queues (Queue play text) given more again queues fit later = (queues, still_queueing play.place given.sessions (again (one_queued play given)).plays (later (one_queued play given) (queued_fit play given fit)))
-first_queues (Forward request asked) given more again queues fit later = tt
-first_queues (Setup request asked channels) given more again queues fit later = tt
+first_queues decision given more again queues fit later = grind (arith, still_queueing, queued_fit)
 
 treated_queues : (shapes : List Shape) (given : Given) → AreFit given → AreQueueing given.sessions (treated shapes given).plays
 treated_queues [] given fit = tt
 treated_queues (shape ∷ more) given fit = first_queues (decision_on given shape) given more (treated more) (decision_queues given shape fit) fit (treated_queues more)
 
 -- PLAYs wait.
-seen_state : (place : ℕ) (sessions : List PlayerSession) → (slice_index_or (map session_seen sessions) place no_session).state ≡ (session_at place sessions).state
+seen_state : (place : ℕ) (sessions : List PlayerSession) → (slice_index_or (map session_found sessions) place no_session).state ≡ (session_at place sessions).state
 seen_state place sessions = ap (λ (one : SeenSession). one.state) (seen_at place sessions)
 
 any_queue : (state : State) (running : Option ℕ) (queue other : List Play) → state ≡ Playing → IsRunning state running queue → IsRunning state running other
-any_queue Init running queue other playing runs = cc
-any_queue Ready running queue other playing runs = cc
-any_queue Playing (Some number) queue other playing runs = tt
-any_queue Playing None queue other playing runs = runs
+any_queue state running queue other playing runs = grind arith
 
-queue_runs : (place : Option ℕ) (play : Play) (sessions : List PlayerSession) → (session_in place (map session_seen sessions)).state ≡ Playing → AllRun sessions → AllRun (changed_where place (when_queued play) sessions)
+queue_runs : (place : Option ℕ) (play : Play) (sessions : List PlayerSession) → (session_or_none place (map session_found sessions)).state ≡ Playing → AllRun sessions → AllRun (changed_where place (when_queued play) sessions)
 queue_runs None play sessions playing runs = cc
 queue_runs (Some k) play sessions playing runs =
     each_place (λ place session. Runs session) k (when_queued play) sessions refl
     (any_queue (session_at k sessions).state (session_at k sessions).running (session_at k sessions).queue ((session_at k sessions).queue ++ play ∷ []) (sym (seen_state k sessions) ∙ playing) (runs k)) (λ place apart. runs place)
 
-queued_still : (place at : Option ℕ) (play : Play) (sessions : List PlayerSession) → (session_in at (map session_seen (changed_where place (when_queued play) sessions))).state ≡ (session_in at (map session_seen sessions)).state
+queued_still : (place at : Option ℕ) (play : Play) (sessions : List PlayerSession) → (session_or_none at (map session_found (changed_where place (when_queued play) sessions))).state ≡ (session_or_none at (map session_found sessions)).state
 queued_still None at play sessions = refl
 queued_still (Some place) None play sessions = refl
 queued_still (Some place) (Some at) play sessions = seen_state at (changed_at place (when_queued play) sessions) ∙ kept_each (λ session. session.state) place at (when_queued play) sessions refl ∙ sym (seen_state at sessions)
 
-later_queueing : (place : Option ℕ) (play : Play) (sessions : List PlayerSession) (plays : List Play) → AreQueueing (map session_seen sessions) plays → AreQueueing (map session_seen (changed_where place (when_queued play) sessions)) plays
+later_queueing : (place : Option ℕ) (play : Play) (sessions : List PlayerSession) (plays : List Play) → AreQueueing (map session_found sessions) plays → AreQueueing (map session_found (changed_where place (when_queued play) sessions)) plays
 later_queueing place play sessions [] queues = tt
 later_queueing place play sessions (one ∷ plays) queues = (queued_still place one.place play sessions ∙ queues.0, later_queueing place play sessions plays queues.1)
 
-plays_run : (plays : List Play) (client : Client) → AreQueueing (map session_seen client.sessions) plays → AllRun client.sessions → AllRun (going.after_plays plays client).sessions
+plays_run : (plays : List Play) (client : Client) → AreQueueing (map session_found client.sessions) plays → AllRun client.sessions → AllRun (going.after_plays plays client).sessions
 plays_run [] client queues runs = runs
 plays_run (play ∷ plays) client queues runs =
     plays_run plays (changes.after_queueing play client) (later_queueing play.place play client.sessions plays queues.1) (queue_runs play.place play client.sessions queues.0 runs)
 
-plays_alive : (plays : List Play) (client : Client) → (going.after_plays plays client).alive ≡ client.alive
-plays_alive [] client = refl
-plays_alive (play ∷ plays) client = plays_alive plays (changes.after_queueing play client)
-
 -- a connection that is alive, in which a PLAY runs while streams play
 alive_tidy : (client : Client) → client.alive ≡ true → AllRun client.sessions → IsTidy client
-alive_tidy client alive runs =
-    subst (λ (b : Bool). IsTidyBy b client) (sym alive) (
-      λ place. order_kept (session_at place client.sessions).state (is_released client.pending place) (session_at place client.sessions).running (session_at place client.sessions).queue (runs place),
-      by client.pending,
-    )
-  where
-    by : (pending : Option Purpose) → changes.due_place_at pending client.sessions ≡ None
-    by None = none_due 0 client.sessions (λ place. calm (session_at place client.sessions).state (session_at place client.sessions).running (session_at place client.sessions).queue (runs place))
-    by (Some purpose) = refl
+alive_tidy client alive runs = grind (arith, order_kept, none_due, calm)
 
 goes_tidy : (one : Option Going) (pair : Option ℕ) (text : List ℕ) (client : Client) → client.alive ≡ true → AllRun client.sessions → IsTidy (going.goes_at one pair text client).client
-goes_tidy None pair text client alive runs = alive_tidy client alive runs
-goes_tidy (Some one) pair text client alive runs = alive_tidy (going.goes_at (Some one) pair text client).client alive runs
+goes_tidy one pair text client alive runs = grind (arith, alive_tidy)
 
 treat_tidy : (bases : Bases) (pair : Option ℕ) (client : Client) → client.alive ≡ true → IsFitClient client → AllRun client.sessions → IsTidy (going.treat bases pair client).client
 treat_tidy bases pair client alive fit runs =
@@ -372,15 +257,8 @@ treat_tidy bases pair client alive fit runs =
     (plays_run all.plays before (treated_queues client.waiting (given bases (is_none pair) client) (given_fit bases (is_none pair) client fit)) runs)
 
 -- The PLAY that is due goes up.
-any_released : (running : Option ℕ) (queue : List Play) → PlaysOn true running queue
-any_released (Some number) queue = tt
-any_released None [] = tt
-any_released None (first ∷ more) = tt
-
 release_order : (state : State) (running : Option ℕ) (queue : List Play) → IsInOrder state false running queue → IsInOrder state true running (drop 1 queue)
-release_order Init running queue order = ap (drop 1) order
-release_order Ready running queue order = ap (drop 1) order
-release_order Playing running queue order = any_released running (drop 1 queue)
+release_order state running queue order = grind arith
 
 has_first : (queue : List Play) (t : Bool) → (t && not (length queue == 0)) ≡ true → slice_get queue 0 ≢ None
 has_first [] true e = cc
@@ -388,8 +266,7 @@ has_first [] false e = cc
 has_first (play ∷ queue) t e = λ (none : Some play ≡ None). cc
 
 idle_order : (pending : Option Purpose) (client : Client) → pending ≡ None → AreOrdered (is_released pending) client.sessions → AreOrdered (λ place. false) client.sessions
-idle_order None client idle order = order
-idle_order (Some purpose) client idle order = cc
+idle_order pending client idle order = grind arith
 
 released_order : (k : ℕ) (play : Play) (client : Client) → client.pending ≡ None → PlaysInOrder client → PlaysInOrder (changes.release_with (Some play) k client)
 released_order k play client idle order =
@@ -398,8 +275,7 @@ released_order k play client idle order =
     (λ place apart. sym (off_pair (Some k) place apart))
 
 due_idle : (pending : Option Purpose) (sessions : List PlayerSession) (k : ℕ) → changes.due_place_at pending sessions ≡ Some k → (pending ≡ None) × (first_place has_due 0 sessions ≡ Some k)
-due_idle None sessions k due = (refl, due)
-due_idle (Some purpose) sessions k due = cc
+due_idle pending sessions k due = grind arith
 
 play_tidy : (alive : Bool) (k : ℕ) (play : Option Play) (client : Client) → client.alive ≡ alive → changes.due_place client ≡ Some k → queued_at k client.sessions ≡ play → IsHeardSo alive releases client → IsTidyBy alive (going.released_with play (session_at k client.sessions).id client).client
 play_tidy alive k None client is due none heard =
@@ -414,21 +290,14 @@ play_tidy false k (Some play) client is due first heard =
     subst (λ (after : Client). IsTidyBy false after) (sym (ap (λ one. changes.release_at one client) due ∙ ap (λ (one : Option Play). changes.release_with one k client) first)) heard
 
 due_tidy : (alive : Bool) (place : Option ℕ) (client : Client) → client.alive ≡ alive → changes.due_place client ≡ place → IsHeardSo alive releases client → IsTidyBy alive (going.released_at place client).client
-due_tidy true None client is due heard = (heard, due)
-due_tidy false None client is due heard = heard
-due_tidy alive (Some k) client is due heard = play_tidy alive k (queued_at k client.sessions) client is due refl heard
+due_tidy alive place client is due heard = grind (arith, play_tidy)
 
 kept_alive : (bases : Bases) (pair : Option ℕ) (next : NextPart) (client : Client) → (going_on bases pair next client).client.alive ≡ client.alive
 kept_alive bases pair next client = (going_steady bases pair next client).alive
 
 -- whatever may go up
 left_waiting : (bases : Bases) (pair : Option ℕ) (next : NextPart) (client : Client) → client.alive ≡ false → (going_on bases pair next client).client.waiting ≡ client.waiting
-left_waiting bases pair next client dead = going_as (λ effect. effect.client.waiting ≡ client.waiting) bases pair next client (record {
-  still = refl;
-  released = λ place play idle due is. refl;
-  treats = λ idle alive. let no : false ≡ true = sym dead ∙ alive in cc;
-  left = λ place id idle closed filled is. refl;
-})
+left_waiting bases pair next client dead = grind arith
 
 alive_on : (bases : Bases) (pair : Option ℕ) (next : NextPart) (client : Client) → client.alive ≡ true → IsFitClient client → IsHeardSo true next client → IsTidy (going_on bases pair next client).client
 alive_on bases pair rests client alive fit heard = subst (λ (b : Bool). IsTidyBy b client) (sym alive) heard
@@ -455,26 +324,17 @@ alive_on bases pair goes_on client alive fit heard =
             goes_alive (Some one) after = refl
 
     by : (pending : Option Purpose) → client.pending ≡ pending → IsTidyBy true (going.go_at bases pair pending client).client
-    by (Some purpose) is = (heard, ap (λ (one : Option Purpose). changes.due_place_at one client.sessions) is)
-    by None is = subst (λ (b : Bool). IsTidyBy true (going.go_idle bases pair b client).client) (sym alive) (treats (changes.due_place client) is refl)
+    by pending is = grind (arith, treats)
 
 going_tidy : (bases : Bases) (pair : Option ℕ) (next : NextPart) (client : Client) → IsFitClient client → IsHeardSo client.alive next client → IsTidy (going_on bases pair next client).client
-going_tidy bases pair next client fit heard = by client.alive refl heard
-  where
-    by : (alive : Bool) → client.alive ≡ alive → IsHeardSo alive next client → IsTidy (going_on bases pair next client).client
-    by true is heard = alive_on bases pair next client is fit heard
-    by false is heard = subst (λ (b : Bool). IsTidyBy b (going_on bases pair next client).client) (sym (kept_alive bases pair next client ∙ is)) (left_waiting bases pair next client is ∙ heard)
+going_tidy bases pair next client fit heard = grind (arith, alive_on, kept_alive, left_waiting)
 
 -- So it is for a connection alone.
 pub tidy_after : (bases : Bases) (events : List PrivateEvent) → IsTidy (private_after bases events).client
 tidy_after bases [] = (λ place. new_order place, refl)
   where
     new_order : (place : ℕ) → IsOrdered false (session_at place new_sessions)
-    new_order zero = refl
-    new_order (suc zero) = refl
-    new_order (suc (suc zero)) = refl
-    new_order (suc (suc (suc zero))) = refl
-    new_order (suc (suc (suc (suc place)))) = refl
+    new_order place = grind arith
 tidy_after bases (event ∷ events) =
     let p = private_after bases events in
     let heard = hear bases p.count p.client event in

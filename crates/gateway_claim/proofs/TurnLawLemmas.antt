@@ -1,41 +1,208 @@
--- A turn as a whole: the connection and the books after it, and that no other connection is touched.
-use Rattle.std.proofs.Common.{◌≡◌, ◌≢◌, ◌∙◌, ℕ, ◌+◌, List, ◌∷◌, ◌++◌, Option, Some, None, refl, sym, ap, subst, arith}
-use Rattle.std.specs.Option.{option_map, option_to_list}
+-- The turn of a connection in a history: the step by the books is its own step, the next entry hands out what that hands out,
+-- and the books and the connections are then as the step leaves them.
+use Rattle.std.proofs.Common.{◌≡◌, ◌∙◌, ℕ, zero, suc, ◌+◌, false, map, List, [], ◌∷◌, Option, Some, IfSome, refl, sym, ap, subst, arith, true, cond, ◌++◌, None, IsSome, ◌≢◌}
+use Rattle.std.specs.Option.{option_map, option_or, option_to_list}
 use Rattle.rtsp_uri.specs.declared.base.Bases.{Bases}
-use Rattle.client_slot.specs.Places.{tracks_of}
+use Rattle.session_one.specs.declared.parts.Track.{Track}
+use Rattle.client_slot.specs.declared.purpose.Purpose.{Purpose}
+use Rattle.client_slot.specs.Session.{PlayerSession}
+use Rattle.client_slot.specs.Places.{session_at, session_where, tracks_of}
 use Rattle.client_slot.specs.Client.{Client}
-use Rattle.client_machine.specs.Step.{going_on}
-use Rattle.client_slot.specs.Renumber.{client_under}
-use Rattle.client_machine.specs.Alone.{Private, private_after, asked_in, effect_alone}
-use Rattle.client_machine.specs.Bounds.{IsBelow, ArePairsBelow}
-use Rattle.client_machine.specs.Effects.{Outgoing, asks, carries, Effect}
-use Rattle.client_machine.specs.Events.{PrivateEvent}
-use Rattle.client_machine.specs.ServerItems.{hear}
-use Rattle.client_machine.specs.Renumber.{message_under}
+use Rattle.client_slot.specs.Renumber.{purpose_under, session_under, client_under}
+use Rattle.client_machine.specs.Alone.{effect_alone, private_after, Private, asked_in}
+use Rattle.client_machine.specs.OpenRequests.{AsksBy}
+use Rattle.client_machine.specs.Bounds.{ArePairsBelow, IsWithin, IsBelow}
+use Rattle.client_machine.specs.Events.{Outgoing, carries, Effect, PrivateEvent, asks}
+use Rattle.client_machine.specs.Frames.{channel_in, Half, half_on, half_for}
+use Rattle.client_machine.specs.Step.{hear, step, going_on}
+use Rattle.client_machine.specs.Renumber.{message_under, effect_under}
+use Rattle.client_machine.proofs.AskLemmas.{going_asks}
+use Rattle.client_machine.proofs.BelowLemmas.{alone_below, alone_numbered, tracks_below, hear_numbered, under_agree}
+use Rattle.client_machine.proofs.WayLemmas.{hear_as}
+use Rattle.gateway_claim.specs.Books.{Books, free_in, RequestKind, kind_of, lends, kind_of_text}
+use Rattle.gateway_claim.specs.Happenings.{Happening, HistoryEntry, fault_in, entered, silent}
+use Rattle.gateway_claim.specs.OwnEvents.{turn, final_in, settled_by, books_of, event_of, own, lends_where, has_shut}
+use Rattle.gateway_claim.specs.BooksAndSlots.{kind_for, IsJoined, AreSound}
+use Rattle.gateway_claim.specs.Follows.{message_up, said_breach, spent, breach, effect, answer_due, message_due, up_due, IsHistory, outcome_with, next}
+use Rattle.gateway_claim.specs.Turns.{shared, raw_event, raw_up, number_heard, kind_pending, outcome_by, kind_gone, IsItsTurn, IsSteppedBy}
+use Rattle.gateway_claim.proofs.AgreeLemmas.{alone, IsStep, step_is, AreJoined, IsTurnStep, turn_step, joined, event_for, alone_next, event_present, books_with, books_next, other_quiet}
+use Rattle.gateway_claim.proofs.StepLemmas.{raw_is, open_is, numbers_at, pairs_at, numbers_agree, pairs_agree, other_of, free_or, raw_step, asked_is_free, lent_client}
+use Rattle.std.specs.Prelude.{is_some}
+use Rattle.gateway_claim.specs.declared.event.UpMessage.{UpMessage}
+use Rattle.gateway_claim.specs.declared.event.UpCause.{UpCause}
+use Rattle.gateway_claim.specs.declared.event.Outcome.{Outcome}
+use Rattle.gateway_claim.proofs.CaseLemmas.{not_over, pair_where, own_event, breach_standing}
+use Rattle.gateway_claim.proofs.NextLemmas.{next_follows, same_number}
+use Rattle.gateway_claim.proofs.LendLemmas.{new_number}
 use Rattle.client_machine.specs.UpTexts.{text_up}
-use Rattle.client_machine.proofs.BelowLemmas.{alone_below, alone_numbered, hear_numbered, under_agree, tracks_below}
 use Rattle.client_machine.proofs.HoldLemmas.{going_steady, same_tracks}
-use Rattle.gateway_claim.specs.Kinds.{RequestKind, kind_of_text, kind_of}
-use Rattle.gateway_claim.specs.Books.{Books, lends}
-use Rattle.gateway_claim.specs.Settlement.{free_in}
-use Rattle.gateway_claim.specs.Happenings.{Happening, HistoryEntry}
-use Rattle.gateway_claim.specs.OwnEvents.{final_in, settled_by, lends_where, has_shut, books_of, own}
-use Rattle.gateway_claim.specs.BooksAndSlots.{IsJoined}
-use Rattle.gateway_claim.specs.Follows.{message_up}
-use Rattle.gateway_claim.specs.SharedEvents.{shared, kind_pending, kind_gone}
-use Rattle.gateway_claim.proofs.AgreeLemmas.{joined, event_for, alone_next, other_quiet}
-use Rattle.gateway_claim.proofs.CaseLemmas.{not_over}
-use Rattle.gateway_claim.specs.Turns.{IsItsTurn, IsSteppedBy}
-use Rattle.gateway_claim.proofs.SlotLemmas.{alone, AreJoined, step_is, IsTurnStep, turn_step}
-use Rattle.gateway_claim.proofs.LendLemmas.{pair_same, number_same}
-use Rattle.gateway_claim.proofs.MarkLemmas.{pair_where}
-use Rattle.gateway_claim.proofs.OtherLemmas.{differs}
-use Rattle.gateway_claim.proofs.ShareLemmas.{numbers_at, pairs_at, numbers_agree, pairs_agree}
-use Rattle.gateway_claim.proofs.StepLemmas.{other_of, free_or}
-use Rattle.gateway_claim.proofs.TurnBooksLemmas.{kind_at, turn_books_of, lent_kind, AskedOpen, step_open}
-use Rattle.gateway_claim.proofs.TurnClientLemmas.{asked_is_free, lent_client}
-use Rattle.gateway_claim.proofs.TurnNextLemmas.{raw_step_of}
-use Rattle.gateway_claim.proofs.TurnStandLemmas.{IsTurn, renumbered, entry_next, next_history, turn_stands, turn_alone, turn_outcome}
+
+-- A frame of the player goes up on a pair of one of its streams.
+abbrev pub CarriesBelow : ℕ → Option Outgoing → Type 0
+CarriesBelow n (Some (carries pair half rest)) = IsWithin n pair
+CarriesBelow n message = Unit {0}
+
+half_below : (n channel : ℕ) (tracks : List Track) → ArePairsBelow n tracks → IfSome (half_for channel tracks) (λ half. IsWithin n half.pair)
+half_below n channel [] below = tt
+half_below n channel (track ∷ tracks) below = by (half_on channel track) (half_below n channel tracks below.1)
+  where
+    by : (half : Option ℕ) → IfSome (half_for channel tracks) (λ one. IsWithin n one.pair)
+        → IfSome (option_or (option_map (λ one. record { pair = track.pair; half = one }) half) (half_for channel tracks)) (λ one. IsWithin n one.pair)
+    by half more = grind arith
+
+-- a message of the connection, as it goes up in the numbers of all
+pub message_is : (books settled : Books) (i n free : ℕ) (message : Option Outgoing) → CarriesBelow n message
+    → option_map (message_up books settled i) message ≡ option_map (raw_up (books.issued + 1) (free_in settled)) (option_map (message_under (pairs_at books i (n + 1) free)) message)
+message_is books settled i n free message below = grind arith
+
+-- The kind of what goes up is that of what is open then.
+pub under_at : (numbers pairs : ℕ → ℕ) (place : ℕ) (sessions : List PlayerSession) → (session_at place (map (session_under numbers pairs) sessions)).id ≡ (session_at place sessions).id
+under_at numbers pairs place [] = refl
+under_at numbers pairs zero (one ∷ more) = refl
+under_at numbers pairs (suc place) (one ∷ more) = under_at numbers pairs place more
+
+pub under_where : (numbers pairs : ℕ → ℕ) (place : Option ℕ) (sessions : List PlayerSession) → (session_where place (map (session_under numbers pairs) sessions)).id ≡ (session_where place sessions).id
+under_where numbers pairs place sessions = grind (arith, under_at)
+
+pub kind_same : (numbers pairs : ℕ → ℕ) (sessions : List PlayerSession) (purpose : Purpose) → kind_for pairs sessions purpose ≡ kind_pending (map (session_under numbers pairs) sessions) (Some (purpose_under pairs purpose))
+kind_same numbers pairs sessions purpose = grind (arith, under_where, under_at)
+
+-- A frame alone goes up at an event by itself, on a pair of a stream.
+hear_below : (bases : Bases) (n : ℕ) (client : Client) (event : PrivateEvent) → ArePairsBelow n (tracks_of client.sessions) → CarriesBelow n (hear bases n client event).effect.message
+hear_below bases n client event below = hear_as (λ heard. CarriesBelow n heard.effect.message) bases n client event (record {
+  idle = tt;
+  closing = λ reason alive. tt;
+  waits = λ shape full here is alive. tt;
+  carrying = λ shape full half here is. subst (λ (one : Option Half). IfSome one (λ found. IsWithin n found.pair)) is (half_below n (channel_in shape) (tracks_of client.sessions) below);
+  settles = λ purpose told ssrc full here late is. tt;
+  notes = λ id names here. tt;
+  gives = λ pair half channel rest here is alive. tt;
+})
+
+either_below : (n : ℕ) (first second : Option Outgoing) → CarriesBelow n first → CarriesBelow n second → CarriesBelow n (option_or first second)
+either_below n first second a b = grind arith
+
+going_below : (n : ℕ) (free : Option ℕ) (old : Option Purpose) (message : Option Outgoing) (new : Option Purpose) → AsksBy free old message new → CarriesBelow n message
+going_below n free old message new h = grind arith
+
+pub step_below : (bases : Bases) (n : ℕ) (pair : Option ℕ) (client : Client) (event : PrivateEvent) → ArePairsBelow n (tracks_of client.sessions) → CarriesBelow n (step bases n pair client event).message
+step_below bases n pair client event below = grind (arith, either_below, hear_below, going_below, going_asks)
+
+-- The step in the numbers of all.
+abbrev pub raw_step_of : Bases → List HistoryEntry → ℕ → Happening → PrivateEvent → Effect
+raw_step_of bases T i h raw = step bases (number_heard h) (free_in (settled_by (books_of T) h)) (shared (books_of T) i (alone bases T i).client) raw
+
+-- It is the connection's own, renumbered.
+pub step_renumbered : (bases : Bases) (T : List HistoryEntry) (i : ℕ) (h : Happening) (event raw : PrivateEvent) → AreSound (books_of T) → IsJoined (books_of T) i (alone bases T i).client (alone bases T i).count → (alone bases T i).over ≡ false
+    → IsStep bases (books_of T) (final_in (books_of T) h) i (alone bases T i) event → turn (books_of T) h ≡ Some i → event_of (books_of T) i (alone bases T i).client.waiting h ≡ Some event → raw_event (books_of T) h ≡ Some raw
+    → raw_step_of bases T i h raw ≡ effect_under (numbers_at (books_of T) i ((alone bases T i).count + 1) (other_of raw)) (pairs_at (books_of T) i ((alone bases T i).count + 1) (free_or (free_in (settled_by (books_of T) h))))
+    (effect_alone bases (alone bases T i) event)
+step_renumbered bases T i h event raw sound joined over made turns is_event is_raw =
+    let open_now = open_is (books_of T) i (alone bases T i).count (alone bases T i).client h raw joined (alone_numbered bases (own bases i T)).1 turns is_raw in
+    raw_step bases (books_of T) i (alone bases T i).count (number_heard h) (free_in (settled_by (books_of T) h)) (alone bases T i).client event raw sound joined (alone_below bases (own bases i T))
+    (raw_is (books_of T) i (alone bases T i).client.waiting h event raw turns is_event is_raw) open_now.0 open_now.1
+    ∙ ap (effect_under (numbers_at (books_of T) i ((alone bases T i).count + 1) (other_of raw)) (pairs_at (books_of T) i ((alone bases T i).count + 1) (free_or (free_in (settled_by (books_of T) h)))))
+    (sym (step_is bases (books_of T) (final_in (books_of T) h) i (alone bases T i) event over made))
+
+-- What is known of a turn: the server's connection stands, the connection entered and has this event, and nothing is wrong.
+pub record IsTurn (bases : Bases) (T : List HistoryEntry) (i : ℕ) (h : Happening) (event raw : PrivateEvent) : Type 0 where
+  pub history : IsHistory bases T
+  pub standing : fault_in T ≡ None
+  pub entered : entered i T ≡ true
+  pub turns : turn (books_of T) h ≡ Some i
+  pub is_event : own_event bases T i h ≡ Some event
+  pub is_raw : raw_event (books_of T) h ≡ Some raw
+  pub made : IsStep bases (books_of T) (final_in (books_of T) h) i (alone bases T i) event
+  pub said : said_breach bases T h ≡ None
+  pub left : spent (books_of T).issued (raw_step_of bases T i h raw).message ≡ None
+
+pub renumbered : (bases : Bases) (T : List HistoryEntry) (i : ℕ) (h : Happening) (event raw : PrivateEvent) → IsTurn bases T i h event raw
+    → raw_step_of bases T i h raw ≡ effect_under (numbers_at (books_of T) i ((alone bases T i).count + 1) (other_of raw)) (pairs_at (books_of T) i ((alone bases T i).count + 1) (free_or (free_in (settled_by (books_of T) h))))
+    (effect_alone bases (alone bases T i) event)
+renumbered bases T i h event raw is =
+    let all : AreJoined bases T = joined bases T is.history is.standing in
+    step_renumbered bases T i h event raw all.0 (all.1 i) (not_over bases T is.standing i) is.made is.turns is.is_event is.is_raw
+
+-- what the machine does at the turn
+pub at_turn : (bases : Bases) (T : List HistoryEntry) (i : ℕ) (h : Happening) (event raw : PrivateEvent) → IsTurn bases T i h event raw → effect bases T h ≡ effect_alone bases (alone bases T i) event
+at_turn bases T i h event raw is = grind arith
+
+spent_same : (issued : ℕ) (p : ℕ → ℕ) (message : Option Outgoing) → spent issued (option_map (message_under p) message) ≡ spent issued message
+spent_same issued p message = grind arith
+
+nothing_wrong : (bases : Bases) (T : List HistoryEntry) (i : ℕ) (h : Happening) (event raw : PrivateEvent) → IsTurn bases T i h event raw → breach bases T h ≡ None
+nothing_wrong bases T i h event raw is =
+    breach_standing bases T h is.standing
+    ∙ ap (λ wrong. option_or wrong (spent (books_of T).issued (effect bases T h).message)) is.said
+    ∙ ap (λ (done : Effect). spent (books_of T).issued done.message) (at_turn bases T i h event raw is)
+    ∙ sym (spent_same (books_of T).issued (pairs_at (books_of T) i ((alone bases T i).count + 1) (free_or (free_in (settled_by (books_of T) h)))) (effect_alone bases (alone bases T i) event).message)
+    ∙ sym (ap (λ (done : Effect). spent (books_of T).issued done.message) (renumbered bases T i h event raw is))
+    ∙ is.left
+
+carried : (bases : Bases) (T : List HistoryEntry) (i : ℕ) (h : Happening) (event raw : PrivateEvent) → IsTurn bases T i h event raw → CarriesBelow (alone bases T i).count (effect_alone bases (alone bases T i) event).message
+carried bases T i h event raw is =
+    subst (λ (done : Effect). CarriesBelow (alone bases T i).count done.message) (sym (step_is bases (books_of T) (final_in (books_of T) h) i (alone bases T i) event (not_over bases T is.standing i) is.made))
+    (step_below bases (alone bases T i).count (pair_where (free_in (settled_by (books_of T) h)) ((alone bases T i).count + 1)) (alone bases T i).client event (tracks_below (alone bases T i).count (alone bases T i).client.sessions (alone_below bases (own bases i T)).sessions))
+
+-- What is handed out is what the step in the numbers of all hands out.
+pub turn_outcome : (bases : Bases) (T : List HistoryEntry) (i : ℕ) (h : Happening) (event raw : PrivateEvent) → IsTurn bases T i h event raw → next bases T h ≡ outcome_by (books_of T) h i (raw_step_of bases T i h raw)
+turn_outcome bases T i h event raw is =
+    let p : ℕ → ℕ = pairs_at (books_of T) i ((alone bases T i).count + 1) (free_or (free_in (settled_by (books_of T) h))) in
+    ap (λ (f : Option UpCause). cond (is_some f) silent (outcome_with (breach bases T h) (turn (books_of T) h) (up_due bases T h) (effect bases T h))) is.standing
+    ∙ ap (λ wrong. outcome_with wrong (turn (books_of T) h) (up_due bases T h) (effect bases T h)) (nothing_wrong bases T i h event raw is)
+    ∙ ap (λ who. outcome_with None who (record { answer = answer_due (books_of T) h; message = message_due (books_of T) (settled_by (books_of T) h) who (effect bases T h).message }) (effect bases T h)) is.turns
+    ∙ ap (λ (done : Effect). outcome_with None (Some i) (record { answer = answer_due (books_of T) h; message = option_map (message_up (books_of T) (settled_by (books_of T) h) i) done.message }) done) (at_turn bases T i h event raw is)
+    ∙ ap (λ (message : Option UpMessage). outcome_with None (Some i) (record { answer = answer_due (books_of T) h; message = message }) (effect_alone bases (alone bases T i) event))
+    (message_is (books_of T) (settled_by (books_of T) h) i (alone bases T i).count (free_or (free_in (settled_by (books_of T) h))) (effect_alone bases (alone bases T i) event).message (carried bases T i h event raw is))
+    ∙ ap (λ (done : Effect). outcome_by (books_of T) h i done) (sym (renumbered bases T i h event raw is))
+
+-- The entry.
+abbrev pub entry_next : Bases → List HistoryEntry → Happening → HistoryEntry
+entry_next bases T h = record { happening = h; outcome = next bases T h }
+
+pub next_history : (bases : Bases) (T : List HistoryEntry) (h : Happening) → IsHistory bases T → IsHistory bases (entry_next bases T h ∷ T)
+next_history bases T h history = (history, next_follows bases T h history)
+
+pub turn_stands : (bases : Bases) (T : List HistoryEntry) (i : ℕ) (h : Happening) (event raw : PrivateEvent) → IsTurn bases T i h event raw → fault_in (entry_next bases T h ∷ T) ≡ None
+turn_stands bases T i h event raw is =
+    ap (λ was. option_or was (next bases T h).fault) is.standing ∙ ap (λ (out : Outcome). out.fault) (turn_outcome bases T i h event raw is)
+
+-- The connection after it.
+pub turn_alone : (bases : Bases) (T : List HistoryEntry) (i : ℕ) (h : Happening) (event raw : PrivateEvent) → IsTurn bases T i h event raw
+    → alone bases (entry_next bases T h ∷ T) i ≡ private_after bases (event ∷ own bases i T)
+turn_alone bases T i h event raw is =
+    alone_next bases T (entry_next bases T h) i (turn_stands bases T i h event raw is)
+    ∙ ap (λ who. private_after bases (option_to_list (event_for bases T h who i) ++ own bases i T)) is.turns
+    ∙ ap (λ one. private_after bases (option_to_list one ++ own bases i T)) (event_present bases T h i event is.entered is.is_event)
+
+-- the kind of the request that goes up
+abbrev pub kind_at : Bases → List HistoryEntry → ℕ → Happening → PrivateEvent → Option RequestKind
+kind_at bases T i h event =
+    kind_of (option_map (message_up (books_of T) (settled_by (books_of T) h) i) (effect_alone bases (alone bases T i) event).message) (free_in (settled_by (books_of T) h)) (has_shut (Some i) (entry_next bases T h ∷ T))
+
+pub turn_books_of : (bases : Bases) (T : List HistoryEntry) (i : ℕ) (h : Happening) (event raw : PrivateEvent) → IsTurn bases T i h event raw
+    → books_of (entry_next bases T h ∷ T) ≡ lends_where (Some i) (kind_at bases T i h event) (settled_by (books_of T) h)
+turn_books_of bases T i h event raw is =
+    books_next bases T (entry_next bases T h) (next_history bases T h is.history).1 (turn_stands bases T i h event raw is)
+    ∙ ap (λ who. books_with (books_of T) h who (effect bases T h).message (has_shut who (entry_next bases T h ∷ T))) is.turns
+    ∙ ap (λ (done : Effect). books_with (books_of T) h (Some i) done.message (has_shut (Some i) (entry_next bases T h ∷ T))) (at_turn bases T i h event raw is)
+
+-- The kind is that of what is open then.
+pub lent_kind : (books : Books) (i : ℕ) (kind : RequestKind) (count : ℕ) (client : Client) → count ≡ books.counts i + 1 → IsJoined (lends i kind books) i client count → IsSome client.pending
+    → kind ≡ kind_pending (shared (lends i kind books) i client).sessions (shared (lends i kind books) i client).pending
+lent_kind books i kind count client counted is_joined some = grind (arith, new_number, same_number, kind_same)
+
+-- A request that goes up is open then.
+abbrev pub AskedOpen : Option Outgoing → Option Purpose → Type 0
+AskedOpen (Some (asks request named)) pending = IsSome pending
+AskedOpen message pending = Unit {0}
+
+asked_open : (free : Option ℕ) (old : Option Purpose) (message : Option Outgoing) (new : Option Purpose) → AsksBy free old message new → AskedOpen message new
+asked_open free old message new h = grind arith
+
+-- what goes up in all, by what was heard
+pub step_open : (bases : Bases) (number : ℕ) (pair : Option ℕ) (client : Client) (event : PrivateEvent) → AskedOpen (step bases number pair client event).message (step bases number pair client event).client.pending
+step_open bases number pair client event = grind arith
 
 -- after the turn: the connection by the new books, and these books
 abbrev pub IsAfter : Bases → List HistoryEntry → ℕ → Happening → PrivateEvent → Type 0
@@ -54,9 +221,7 @@ step_tracks bases T i h event raw is =
     (tracks_below (alone bases T i).count (hear bases (alone bases T i).count (alone bases T i).client event).effect.client.sessions (hear_numbered bases (alone bases T i).count (alone bases T i).client event (alone_numbered bases (own bases i T))).0.sessions))
 
 step_asked : (bases : Bases) (T : List HistoryEntry) (i : ℕ) (h : Happening) (event raw : PrivateEvent) → IsTurn bases T i h event raw → AskedOpen (effect_alone bases (alone bases T i) event).message (effect_alone bases (alone bases T i) event).client.pending
-step_asked bases T i h event raw is =
-    subst (λ (done : Effect). AskedOpen done.message done.client.pending) (sym (step_is bases (books_of T) (final_in (books_of T) h) i (alone bases T i) event (not_over bases T is.standing i) is.made))
-    (step_open bases (alone bases T i).count (pair_where (free_in (settled_by (books_of T) h)) ((alone bases T i).count + 1)) (alone bases T i).client event)
+step_asked bases T i h event raw is = grind (arith, step_is, alone, not_over, step_open, pair_where)
 
 -- By the message: nothing, or a frame, goes up.
 quiet_after : (books settled after : Books) (i count other : ℕ) (free : Option ℕ) (client : Client) → after ≡ settled → ((k : ℕ) → settled.number_of i k ≡ books.number_of i k) → ((k : ℕ) → settled.pair_of i k ≡ books.pair_of i k)
@@ -122,15 +287,9 @@ turn_after bases T i h event raw is =
     )
 
 -- Every other connection is as it was.
-same_shared : (books after : Books) (j n : ℕ) (client : Client) → IsBelow n client → ((k : ℕ) → after.number_of j k ≡ books.number_of j k) → ((k : ℕ) → after.pair_of j k ≡ books.pair_of j k) → shared after j client ≡ shared books j client
-same_shared books after j n client below numbers pairs = under_agree n (after.number_of j) (books.number_of j) (after.pair_of j) (books.pair_of j) client below (λ k low high. numbers k) (λ k low high. pairs k)
-
 kept_shared : (books settled : Books) (i j n : ℕ) (kind : Option RequestKind) (client : Client) → j ≢ i → IsBelow n client → ((k : ℕ) → settled.number_of j k ≡ books.number_of j k) → ((k : ℕ) → settled.pair_of j k ≡ books.pair_of j k)
     → shared (lends_where (Some i) kind settled) j client ≡ shared books j client
-kept_shared books settled i j n None client ne below numbers pairs = same_shared books settled j n client below numbers pairs
-kept_shared books settled i j n (Some kind) client ne below numbers pairs =
-    same_shared books (lends i kind settled) j n client below
-    (λ k. number_same settled i kind j k (differs j i ne) ∙ numbers k) (λ k. pair_same settled i kind j k (differs j i ne) ∙ pairs k)
+kept_shared books settled i j n kind client ne below numbers pairs = grind arith
 
 pub turn_others : (bases : Bases) (T : List HistoryEntry) (i : ℕ) (h : Happening) (event raw : PrivateEvent) → IsTurn bases T i h event raw → (j : ℕ) → j ≢ i
     → shared (books_of (entry_next bases T h ∷ T)) j (alone bases (entry_next bases T h ∷ T) j).client ≡ shared (books_of T) j (alone bases T j).client

@@ -1,6 +1,6 @@
 -- Where no request waits, none waits after an event but an item of a busy client: a request that comes while none is open
 -- is treated at once.
-use Rattle.std.proofs.Common.{◌≡◌, ◌∙◌, ℕ, ◌+◌, ◌&&◌, ◌||◌, not, Bool, true, false, cond, List, [], ◌∷◌, ◌++◌, length, Option, Some, None, Result, Ok, Err, is_some, is_none, refl, sym, ap, subst}
+use Rattle.std.proofs.Common.{◌≡◌, ◌∙◌, ℕ, ◌+◌, ◌&&◌, ◌||◌, not, Bool, true, false, cond, List, [], ◌∷◌, ◌++◌, length, Option, Some, None, is_some, is_none, refl, sym, ap, subst, arith}
 use Rattle.std.specs.Option.{option_or, option_to_list}
 use Rattle.std.proofs.lemmas.Bool.{eqb-true}
 use Rattle.std.proofs.lemmas.List.{nil_from_length}
@@ -9,33 +9,26 @@ use Rattle.rtsp_uri.specs.declared.base.Bases.{Bases}
 use Rattle.session_one.specs.declared.parts.Play.{Play}
 use Rattle.translate_up.specs.Views.{Given}
 use Rattle.translate_up.specs.declared.decision.Decision.{Decision}
-use Rattle.translate_up.specs.declared.decision.Decision.TheVariants.{Answer, Forward, Queue, Setup}
-use Rattle.client_slot.specs.declared.purpose.Purpose.{Purpose}
-use Rattle.client_slot.specs.Places.{place_with}
 use Rattle.client_slot.specs.Client.{Client}
 use Rattle.client_slot.specs.Changes as changes
 use Rattle.client_machine.specs.Alone.{Private, pair_alone, effect_alone, private_after}
-use Rattle.client_machine.specs.Effects.{Effect}
-use Rattle.client_machine.specs.Events.{PrivateEvent, arrive, answer, note, media, end, slow, up_end}
-use Rattle.client_machine.specs.Treatment.{given, decision_on, Going, Treated, treated_first, treated}
-use Rattle.client_machine.specs.Releases as going
-use Rattle.client_machine.specs.ServerItems.{NextPart, releases, goes_on, new_id}
-use Rattle.client_machine.specs.Step.{going_on, heard_step, step}
-use Rattle.client_machine.proofs.KeepLemmas.{over_stays, over_client, end_client}
-use Rattle.client_machine.proofs.WayLemmas.{hear_as, going_as, alone_as}
+use Rattle.client_machine.specs.Events.{Effect, PrivateEvent, arrive}
+use Rattle.client_machine.specs.Treatment.{given, Going, treated_first, treated}
+use Rattle.client_machine.specs.Step as going
+use Rattle.client_machine.specs.Step.{NextPart, going_on, step}
+use Rattle.client_machine.proofs.KeepLemmas.{over_stays, over_client}
+use Rattle.client_machine.proofs.WayLemmas.{hear_as, alone_as}
 use Rattle.gateway_claim.specs.declared.event.UpCause.{UpCause}
-use Rattle.gateway_claim.specs.ServerItems.{Heard, replies, requests, frames, faults, heard}
-use Rattle.gateway_claim.specs.Notices.{HeardNotice, notice_of}
-use Rattle.gateway_claim.specs.Books.{Books}
+use Rattle.gateway_claim.specs.ServerItems.{heard}
 use Rattle.gateway_claim.specs.Cores.{NoneWaits, IsTimely}
 use Rattle.gateway_claim.specs.Happenings.{Happening, enters, takes, ends, lags, hears, up_ends, HistoryEntry, fault_in, enters_here, entered}
-use Rattle.gateway_claim.specs.OwnEvents.{turn, is_turn, settled_by, books_of, notice_event, heard_event, event_of, own_here, own}
+use Rattle.gateway_claim.specs.OwnEvents.{turn, is_turn, settled_by, books_of, event_of, own_here, own}
 use Rattle.gateway_claim.specs.Follows.{Follows, IsHistory}
 use Rattle.gateway_claim.specs.Tells.{is_busy_private, is_busy, waiting_private, requests_waiting}
-use Rattle.gateway_claim.proofs.CaseLemmas.{own_absent}
-use Rattle.gateway_claim.proofs.SlotLemmas.{alone}
-use Rattle.gateway_claim.proofs.OverLemmas.{own_event, own_quiet, own_ended, enters_quiet, quiet_after, faults_over}
+use Rattle.gateway_claim.proofs.CaseLemmas.{own_absent, own_event, own_quiet, quiet_after, faults_over, heard_event_as}
+use Rattle.gateway_claim.proofs.AgreeLemmas.{alone}
 use Rattle.gateway_claim.proofs.TidyLemmas.{IsTidyBy, IsTidy, tidy_after}
+use Rattle.client_machine.proofs.PlanLemmas.{idle_is}
 
 -- Of one request that is treated none is left, and of none.
 abbrev IsOneAtMost : List Shape → Type 0
@@ -43,15 +36,10 @@ IsOneAtMost [] = Unit {0}
 IsOneAtMost (shape ∷ more) = more ≡ []
 
 first_left : (decision : Decision) (given : Given) → (treated_first decision given [] (treated [])).left ≡ []
-first_left (Answer text) given = refl
-first_left (Queue play text) given = refl
-first_left (Forward request asked) given = refl
-first_left (Setup request asked channels) given = refl
+first_left decision given = grind arith
 
 none_left : (waiting : List Shape) (given : Given) → IsOneAtMost waiting → (treated waiting given).left ≡ []
-none_left [] given one = refl
-none_left (shape ∷ more) given one =
-    ap (λ (rest : List Shape). (treated_first (decision_on given shape) given rest (treated rest)).left) one ∙ first_left (decision_on given shape) given
+none_left waiting given one = grind (arith, first_left)
 
 -- What goes up keeps the requests that wait, but for those that are treated.
 plays_waiting : (plays : List Play) (client : Client) → (going.after_plays plays client).waiting ≡ client.waiting
@@ -59,66 +47,26 @@ plays_waiting [] client = refl
 plays_waiting (play ∷ plays) client = plays_waiting plays (changes.after_queueing play client)
 
 goes_waiting : (one : Option Going) (pair : Option ℕ) (hand : List ℕ) (client : Client) → (going.goes_at one pair hand client).client.waiting ≡ client.waiting
-goes_waiting None pair hand client = refl
-goes_waiting (Some one) pair hand client = refl
+goes_waiting one pair hand client = grind arith
 
 treat_waiting : (bases : Bases) (pair : Option ℕ) (client : Client) → IsOneAtMost client.waiting → (going.treat bases pair client).client.waiting ≡ []
-treat_waiting bases pair client one =
-    let all : Treated = treated client.waiting (given bases (is_none pair) client) in
-    let before : Client = record client { waiting = all.left } in
-    goes_waiting all.going pair all.hand (going.after_plays all.plays before)
-    ∙ plays_waiting all.plays before
-    ∙ none_left client.waiting (given bases (is_none pair) client) one
-
-one_of_none : (waiting : List Shape) → waiting ≡ [] → IsOneAtMost waiting
-one_of_none waiting none = subst IsOneAtMost (sym none) tt
+treat_waiting bases pair client one = grind (arith, is_none, goes_waiting, plays_waiting, none_left)
 
 going_waiting : (bases : Bases) (pair : Option ℕ) (next : NextPart) (client : Client) → client.waiting ≡ [] → (going_on bases pair next client).client.waiting ≡ []
-going_waiting bases pair next client none = going_as (λ effect. effect.client.waiting ≡ []) bases pair next client (record {
-  still = none;
-  released = λ place play idle due is. none;
-  treats = λ idle alive. treat_waiting bases pair client (one_of_none client.waiting none);
-  left = λ place id idle dead filled is. none;
-})
+going_waiting bases pair next client none = grind arith
 
 -- A request of a connection that is alive, has none open, and has no PLAY that is due.
 one_treated : (bases : Bases) (pair : Option ℕ) (client : Client) → client.alive ≡ true → client.pending ≡ None → changes.due_place client ≡ None → IsOneAtMost client.waiting → (going.go bases pair client).client.waiting ≡ []
-one_treated bases pair client alive idle due one =
-    ap (λ (pending : Option Purpose). (going.go_at bases pair pending client).client.waiting) idle
-    ∙ ap (λ (b : Bool). (going.go_idle bases pair b client).client.waiting) alive
-    ∙ ap (λ (place : Option ℕ). (going.go_due bases pair place client).client.waiting) due
-    ∙ treat_waiting bases pair client one
-
-unopened : (pending : Option Purpose) → is_some pending ≡ false → pending ≡ None
-unopened None e = refl
-unopened (Some purpose) e = cc
+one_treated bases pair client alive idle due one = grind (arith, treat_waiting)
 
 -- An event of a connection is no item of it while it is busy.
 abbrev IsTimelyFor : Bool → PrivateEvent → Type 0
 IsTimelyFor busy (arrive shape full) = busy ≡ false
-IsTimelyFor busy (answer told ssrc full) = Unit {0}
-IsTimelyFor busy (note id reason names) = Unit {0}
-IsTimelyFor busy (media pair half rest) = Unit {0}
-IsTimelyFor busy end = Unit {0}
-IsTimelyFor busy slow = Unit {0}
-IsTimelyFor busy up_end = Unit {0}
+IsTimelyFor busy event = Unit {0}
 
 step_waiting : (bases : Bases) (number : ℕ) (pair : Option ℕ) (client : Client) (event : PrivateEvent) → IsTidy client → IsTimelyFor (client.alive && is_some client.pending) event → client.waiting ≡ []
     → (step bases number pair client event).client.waiting ≡ []
-step_waiting bases number pair client event tidy timely none = hear_as (λ heard. (heard_step bases pair heard).client.waiting ≡ []) bases number client event (record {
-  idle = none;
-  closing = λ reason alive. going_waiting bases pair goes_on (changes.after_close client) refl;
-  waits = λ shape full here is alive.
-      let free : is_some client.pending ≡ false = ap (λ b. b && is_some client.pending) (sym alive) ∙ subst (IsTimelyFor (client.alive && is_some client.pending)) here timely in
-      one_treated bases pair (changes.after_waiting (shape ∷ []) client) alive (unopened client.pending free) (subst (λ (b : Bool). IsTidyBy b client) alive tidy).1
-      (subst (λ (waiting : List Shape). IsOneAtMost (waiting ++ shape ∷ [])) (sym none) refl);
-  carrying = λ shape full half here is. none;
-  settles = λ purpose told ssrc full here late is.
-      going_waiting bases pair goes_on (changes.settle_with client.pending number told.code (new_id purpose told) client)
-      (ap (λ (one : Option Purpose). (changes.settle_with one number told.code (new_id purpose told) client).waiting) is ∙ none);
-  notes = λ id names here. going_waiting bases pair releases (changes.after_note (place_with id client.sessions) names client) none;
-  gives = λ channels half channel rest here is alive. none;
-})
+step_waiting bases number pair client event tidy timely none = grind (arith, hear_as, going_waiting, is_some, one_treated, idle_is)
 
 -- So it is for a connection alone.
 after_waiting : (bases : Bases) (events : List PrivateEvent) (event : PrivateEvent) → IsTimelyFor (is_busy_private (Some (private_after bases events))) event → (private_after bases events).client.waiting ≡ []
@@ -137,16 +85,6 @@ abbrev AreTimely : Bool → List PrivateEvent → Type 0
 AreTimely busy [] = Unit {0}
 AreTimely busy (event ∷ more) = (more ≡ []) × IsTimelyFor busy event
 
-notice_timely : (busy : Bool) (books : Books) (i : ℕ) (notice : Result HeardNotice ℕ) → AreTimely busy (option_to_list (notice_event books i notice))
-notice_timely busy books i (Ok notice) = (refl, tt)
-notice_timely busy books i (Err code) = tt
-
-heard_timely : (busy : Bool) (books settled : Books) (i : ℕ) (waiting : List Shape) (one : Heard) → AreTimely busy (option_to_list (heard_event books settled i waiting one))
-heard_timely busy books settled i waiting (replies reply) = (refl, tt)
-heard_timely busy books settled i waiting (requests request) = notice_timely busy books i (notice_of books.holder request)
-heard_timely busy books settled i waiting (frames channel rest) = (refl, tt)
-heard_timely busy books settled i waiting (faults fault) = tt
-
 event_timely : (bases : Bases) (T : List HistoryEntry) (i : ℕ) (waiting : List Shape) (h : Happening) (busy : Bool) → is_turn i (turn (books_of T) h) ≡ true → IsTimely (is_busy bases) T h → is_busy bases i T ≡ busy
     → AreTimely busy (option_to_list (event_of (books_of T) i waiting h))
 event_timely bases T i waiting (enters conn) busy turns timely is = tt
@@ -154,7 +92,8 @@ event_timely bases T i waiting (takes conn shape) busy turns timely is =
     (refl, sym is ∙ ap (λ (n : ℕ). is_busy bases n T) (sym (eqb-true conn i turns)) ∙ timely)
 event_timely bases T i waiting (ends conn) busy turns timely is = (refl, tt)
 event_timely bases T i waiting (lags conn) busy turns timely is = (refl, tt)
-event_timely bases T i waiting (hears shape) busy turns timely is = heard_timely busy (books_of T) (settled_by (books_of T) (hears shape)) i waiting (heard shape)
+event_timely bases T i waiting (hears shape) busy turns timely is =
+    heard_event_as (λ one. AreTimely busy (option_to_list one)) (books_of T) (settled_by (books_of T) (hears shape)) i waiting (heard shape) tt (λ reply is. (refl, tt)) (λ id reason names. (refl, tt)) (λ pair half rest. (refl, tt))
 event_timely bases T i waiting (up_ends cause) busy turns timely is = tt
 
 here_timely : (bases : Bases) (T : List HistoryEntry) (i : ℕ) (waiting : List Shape) (fault : Option UpCause) (h : Happening) (busy : Bool) → IsTimely (is_busy bases) T h → is_busy bases i T ≡ busy
@@ -167,14 +106,11 @@ here_timely bases T i waiting None h busy timely is = by (is_turn i (turn (books
     by false other = tt
 
 more_waiting : (bases : Bases) (events more : List PrivateEvent) → AreTimely (is_busy_private (Some (private_after bases events))) more → (private_after bases events).client.waiting ≡ [] → (private_after bases (more ++ events)).client.waiting ≡ []
-more_waiting bases events [] timely none = none
-more_waiting bases events (event ∷ more) timely none =
-    ap (λ (rest : List PrivateEvent). (private_after bases (event ∷ (rest ++ events))).client.waiting) timely.0 ∙ after_waiting bases events event timely.1 none
+more_waiting bases events more timely none = grind (arith, after_waiting)
 
 -- In a history in which no request waits
 private_waiting : (bases : Bases) (T : List HistoryEntry) (i : ℕ) → entered i T ≡ true → requests_waiting bases i T ≡ 0 → (alone bases T i).client.waiting ≡ []
-private_waiting bases T i en none =
-    nil_from_length (alone bases T i).client.waiting (sym (ap (λ (b : Bool). waiting_private (cond b (Some (alone bases T i)) None)) en) ∙ none)
+private_waiting bases T i en none = grind (arith, nil_from_length, alone)
 
 own_waiting : (bases : Bases) (T : List HistoryEntry) (e : HistoryEntry) (i : ℕ) (was : Bool) → entered i T ≡ was → IsTimely (is_busy bases) T e.happening → requests_waiting bases i T ≡ 0 → (alone bases (e ∷ T) i).client.waiting ≡ []
 own_waiting bases T e i true en timely none =
@@ -189,8 +125,7 @@ own_waiting bases T e i false absent timely none =
     ∙ ap (λ (events : List PrivateEvent). (private_after bases events).client.waiting) (own_absent bases T i absent)
 
 counted_none : (en : Bool) (p : Private) → p.client.waiting ≡ [] → waiting_private (cond en (Some p) None) ≡ 0
-counted_none true p none = ap length none
-counted_none false p none = refl
+counted_none en p none = grind arith
 
 -- none waits before anything happened, and none after an entry that is no item of a busy client
 pub none_waiting : (bases : Bases) → NoneWaits (requests_waiting bases) []
@@ -201,8 +136,7 @@ none_waiting_next bases T e timely none i = counted_none (entered i (e ∷ T)) (
 
 -- At the end of the connection to the server, and after it, as many wait as before.
 entered_late : (here en : Bool) → ((here && false) || en) ≡ en
-entered_late true en = refl
-entered_late false en = refl
+entered_late here en = grind arith
 
 over_waiting : (bases : Bases) (T : List HistoryEntry) (e : HistoryEntry) (i : ℕ) (cause : UpCause) → IsHistory bases T → Follows bases T e → fault_in T ≡ Some cause → requests_waiting bases i (e ∷ T) ≡ requests_waiting bases i T
 over_waiting bases T e i cause history follows ended =
@@ -218,18 +152,7 @@ over_waiting bases T e i cause history follows ended =
     by false en = refl
 
 ended_waiting : (bases : Bases) (T : List HistoryEntry) (e : HistoryEntry) (i : ℕ) (cause : UpCause) → Follows bases T e → e.outcome.fault ≡ Some cause → requests_waiting bases i (e ∷ T) ≡ requests_waiting bases i T
-ended_waiting bases T e i cause follows now =
-    ap (λ (b : Bool). waiting_private (cond b (Some (alone bases (e ∷ T) i)) None)) (stranger (enters_here i e.happening) refl) ∙ by (entered i T) refl
-  where
-    stranger : (here : Bool) → enters_here i e.happening ≡ here → ((here && is_none (fault_in T)) || entered i T) ≡ entered i T
-    stranger true is = let quiet : e.outcome.fault ≡ None = follows.fault ∙ enters_quiet bases T i e.happening is in cc
-    stranger false is = refl
-
-    by : (was : Bool) → entered i T ≡ was → waiting_private (cond was (Some (alone bases (e ∷ T) i)) None) ≡ waiting_private (cond was (Some (alone bases T i)) None)
-    by true en =
-        ap (λ (events : List PrivateEvent). length (private_after bases events).client.waiting) (own_ended bases T e i cause now ∙ ap (λ (b : Bool). cond b (up_end ∷ []) [] ++ own bases i T) en)
-        ∙ ap (λ (client : Client). length client.waiting) (end_client bases (alone bases T i))
-    by false en = refl
+ended_waiting bases T e i cause follows now = grind arith
 
 pub still_waiting : (bases : Bases) (T : List HistoryEntry) (e : HistoryEntry) (i : ℕ) → IsHistory bases T → Follows bases T e → is_some (fault_in (e ∷ T)) ≡ true → requests_waiting bases i (e ∷ T) ≡ requests_waiting bases i T
 still_waiting bases T e i history follows ended = by (fault_in T) e.outcome.fault refl refl ended

@@ -5,7 +5,7 @@ use Rattle.rtsp_head.specs.Items.{Shape}
 use Rattle.rtsp_uri.specs.declared.base.Bases.{Bases}
 use Rattle.session_one.specs.declared.parts.Track.{Track}
 use Rattle.client_slot.specs.Places.{session_at, tracks_of}
-use Rattle.client_machine.specs.Apart.{streams_of}
+use Rattle.client_machine.specs.Bounds.{streams_of}
 use Rattle.client_machine.specs.Frames.{channel_in, behind_channel, frame_text, half_on, player_channel}
 use Rattle.gateway_claim.specs.declared.event.ToClient.{ToClient}
 use Rattle.gateway_claim.specs.declared.event.UpMessage.{UpMessage}

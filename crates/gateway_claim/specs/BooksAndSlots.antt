@@ -1,5 +1,5 @@
 -- What the books of a history and the record of a connection alone say of one another (this project's own).
-use Rattle.std.specs.Prelude.{◌≡◌, ◌⊎◌, ℕ, ◌≤◌, List, [], ◌∷◌, Option, Some, None, IsSome, false, true, if◌then◌else◌}
+use Rattle.std.specs.Prelude.{◌≡◌, ◌⊎◌, ℕ, ◌≤◌, List, [], ◌∷◌, Option, Some, None, IsSome, false, true, if◌then◌else◌, IfSome}
 use Rattle.rtsp_small.specs.declared.method.Method.TheVariants as methods
 use Rattle.session_one.specs.declared.parts.Track.{Track}
 use Rattle.session_one.specs.Table.{same_method}
@@ -9,8 +9,8 @@ use Rattle.client_slot.specs.declared.purpose.Purpose.TheVariants as purposes
 use Rattle.client_slot.specs.Session.{PlayerSession}
 use Rattle.client_slot.specs.Places.{session_at, session_where, empty_place}
 use Rattle.client_slot.specs.Client.{Client}
-use Rattle.gateway_claim.specs.Kinds.{RequestKind, sets_up, plain, teardown_kind}
-use Rattle.gateway_claim.specs.Books.{Opened, HeldPair, Books}
+use Rattle.gateway_claim.specs.Books.{RequestKind, sets_up, plain, teardown_kind, Opened, HeldPair, Books}
+use Rattle.std.specs.List.{AllByRecursion}
 
 -- the kind of the request that is open for a purpose, by the pairs that the connection's own pairs stand for, and by its
 -- sessions
@@ -27,8 +27,7 @@ IsHeldFor books i session own = (books.held (books.pair_of i own) ≡ Some (reco
 
 -- so for each of the streams of a session
 abbrev pub AreHeld : Books → ℕ → Option (List ℕ) → List Track → Type 0
-AreHeld books i session [] = Unit {0}
-AreHeld books i session (track ∷ tracks) = IsHeldFor books i session track.pair × AreHeld books i session tracks
+AreHeld books i session tracks = AllByRecursion (λ track. IsHeldFor books i session track.pair) tracks
 
 -- an empty place has no stream, and those of a session are held for it
 abbrev pub IsHolding : Books → ℕ → Option (List ℕ) → List Track → Type 0
@@ -55,8 +54,7 @@ IsForSession (Some place) sessions = IsSome (session_at place sessions).id
 abbrev pub IsPurpose : Books → ℕ → List PlayerSession → Purpose → Type 0
 IsPurpose books i sessions (purposes.Client asked (Some track)) = IsHeldFor books i None track.pair × (asked.method ≡ methods.Setup) × IsForSession asked.place sessions
 IsPurpose books i sessions (purposes.Client asked None) = is_setup asked.method ≡ false
-IsPurpose books i sessions (purposes.Released play) = Unit {0}
-IsPurpose books i sessions (purposes.Closing place) = Unit {0}
+IsPurpose books i sessions purpose = Unit {0}
 
 -- what the book keeps of an open request of a connection
 abbrev pub opened_for : Books → ℕ → List PlayerSession → Purpose → Opened
@@ -64,8 +62,7 @@ opened_for books i sessions purpose = record { conn = i; kind = kind_for (books.
 
 -- The request that is open is the last one that went up for the connection, and there is no other one.
 abbrev pub IsOpenFor : Books → ℕ → ℕ → List PlayerSession → Option Purpose → Type 0
-IsOpenFor books i number sessions None = Unit {0}
-IsOpenFor books i number sessions (Some purpose) = (books.opened number ≡ Some (opened_for books i sessions purpose)) × IsPurpose books i sessions purpose
+IsOpenFor books i number sessions pending = IfSome pending (λ purpose. (books.opened number ≡ Some (opened_for books i sessions purpose)) × IsPurpose books i sessions purpose)
 
 -- no other request of the connection is open
 abbrev pub IsOnlyOpen : Books → ℕ → ℕ → Option Purpose → Type 0

@@ -1,6 +1,6 @@
--- When an entry follows a history (this project's own).
-use Rattle.std.specs.Prelude.{◌≡◌, ℕ, ◌+◌, ◌*◌, ◌==◌, ◌&&◌, not, nat_lt, codes, Bool, true, false, is_some, is_none, List, ◌∷◌, Option, Some, None, if◌then◌else◌}
-use Rattle.std.specs.Option.{option_or, option_map}
+-- When an entry follows a history, and the next one as it is computed (this project's own).
+use Rattle.std.specs.Prelude.{◌≡◌, ℕ, ◌+◌, ◌*◌, ◌==◌, ◌&&◌, not, nat_lt, codes, Bool, true, false, is_some, is_none, List, ◌∷◌, Option, Some, None, if◌then◌else◌, length}
+use Rattle.std.specs.Option.{option_or, option_map, option_and_then}
 use Rattle.std.specs.Result.{result_ok}
 use Rattle.std.specs.Str.{bytes_eq}
 use Rattle.rtsp_head.specs.Headers.{field_of}
@@ -15,8 +15,7 @@ use Rattle.client_slot.specs.declared.purpose.Purpose.TheVariants as purposes
 use Rattle.client_slot.specs.Session.{PlayerSession}
 use Rattle.client_slot.specs.Places.{session_where}
 use Rattle.client_machine.specs.Frames.{frame_text}
-use Rattle.client_machine.specs.Effects.{Outgoing, asks, carries, Effect, stays}
-use Rattle.client_machine.specs.Events.{PrivateEvent}
+use Rattle.client_machine.specs.Events.{Outgoing, asks, carries, Effect, stays, PrivateEvent}
 use Rattle.client_machine.specs.UpTexts.{text_up}
 use Rattle.client_machine.specs.Alone.{Private, new_private, effect_alone, private_after, hand, shut_alone}
 use Rattle.gateway_claim.specs.declared.event.ToUp.{ToUp}
@@ -24,14 +23,16 @@ use Rattle.gateway_claim.specs.declared.event.UpMessage.{UpMessage}
 use Rattle.gateway_claim.specs.declared.event.UpMessage.TheVariants.{Request, Frame}
 use Rattle.gateway_claim.specs.declared.event.UpCause.{UpCause}
 use Rattle.gateway_claim.specs.declared.event.UpCause.TheVariants.{Framing, UnknownReply, BadGrant, SessionTaken, CseqSpent}
-use Rattle.gateway_claim.specs.ServerItems.{Heard, replies, requests, faults, heard}
-use Rattle.gateway_claim.specs.Notices.{notice_of, answer_to}
-use Rattle.gateway_claim.specs.Kinds.{RequestKind, sets_up}
+use Rattle.gateway_claim.specs.ServerItems.{Heard, replies, requests, faults, heard, notice_of, answer_to}
+use Rattle.gateway_claim.specs.Books.{RequestKind, sets_up, Opened, Books, id_said, free_in}
 use Rattle.gateway_claim.specs.Cores.{IsCoreHistory}
-use Rattle.gateway_claim.specs.Books.{Opened, Books}
-use Rattle.gateway_claim.specs.Settlement.{id_said, free_in}
-use Rattle.gateway_claim.specs.Happenings.{Happening, hears, up_ends, cause_of, HistoryEntry, fault_in, entered, sent, shut, is_all, nothing_up}
+use Rattle.gateway_claim.specs.Happenings.{Happening, hears, up_ends, cause_of, HistoryEntry, fault_in, entered, sent, shut, is_all, nothing_up, silent}
 use Rattle.gateway_claim.specs.OwnEvents.{turn, settled_by, books_of, event_of, own}
+use Rattle.client_machine.specs.declared.why.CloseWhy.{CloseWhy}
+use Rattle.gateway_claim.specs.declared.event.Closed.{Closed}
+use Rattle.gateway_claim.specs.declared.event.Closed.TheVariants.{Nobody, One, All}
+use Rattle.gateway_claim.specs.declared.event.ToClient.{ToClient}
+use Rattle.gateway_claim.specs.declared.event.Outcome.{Outcome}
 
 -- connection i as the private machine has it, where it entered
 abbrev pub private_in : Bases → ℕ → List HistoryEntry → Option Private
@@ -45,8 +46,7 @@ effect_at bases (Some private) (Some event) = effect_alone bases private event
 
 -- what happens, as an event of a connection that entered
 abbrev pub event_in : Books → ℕ → Option Private → Happening → Option PrivateEvent
-event_in books i None happening = None
-event_in books i (Some private) happening = event_of books i private.client.waiting happening
+event_in books i private happening = option_and_then (λ one. event_of books i one.client.waiting happening) private
 
 -- what the machine of the connection whose turn it is does
 abbrev pub effect_of_turn : Bases → List HistoryEntry → Option ℕ → Happening → Effect
@@ -79,8 +79,7 @@ is_granted pair session reply = grants pair (field_of reply.head.headers (codes 
 
 -- whether a session is some connection's
 abbrev pub is_bound : Books → Option (List ℕ) → Bool
-is_bound books None = false
-is_bound books (Some id) = is_some (books.holder id)
+is_bound books session = is_some (option_and_then books.holder session)
 
 -- What is wrong with the success of a SETUP, by the session that it named.
 abbrev pub grant_breach : Books → ℕ → Option (List ℕ) → Reply2 → Option UpCause
@@ -100,8 +99,7 @@ session_asked sessions pending = None
 
 -- the same of a connection alone
 abbrev pub session_of_private : Option Private → Option (List ℕ)
-session_of_private None = None
-session_of_private (Some private) = session_asked private.client.sessions private.client.pending
+session_of_private private = option_and_then (λ one. session_asked one.client.sessions one.client.pending) private
 
 -- what is wrong with a reply: nobody asked for it, or it grants what it may not
 abbrev pub reply_breach : Bases → List HistoryEntry → Reply2 → Option Opened → Option UpCause
@@ -122,9 +120,8 @@ said_breach bases earlier happening = None
 
 -- a request is due, and all numbers were used
 abbrev pub spent : ℕ → Option Outgoing → Option UpCause
-spent issued None = None
 spent issued (Some (asks request pair)) = if nat_lt issued LAST_CSEQ_TWO then None else Some CseqSpent
-spent issued (Some (carries pair half rest)) = None
+spent issued message = None
 
 -- Why an event ends the connection to the server, by the first thing that is wrong, while it stands.
 abbrev pub breach : Bases → List HistoryEntry → Happening → Option UpCause
@@ -142,11 +139,15 @@ abbrev pub answer_due : Books → Happening → Option (List ℕ)
 answer_due books (hears shape) = heard_answer books (heard shape)
 answer_due books happening = None
 
--- A message of a connection as it goes up: a request with the next number, and a SETUP with the lowest pair that is free;
--- a frame on the pair that the connection's own pair stands for.
+-- A message as it goes up: a request with a number, and a SETUP with the pair that is free for it; a frame on the pair that
+-- its own one stands for.
+abbrev pub message_with : ℕ → Option ℕ → (ℕ → ℕ) → Outgoing → UpMessage
+message_with number free pairs (asks request named) = Request (text_up number free named request)
+message_with number free pairs (carries pair half rest) = Frame (frame_text (2 * pairs pair + half) rest)
+
+-- that of a connection: with the next number, and with the lowest pair that is free
 abbrev pub message_up : Books → Books → ℕ → Outgoing → UpMessage
-message_up books settled i (asks request number) = Request (text_up (books.issued + 1) (free_in settled) number request)
-message_up books settled i (carries number half rest) = Frame (frame_text (2 * books.pair_of i number + half) rest)
+message_up books settled i message = message_with (books.issued + 1) (free_in settled) (books.pair_of i) message
 
 -- what goes up for the connection whose turn it is, in the shared numbers
 abbrev pub message_due : Books → Books → Option ℕ → Option Outgoing → Option UpMessage
@@ -174,3 +175,24 @@ pub record Follows (bases : Bases) (earlier : List HistoryEntry) (entry : Histor
 -- a history of the gateway: each entry follows those before it
 abbrev pub IsHistory : Bases → List HistoryEntry → Type 0
 IsHistory bases history = IsCoreHistory Follows bases history
+
+-- the bytes for the connection whose turn it is; no bytes are no piece
+abbrev pub client_piece : Option ℕ → List ℕ → Option ToClient
+client_piece None bytes = None
+client_piece (Some i) bytes = if length bytes == 0 then None else Some (record { conn = i; bytes = bytes })
+
+-- the close of one connection, where there is one
+abbrev pub one_closed : Option ℕ → Option CloseWhy → Closed
+one_closed (Some i) (Some why) = One i why
+one_closed turn why = Nobody
+
+-- what an event hands out: the end for all where there is a cause, else what the machine made
+abbrev pub outcome_with : Option UpCause → Option ℕ → ToUp → Effect → Outcome
+outcome_with (Some cause) turn up made = record { to_client = None; to_up = nothing_up; closed = All; fault = Some cause }
+outcome_with None turn up made = record { to_client = client_piece turn made.hand; to_up = up; closed = one_closed turn made.close; fault = None }
+
+-- What an event hands out after a history: nothing after the end of the connection to the server.
+abbrev pub next : Bases → List HistoryEntry → Happening → Outcome
+next bases earlier happening =
+    if is_some (fault_in earlier) then silent
+    else outcome_with (breach bases earlier happening) (turn (books_of earlier) happening) (up_due bases earlier happening) (effect bases earlier happening)

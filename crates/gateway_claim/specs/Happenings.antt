@@ -1,6 +1,6 @@
--- What can happen, and the entries of a history (this project's own).
-use Rattle.std.specs.Prelude.{ℕ, Bool, true, false, ◌||◌, ◌&&◌, ◌==◌, is_some, is_none, List, [], ◌∷◌, ◌++◌, Option, Some, None, if◌then◌else◌}
-use Rattle.std.specs.Option.{option_or}
+-- What can happen, the entries of a history, and what of them takes memory, is short, or is told (this project's own).
+use Rattle.std.specs.Prelude.{ℕ, Bool, true, false, ◌||◌, ◌&&◌, ◌==◌, is_some, is_none, List, [], ◌∷◌, ◌++◌, Option, Some, None, if◌then◌else◌, ◌+◌, ◌^◌, ◌<◌, length, IfSome}
+use Rattle.std.specs.Option.{option_or, option_map_or}
 use Rattle.rtsp_head.specs.Items.{Shape}
 use Rattle.rtsp_head.specs.Shapes.{shape_of}
 use Rattle.client_machine.specs.declared.why.CloseWhy.{CloseWhy}
@@ -17,6 +17,12 @@ use Rattle.gate_transcript.specs.declared.entry.UpWhy.TheVariants as whys
 use Rattle.gateway_claim.specs.declared.event.Outcome.{Outcome}
 use Rattle.gateway_claim.specs.declared.event.Event.{Event}
 use Rattle.gateway_claim.specs.declared.event.Event.TheVariants.{Client, Up, End, Slow, UpEnd}
+use Rattle.client_machine.specs.declared.why.CloseWhy.TheVariants as closings
+use Rattle.gateway_claim.specs.declared.closes.TheConstants.{END_CLOSE, BAD_ITEM_CLOSE, SLOW_CLOSE, UPSTREAM_CLOSE}
+use Rattle.rtsp_head.specs.declared.item.ItemKind.{ItemKind}
+use Rattle.rtsp_head.specs.declared.item.ItemKind.TheVariants as kinds
+use Rattle.gateway_claim.specs.declared.event.UpMessage.{UpMessage}
+use Rattle.gateway_claim.specs.declared.event.UpMessage.TheVariants.{Request, Frame}
 
 -- a connection enters; an item of its client comes; its client ends; its client is too slow; an item of the server comes;
 -- or the connection to the server ends
@@ -91,9 +97,8 @@ closes_of i alive All = if alive then Upstream ∷ [] else []
 
 -- whether all connections that were alive are closed
 abbrev pub is_all : Closed → Bool
-is_all Nobody = false
-is_all (One conn why) = false
 is_all All = true
+is_all closed = false
 
 -- how connection i was closed in a history, the newest first
 abbrev pub shut : ℕ → List HistoryEntry → List CloseWhy
@@ -119,3 +124,50 @@ silent = record { to_client = None; to_up = nothing_up; closed = Nobody; fault =
 -- the entry of a connection that enters
 abbrev pub entering : ℕ → HistoryEntry
 entering conn = record { happening = enters conn; outcome = silent }
+
+-- the byte that tells why a connection was closed
+abbrev pub close_byte : CloseWhy → ℕ
+close_byte closings.Ended = END_CLOSE
+close_byte closings.BadItem = BAD_ITEM_CLOSE
+close_byte closings.Slow = SLOW_CLOSE
+close_byte closings.Upstream = UPSTREAM_CLOSE
+
+-- whether an item is a request
+abbrev pub is_client_request : ItemKind → Bool
+is_client_request kinds.Request = true
+is_client_request kind = false
+
+-- whether an item has a message's head
+abbrev pub is_message : ItemKind → Bool
+is_message kinds.Request = true
+is_message kinds.Response = true
+is_message kind = false
+
+-- Whether an event may need memory: a request of a client, or a message of the server.
+abbrev pub needs_memory : Event → Bool
+needs_memory (Client conn item) = is_client_request item.kind
+needs_memory (Up item) = is_message item.kind
+needs_memory event = false
+
+-- the length of what is handed out, where there is some
+abbrev pub piece_length : Option (List ℕ) → ℕ
+piece_length piece = option_map_or length piece 0
+
+-- the length of what goes up, where there is some
+abbrev pub message_length : Option UpMessage → ℕ
+message_length None = 0
+message_length (Some (Request text)) = length text
+message_length (Some (Frame text)) = length text
+
+-- what the server is handed, in bytes
+abbrev pub up_length : ToUp → ℕ
+up_length up = piece_length up.answer + message_length up.message
+
+-- An answer, with a request behind it, fits into 32 bits.
+abbrev pub IsShortAnswer : Option (List ℕ) → Type 0
+IsShortAnswer answer = piece_length answer < 2 ^ 31
+
+-- The lengths of what a client is handed, and of all that the server is handed, fit into 32 bits.
+pub record IsShort (outcome : Outcome) : Type 0 where
+  pub client : IfSome outcome.to_client (λ piece. length piece.bytes < 2 ^ 32)
+  pub up : up_length outcome.to_up < 2 ^ 32

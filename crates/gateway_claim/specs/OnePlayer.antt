@@ -1,14 +1,37 @@
--- Histories of one connection (this project's own).
-use Rattle.std.specs.Prelude.{◌≡◌, ◌≢◌, ℕ, false, map, List, [], ◌∷◌, ◌++◌}
-use Rattle.std.specs.Option.{option_to_list}
+-- What the server is asked for a connection, and histories of one connection (this project's own).
+use Rattle.std.specs.Prelude.{ℕ, ◌+◌, List, [], ◌∷◌, ◌++◌, Option, Some, if◌then◌else◌, ◌≡◌, ◌≢◌, false, map}
+use Rattle.std.specs.Option.{option_map, option_to_list}
 use Rattle.rtsp_uri.specs.declared.base.Bases.{Bases}
-use Rattle.client_machine.specs.Alone.{hand, shut_alone}
-use Rattle.gateway_claim.specs.declared.event.ToClient.{ToClient}
+use Rattle.client_machine.specs.Alone.{private_after, effect_after, hand, shut_alone}
+use Rattle.client_machine.specs.Events.{Outgoing, PrivateEvent}
+use Rattle.gateway_claim.specs.declared.event.ToUp.{ToUp}
 use Rattle.gateway_claim.specs.declared.event.UpMessage.{UpMessage}
-use Rattle.gateway_claim.specs.UpRequests.{spelled_up}
-use Rattle.gateway_claim.specs.Cores.{ever_entered}
+use Rattle.gateway_claim.specs.Books.{Books}
 use Rattle.gateway_claim.specs.Happenings.{HistoryEntry, shut}
-use Rattle.gateway_claim.specs.OwnEvents.{books_of, own}
+use Rattle.gateway_claim.specs.OwnEvents.{turn, is_turn, books_of, own}
+use Rattle.gateway_claim.specs.Follows.{message_with}
+use Rattle.gateway_claim.specs.declared.event.ToClient.{ToClient}
+use Rattle.gateway_claim.specs.Cores.{ever_entered}
+
+-- what the server is handed of connection i, by whose turn it is
+abbrev pub asked_for : ℕ → Option ℕ → ToUp → List UpMessage
+asked_for i who up = if is_turn i who then option_to_list up.message else []
+
+-- the messages that the server was handed in the turns of connection i, the newest first
+abbrev pub asked_up : ℕ → List HistoryEntry → List UpMessage
+asked_up i [] = []
+asked_up i (entry ∷ earlier) = asked_for i (turn (books_of earlier) entry.happening) entry.outcome.to_up ++ asked_up i earlier
+
+-- A message of connection i in the numbers and on the channels that the books have for it, where a request has this own
+-- number.
+abbrev pub spelled_for : Books → ℕ → ℕ → Outgoing → UpMessage
+spelled_for books i own message = message_with (books.number_of i own) (Some (books.pair_of i own)) (books.pair_of i) message
+
+-- What the private machine sends up, spelled so, the newest first: its requests have the numbers from 1 on.
+abbrev pub spelled_up : Books → ℕ → Bases → List PrivateEvent → List UpMessage
+spelled_up books i bases [] = []
+spelled_up books i bases (event ∷ events) =
+    option_to_list (option_map (spelled_for books i ((private_after bases events).count + 1)) (effect_after bases events event).message) ++ spelled_up books i bases events
 
 -- no connection but this one ever entered
 abbrev pub IsOnlyPlayer : ℕ → List HistoryEntry → Type 0

@@ -1,6 +1,6 @@
 -- The books of a history, and the events of each connection in it (this project's own).
 use Rattle.std.specs.Prelude.{ℕ, ◌==◌, ◌/◌, ◌%◌, ◌&&◌, not, Bool, false, is_some, is_none, List, [], ◌∷◌, ◌++◌, Option, Some, None, Result, Ok, Err, if◌then◌else◌}
-use Rattle.std.specs.Option.{option_map, option_to_list}
+use Rattle.std.specs.Option.{option_map, option_to_list, option_and_then}
 use Rattle.rtsp_head.specs.Items.{Shape}
 use Rattle.rtsp_uri.specs.declared.base.Bases.{Bases}
 use Rattle.session_two.specs.declared.names.Names.{Names}
@@ -11,17 +11,13 @@ use Rattle.client_machine.specs.Alone.{private_after, is_empty_list}
 use Rattle.client_machine.specs.OpenRequests.{has_setup}
 use Rattle.client_machine.specs.UpTexts.{source_said}
 use Rattle.gateway_claim.specs.declared.event.UpCause.{UpCause}
-use Rattle.gateway_claim.specs.ServerItems.{Heard, replies, requests, frames, faults, heard}
-use Rattle.gateway_claim.specs.Notices.{HeardNotice, notice_of}
-use Rattle.gateway_claim.specs.Kinds.{RequestKind, kind_of}
-use Rattle.gateway_claim.specs.Books.{HeldPair, Books, new_books, lends}
-use Rattle.gateway_claim.specs.Settlement.{Final, final_of, settles, free_in}
+use Rattle.gateway_claim.specs.ServerItems.{Heard, replies, requests, frames, faults, heard, HeardNotice, notice_of}
+use Rattle.gateway_claim.specs.Books.{RequestKind, kind_of, HeldPair, Books, new_books, lends, Final, final_of, settles, free_in}
 use Rattle.gateway_claim.specs.Happenings.{Happening, takes, ends, lags, hears, HistoryEntry, fault_in, entered, shut}
 
 -- the connection that a pair was granted to
 abbrev pub owner_of : Option HeldPair → Option ℕ
-owner_of None = None
-owner_of (Some held) = if is_some held.session then Some held.conn else None
+owner_of held = option_and_then (λ one. if is_some one.session then Some one.conn else None) held
 
 -- whose turn a notify is: that of the connection that has its session
 abbrev pub notice_turn : Result HeardNotice ℕ → Option ℕ

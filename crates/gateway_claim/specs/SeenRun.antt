@@ -3,6 +3,7 @@ use Rattle.std.specs.Prelude.{◌≡◌, ℕ, ◌==◌, List, [], ◌∷◌, ◌
 use Rattle.rtsp_head.specs.Items.{Shape, first_extent}
 use Rattle.client_machine.specs.SeenRun.{request_taken, IsTableRun}
 use Rattle.gateway_claim.specs.Happenings.{Happening, takes, hears, HistoryEntry, entered, sent}
+use Rattle.std.specs.List.{AllByRecursion}
 
 -- the request of connection i that comes, where one does
 abbrev pub request_here : ℕ → Happening → List Shape
@@ -22,8 +23,7 @@ IsItemHeard happening = Unit {0}
 
 -- so at each entry of a history
 abbrev pub AreItemsHeard : List HistoryEntry → Type 0
-AreItemsHeard [] = Unit {0}
-AreItemsHeard (entry ∷ earlier) = IsItemHeard entry.happening × AreItemsHeard earlier
+AreItemsHeard history = AllByRecursion (λ entry. IsItemHeard entry.happening) history
 
 -- The replies that connection i was handed answer the first of its requests, and those of each session walk the table.
 abbrev pub IsSeenRun : ℕ → List HistoryEntry → Type 0

@@ -8,6 +8,7 @@ use Rattle.client_machine.specs.Alone.{Private}
 use Rattle.gateway_claim.specs.declared.event.Outcome.{Outcome}
 use Rattle.gateway_claim.specs.Happenings.{Happening, takes, hears, HistoryEntry, fault_in, is_alive}
 use Rattle.gateway_claim.specs.Follows.{private_in}
+use Rattle.std.specs.Option.{option_map_or}
 
 -- the first number from this one on of a connection that is alive; none where there is none of 32 bits
 abbrev pub IsFirstAlive : ℕ → List HistoryEntry → Option ℕ → Type 0
@@ -25,8 +26,7 @@ is_busy bases i earlier = is_busy_private (private_in bases i earlier)
 
 -- How many requests of a connection wait. At the end of the server's connection that stays as it is.
 abbrev pub waiting_private : Option Private → ℕ
-waiting_private None = 0
-waiting_private (Some private) = length private.client.waiting
+waiting_private private = option_map_or (λ one. length one.client.waiting) private 0
 
 -- how many requests of a connection wait
 abbrev pub requests_waiting : Bases → ℕ → List HistoryEntry → ℕ

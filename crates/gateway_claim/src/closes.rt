@@ -1,6 +1,6 @@
 //! How records and reports tell why a connection was closed.
 ghost use Rattle.std.specs.Prelude.{◌≡◌};
-ghost use Rattle.gateway_claim.specs.Closes.{close_byte};
+ghost use Rattle.gateway_claim.specs.Happenings.{close_byte};
 
 use client_machine::CloseWhy;
 

@@ -2,12 +2,10 @@
 //! out what each of them asks for.
 ghost use Rattle.std.specs.Prelude.{◌≡◌, ℕ, Bool, true, false, List, [], ◌∷◌, IfOk, IfErr, OnOk, OnErr, IsOk, IsSome};
 ghost use Rattle.rtsp_uri.specs.declared.base.Bases.{Bases};
-ghost use Rattle.gateway_claim.specs.Happenings.{HistoryEntry, entry_of, entering, is_alive, fault_in};
-ghost use Rattle.gateway_claim.specs.Cores.{IsCoreHistory, IsNewTo, IsTimely, NoneWaits, ever_entered};
-ghost use Rattle.gateway_claim.specs.Free.{needs_memory};
-ghost use Rattle.gateway_claim.specs.Orderly.{IsOrderly};
-ghost use Rattle.gateway_claim.specs.Short.{IsShort};
+ghost use Rattle.gateway_claim.specs.Happenings.{HistoryEntry, entry_of, entering, is_alive, fault_in, needs_memory, IsShort};
+ghost use Rattle.gateway_claim.specs.Cores.{IsCoreHistory, IsNewTo, IsTimely, NoneWaits, IsOwnKey, TellsStanding, GivesKey, ever_entered, IsOrderly};
 
+use crate::connection::{ConnectionKey, Standing};
 use crate::event::{Event, Outcome, UpCause};
 use gate_bytes::Memory;
 use rtsp_uri::Bases;
@@ -18,6 +16,7 @@ use std::alloc::Global;
 /// Nothing here makes a core: whoever runs one is given it.
 pub trait Core: Send + Drop {
     ghost use Rattle.gateway_claim.specs.declared.event.Event.{Event};
+    ghost use Rattle.gateway_claim.specs.declared.connection.ConnectionKey.{ConnectionKey};
 
     /// What an event will do. All memory for it is taken.
     type Plan: Drop;
@@ -33,6 +32,9 @@ pub trait Core: Send + Drop {
 
     /// This was planned for the event, and nothing happened since.
     ghost planned: { Self → Event → Self.Plan → Type 0 };
+
+    /// The core, as it is, keeps the connection with this number under this key.
+    ghost has_key: { Self → ℕ → ConnectionKey → Type 0 };
 
     /// Whether a request of a connection would wait, between these addresses and after these entries.
     ghost is_busy: { Bases → ℕ → List HistoryEntry → Bool };
@@ -73,6 +75,19 @@ pub trait Core: Send + Drop {
         ensures plan { IfOk result (planned self.now event.now) }
         ensures free { needs_memory event.now ≡ false → IsOk result };
 
+    /// What an event of a connection will do, as [`plan`](Core::plan) tells it, by the key that [`standing`](Core::standing) gave
+    /// with the connection. The core searches for no number. The key serves as long as the core is as it was then: once an event
+    /// was carried out it is to be asked for again.
+    fn plan_at(
+        &self,
+        alloc: Global,
+        event: &Event,
+        key: ConnectionKey,
+    ) -> Result<Self::Plan, Memory>
+        requires { IsOwnKey (has_key self.now) event.now key }
+        ensures plan { IfOk result (planned self.now event.now) }
+        ensures free { needs_memory event.now ≡ false → IsOk result };
+
     /// Carries out the plan for an event: what it hands out is the next entry of the history. It takes no memory, and
     /// can't be refused.
     fn commit(&mut self, event: Event, plan: Self::Plan) -> Outcome
@@ -92,6 +107,14 @@ pub trait Core: Send + Drop {
         ensures err { OnErr result ((T : List HistoryEntry) → stands self.old T → stands self.new T) }
         ensures free { needs_memory event ≡ false → IsOk result }
         ensures bases { bases self.new ≡ bases self.old };
+
+    /// Where a connection stands, by one look-up: `Closed` where it is not alive, else `Busy` where a request of it would wait,
+    /// and else `Ready` with the key under which the core keeps it now. It tells the same as [`alive`](Core::alive) and
+    /// [`busy`](Core::busy).
+    fn standing(&self, conn: u32) -> Standing
+        ensures tells { (T : List HistoryEntry) → stands self.now T
+            → TellsStanding (is_alive conn T) (is_busy (bases self.now) conn T) result }
+        ensures key { GivesKey (has_key self.now conn) result };
 
     /// Whether a request of a connection would wait.
     fn busy(&self, conn: u32) -> bool

@@ -8,12 +8,14 @@
 #![tactic(auto)]
 
 mod closes;
+mod connection;
 mod cores;
 mod event;
 mod laws;
 
 pub use client_machine::CloseWhy;
 pub use closes::{BAD_ITEM_CLOSE, END_CLOSE, SLOW_CLOSE, UPSTREAM_CLOSE, close_byte};
+pub use connection::{ConnectionKey, Standing};
 pub use cores::Core;
 pub use event::{Closed, Event, FramingFault, Outcome, ToClient, ToUp, UpCause, UpMessage};
 pub use gate_transcript::UpWhy;

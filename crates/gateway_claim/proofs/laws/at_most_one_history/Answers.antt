@@ -1,4 +1,4 @@
-use Rattle.gateway_claim.proofs.HistoryLemmas.{one_history}
+use Rattle.gateway_claim.proofs.NextLemmas.{one_history}
 use Rattle.gateway_claim.proofs.laws.at_most_one_history.Goals as goal
 
 pub returns : goal.returns

@@ -1,4 +1,4 @@
-use Rattle.gateway_claim.proofs.CoreLemmas.{one_core_history}
+use Rattle.gateway_claim.proofs.AskLemmas.{one_core_history}
 use Rattle.gateway_claim.proofs.laws.at_most_one_history_of_a_core.Goals as goal
 
 pub returns : goal.returns

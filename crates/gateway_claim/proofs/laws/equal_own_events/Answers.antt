@@ -1,6 +1,6 @@
 use Rattle.std.proofs.Common.{◌∙◌, sym, ap}
 use Rattle.client_machine.specs.Alone.{hand, sent_up, shut_alone}
-use Rattle.gateway_claim.proofs.HistoryLemmas.{sent_as_alone, shut_as_alone}
+use Rattle.gateway_claim.proofs.NextLemmas.{sent_as_alone, shut_as_alone}
 use Rattle.gateway_claim.proofs.laws.equal_own_events.Goals as goal
 
 pub returns : goal.returns

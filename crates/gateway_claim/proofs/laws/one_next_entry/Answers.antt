@@ -1,4 +1,4 @@
-use Rattle.gateway_claim.proofs.HistoryLemmas.{one_next}
+use Rattle.gateway_claim.proofs.NextLemmas.{one_next}
 use Rattle.gateway_claim.proofs.laws.one_next_entry.Goals as goal
 
 pub returns : goal.returns
