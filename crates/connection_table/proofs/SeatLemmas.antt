@@ -1,10 +1,11 @@
 -- Lemmas on the keys of connections and what is kept under them.
-use Rattle.std.proofs.Common.{◌≡◌, ◌≢◌, ℕ, true, false, Option, None, Some, is_some, refl, ◌∙◌, ap}
+use Rattle.std.proofs.Common.{◌≡◌, ◌≢◌, ℕ, true, false, Option, None, Some, is_some, refl, ◌∙◌, ap, subst}
 use Rattle.std.specs.Option.{option_and_then}
 use Rattle.slab.specs.Slab.{get as slab_get}
 use Rattle.client_slot.specs.Client.{Client}
+use Rattle.connection_table.specs.declared.table.KeyedSlot.{KeyedSlot}
 use Rattle.connection_table.specs.declared.table.ConnectionTable.{ConnectionTable}
-use Rattle.connection_table.specs.Tables.{client_at, IsKeyOf}
+use Rattle.connection_table.specs.Tables.{client_at, IsKeyOf, IsSeatAt}
 
 -- a key that none of the connections has
 pub not_among : (keys : ℕ → Option ℕ) (slots : ℕ → Option Client) (key : ℕ) → ((i k : ℕ) → keys i ≡ Some k → is_some (slots k) ≡ true) → slots key ≡ None → (i : ℕ) → keys i ≢ Some key
@@ -46,3 +47,7 @@ changes_other c i (Some k) e other = c.others k (λ same. other (c.apart i (e �
 -- what is kept of a connection, under its key
 pub kept_at : (seats : ConnectionTable) (conn key : ℕ) → IsKeyOf seats conn key → client_at seats conn ≡ slab_get seats.slots key
 kept_at seats conn key is = ap (λ (at : Option ℕ). option_and_then (λ k. slab_get seats.slots k) at) is
+
+-- what is kept at a seat that is there
+pub seated : (seats : ConnectionTable) (conn : ℕ) (seat : Option KeyedSlot) (one : KeyedSlot) → IsSeatAt seats conn seat → seat ≡ Some one → IsKeyOf seats conn one.key × (client_at seats conn ≡ Some one.slot.now)
+seated seats conn seat one at is = subst (λ (seat : Option KeyedSlot). IsSeatAt seats conn seat) is at

@@ -8,7 +8,7 @@ ghost use Rattle.connection_table.specs.Over.{is_over};
 ghost use Rattle.connection_table.specs.Directories.{key_of, HasPlace};
 
 use crate::Directory;
-use client_machine::{Done, Plan};
+use client_machine::{Done, PlannedStep};
 use client_slot::Slot;
 use gate_bytes::Memory;
 use slab::Slab;
@@ -57,7 +57,14 @@ impl ConnectionTable {
     pub fn seat(&self, conn: u32) -> Option<KeyedSlot<'_>>
         ensures { IsSeatAt self.now conn result }
     {
-        let key = self.directory.key(conn)?;
+        self.seat_at(self.directory.key(conn)?)
+    }
+
+    /// What is kept under a key, and the key: where the connection is kept that has it. Its number is not searched for.
+    pub fn seat_at(&self, key: usize) -> Option<KeyedSlot<'_>>
+        ensures seat { (conn : ℕ) → IsKeyOf self.now conn key → IsSeatAt self.now conn result }
+        ensures none { result ≡ None → under_key self.now key ≡ None }
+    {
         let slot = self.slots.get(key)?;
         Some(KeyedSlot { key, slot })
     }
@@ -145,7 +152,7 @@ impl ConnectionTable {
         &mut self,
         conn: u32,
         key: usize,
-        plan: Plan,
+        plan: PlannedStep,
         number: u32,
         next: u32,
     ) -> Option<Done>
@@ -182,7 +189,13 @@ fn empty_at(slots: &mut Slab<Slot>, key: usize)
 }
 
 /// Carries out a plan for the connection at a key.
-fn commit_at(slots: &mut Slab<Slot>, key: usize, plan: Plan, number: u32, next: u32) -> Option<Done>
+fn commit_at(
+    slots: &mut Slab<Slot>,
+    key: usize,
+    plan: PlannedStep,
+    number: u32,
+    next: u32,
+) -> Option<Done>
     requires { IfSome (slab_get slots.old key) (λ client. IsReady client plan) }
     ensures here { IsSome (slab_get slots.old key)
         → IfSome result (λ done.

@@ -8,23 +8,19 @@ use Rattle.rtsp_uri.specs.declared.base.Bases.{Bases}
 use Rattle.client_slot.specs.Places.{tracks_of}
 use Rattle.client_slot.specs.Client.{Client}
 use Rattle.client_machine.specs.declared.parts.Done.{Done}
-use Rattle.client_machine.specs.Effects.{carries, Effect}
-use Rattle.client_machine.specs.Events.{PrivateEvent, arrive, media}
+use Rattle.client_machine.specs.Events.{carries, Effect, PrivateEvent, arrive, media}
 use Rattle.client_machine.specs.Frames.{channel_in, behind_channel, frame_text, Half, half_for, channel_for}
-use Rattle.client_machine.specs.ServerItems.{carry, take_item, take, give, take_media}
-use Rattle.client_machine.specs.Step.{heard_step}
+use Rattle.client_machine.specs.Step.{carry, take_item, take, give, take_media, heard_step}
 use Rattle.gateway_claim.specs.declared.event.Closed.TheVariants.{Nobody}
 use Rattle.gateway_claim.specs.declared.event.Outcome.{Outcome}
 use Rattle.gateway_claim.specs.declared.event.ToClient.{ToClient}
 use Rattle.gateway_claim.specs.declared.event.UpCause.{UpCause}
-use Rattle.gateway_claim.specs.Books.{Opened, Books}
+use Rattle.gateway_claim.specs.Books.{Opened, Books, free_in, settles}
 use Rattle.gateway_claim.specs.ServerItems.{Heard, frames, heard, heard_at}
 use Rattle.gateway_claim.specs.Happenings.{Happening, takes, hears, HistoryEntry, enters_here}
-use Rattle.gateway_claim.specs.Next.{next}
+use Rattle.gateway_claim.specs.Follows.{next, spent, heard_answer}
 use Rattle.gateway_claim.specs.OwnEvents.{owner_of, heard_turn, heard_final, settled_by}
-use Rattle.gateway_claim.specs.Settlement.{free_in, settles}
-use Rattle.gateway_claim.specs.Follows.{spent, heard_answer}
-use Rattle.gateway_claim.specs.SharedEvents.{heard_raw, outcome_by}
+use Rattle.gateway_claim.specs.Turns.{heard_raw, outcome_by}
 use Rattle.gateway_claim.proofs.OtherLemmas.{differs}
 use Rattle.gateway_mux.specs.declared.turn.PlannedTurn.{PlannedTurn}
 use Rattle.gateway_mux.specs.Acts.{IsPlannedTurn, IsRise, IsFall}

@@ -22,15 +22,13 @@ use Rattle.client_slot.specs.Places.{session_at, session_where}
 use Rattle.client_slot.specs.Client.{Client}
 use Rattle.client_machine.specs.declared.why.CloseWhy.{CloseWhy}
 use Rattle.client_machine.specs.OpenRequests.{IsAsked, IsOpenAs, IsFreeFor, AsksBy}
-use Rattle.client_machine.specs.Effects.{Outgoing, asks, carries}
-use Rattle.client_machine.specs.ServerItems.{Hearing, idles, closes, take_item, take, settle_at, take_note}
+use Rattle.client_machine.specs.Events.{Outgoing, asks, carries}
+use Rattle.client_machine.specs.Step.{Hearing, idles, closes, take_item, take, settle_at, take_note, going_on}
 use Rattle.client_machine.specs.Plans.{Comes, requests, replies, notes, shuts, CanCome, heard_by, effect_by}
-use Rattle.client_machine.specs.Step.{going_on}
 use Rattle.client_machine.proofs.AskLemmas.{going_asks}
-use Rattle.gateway_claim.specs.Kinds.{plain, teardown_kind}
-use Rattle.gateway_claim.specs.Books.{Opened, HeldPair, Books, pair_asked, is_pair}
+use Rattle.gateway_claim.specs.Books.{plain, teardown_kind, Opened, HeldPair, Books, pair_asked, is_pair}
 use Rattle.gateway_claim.specs.OwnEvents.{lends_where}
-use Rattle.gateway_claim.specs.SharedEvents.{kind_pending, kind_gone}
+use Rattle.gateway_claim.specs.Turns.{kind_pending, kind_gone}
 use Rattle.gateway_mux.specs.Pictures.{bare_held}
 use Rattle.gateway_mux.specs.Turn.{asker_lent, issued_then}
 use Rattle.gateway_mux.specs.Upstream.{taken_by, reserved_by, held_lent}

@@ -18,9 +18,8 @@ use Rattle.gateway_claim.specs.Books.{Opened, Books}
 use Rattle.gateway_claim.specs.Happenings.{HistoryEntry, entered}
 use Rattle.gateway_claim.specs.BooksAndSlots.{IsHeldFor, AreHeld, IsHolding, HasPair, IsPurpose, IsOpenFor}
 use Rattle.gateway_claim.specs.OwnEvents.{books_of}
-use Rattle.gateway_claim.specs.SharedEvents.{shared}
-use Rattle.gateway_claim.proofs.AgreeLemmas.{joined}
-use Rattle.gateway_claim.proofs.SlotLemmas.{alone, AreJoined}
+use Rattle.gateway_claim.specs.Turns.{shared}
+use Rattle.gateway_claim.proofs.AgreeLemmas.{joined, alone, AreJoined}
 use Rattle.gateway_mux.specs.WrongGrants.{IsLowPurpose}
 use Rattle.gateway_mux.specs.Pictures.{Picture, bare_held, IsPictureOf}
 use Rattle.gateway_mux.proofs.OverLemmas.{busy_stays}

@@ -4,15 +4,12 @@ use Rattle.std.specs.Prelude.{codes, is_none}
 use Rattle.std.specs.Option.{option_map}
 use Rattle.std.specs.Str.{bytes_eq}
 use Rattle.head_two.specs.declared.ask.Ask2.{Ask2}
-use Rattle.gateway_claim.specs.Kinds.{RequestKind}
-use Rattle.gateway_claim.specs.Books.{Opened, HeldPair, Books, lends, pair_asked, is_pair}
-use Rattle.gateway_claim.specs.ServerItems.{Heard, replies, requests, frames, faults, heard}
-use Rattle.gateway_claim.specs.Notices.{HeardNotice, session_named, held_session, named_session, notice_of, answer_to}
-use Rattle.gateway_claim.specs.Settlement.{Final, final_of, opened_then, held_then, holder_then, settles, free_in}
+use Rattle.gateway_claim.specs.Books.{RequestKind, Opened, HeldPair, Books, lends, pair_asked, is_pair, Final, final_of, opened_then, held_then, holder_then, settles, free_in}
+use Rattle.gateway_claim.specs.ServerItems.{Heard, replies, requests, frames, faults, heard, HeardNotice, session_named, held_session, named_session, notice_of, answer_to}
 use Rattle.gateway_claim.specs.Happenings.{Happening, enters, takes, ends, lags, hears, up_ends}
 use Rattle.gateway_claim.specs.OwnEvents.{owner_of, notice_turn, heard_turn, turn, heard_final, final_in, settled_by, lends_where}
 use Rattle.gateway_claim.specs.Follows.{heard_answer, answer_due}
-use Rattle.gateway_claim.specs.SharedEvents.{notice_raw, heard_raw, raw_event}
+use Rattle.gateway_claim.specs.Turns.{notice_raw, heard_raw, raw_event}
 use Rattle.gateway_mux.proofs.TurnLemmas.{lowest_free_same}
 
 pub record AreSame (a b : Books) : Type 0 where

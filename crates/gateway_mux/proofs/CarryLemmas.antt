@@ -12,7 +12,7 @@ use Rattle.client_slot.specs.declared.purpose.Purpose.{Purpose}
 use Rattle.gate_bytes.specs.declared.memory.Memory.{Memory}
 use Rattle.client_machine.specs.declared.parts.Done.{Done}
 use Rattle.client_machine.specs.OpenRequests.{AsksBy}
-use Rattle.client_machine.specs.Effects.{Outgoing, asks, carries}
+use Rattle.client_machine.specs.Events.{Outgoing, asks, carries}
 use Rattle.client_machine.specs.Plans.{heard_by, effect_by}
 use Rattle.gateway_claim.specs.declared.event.Event.{Event}
 use Rattle.gateway_claim.specs.declared.event.Event.TheVariants.{Client, Up, End, Slow, UpEnd}
@@ -20,7 +20,7 @@ use Rattle.gateway_claim.specs.declared.event.Outcome.{Outcome}
 use Rattle.gateway_claim.specs.declared.event.UpCause.TheVariants.{CseqSpent}
 use Rattle.client_machine.specs.Step.{heard_step}
 use Rattle.gateway_claim.specs.OwnEvents.{settled_by}
-use Rattle.gateway_claim.specs.Settlement.{free_in}
+use Rattle.gateway_claim.specs.Books.{free_in}
 use Rattle.gateway_claim.specs.Follows.{spent}
 use Rattle.gateway_claim.specs.Happenings.{Happening, happening_of, enters_here}
 use Rattle.gateway_mux.specs.declared.turn.PlannedTurn.{PlannedTurn}

@@ -6,22 +6,19 @@ use Rattle.rtsp_uri.specs.declared.base.Bases.{Bases}
 use Rattle.client_slot.specs.declared.purpose.Purpose.{Purpose}
 use Rattle.client_slot.specs.Client.{Client}
 use Rattle.client_machine.specs.declared.parts.Done.{Done}
-use Rattle.client_machine.specs.declared.parts.Plan.{Plan}
+use Rattle.client_machine.specs.declared.parts.PlannedStep.{PlannedStep}
 use Rattle.client_machine.specs.OpenRequests.{AsksBy}
-use Rattle.client_machine.specs.Effects.{Outgoing, asks, carries, Effect}
-use Rattle.client_machine.specs.ServerItems.{hear}
+use Rattle.client_machine.specs.Events.{Outgoing, asks, carries, Effect}
+use Rattle.client_machine.specs.Step.{hear, heard_step}
 use Rattle.client_machine.specs.Plans.{Comes, heard_by, effect_by, IsPlan, Does}
 use Rattle.client_machine.specs.UpTexts.{spelled}
-use Rattle.client_machine.specs.Step.{heard_step}
 use Rattle.gateway_claim.specs.declared.event.UpMessage.{UpMessage}
 use Rattle.gateway_claim.specs.declared.event.UpMessage.TheVariants.{Request}
-use Rattle.gateway_claim.specs.Books.{Books}
+use Rattle.gateway_claim.specs.Books.{Books, free_in}
 use Rattle.gateway_claim.specs.Happenings.{Happening, HistoryEntry}
-use Rattle.gateway_claim.specs.Next.{client_piece, one_closed}
-use Rattle.gateway_claim.specs.Settlement.{free_in}
+use Rattle.gateway_claim.specs.Follows.{client_piece, one_closed, answer_due}
 use Rattle.gateway_claim.specs.OwnEvents.{settled_by}
-use Rattle.gateway_claim.specs.Follows.{answer_due}
-use Rattle.gateway_claim.specs.SharedEvents.{raw_up, number_heard, outcome_by}
+use Rattle.gateway_claim.specs.Turns.{raw_up, number_heard, outcome_by}
 use Rattle.gateway_mux.specs.declared.turn.PlannedTurn.{PlannedTurn}
 use Rattle.gateway_mux.specs.Acts.{IsPlannedTurn}
 use Rattle.connection_table.specs.CarryOut.{IsCarriedAt}
@@ -60,7 +57,7 @@ pub goes : (bases : Bases) (one : Picture) (h : Happening) (answer : Option (Lis
 goes bases one h answer it its = its.asks
 
 -- what was done
-carried_is : (before after : Option Client) (client : Client) (plan : Plan) (number next : ℕ) (done : Done) → before ≡ Some client → IsCarriedAt before after plan number next done
+carried_is : (before after : Option Client) (client : Client) (plan : PlannedStep) (number next : ℕ) (done : Done) → before ≡ Some client → IsCarriedAt before after plan number next done
     → (bases : Bases) (pair : Option ℕ) (comes : Comes) → IsPlan bases next pair client comes plan
     → (then : Client) × (after ≡ Some then) × Does next pair then done (effect_by bases number pair client comes)
 carried_is before after client plan number next done is carried bases pair comes planned = by after (subst (λ (one : Option Client). IsCarriedAt one after plan number next done) is carried)

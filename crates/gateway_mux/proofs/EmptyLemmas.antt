@@ -5,7 +5,6 @@ use Rattle.std.specs.Option.{option_or, option_map}
 use Rattle.rtsp_small.specs.declared.method.Method.{Method}
 use Rattle.rtsp_small.specs.declared.method.Method.TheVariants as methods
 use Rattle.session_one.specs.declared.parts.Asked.{Asked}
-use Rattle.session_one.specs.declared.parts.Play.{Play}
 use Rattle.session_one.specs.declared.parts.Track.{Track}
 use Rattle.session_one.specs.declared.table.State.{State}
 use Rattle.session_one.specs.Table.{same_method, is_success, state_after}
@@ -18,13 +17,12 @@ use Rattle.client_slot.specs.SessionTurns.{Brought, if_made, granted_turn, moved
 use Rattle.client_slot.specs.Places.{session_at, session_where, changed_at, changed_where, empty_place}
 use Rattle.client_slot.specs.Changes.{settled_place, session_after, sessions_after}
 use Rattle.client_slot.proofs.PlaceLemmas.{place_is}
-use Rattle.client_machine.specs.ServerItems.{session_told, new_id_at, new_id}
+use Rattle.client_machine.specs.Step.{session_told, new_id_at, new_id}
 use Rattle.client_machine.proofs.HoldLemmas.{AreSame}
-use Rattle.gateway_claim.specs.Kinds.{sets_up, plain, teardown_kind}
-use Rattle.gateway_claim.specs.Settlement.{torn_by, bound_by}
+use Rattle.gateway_claim.specs.Books.{sets_up, plain, teardown_kind, torn_by, bound_by}
 use Rattle.gateway_claim.specs.Follows.{session_asked}
 use Rattle.gateway_claim.specs.BooksAndSlots.{IsForSession}
-use Rattle.gateway_claim.specs.SharedEvents.{kind_pending}
+use Rattle.gateway_claim.specs.Turns.{kind_pending}
 use Rattle.gateway_mux.specs.Room.{empty_places}
 use Rattle.gateway_mux.specs.Settlements.{gives_back}
 use Rattle.gateway_mux.specs.Turn.{one_if}

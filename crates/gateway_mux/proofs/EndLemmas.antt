@@ -6,28 +6,21 @@ use Rattle.rtsp_head.specs.Items.{Shape}
 use Rattle.rtsp_uri.specs.declared.base.Bases.{Bases}
 use Rattle.client_slot.specs.Client.{Client}
 use Rattle.client_machine.specs.Alone.{effect_alone}
-use Rattle.client_machine.specs.Effects.{Outgoing, asks, carries, Effect}
-use Rattle.client_machine.specs.Events.{PrivateEvent}
+use Rattle.client_machine.specs.Events.{Outgoing, asks, carries, Effect, PrivateEvent}
 use Rattle.client_machine.specs.Renumber.{message_under}
 use Rattle.client_machine.specs.Step.{step}
 use Rattle.gateway_claim.specs.declared.event.Closed.TheVariants.{All}
 use Rattle.gateway_claim.specs.declared.event.UpCause.{UpCause}
-use Rattle.gateway_claim.specs.Books.{Books}
-use Rattle.gateway_claim.specs.ServerItems.{Heard, replies, requests, frames, faults, heard}
-use Rattle.gateway_claim.specs.Notices.{HeardNotice, notice_of}
-use Rattle.gateway_claim.specs.Settlement.{free_in}
+use Rattle.gateway_claim.specs.Books.{Books, free_in}
+use Rattle.gateway_claim.specs.ServerItems.{Heard, replies, requests, frames, faults, heard, HeardNotice, notice_of}
 use Rattle.gateway_claim.specs.Happenings.{Happening, enters, takes, ends, lags, hears, up_ends, HistoryEntry, fault_in, entered, nothing_up, silent}
 use Rattle.gateway_claim.specs.OwnEvents.{turn, final_in, settled_by, books_of, notice_event, heard_event, event_by}
-use Rattle.gateway_claim.specs.Follows.{said_breach, spent, effect_of_turn, effect, breach, up_due, IsHistory}
-use Rattle.gateway_claim.specs.Next.{outcome_with, next}
-use Rattle.gateway_claim.specs.SharedEvents.{shared, notice_raw, heard_raw, raw_event, number_heard}
-use Rattle.gateway_claim.proofs.AgreeLemmas.{joined, effect_present}
-use Rattle.gateway_claim.proofs.CaseLemmas.{not_over}
-use Rattle.gateway_claim.proofs.SlotLemmas.{alone, AreJoined, IsStep, IsTurnStep, turn_step}
-use Rattle.gateway_claim.proofs.OverLemmas.{own_event, breach_standing}
-use Rattle.gateway_claim.proofs.ShareLemmas.{pairs_at}
-use Rattle.gateway_claim.proofs.StepLemmas.{free_or}
-use Rattle.gateway_claim.proofs.TurnNextLemmas.{raw_step_of, step_renumbered}
+use Rattle.gateway_claim.specs.Follows.{said_breach, spent, effect_of_turn, effect, breach, up_due, IsHistory, outcome_with, next}
+use Rattle.gateway_claim.specs.Turns.{shared, notice_raw, heard_raw, raw_event, number_heard}
+use Rattle.gateway_claim.proofs.AgreeLemmas.{joined, effect_present, alone, AreJoined, IsStep, IsTurnStep, turn_step}
+use Rattle.gateway_claim.proofs.CaseLemmas.{not_over, own_event, breach_standing}
+use Rattle.gateway_claim.proofs.StepLemmas.{pairs_at, free_or}
+use Rattle.gateway_claim.proofs.TurnLawLemmas.{raw_step_of, step_renumbered}
 use Rattle.gateway_mux.specs.Pictures.{Picture, books_in, IsPictureOf}
 use Rattle.gateway_mux.specs.Moves.{wrong_in, step_in, IsSpentAt, IsEndAt}
 use Rattle.gateway_mux.proofs.BooksLemmas.{AreSame, turn_same, raw_same, settled_same, free_same}

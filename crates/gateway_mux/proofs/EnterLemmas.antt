@@ -11,10 +11,10 @@ use Rattle.gateway_claim.specs.declared.event.UpCause.{UpCause}
 use Rattle.gateway_claim.specs.Books.{Opened, Books}
 use Rattle.gateway_claim.specs.Happenings.{enters, HistoryEntry, fault_in, entered, entering}
 use Rattle.gateway_claim.specs.OwnEvents.{books_of}
-use Rattle.gateway_claim.specs.SharedEvents.{shared, shared_in}
+use Rattle.gateway_claim.specs.Turns.{shared, shared_in}
 use Rattle.gateway_claim.proofs.CaseLemmas.{own_absent}
-use Rattle.gateway_claim.proofs.SlotLemmas.{alone}
-use Rattle.gateway_claim.proofs.TurnStandLemmas.{entry_next, next_history}
+use Rattle.gateway_claim.proofs.AgreeLemmas.{alone}
+use Rattle.gateway_claim.proofs.TurnLawLemmas.{entry_next, next_history}
 use Rattle.gateway_mux.specs.Pictures.{Picture, bare_held, IsPictureOf}
 use Rattle.gateway_mux.proofs.IdleLemmas.{IsStill, still_nobody, shared_still, stands_still}
 use Rattle.gateway_mux.specs.Departure.{IsKeptUnlessGone}

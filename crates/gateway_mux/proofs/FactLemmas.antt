@@ -14,20 +14,18 @@ use Rattle.client_slot.specs.Places.{tracks_of}
 use Rattle.client_slot.specs.Client.{Client}
 use Rattle.client_machine.specs.Events.{answer, note, media}
 use Rattle.client_machine.specs.Frames.{channel_in, behind_channel, channel_for}
-use Rattle.client_machine.specs.ServerItems.{idles, give, take_answer, take_media}
+use Rattle.client_machine.specs.Step.{idles, give, take_answer, take_media}
 use Rattle.client_machine.specs.Plans.{notes}
 use Rattle.client_machine.specs.Plans.{replies as comes_reply}
 use Rattle.client_machine.specs.UpTexts.{source_said}
 use Rattle.gateway_claim.specs.declared.event.UpCause.{UpCause}
 use Rattle.gateway_claim.specs.declared.event.UpCause.TheVariants.{UnknownReply}
-use Rattle.gateway_claim.specs.Books.{Opened}
-use Rattle.gateway_claim.specs.ServerItems.{replies, requests, frames, heard, heard_at}
+use Rattle.gateway_claim.specs.Books.{Opened, Final, final_of, id_said}
+use Rattle.gateway_claim.specs.ServerItems.{replies, requests, frames, heard, heard_at, HeardNotice, notice_of, answer_to}
 use Rattle.gateway_claim.specs.Happenings.{hears}
-use Rattle.gateway_claim.specs.Notices.{HeardNotice, notice_of, answer_to}
-use Rattle.gateway_claim.specs.Settlement.{Final, final_of, id_said}
 use Rattle.gateway_claim.specs.OwnEvents.{owner_of, notice_turn, heard_turn, heard_final}
 use Rattle.gateway_claim.specs.Follows.{session_asked, kind_breach, heard_answer}
-use Rattle.gateway_claim.specs.SharedEvents.{notice_raw, heard_raw, heard_number, kind_pending}
+use Rattle.gateway_claim.specs.Turns.{notice_raw, heard_raw, heard_number, kind_pending}
 use Rattle.gateway_mux.specs.declared.settlement.Settlement.{Settlement}
 use Rattle.gateway_mux.specs.Acts.{IsSaid}
 use Rattle.gateway_mux.specs.Moves.{wrong_reply, wrong_heard, wrong_in, IsIdleAt, IsIdleTurn, IsIdle, IsEndAt}

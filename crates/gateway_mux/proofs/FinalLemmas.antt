@@ -5,11 +5,9 @@ use Rattle.std.specs.Option.{option_map}
 use Rattle.head_two.specs.declared.reply.Reply2.{Reply2}
 use Rattle.session_one.specs.Table.{is_success}
 use Rattle.gateway_claim.specs.declared.event.UpCause.TheVariants.{BadGrant, SessionTaken}
-use Rattle.gateway_claim.specs.Kinds.{RequestKind, sets_up}
-use Rattle.gateway_claim.specs.Books.{Opened, Books}
+use Rattle.gateway_claim.specs.Books.{RequestKind, sets_up, Opened, Books, Final, final_of, id_said}
 use Rattle.gateway_claim.specs.ServerItems.{Heard, replies, requests, frames, faults, heard}
 use Rattle.gateway_claim.specs.Happenings.{Happening, enters, takes, ends, lags, hears, up_ends}
-use Rattle.gateway_claim.specs.Settlement.{Final, final_of, id_said}
 use Rattle.gateway_claim.specs.OwnEvents.{heard_turn, turn, heard_final, final_in}
 use Rattle.gateway_claim.specs.Follows.{is_session_for, is_granted, is_bound, grant_breach, kind_breach}
 use Rattle.gateway_mux.specs.Moves.{wrong_reply, wrong_heard, wrong_in}

@@ -7,23 +7,17 @@ use Rattle.rtsp_uri.specs.declared.base.Bases.{Bases}
 use Rattle.rtsp_head.specs.Items.{Shape}
 use Rattle.client_slot.specs.Client.{Client}
 use Rattle.client_machine.specs.Alone.{Private}
-use Rattle.client_machine.specs.Effects.{Effect}
-use Rattle.client_machine.specs.Events.{PrivateEvent, end, slow}
+use Rattle.client_machine.specs.Events.{Effect, PrivateEvent, end, slow}
 use Rattle.client_machine.specs.Step.{step}
 use Rattle.gateway_claim.specs.declared.event.Outcome.{Outcome}
-use Rattle.gateway_claim.specs.Books.{Opened, Books}
-use Rattle.gateway_claim.specs.ServerItems.{Heard, replies, requests, frames, faults, heard}
-use Rattle.gateway_claim.specs.Notices.{HeardNotice, notice_of}
-use Rattle.gateway_claim.specs.Settlement.{settles, free_in}
+use Rattle.gateway_claim.specs.Books.{Opened, Books, settles, free_in}
+use Rattle.gateway_claim.specs.ServerItems.{Heard, replies, requests, frames, faults, heard, HeardNotice, notice_of}
 use Rattle.gateway_claim.specs.Happenings.{Happening, enters, takes, ends, lags, hears, up_ends, HistoryEntry, fault_in, enters_here, entered}
 use Rattle.gateway_claim.specs.OwnEvents.{turn, heard_final, settled_by, lends_where, notice_event, heard_event, event_of, books_of}
-use Rattle.gateway_claim.specs.Follows.{spent, answer_due}
-use Rattle.gateway_claim.specs.Next.{next}
-use Rattle.gateway_claim.specs.SharedEvents.{shared, shared_in, raw_up, notice_raw, heard_raw, raw_event, number_heard, kind_gone, outcome_by}
-use Rattle.gateway_claim.specs.Turns.{client_alone, step_by_books, IsItsTurn, IsSteppedBy}
-use Rattle.gateway_claim.proofs.SlotLemmas.{alone}
-use Rattle.gateway_claim.proofs.TurnLawLemmas.{stepped}
-use Rattle.gateway_claim.proofs.TurnStandLemmas.{entry_next, next_history}
+use Rattle.gateway_claim.specs.Follows.{spent, answer_due, next}
+use Rattle.gateway_claim.specs.Turns.{shared, shared_in, raw_up, notice_raw, heard_raw, raw_event, number_heard, kind_gone, outcome_by, client_alone, step_by_books, IsItsTurn, IsSteppedBy}
+use Rattle.gateway_claim.proofs.AgreeLemmas.{alone}
+use Rattle.gateway_claim.proofs.TurnLawLemmas.{stepped, entry_next, next_history}
 use Rattle.gateway_mux.specs.Pictures.{Picture, bare_held, books_in, IsPictureOf}
 use Rattle.gateway_mux.specs.Moves.{step_in, TakesTurn, books_stepped, IsAfterTurn}
 use Rattle.gateway_mux.proofs.BooksLemmas.{AreSame, turn_same, raw_same, answer_same, settled_same, free_same, lends_same}

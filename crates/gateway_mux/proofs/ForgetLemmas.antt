@@ -6,7 +6,7 @@ use Rattle.rtsp_uri.specs.declared.base.Bases.{Bases}
 use Rattle.client_slot.specs.Client.{Client}
 use Rattle.gateway_claim.specs.declared.event.Outcome.{Outcome}
 use Rattle.gateway_claim.specs.Happenings.{Happening, HistoryEntry}
-use Rattle.gateway_claim.specs.SharedEvents.{shared_in}
+use Rattle.gateway_claim.specs.Turns.{shared_in}
 use Rattle.connection_table.specs.declared.table.ConnectionTable.{ConnectionTable}
 use Rattle.gateway_mux.specs.declared.upstream.UpstreamBooks.{UpstreamBooks}
 use Rattle.gateway_mux.specs.Moves.{IsNext, IsCommitted}

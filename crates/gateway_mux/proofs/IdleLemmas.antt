@@ -7,27 +7,18 @@ use Rattle.std.proofs.lemmas.Bool.{eq-eqb, eqb-true}
 use Rattle.rtsp_uri.specs.declared.base.Bases.{Bases}
 use Rattle.client_slot.specs.Client.{Client}
 use Rattle.client_machine.specs.Alone.{Private, new_private}
-use Rattle.client_machine.specs.Effects.{Effect, stays}
-use Rattle.client_machine.specs.Events.{PrivateEvent}
-use Rattle.client_machine.specs.ServerItems.{hear, idles}
-use Rattle.client_machine.specs.Step.{heard_step}
+use Rattle.client_machine.specs.Events.{Effect, stays, PrivateEvent}
+use Rattle.client_machine.specs.Step.{hear, idles, heard_step}
 use Rattle.gateway_claim.specs.declared.event.Outcome.{Outcome}
 use Rattle.gateway_claim.specs.declared.event.UpCause.{UpCause}
-use Rattle.gateway_claim.specs.Books.{Opened, Books}
-use Rattle.gateway_claim.specs.Settlement.{settles, free_in}
+use Rattle.gateway_claim.specs.Books.{Opened, Books, settles, free_in}
 use Rattle.gateway_claim.specs.Happenings.{Happening, HistoryEntry, fault_in, enters_here, entered, silent}
 use Rattle.gateway_claim.specs.OwnEvents.{turn, final_in, settled_by, lends_where, has_shut, books_of, own}
-use Rattle.gateway_claim.specs.Follows.{event_in, effect_at, effect_of_turn, said_breach, spent, effect, breach, answer_due, message_due, up_due, IsHistory}
-use Rattle.gateway_claim.specs.Next.{outcome_with, next}
-use Rattle.gateway_claim.specs.SharedEvents.{shared, shared_in, raw_event, number_heard, kind_gone, outcome_by}
-use Rattle.gateway_claim.specs.Turns.{IsSteppedBy}
-use Rattle.gateway_claim.proofs.AgreeLemmas.{joined, books_with, books_next, alone_with, event_for, alone_next}
-use Rattle.gateway_claim.proofs.CaseLemmas.{nobody_settles}
-use Rattle.gateway_claim.proofs.SlotLemmas.{alone}
-use Rattle.gateway_claim.proofs.OverLemmas.{own_event, breach_standing}
-use Rattle.gateway_claim.proofs.TurnLawLemmas.{stepped}
-use Rattle.gateway_claim.proofs.TurnNextLemmas.{raw_step_of}
-use Rattle.gateway_claim.proofs.TurnStandLemmas.{entry_next, next_history}
+use Rattle.gateway_claim.specs.Follows.{event_in, effect_at, effect_of_turn, said_breach, spent, effect, breach, answer_due, message_due, up_due, IsHistory, outcome_with, next}
+use Rattle.gateway_claim.specs.Turns.{shared, shared_in, raw_event, number_heard, kind_gone, outcome_by, IsSteppedBy}
+use Rattle.gateway_claim.proofs.AgreeLemmas.{joined, books_with, books_next, alone_with, event_for, alone_next, alone}
+use Rattle.gateway_claim.proofs.CaseLemmas.{nobody_settles, own_event, breach_standing}
+use Rattle.gateway_claim.proofs.TurnLawLemmas.{stepped, raw_step_of, entry_next, next_history}
 use Rattle.gateway_mux.specs.Pictures.{Picture, bare_held, books_in, IsPictureOf}
 use Rattle.gateway_mux.specs.Moves.{IsIdleAt, IsIdleTurn, IsIdle, answering}
 use Rattle.gateway_mux.proofs.BooksLemmas.{AreSame, turn_same, raw_same, final_same, answer_same}

@@ -14,18 +14,16 @@ use Rattle.client_slot.specs.Client.{Client, new_client}
 use Rattle.client_slot.proofs.PlaceLemmas.{first_mapped, at_mapped}
 use Rattle.client_machine.specs.declared.parts.Done.{Done}
 use Rattle.client_machine.specs.OpenRequests.{IsOpenAs, AsksBy}
-use Rattle.client_machine.specs.Effects.{Outgoing, asks, carries, Effect}
-use Rattle.client_machine.specs.ServerItems.{Hearing}
+use Rattle.client_machine.specs.Events.{Outgoing, asks, carries, Effect}
+use Rattle.client_machine.specs.Step.{Hearing}
 use Rattle.client_machine.specs.Plans.{heard_by}
 use Rattle.client_machine.proofs.HoldLemmas.{going_steady}
-use Rattle.gateway_claim.specs.Books.{Opened, Books}
+use Rattle.gateway_claim.specs.Books.{Opened, Books, Final}
 use Rattle.gateway_claim.specs.BooksAndSlots.{IsForSession, IsOpenFor, IsJoined}
 use Rattle.gateway_claim.specs.Happenings.{Happening, HistoryEntry}
 use Rattle.gateway_claim.specs.OwnEvents.{final_in, books_of}
-use Rattle.gateway_claim.specs.Settlement.{Final}
-use Rattle.gateway_claim.specs.SharedEvents.{number_heard, kind_pending}
-use Rattle.gateway_claim.proofs.AgreeLemmas.{joined}
-use Rattle.gateway_claim.proofs.SlotLemmas.{alone}
+use Rattle.gateway_claim.specs.Turns.{number_heard, kind_pending}
+use Rattle.gateway_claim.proofs.AgreeLemmas.{joined, alone}
 use Rattle.gateway_mux.specs.declared.settlement.Settlement.{Settlement}
 use Rattle.gateway_mux.specs.declared.turn.PlannedTurn.{PlannedTurn}
 use Rattle.gateway_mux.specs.Acts.{IsPlannedTurn}

@@ -20,6 +20,7 @@ pub mod PlanLemmas
 pub mod ReadyLemmas
 pub mod RoomLemmas
 pub mod FactLemmas
+pub mod SeatLemmas
 pub mod SettleableLemmas
 pub mod SettlementLemmas
 pub mod StandLemmas
@@ -28,7 +29,8 @@ pub mod TurnLemmas
 pub mod AfterTurnLemmas
 pub mod OpenLemmas
 pub mod UpstreamLemmas
-pub mod HeldLemmas
+pub mod HolderLemmas
 pub mod LowLemmas
 pub mod OwnLemmas
 pub mod EmptyLemmas
+pub mod AnswerLengthLemmas

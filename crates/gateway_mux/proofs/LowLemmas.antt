@@ -6,9 +6,7 @@ use Rattle.channel_map.specs.declared.map.TheConstants.{PAIRS}
 use Rattle.channel_map.proofs.PairLemmas.{lowest_free_below}
 use Rattle.gateway_claim.specs.declared.event.UpMessage.{UpMessage}
 use Rattle.gateway_claim.specs.declared.event.UpMessage.TheVariants.{Request, Frame}
-use Rattle.gateway_claim.specs.Kinds.{RequestKind, plain, is_setup_text, is_teardown_text, setup_kind, teardown_kind, id_in_text, kind_of_text, kind_of}
-use Rattle.gateway_claim.specs.Books.{HeldPair, Books, new_books, pair_asked, is_pair, lends}
-use Rattle.gateway_claim.specs.Settlement.{Final, torn_by, held_left, granted_to, held_then, settles, free_in}
+use Rattle.gateway_claim.specs.Books.{RequestKind, plain, is_setup_text, is_teardown_text, setup_kind, teardown_kind, id_in_text, kind_of_text, kind_of, HeldPair, Books, new_books, pair_asked, is_pair, lends, Final, torn_by, held_left, granted_to, held_then, settles, free_in}
 use Rattle.gateway_claim.specs.Happenings.{HistoryEntry, fault_in}
 use Rattle.gateway_claim.specs.OwnEvents.{turn, settled_by, final_in, lends_where, has_shut, books_after, books_of}
 

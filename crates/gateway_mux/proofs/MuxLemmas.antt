@@ -1,8 +1,8 @@
 -- What the multiplexer stands for after each of its calls.
-use Rattle.std.proofs.Common.{◌≡◌, ◌∙◌, ℕ, ◌+◌, ◌-◌, ◌^◌, ◌≤◌, ◌<◌, min, ◌&&◌, nat_lt, Bool, true, false, List, ◌∷◌, Option, Some, None, Result, Ok, Err, IfOk, OnErr, refl, sym, ap, subst, arith}
-use Rattle.std.specs.Prelude.{is_some, is_none}
-use Rattle.rtsp_uri.specs.declared.base.Bases.{Bases}
+use Rattle.std.proofs.Common.{◌≡◌, ◌∙◌, ℕ, ◌+◌, ◌-◌, ◌^◌, ◌≤◌, ◌<◌, min, ◌&&◌, nat_lt, Bool, true, false, List, ◌∷◌, Option, Some, None, Result, Ok, Err, OnErr, refl, sym, ap, subst, arith}
+use Rattle.std.specs.Prelude.{is_some, is_none, IfOk}
 use Rattle.gate_bytes.specs.declared.memory.Memory.{Memory}
+use Rattle.rtsp_uri.specs.declared.base.Bases.{Bases}
 use Rattle.gateway_claim.specs.declared.event.Event.{Event}
 use Rattle.gateway_claim.specs.declared.event.Outcome.{Outcome}
 use Rattle.gateway_claim.specs.declared.event.UpCause.{UpCause}
@@ -10,8 +10,8 @@ use Rattle.gateway_claim.specs.Cores.{IsNewTo, ever_entered}
 use Rattle.gateway_claim.specs.Happenings.{Happening, HistoryEntry, fault_in, standing, silent, is_alive, happening_of, entry_of, entered, entering}
 use Rattle.gateway_claim.specs.Follows.{IsHistory}
 use Rattle.gateway_claim.specs.Tells.{is_frame_item, is_dropped, dropped_frames, is_busy, IsFirstAlive}
-use Rattle.gateway_claim.proofs.CoreLemmas.{never_part}
-use Rattle.gateway_claim.proofs.TurnStandLemmas.{next_history}
+use Rattle.gateway_claim.proofs.AskLemmas.{never_part}
+use Rattle.gateway_claim.proofs.TurnLawLemmas.{next_history}
 use Rattle.gateway_mux.specs.declared.act.Act.{Act}
 use Rattle.gateway_mux.specs.declared.mux.Mux.{Mux}
 use Rattle.gateway_mux.specs.Acts.{IsAct, IsShortAct, IsKeyed}
@@ -86,15 +86,22 @@ pub planned : (ended : Option UpCause) (mux : Mux) (event : Event) (plan : Act) 
 planned None mux event plan e is = is
 planned (Some cause) mux event plan e is = cc
 
-plan_for : (ended : Option UpCause) (mux : Mux) (event : Event) (plan : Act) → is_some ended ≡ false → IsAct (bases_of mux) (picture_of mux.connections) (happening_of event) plan → IsShortAct plan → IsKeyed mux.connections.seats plan
+-- after the end any plan will do
+pub plan_over : (ended : Option UpCause) (mux : Mux) (event : Event) (plan : Act) → is_some ended ≡ true → IsActFor ended mux event plan
+plan_over (Some cause) mux event plan e = tt
+plan_over None mux event plan e = cc
+
+-- what an event does is a plan for it
+pub plan_for : (ended : Option UpCause) (mux : Mux) (event : Event) (plan : Act) → is_some ended ≡ false → IsAct (bases_of mux) (picture_of mux.connections) (happening_of event) plan → IsShortAct plan → IsKeyed mux.connections.seats plan
     → IsActFor ended mux event plan
 plan_for None mux event plan e act short key = (act, short, key)
 plan_for (Some cause) mux event plan e act short key = cc
 
-pub plans_for : (ended : Option UpCause) (mux : Mux) (event : Event) (result : Result Act Memory) → is_some ended ≡ false → IfOk result (IsAct (bases_of mux) (picture_of mux.connections) (happening_of event)) → IfOk result IsShortAct
-    → IfOk result (IsKeyed mux.connections.seats) → IfOk result (IsActFor ended mux event)
-plans_for ended mux event (Ok plan) e act short key = plan_for ended mux event plan e act short key
-plans_for ended mux event (Err memory) e act short key = tt
+-- so is what a plan gives, where it gives one
+pub act_for : (ended : Option UpCause) (mux : Mux) (event : Event) (planned : Result Act Memory) → is_some ended ≡ false → IfOk planned (IsAct (bases_of mux) (picture_of mux.connections) (happening_of event)) → IfOk planned IsShortAct
+    → IfOk planned (IsKeyed mux.connections.seats) → IfOk planned (IsActFor ended mux event)
+act_for ended mux event (Ok act) e is short key = plan_for ended mux event act e is short key
+act_for ended mux event (Err memory) e is short key = tt
 
 -- Whether the event was a frame that was dropped
 pub frame_dropped : (h : Happening) (outcome : Outcome) → is_frame_item h ≡ true → is_some outcome.to_client ≡ false → is_some outcome.to_up.message ≡ false → is_dropped h outcome ≡ true

@@ -12,18 +12,15 @@ use Rattle.client_slot.specs.Session.{PlayerSession}
 use Rattle.client_slot.specs.Changes.{settle_with}
 use Rattle.client_slot.specs.Client.{Client}
 use Rattle.client_machine.specs.Events.{PrivateEvent, arrive, answer, note, end, slow}
-use Rattle.client_machine.specs.ServerItems.{idles, new_id, settle_at, hear}
+use Rattle.client_machine.specs.Step.{idles, new_id, settle_at, hear}
 use Rattle.client_machine.specs.UpTexts.{source_said}
 use Rattle.client_machine.proofs.HoldLemmas.{IsHeldStill, IsNoAnswer, all_same, hear_still}
-use Rattle.gateway_claim.specs.Kinds.{RequestKind}
-use Rattle.gateway_claim.specs.Books.{Opened, Books}
-use Rattle.gateway_claim.specs.ServerItems.{Heard, replies, requests, frames, faults, heard}
-use Rattle.gateway_claim.specs.Notices.{HeardNotice, notice_of}
+use Rattle.gateway_claim.specs.Books.{RequestKind, Opened, Books, Final, final_of, id_said, torn_by}
+use Rattle.gateway_claim.specs.ServerItems.{Heard, replies, requests, frames, faults, heard, HeardNotice, notice_of}
 use Rattle.gateway_claim.specs.Happenings.{Happening, enters, takes, ends, lags, hears, up_ends}
 use Rattle.gateway_claim.specs.OwnEvents.{heard_turn, turn, heard_final, final_in}
-use Rattle.gateway_claim.specs.Settlement.{Final, final_of, id_said, torn_by}
 use Rattle.gateway_claim.specs.Follows.{session_asked}
-use Rattle.gateway_claim.specs.SharedEvents.{kind_pending, notice_raw, heard_raw, raw_event}
+use Rattle.gateway_claim.specs.Turns.{kind_pending, notice_raw, heard_raw, raw_event}
 use Rattle.gateway_claim.proofs.AnswerLemmas.{told_session}
 use Rattle.gateway_mux.specs.Room.{empty_places}
 use Rattle.gateway_mux.specs.Settlements.{bound_new}

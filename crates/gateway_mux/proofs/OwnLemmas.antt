@@ -13,11 +13,10 @@ use Rattle.client_slot.specs.Places.{session_at, session_where, first_place, emp
 use Rattle.client_slot.specs.Client.{Client}
 use Rattle.client_slot.specs.Renumber.{track_under, purpose_under, session_under}
 use Rattle.client_slot.proofs.RenumberLemmas.{at_under, where_under}
-use Rattle.gateway_claim.specs.Kinds.{RequestKind, sets_up, plain, teardown_kind}
-use Rattle.gateway_claim.specs.Books.{Opened, Books}
+use Rattle.gateway_claim.specs.Books.{RequestKind, sets_up, plain, teardown_kind, Opened, Books}
 use Rattle.gateway_claim.specs.BooksAndSlots.{kind_for, AreHeld, IsHolding, HasPair, IsStreamPair, IsForSession, IsPurpose, IsOpenFor, IsJoined}
 use Rattle.gateway_claim.specs.Follows.{session_asked}
-use Rattle.gateway_claim.specs.SharedEvents.{shared}
+use Rattle.gateway_claim.specs.Turns.{shared}
 use Rattle.gateway_mux.specs.Room.{empty_places}
 use Rattle.gateway_mux.specs.Settlements.{has_pair}
 

@@ -16,19 +16,16 @@ use Rattle.client_slot.specs.Client.{Client}
 use Rattle.client_slot.specs.Renumber.{purpose_under, session_under}
 use Rattle.client_machine.specs.Alone.{Private, private_after, new_private}
 use Rattle.gateway_claim.specs.declared.event.UpCause.TheVariants.{BadGrant, SessionTaken}
-use Rattle.gateway_claim.specs.Kinds.{RequestKind, sets_up, tears_down, closes, plain}
-use Rattle.gateway_claim.specs.Books.{Opened, HeldPair, Books}
+use Rattle.gateway_claim.specs.Books.{RequestKind, sets_up, tears_down, closes, plain, Opened, HeldPair, Books, id_said}
 use Rattle.gateway_claim.specs.ServerItems.{Heard, replies, requests, frames, faults, heard}
 use Rattle.gateway_claim.specs.Happenings.{Happening, enters, takes, ends, lags, hears, up_ends, HistoryEntry, entered}
-use Rattle.gateway_claim.specs.Settlement.{id_said}
 use Rattle.gateway_claim.specs.OwnEvents.{owner_of, books_of}
 use Rattle.gateway_claim.specs.Follows.{private_in, is_granted, is_bound, session_asked, kind_breach, session_of_private, reply_breach, heard_breach, said_breach}
 use Rattle.gateway_claim.specs.BooksAndSlots.{IsStreamPair, opened_for, IsOpenFor}
-use Rattle.gateway_claim.specs.SharedEvents.{shared, shared_in, kind_pending}
-use Rattle.gateway_claim.proofs.AgreeLemmas.{joined}
+use Rattle.gateway_claim.specs.Turns.{shared, shared_in, kind_pending}
+use Rattle.gateway_claim.proofs.AgreeLemmas.{joined, alone, AreJoined}
 use Rattle.gateway_claim.proofs.CaseLemmas.{own_absent}
-use Rattle.gateway_claim.proofs.SlotLemmas.{alone, AreJoined}
-use Rattle.gateway_claim.proofs.TurnNextLemmas.{under_at, under_where, kind_same}
+use Rattle.gateway_claim.proofs.TurnLawLemmas.{under_at, under_where, kind_same}
 use Rattle.gateway_mux.specs.Pictures.{Picture, opened_in, session_on, held_for, held_in, bare_held, books_in, IsPictureOf, IsKept}
 use Rattle.gateway_mux.specs.Moves.{wrong_reply, wrong_heard, wrong_in}
 use Rattle.connection_table.specs.Over.{is_over}
@@ -36,7 +33,7 @@ use Rattle.gateway_mux.specs.Departure.{IsKeptUnlessGone}
 use Rattle.gateway_mux.specs.Turn.{named_by_client, kind_open}
 use Rattle.gateway_mux.proofs.OverLemmas.{over_idle, over_unbound, busy_stays, kept_along, kept_none, kept_whole, kept_told}
 use Rattle.gateway_mux.proofs.BooksLemmas.{AreSame}
-use Rattle.gateway_mux.proofs.HeldLemmas.{session_found}
+use Rattle.gateway_mux.proofs.HolderLemmas.{session_found}
 
 -- a connection that entered
 shared_by : (bases : Bases) (T : List HistoryEntry) (i : ℕ) (t : Bool) → entered i T ≡ t → shared_in bases i T ≡ option_map (λ (private : Private). shared (books_of T) i private.client) (cond t (Some (alone bases T i)) None)

@@ -14,25 +14,22 @@ use Rattle.up_books.specs.Numbers.{next_number}
 use Rattle.client_slot.specs.declared.purpose.Purpose.{Purpose}
 use Rattle.client_slot.specs.Places.{tracks_of}
 use Rattle.client_slot.specs.Client.{Client}
-use Rattle.client_machine.specs.declared.parts.Plan.{Plan}
+use Rattle.client_machine.specs.declared.parts.PlannedStep.{PlannedStep}
 use Rattle.client_machine.specs.declared.why.CloseWhy.{CloseWhy}
 use Rattle.client_machine.specs.declared.why.CloseWhy.TheVariants.{BadItem}
 use Rattle.client_machine.specs.OpenRequests.{AsksBy}
-use Rattle.client_machine.specs.Effects.{Outgoing, asks, carries, Effect}
-use Rattle.client_machine.specs.Events.{arrive, end, slow}
-use Rattle.client_machine.specs.Frames.{channel_in, behind_channel, Half, half_for}
+use Rattle.client_machine.specs.Events.{Outgoing, asks, carries, Effect, arrive, end, slow}
+use Rattle.client_machine.specs.Frames.{channel_in, behind_channel, Half, half_for, half_of}
 use Rattle.client_machine.specs.declared.frames.StreamHalf.{StreamHalf}
-use Rattle.client_machine.specs.Halves.{half_of}
-use Rattle.client_machine.specs.ServerItems.{idles, carry, take_item, take, closes, hear}
+use Rattle.client_machine.specs.Step.{idles, carry, take_item, take, closes, hear, heard_step}
 use Rattle.client_machine.specs.Plans.{Comes, requests, shuts, heard_by, effect_by, IsPlan}
-use Rattle.client_machine.specs.Step.{heard_step}
 use Rattle.gateway_claim.specs.declared.event.UpCause.{UpCause}
 use Rattle.gateway_claim.specs.declared.event.UpCause.TheVariants.{CseqSpent}
 use Rattle.gateway_claim.specs.Happenings.{Happening, enters, takes, ends, lags, hears, up_ends}
 use Rattle.gateway_claim.specs.OwnEvents.{settled_by}
-use Rattle.gateway_claim.specs.Settlement.{free_in}
+use Rattle.gateway_claim.specs.Books.{free_in}
 use Rattle.gateway_claim.specs.Follows.{spent}
-use Rattle.gateway_claim.specs.SharedEvents.{number_heard}
+use Rattle.gateway_claim.specs.Turns.{number_heard}
 use Rattle.gateway_mux.specs.declared.turn_facts.TurnFacts.{TurnFacts}
 use Rattle.gateway_mux.specs.Acts.{IsPlannedTurn, IsSaid, IsClosing, IsBadKind, IsAct, answers_alone}
 use Rattle.gateway_mux.specs.Moves.{wrong_in, step_in, IsIdleAt, IsIdleTurn, IsIdle, IsEndAt}
@@ -189,7 +186,7 @@ left_at issued (Some (asks request named)) low left = by (issued == LAST_NUMBER)
         less issued low e = grind arith
 left_at issued (Some (carries pair half rest)) low left = refl
 
-pub spent_act : (bases : Bases) (one : Picture) (a b : ℕ) (h : Happening) (it : TurnFacts) (comes : Comes) (client : Client) (plan : Plan) (goes : Bool) → ∥ IsKept bases one a b ∥₁ → IsSaid bases one h it comes → one.clients it.conn ≡ Some client
+pub spent_act : (bases : Bases) (one : Picture) (a b : ℕ) (h : Happening) (it : TurnFacts) (comes : Comes) (client : Client) (plan : PlannedStep) (goes : Bool) → ∥ IsKept bases one a b ∥₁ → IsSaid bases one h it comes → one.clients it.conn ≡ Some client
     → IsPlan bases (one.issued + 1) (free_once it.settled one.held) client comes plan → goes ≡ is_some (effect_by bases it.number (free_once it.settled one.held) client comes).message → goes ≡ true → next_number one.issued ≡ None → IsEndAt bases one h (wrong_in one h) CseqSpent
 spent_act bases one a b h it comes client plan goes keeps said here planned is up none =
     let free = free_kept bases one a b h it comes client keeps said here in
@@ -208,7 +205,7 @@ spent_act bases one a b h it comes client plan goes keeps said here planned is u
           (sym is ∙ up) none;
     })
 
-pub turned_act : (bases : Bases) (one : Picture) (a b : ℕ) (h : Happening) (it : TurnFacts) (comes : Comes) (client : Client) (plan : Plan) (goes : Bool) (key next : ℕ) → ∥ IsKept bases one a b ∥₁ → next ≡ one.issued + 1 → (said : IsSaid bases one h it comes) → one.clients it.conn ≡ Some client
+pub turned_act : (bases : Bases) (one : Picture) (a b : ℕ) (h : Happening) (it : TurnFacts) (comes : Comes) (client : Client) (plan : PlannedStep) (goes : Bool) (key next : ℕ) → ∥ IsKept bases one a b ∥₁ → next ≡ one.issued + 1 → (said : IsSaid bases one h it comes) → one.clients it.conn ≡ Some client
     → IsPlan bases (one.issued + 1) (free_once it.settled one.held) client comes plan → goes ≡ is_some (effect_by bases it.number (free_once it.settled one.held) client comes).message → one.issued ≤ LAST_NUMBER → (goes ≡ true → IsSome (next_number one.issued))
     → IsPlannedTurn bases one h it.answer (record { conn = it.conn; key = key; number = it.number; next = next; settled = it.settled; plan = plan; asks = goes })
 turned_act bases one a b h it comes client plan goes key next keeps is_next said here planned is low left = let free = free_kept bases one a b h it comes client keeps said here in record {

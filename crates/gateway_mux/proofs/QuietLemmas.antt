@@ -12,18 +12,18 @@ use Rattle.client_slot.specs.Places.{filled_place}
 use Rattle.client_slot.specs.Client.{Client}
 use Rattle.client_machine.specs.declared.why.CloseWhy.TheVariants.{Ended, Slow}
 use Rattle.client_machine.specs.Events.{PrivateEvent, arrive, answer, media, end, slow}
-use Rattle.client_machine.specs.ServerItems.{take, closes, take_media, hear, idles}
+use Rattle.client_machine.specs.Step.{take, closes, take_media, hear, idles}
 use Rattle.client_machine.specs.UpTexts.{source_said}
 use Rattle.gateway_claim.specs.Books.{Opened}
-use Rattle.gateway_claim.specs.ServerItems.{Heard, replies, requests, frames, faults, heard}
+use Rattle.gateway_claim.specs.ServerItems.{Heard, replies, requests, frames, faults, heard, HeardNotice, session_named, known_reason, said_reason, held_session, named_session, notice_of}
 use Rattle.gateway_claim.specs.Happenings.{Happening, enters, takes, ends, lags, hears, up_ends, HistoryEntry}
-use Rattle.gateway_claim.specs.Notices.{HeardNotice, notice_field, session_named, known_reason, said_reason, held_session, named_session, notice_of}
 use Rattle.gateway_claim.specs.OwnEvents.{notice_turn, heard_turn, turn, books_of}
-use Rattle.gateway_claim.specs.SharedEvents.{shared, heard_raw, raw_event, heard_number, number_heard}
-use Rattle.gateway_claim.proofs.SlotLemmas.{alone, AreJoined}
+use Rattle.gateway_claim.specs.Turns.{shared, heard_raw, raw_event, heard_number, number_heard}
+use Rattle.gateway_claim.proofs.AgreeLemmas.{alone, AreJoined}
 use Rattle.connection_table.specs.Over.{is_over}
 use Rattle.gateway_mux.proofs.OverLemmas.{over_dead, over_unbound}
 use Rattle.gateway_mux.proofs.PictureLemmas.{filled_under, asker_stays}
+use Rattle.rtsp_head.specs.Headers.{field_of}
 
 -- The connection of a notice holds a session.
 pub record HoldsOne (holder : List ℕ → Option ℕ) (conn : ℕ) : Type 0 where
@@ -45,7 +45,7 @@ held_bound : (holder : List ℕ → Option ℕ) (request : Ask2) (id : List ℕ)
 held_bound holder request id None notice is e = cc
 held_bound holder request id (Some conn) notice is e = record {
   id = id;
-  bound = is ∙ ap (λ n. Some n) (said_conn request id conn (notice_field request (codes "Notify-Reason")) notice e);
+  bound = is ∙ ap (λ n. Some n) (said_conn request id conn (field_of request.head.headers (codes "Notify-Reason")) notice e);
 }
 
 named_bound : (holder : List ℕ → Option ℕ) (request : Ask2) (named : Option (List ℕ)) (notice : HeardNotice) → named_session holder request named ≡ Ok notice → HoldsOne holder notice.conn

@@ -7,14 +7,12 @@ use Rattle.rtsp_uri.specs.declared.base.Bases.{Bases}
 use Rattle.channel_map.specs.declared.map.Held.{Held}
 use Rattle.client_slot.specs.Places.{session_at, session_where}
 use Rattle.client_slot.specs.Client.{Client}
-use Rattle.gateway_claim.specs.Kinds.{RequestKind, sets_up, tears_down, closes, plain}
-use Rattle.gateway_claim.specs.Books.{Opened, Books}
+use Rattle.gateway_claim.specs.Books.{RequestKind, sets_up, tears_down, closes, plain, Opened, Books, Final, bound_by}
 use Rattle.gateway_claim.specs.Happenings.{Happening, HistoryEntry}
 use Rattle.gateway_claim.specs.OwnEvents.{final_in, books_of}
-use Rattle.gateway_claim.specs.Settlement.{Final, bound_by}
 use Rattle.gateway_claim.specs.Follows.{is_bound, session_asked}
-use Rattle.gateway_claim.specs.SharedEvents.{shared}
-use Rattle.gateway_claim.proofs.SlotLemmas.{alone}
+use Rattle.gateway_claim.specs.Turns.{shared}
+use Rattle.gateway_claim.proofs.AgreeLemmas.{alone}
 use Rattle.gateway_claim.proofs.OtherLemmas.{IsHeldKind}
 use Rattle.gateway_mux.specs.declared.settlement.Settlement.{Settlement}
 use Rattle.gateway_mux.specs.declared.turn.PlannedTurn.{PlannedTurn}

@@ -18,17 +18,14 @@ use Rattle.client_slot.specs.declared.purpose.Purpose.TheVariants as purposes
 use Rattle.client_slot.specs.Places.{session_at, session_where}
 use Rattle.client_slot.specs.Client.{Client}
 use Rattle.client_machine.specs.Events.{PrivateEvent}
-use Rattle.gateway_claim.specs.Kinds.{RequestKind, sets_up, tears_down, closes, plain}
-use Rattle.gateway_claim.specs.Books.{Opened, HeldPair, Books, pair_asked, is_pair}
+use Rattle.gateway_claim.specs.Books.{RequestKind, sets_up, tears_down, closes, plain, Opened, HeldPair, Books, pair_asked, is_pair, Final, torn_by, bound_by, is_id, is_torn_with, held_left, granted_to, held_then, holder_then, opened_then, free_in}
 use Rattle.gateway_claim.specs.Happenings.{Happening, HistoryEntry}
 use Rattle.gateway_claim.specs.BooksAndSlots.{AreSound}
 use Rattle.gateway_claim.specs.OwnEvents.{turn, final_in, settled_by, books_of}
-use Rattle.gateway_claim.specs.Settlement.{Final, torn_by, bound_by, is_id, is_torn_with, held_left, granted_to, held_then, holder_then, opened_then, free_in}
 use Rattle.gateway_claim.specs.Follows.{is_session_for, is_bound, session_asked}
-use Rattle.gateway_claim.proofs.AgreeLemmas.{joined}
-use Rattle.gateway_claim.proofs.SlotLemmas.{alone, AreJoined, AreFinal, IsTurnStep, turn_step}
+use Rattle.gateway_claim.proofs.AgreeLemmas.{joined, alone, AreJoined, AreFinal, IsTurnStep, turn_step}
 use Rattle.gateway_claim.proofs.OtherLemmas.{IsFinal}
-use Rattle.gateway_claim.proofs.OverLemmas.{own_event}
+use Rattle.gateway_claim.proofs.CaseLemmas.{own_event}
 use Rattle.gateway_mux.specs.declared.settlement.Settlement.{Settlement}
 use Rattle.gateway_mux.specs.Moves.{wrong_in}
 use Rattle.gateway_mux.specs.Pictures.{Picture, bare_held, books_in, IsPictureOf}

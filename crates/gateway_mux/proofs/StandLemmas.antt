@@ -8,10 +8,9 @@ use Rattle.gateway_claim.specs.declared.event.UpCause.{UpCause}
 use Rattle.gateway_claim.specs.Cores.{ever_entered}
 use Rattle.gateway_claim.specs.Happenings.{Happening, HistoryEntry, fault_in, standing, silent}
 use Rattle.gateway_claim.specs.OwnEvents.{turn, books_of}
-use Rattle.gateway_claim.specs.Follows.{effect, breach, up_due, IsHistory}
-use Rattle.gateway_claim.specs.Next.{outcome_with, next}
+use Rattle.gateway_claim.specs.Follows.{effect, breach, up_due, IsHistory, outcome_with, next}
 use Rattle.gateway_claim.specs.Tells.{is_dropped, frames_in, dropped_frames}
-use Rattle.gateway_claim.proofs.TurnStandLemmas.{next_history}
+use Rattle.gateway_claim.proofs.TurnLawLemmas.{next_history}
 use Rattle.gateway_mux.specs.declared.mux.Mux.{Mux}
 use Rattle.gateway_mux.specs.Pictures.{IsPictureOf}
 use Rattle.gateway_mux.specs.Stands.{picture_of, Stands, IsFresh, bases_of}

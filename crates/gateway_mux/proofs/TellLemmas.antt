@@ -12,12 +12,11 @@ use Rattle.gateway_claim.specs.declared.event.UpCause.{UpCause}
 use Rattle.gateway_claim.specs.Happenings.{HistoryEntry, fault_in, standing, entered, shut, is_alive}
 use Rattle.gateway_claim.specs.OwnEvents.{books_of, own}
 use Rattle.gateway_claim.specs.Follows.{IsHistory}
-use Rattle.gateway_claim.specs.SharedEvents.{shared}
+use Rattle.gateway_claim.specs.Turns.{shared}
 use Rattle.gateway_claim.specs.Tells.{IsFirstAlive, is_busy_private, is_busy, waiting_private, requests_waiting}
-use Rattle.gateway_claim.proofs.CaseLemmas.{not_over}
-use Rattle.gateway_claim.proofs.HistoryLemmas.{shut_as_alone}
-use Rattle.gateway_claim.proofs.SlotLemmas.{alone}
-use Rattle.gateway_claim.proofs.OverLemmas.{faults_over}
+use Rattle.gateway_claim.proofs.CaseLemmas.{not_over, faults_over}
+use Rattle.gateway_claim.proofs.NextLemmas.{shut_as_alone}
+use Rattle.gateway_claim.proofs.AgreeLemmas.{alone}
 use Rattle.gateway_claim.proofs.WaitLemmas.{still_waiting, closed_waiting}
 use Rattle.gateway_mux.specs.Departure.{IsKeptUnlessGone}
 use Rattle.gateway_mux.specs.Pictures.{Picture, IsPictureOf}

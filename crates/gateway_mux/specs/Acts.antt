@@ -10,12 +10,15 @@ use Rattle.client_machine.specs.declared.why.CloseWhy.{CloseWhy}
 use Rattle.client_machine.specs.declared.why.CloseWhy.TheVariants.{Ended, BadItem, Slow}
 use Rattle.client_machine.specs.Events.{PrivateEvent}
 use Rattle.client_machine.specs.Frames.{channel_in, Half, half_for, channel_for}
-use Rattle.client_machine.specs.ServerItems.{hear}
+use Rattle.client_machine.specs.Step.{hear}
 use Rattle.client_machine.specs.Plans.{Comes, CanCome, heard_by, effect_by, IsPlan, IsShortPlan}
+use Rattle.gateway_claim.specs.declared.event.Event.{Event}
+use Rattle.gateway_claim.specs.declared.event.Event.TheVariants as events
 use Rattle.gateway_claim.specs.Happenings.{Happening, enters, takes, ends, lags, hears, up_ends}
 use Rattle.gateway_claim.specs.OwnEvents.{owner_of, turn, final_in}
 use Rattle.gateway_claim.specs.Follows.{answer_due}
-use Rattle.gateway_claim.specs.SharedEvents.{raw_event, number_heard}
+use Rattle.gateway_claim.specs.Turns.{raw_event, number_heard}
+use Rattle.gateway_mux.specs.declared.act.FramePath.{FramePath}
 use Rattle.gateway_mux.specs.declared.act.Act.{Act}
 use Rattle.gateway_mux.specs.declared.act.Act.TheVariants.{Nothing, Rises, Falls, Answers, Turns, Ends}
 use Rattle.gateway_mux.specs.declared.turn_facts.TurnFacts.{TurnFacts}
@@ -23,7 +26,8 @@ use Rattle.gateway_mux.specs.declared.turn.PlannedTurn.{PlannedTurn}
 use Rattle.gateway_mux.specs.Moves.{wrong_in, TakesTurn, IsIdle, IsEndAt}
 use Rattle.gateway_mux.specs.Pictures.{Picture, books_in}
 use Rattle.connection_table.specs.declared.table.ConnectionTable.{ConnectionTable}
-use Rattle.connection_table.specs.Tables.{IsKeyOf}
+use Rattle.connection_table.specs.declared.table.KeyedSlot.{KeyedSlot}
+use Rattle.connection_table.specs.Tables.{IsKeyOf, IsSeatAt}
 use Rattle.gateway_mux.specs.Settlements.{AreSettled}
 use Rattle.gateway_mux.specs.Short.{IsShortAnswer}
 use Rattle.gateway_mux.specs.Turn.{free_once}
@@ -102,11 +106,21 @@ pub record IsFall (one : Picture) (happening : Happening) (conn channel : ℕ) :
   pub alive : client.alive ≡ true
   pub found : channel_for (channel_in shape / 2) (channel_in shape % 2) (tracks_of client.sessions) ≡ Some channel
 
+-- A frame of a player goes up on this channel; or it is dropped.
+abbrev pub RisesOn : Bases → Picture → Happening → Option ℕ → Type 0
+RisesOn bases one happening None = IsIdle bases one happening None
+RisesOn bases one happening (Some channel) = IsRise one happening channel
+
+-- A frame of the server goes there; or it is dropped.
+abbrev pub FallsTo : Bases → Picture → Happening → Option FramePath → Type 0
+FallsTo bases one happening None = IsIdle bases one happening None
+FallsTo bases one happening (Some fall) = IsFall one happening fall.conn fall.channel
+
 -- the act is what the event does
 abbrev pub IsAct : Bases → Picture → Happening → Act → Type 0
 IsAct bases one happening Nothing = IsIdle bases one happening None
 IsAct bases one happening (Rises channel) = IsRise one happening channel
-IsAct bases one happening (Falls conn channel) = IsFall one happening conn channel
+IsAct bases one happening (Falls fall) = IsFall one happening fall.conn fall.channel
 IsAct bases one happening (Answers answer) = IsIdle bases one happening (Some answer)
 IsAct bases one happening (Turns answer it) = IsPlannedTurn bases one happening answer it
 IsAct bases one happening (Ends cause) = IsEndAt bases one happening (wrong_in one happening) cause
@@ -120,16 +134,24 @@ answers_alone (Some answer) = Answers answer
 abbrev pub IsKeyed : ConnectionTable → Act → Type 0
 IsKeyed seats Nothing = Unit {0}
 IsKeyed seats (Rises channel) = Unit {0}
-IsKeyed seats (Falls conn channel) = Unit {0}
+IsKeyed seats (Falls fall) = Unit {0}
 IsKeyed seats (Answers answer) = Unit {0}
 IsKeyed seats (Turns answer it) = IsKeyOf seats it.conn it.key
 IsKeyed seats (Ends cause) = Unit {0}
+
+-- The connection whose own the event is is kept there; nothing where it isn't kept.
+abbrev pub IsEventSeat : ConnectionTable → Event → Option KeyedSlot → Type 0
+IsEventSeat seats (events.Client conn item) seat = IsSeatAt seats conn seat
+IsEventSeat seats (events.End conn) seat = IsSeatAt seats conn seat
+IsEventSeat seats (events.Slow conn) seat = IsSeatAt seats conn seat
+IsEventSeat seats (events.Up item) seat = Unit {0}
+IsEventSeat seats (events.UpEnd why) seat = Unit {0}
 
 -- What it hands out is short enough.
 abbrev pub IsShortAct : Act → Type 0
 IsShortAct Nothing = Unit {0}
 IsShortAct (Rises channel) = Unit {0}
-IsShortAct (Falls conn channel) = Unit {0}
+IsShortAct (Falls fall) = Unit {0}
 IsShortAct (Answers answer) = IsShortAnswer (Some answer)
 IsShortAct (Turns answer it) = IsShortAnswer answer × IsShortPlan it.plan
 IsShortAct (Ends cause) = Unit {0}

@@ -2,11 +2,10 @@
 use Rattle.std.specs.Prelude.{◌≡◌, List, [], ◌∷◌}
 use Rattle.rtsp_uri.specs.declared.base.Bases.{Bases}
 use Rattle.gateway_claim.specs.Happenings.{HistoryEntry}
-use Rattle.gateway_claim.specs.Cores.{NoneWaits, IsTimely}
+use Rattle.gateway_claim.specs.Cores.{NoneWaits, IsTimely, IsOrderly}
 use Rattle.gateway_claim.specs.Follows.{Follows, IsHistory}
-use Rattle.gateway_claim.specs.Orderly.{IsOrderly}
 use Rattle.gateway_claim.specs.Tells.{is_busy, requests_waiting}
-use Rattle.gateway_claim.proofs.HistoryLemmas.{one_next}
+use Rattle.gateway_claim.proofs.NextLemmas.{one_next}
 use Rattle.gateway_claim.proofs.OrderLemmas.{follows_orderly}
 use Rattle.gateway_claim.proofs.WaitLemmas.{none_waiting, none_waiting_next}
 use Rattle.gateway_mux.specs.declared.mux.Mux.{Mux}

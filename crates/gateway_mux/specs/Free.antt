@@ -1,2 +1,2 @@
 -- Which events may need memory, as the crate of histories says it.
-pub use Rattle.gateway_claim.specs.Free.{is_client_request, is_message, needs_memory}
+pub use Rattle.gateway_claim.specs.Happenings.{is_client_request, is_message, needs_memory}

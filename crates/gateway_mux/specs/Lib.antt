@@ -10,7 +10,7 @@ pub mod NoticeParts
 pub mod Pictures
 pub mod Room
 pub mod Settlements
-pub mod Settling
+pub mod ByPurpose
 pub mod Short
 pub mod Spare
 pub mod Stands

@@ -5,23 +5,19 @@ use Rattle.rtsp_uri.specs.declared.base.Bases.{Bases}
 use Rattle.head_two.specs.declared.reply.Reply2.{Reply2}
 use Rattle.client_slot.specs.Client.{Client}
 use Rattle.client_machine.specs.declared.parts.Done.{Done}
-use Rattle.client_machine.specs.Effects.{Effect}
-use Rattle.client_machine.specs.Events.{PrivateEvent}
-use Rattle.client_machine.specs.ServerItems.{hear, idles}
-use Rattle.client_machine.specs.Step.{step}
+use Rattle.client_machine.specs.Events.{Effect, PrivateEvent}
+use Rattle.client_machine.specs.Step.{hear, idles, step}
 use Rattle.gateway_claim.specs.declared.event.Outcome.{Outcome}
 use Rattle.gateway_claim.specs.declared.event.Closed.TheVariants.{Nobody, All}
 use Rattle.gateway_claim.specs.declared.event.UpMessage.TheVariants.{Request, Frame}
 use Rattle.gateway_claim.specs.declared.event.UpCause.{UpCause}
 use Rattle.gateway_claim.specs.declared.event.UpCause.TheVariants.{Framing, UnknownReply}
-use Rattle.gateway_claim.specs.Books.{Opened, Books}
+use Rattle.gateway_claim.specs.Books.{Opened, Books, free_in}
 use Rattle.gateway_claim.specs.ServerItems.{Heard, replies, requests, frames, faults, heard}
-use Rattle.gateway_claim.specs.Settlement.{free_in}
 use Rattle.gateway_claim.specs.Happenings.{Happening, enters, takes, ends, lags, hears, up_ends, cause_of, HistoryEntry, standing, nothing_up}
 use Rattle.gateway_claim.specs.OwnEvents.{turn, final_in, settled_by, lends_where}
-use Rattle.gateway_claim.specs.Follows.{kind_breach, spent, answer_due}
-use Rattle.gateway_claim.specs.Next.{client_piece, one_closed, next}
-use Rattle.gateway_claim.specs.SharedEvents.{raw_event, number_heard, kind_gone}
+use Rattle.gateway_claim.specs.Follows.{kind_breach, spent, answer_due, client_piece, one_closed, next}
+use Rattle.gateway_claim.specs.Turns.{raw_event, number_heard, kind_gone}
 use Rattle.gateway_mux.specs.Pictures.{Picture, bare_held, books_in, IsPictureOf}
 use Rattle.gateway_mux.specs.Turn.{named_by_client}
 

@@ -1,6 +1,6 @@
 -- A request of the server as it was read, as a history has it (this project's own).
 use Rattle.std.specs.Prelude.{ℕ, Result, Ok, Err}
-use Rattle.gateway_claim.specs.Notices.{HeardNotice}
+use Rattle.gateway_claim.specs.ServerItems.{HeardNotice}
 use Rattle.gateway_mux.specs.declared.notice.Notice.{Notice as Read}
 use Rattle.gateway_mux.specs.declared.notice.NoticeRefusal.{NoticeRefusal}
 use Rattle.gateway_mux.specs.declared.notice.NoticeRefusal.TheVariants as refusals

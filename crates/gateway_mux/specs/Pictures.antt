@@ -14,7 +14,7 @@ use Rattle.gateway_claim.specs.Books.{Opened, HeldPair, Books}
 use Rattle.gateway_claim.specs.Happenings.{HistoryEntry, fault_in}
 use Rattle.gateway_claim.specs.OwnEvents.{books_of}
 use Rattle.gateway_claim.specs.Follows.{IsHistory}
-use Rattle.gateway_claim.specs.SharedEvents.{shared_in}
+use Rattle.gateway_claim.specs.Turns.{shared_in}
 use Rattle.connection_table.specs.declared.table.ConnectionTable.{ConnectionTable}
 use Rattle.gateway_mux.specs.declared.upstream.UpstreamBooks.{UpstreamBooks}
 use Rattle.gateway_mux.specs.Departure.{IsKeptUnlessGone}
@@ -47,14 +47,14 @@ abbrev pub opened_in : Picture → ℕ → Option Opened
 opened_in picture number = option_map (λ conn. record { conn = conn; kind = kind_open (picture.clients conn) }) (picture.asker number)
 
 -- the id of the session one of whose streams has a pair
-abbrev pub session_with : ℕ → List PlayerSession → Option (List ℕ)
-session_with pair [] = None
-session_with pair (one ∷ more) = if has_pair pair one.tracks then one.id else session_with pair more
+abbrev pub session_holding : ℕ → List PlayerSession → Option (List ℕ)
+session_holding pair [] = None
+session_holding pair (one ∷ more) = if has_pair pair one.tracks then one.id else session_holding pair more
 
 -- that of a connection
 abbrev pub session_on : ℕ → Option Client → Option (List ℕ)
 session_on pair None = None
-session_on pair (Some client) = session_with pair client.sessions
+session_on pair (Some client) = session_holding pair client.sessions
 
 -- a pair that is held, with the session that it is held for
 abbrev pub held_for : Picture → Held → HeldPair

@@ -11,8 +11,7 @@ use Rattle.session_one.specs.declared.parts.TheConstants.{MOST_SESSIONS}
 use Rattle.session_one.specs.declared.parts.Track.{Track}
 use Rattle.client_slot.specs.Places.{session_where}
 use Rattle.client_slot.specs.Client.{Client}
-use Rattle.gateway_claim.specs.Kinds.{RequestKind, sets_up, tears_down, closes, plain}
-use Rattle.gateway_claim.specs.Settlement.{Final, torn_by, bound_by, is_id}
+use Rattle.gateway_claim.specs.Books.{RequestKind, sets_up, tears_down, closes, plain, Final, torn_by, bound_by, is_id}
 use Rattle.gateway_claim.specs.Follows.{session_asked}
 use Rattle.gateway_mux.specs.declared.settlement.Settlement.{Settlement}
 

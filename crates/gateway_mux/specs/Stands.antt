@@ -3,6 +3,7 @@ use Rattle.std.specs.Prelude.{◌≡◌, ℕ, Bool, ◌||◌, is_some, List, Opt
 use Rattle.rtsp_uri.specs.declared.base.Bases.{Bases}
 use Rattle.gateway_claim.specs.declared.event.UpCause.{UpCause}
 use Rattle.gateway_claim.specs.declared.event.Event.{Event}
+use Rattle.gateway_claim.specs.declared.connection.ConnectionKey.{ConnectionKey}
 use Rattle.gateway_claim.specs.Happenings.{HistoryEntry, happening_of, fault_in, standing}
 use Rattle.gateway_claim.specs.Cores.{IsNewTo}
 use Rattle.gateway_claim.specs.Follows.{IsHistory}
@@ -10,9 +11,10 @@ use Rattle.gateway_claim.specs.Tells.{dropped_frames}
 use Rattle.gateway_mux.specs.declared.act.Act.{Act}
 use Rattle.gateway_mux.specs.declared.connections.Connections.{Connections}
 use Rattle.gateway_mux.specs.declared.mux.Mux.{Mux}
+use Rattle.gateway_mux.specs.declared.mux.Plan.{Plan}
 use Rattle.gateway_mux.specs.Acts.{IsAct, IsShortAct, IsKeyed}
 use Rattle.gateway_mux.specs.Pictures.{Picture, picture, IsPictureOf}
-use Rattle.connection_table.specs.Tables.{is_ready}
+use Rattle.connection_table.specs.Tables.{IsKeyOf, is_ready}
 
 -- what the multiplexer has
 abbrev pub picture_of : Connections → Picture
@@ -28,12 +30,16 @@ pub record Stands (mux : Mux) (history : List HistoryEntry) : Type 0 where
 
 -- What was planned for an event is what it does.
 abbrev pub IsActFor : Option UpCause → Mux → Event → Act → Type 0
-IsActFor (Some cause) mux event plan = Unit {0}
-IsActFor None mux event plan = IsAct mux.connections.bases (picture_of mux.connections) (happening_of event) plan × IsShortAct plan × IsKeyed mux.connections.seats plan
+IsActFor (Some cause) mux event act = Unit {0}
+IsActFor None mux event act = IsAct mux.connections.bases (picture_of mux.connections) (happening_of event) act × IsShortAct act × IsKeyed mux.connections.seats act
 
 -- the plan is what the event does
-abbrev pub IsPlanFor : Mux → Event → Act → Type 0
-IsPlanFor mux event plan = IsActFor mux.ended mux event plan
+abbrev pub IsPlanFor : Mux → Event → Plan → Type 0
+IsPlanFor mux event plan = IsActFor mux.ended mux event plan.act
+
+-- it keeps connection i under that key
+abbrev pub HasKey : Mux → ℕ → ConnectionKey → Type 0
+HasKey mux i key = IsKeyOf mux.connections.seats i key.place
 
 -- It stands for a history in which the number never entered.
 abbrev pub IsFresh : Mux → ℕ → Type 0

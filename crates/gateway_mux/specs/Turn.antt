@@ -5,12 +5,11 @@ use Rattle.rtsp_uri.specs.declared.base.Bases.{Bases}
 use Rattle.client_slot.specs.Client.{Client}
 use Rattle.channel_map.specs.declared.map.Held.{Held}
 use Rattle.channel_map.specs.Pairs.{is_free, lowest_free}
-use Rattle.client_machine.specs.declared.parts.Plan.{Plan}
+use Rattle.client_machine.specs.declared.parts.PlannedStep.{PlannedStep}
 use Rattle.client_machine.specs.Plans.{Comes, IsPlan}
-use Rattle.gateway_claim.specs.Kinds.{RequestKind, plain}
-use Rattle.gateway_claim.specs.Books.{pair_asked}
+use Rattle.gateway_claim.specs.Books.{RequestKind, plain, pair_asked}
 use Rattle.gateway_claim.specs.Follows.{session_asked}
-use Rattle.gateway_claim.specs.SharedEvents.{kind_pending}
+use Rattle.gateway_claim.specs.Turns.{kind_pending}
 use Rattle.gateway_mux.specs.declared.settlement.Settlement.{Settlement}
 use Rattle.gateway_mux.specs.Settlements.{held_settled}
 
@@ -19,7 +18,7 @@ abbrev pub free_once : Option Settlement → (ℕ → Option Held) → Option �
 free_once settled held = lowest_free (λ pair. is_free (held_settled settled pair (held pair)))
 
 -- A plan for a connection that entered.
-abbrev pub IsPlanAt : Bases → ℕ → Option ℕ → Option Client → Comes → Plan → Type 0
+abbrev pub IsPlanAt : Bases → ℕ → Option ℕ → Option Client → Comes → PlannedStep → Type 0
 IsPlanAt bases next pair None comes plan = ⊥
 IsPlanAt bases next pair (Some client) comes plan = IsPlan bases next pair client comes plan
 

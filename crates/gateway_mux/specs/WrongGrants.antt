@@ -7,7 +7,7 @@ use Rattle.rtsp_transport.specs.declared.grant.Grant.{Grant}
 use Rattle.head_two.specs.declared.reply.Reply2.{Reply2}
 use Rattle.gateway_claim.specs.declared.event.UpCause.{UpCause}
 use Rattle.gateway_claim.specs.declared.event.UpCause.TheVariants.{BadGrant, SessionTaken}
-use Rattle.gateway_claim.specs.Settlement.{id_said}
+use Rattle.gateway_claim.specs.Books.{id_said}
 use Rattle.gateway_claim.specs.Follows.{is_granted}
 
 -- whether some connection has a session

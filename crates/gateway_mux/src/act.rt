@@ -4,17 +4,25 @@ use crate::turn::PlannedTurn;
 use gate_bytes::Text;
 use gateway_claim::UpCause;
 
+/// Where a frame of the server goes.
+#[derive(Clone, Copy)]
+pub(crate) struct FramePath {
+    /// The connection.
+    pub conn: u32,
+    /// The channel of its player.
+    pub channel: u8,
+}
+
 /// What an event will do to a multiplexer while the connection to the server stands; after that it
-/// does nothing. All memory for it is taken. It is the plan that [`Mux`](crate::Mux) makes of an event
-/// as a [`Core`](crate::Core): others carry it from the one call to the next, and don't look into it.
+/// does nothing. All memory for it is taken.
 #[derive(Drop)]
-pub enum Act {
+pub(crate) enum Act {
     /// Nothing.
     Nothing,
     /// A frame of a player goes up, on this channel of the server's connection.
     Rises(u8),
-    /// A frame of the server goes to this connection, on this channel of its player.
-    Falls(u32, u8),
+    /// A frame of the server goes to a player.
+    Falls(FramePath),
     /// The server is answered, and no connection has its turn.
     Answers(Text),
     /// A connection has its turn, once the server is answered, where it asked.

@@ -1,7 +1,8 @@
 //! Carrying out what an event does.
-ghost use Rattle.std.specs.Prelude.{◌≡◌};
+ghost use Rattle.std.specs.Prelude.{◌≡◌, true, None};
 ghost use Rattle.client_machine.specs.Plans.{IsShortPlan};
 ghost use Rattle.gateway_claim.specs.Happenings.{Happening, happening_of};
+ghost use Rattle.gateway_claim.specs.Tells.{is_frame_item};
 
 use crate::act::Act;
 use crate::connections::Connections;
@@ -35,13 +36,35 @@ impl Connections {
                 Event::Client(_, item) => rising(on_channel(item, channel)),
                 _ => unreachable!(),
             },
-            Act::Falls(conn, channel) => match event {
-                Event::Up(item) => falling(conn, on_channel(item, channel)),
+            Act::Falls(fall) => match event {
+                Event::Up(item) => falling(fall.conn, on_channel(item, fall.channel)),
                 _ => unreachable!(),
             },
             Act::Answers(answer) => answering(Some(answer)),
             Act::Turns(answer, turn) => self.turn(answer, turn),
             Act::Ends(cause) => ending(cause),
+        }
+    }
+
+    /// Hands on a frame, or drops it. That changes no connection and takes no memory, so a frame needs no plan.
+    #[inline(always)]
+    pub fn pass(&self, event: Event) -> Outcome
+        requires { is_frame_item (happening_of event) ≡ true }
+        ensures commits { IsCommitted self.now.bases (picture self.now.seats self.now.upstream)
+            (picture self.now.seats self.now.upstream) (happening_of event) result }
+        ensures open { result.fault ≡ None }
+        ensures short { IsShort result }
+    {
+        match event {
+            Event::Client(conn, item) => match self.rise(conn, self.seats.seat(conn), &item) {
+                Some(channel) => rising(on_channel(item, channel)),
+                None => nothing(),
+            },
+            Event::Up(item) => match self.fall(&item) {
+                Some(fall) => falling(fall.conn, on_channel(item, fall.channel)),
+                None => nothing(),
+            },
+            Event::End(_) | Event::Slow(_) | Event::UpEnd(_) => unreachable!(),
         }
     }
 

@@ -3,7 +3,7 @@ ghost use Rattle.std.specs.Prelude.{◌≡◌, ◌<◌};
 ghost use Rattle.std.specs.Option.{option_copied, option_and_then};
 ghost use Rattle.channel_map.specs.declared.map.TheConstants.{PAIRS};
 ghost use Rattle.up_books.specs.Ids.{holder_of};
-ghost use Rattle.gateway_claim.specs.Settlement.{id_said};
+ghost use Rattle.gateway_claim.specs.Books.{id_said};
 ghost use Rattle.client_machine.specs.UpTexts.{grant_said};
 ghost use Rattle.gateway_claim.specs.Follows.{is_session_for};
 ghost use Rattle.gateway_mux.specs.WrongGrants.{is_taken_by, grants_that, wrong_grant};

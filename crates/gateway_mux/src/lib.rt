@@ -23,5 +23,4 @@ mod turn;
 mod turn_facts;
 mod upstream;
 
-pub use act::Act;
-pub use mux::Mux;
+pub use mux::{Mux, Plan};

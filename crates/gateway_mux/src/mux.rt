@@ -1,6 +1,6 @@
 //! The multiplexer.
-ghost use Rattle.std.specs.Prelude.{◌≡◌, true, false, IfOk, OnOk, IsOk, IsSome, IfErr, OnErr, [], List, ◌∷◌, ℕ, None};
-ghost use Rattle.gateway_claim.specs.Cores.{ever_entered};
+ghost use Rattle.std.specs.Prelude.{◌≡◌, true, false, is_some, IfOk, OnOk, IsOk, IsSome, IfErr, OnErr, [], List, ◌∷◌, ℕ, None};
+ghost use Rattle.gateway_claim.specs.Cores.{IsOwnKey, TellsStanding, GivesKey, ever_entered};
 ghost use Rattle.gateway_claim.specs.Happenings.{HistoryEntry, entry_of, entering, standing, is_alive, fault_in, happening_of};
 ghost use Rattle.gateway_claim.specs.Tells.{dropped_frames, IsFirstAlive, is_busy, requests_waiting, is_frame_item};
 
@@ -8,9 +8,16 @@ use crate::act::Act;
 use crate::connections::Connections;
 use crate::outcome::nothing;
 use gate_bytes::Memory;
-use gateway_claim::{Bases, Event, Outcome, UpCause};
+use gateway_claim::{Bases, ConnectionKey, Event, Outcome, Standing, UpCause};
 use rtsp_head::ItemKind;
 use std::alloc::Global;
+
+/// What an event will do, as [`Mux::plan`] found it. All memory for it is taken, and [`Mux::commit`] carries it out; nobody
+/// else looks into it.
+#[derive(Drop)]
+pub struct Plan {
+    act: Act,
+}
 
 /// All connections of a gateway, and its connection to the server. It stands for the history of what
 /// happened to it.
@@ -24,7 +31,7 @@ pub struct Mux {
 impl Mux {
     ghost use Rattle.gateway_mux.specs.Free.{needs_memory};
     ghost use Rattle.gateway_mux.specs.Short.{IsShort};
-    ghost use Rattle.gateway_mux.specs.Stands.{Stands, IsFresh, IsPlanFor, bases_of, end_of, is_prepared};
+    ghost use Rattle.gateway_mux.specs.Stands.{Stands, IsFresh, IsPlanFor, HasKey, bases_of, end_of, is_prepared, IsActFor};
 
     /// A gateway with these addresses, to which nothing happened.
     pub fn new(alloc: Global, bases: Bases) -> Result<Mux, Memory>
@@ -82,8 +89,19 @@ impl Mux {
     /// What an event will do. Nothing changes, and all memory for it is taken. Only a request of a
     /// client or a message of the server may need memory.
     #[inline(always)]
-    pub fn plan(&self, alloc: Global, event: &Event) -> Result<Act, Memory>
+    pub fn plan(&self, alloc: Global, event: &Event) -> Result<Plan, Memory>
         ensures plan { IfOk result (IsPlanFor self.now event.now) }
+        ensures free { needs_memory event.now ≡ false → IsOk result }
+    {
+        Ok(Plan {
+            act: self.act(alloc, event)?,
+        })
+    }
+
+    /// What an event will do, also after the end of the connection to the server.
+    #[inline(always)]
+    fn act(&self, alloc: Global, event: &Event) -> Result<Act, Memory>
+        ensures act { IfOk result (IsActFor self.now.ended self.now event.now) }
         ensures free { needs_memory event.now ≡ false → IsOk result }
     {
         if self.ended.is_some() {
@@ -92,11 +110,38 @@ impl Mux {
         self.connections.plan(alloc, event)
     }
 
+    /// What an event of a connection will do, as [`plan`](Mux::plan) tells it, by the key that
+    /// [`standing`](Mux::standing) gave with the connection: its number is not searched for.
+    #[inline(always)]
+    pub fn plan_at(&self, alloc: Global, event: &Event, key: ConnectionKey) -> Result<Plan, Memory>
+        requires { IsOwnKey (HasKey self.now) event.now key }
+        ensures plan { IfOk result (IsPlanFor self.now event.now) }
+        ensures free { needs_memory event.now ≡ false → IsOk result }
+    {
+        if self.ended.is_some() {
+            return Ok(Plan { act: Act::Nothing });
+        }
+        let act = self.connections.plan_at(alloc, event, key)?;
+        Ok(Plan { act })
+    }
+
     /// Carries out the plan for an event: what it hands out is the next entry of the history. It takes
     /// no memory, and can't be refused.
     #[inline(always)]
-    pub fn commit(&mut self, event: Event, plan: Act) -> Outcome
+    pub fn commit(&mut self, event: Event, plan: Plan) -> Outcome
         requires { IsPlanFor self.old event plan }
+        ensures stands { (T : List HistoryEntry) → Stands self.old T
+            → Stands self.new (entry_of event result ∷ T) }
+        ensures short { IsShort result }
+        ensures bases { bases_of self.new ≡ bases_of self.old }
+    {
+        self.carry_out(event, plan.act)
+    }
+
+    /// Carries out what an event does.
+    #[inline(always)]
+    fn carry_out(&mut self, event: Event, act: Act) -> Outcome
+        requires { IsActFor self.old.ended self.old event act }
         ensures stands { (T : List HistoryEntry) → Stands self.old T
             → Stands self.new (entry_of event result ∷ T) }
         ensures short { IsShort result }
@@ -106,9 +151,26 @@ impl Mux {
             return nothing();
         }
         let is_frame = is_frame(&event);
-        let outcome = self.connections.commit(event, plan);
+        let outcome = self.connections.commit(event, act);
         self.ended = outcome.fault;
         if is_frame && outcome.to_client.is_none() && outcome.to_up.message.is_none() {
+            self.dropped = self.dropped.saturating_add(1);
+        }
+        outcome
+    }
+
+    /// Takes a frame, while the connection to the server stands. No plan is made for it: one is large, and moved some times.
+    #[inline(always)]
+    fn pass(&mut self, event: Event) -> Outcome
+        requires open { is_some self.old.ended ≡ false }
+        requires frame { is_frame_item (happening_of event) ≡ true }
+        ensures stands { (T : List HistoryEntry) → Stands self.old T
+            → Stands self.new (entry_of event result ∷ T) }
+        ensures short { IsShort result }
+        ensures bases { bases_of self.new ≡ bases_of self.old }
+    {
+        let outcome = self.connections.pass(event);
+        if outcome.to_client.is_none() && outcome.to_up.message.is_none() {
             self.dropped = self.dropped.saturating_add(1);
         }
         outcome
@@ -126,10 +188,26 @@ impl Mux {
         ensures free { needs_memory event ≡ false → IsOk result }
         ensures bases { bases_of self.new ≡ bases_of self.old }
     {
-        match self.plan(alloc, &event) {
-            Ok(plan) => Ok(self.commit(event, plan)),
+        if self.ended.is_none() && is_frame(&event) {
+            return Ok(self.pass(event));
+        }
+        match self.act(alloc, &event) {
+            Ok(act) => Ok(self.carry_out(event, act)),
             Err(memory) => Err((event, memory)),
         }
+    }
+
+    /// Where a connection stands, by one look-up: it is closed where it is not alive, else busy where a
+    /// request of it would wait, and else ready, with the key under which it is kept now.
+    pub fn standing(&self, conn: u32) -> Standing
+        ensures tells { (T : List HistoryEntry) → Stands self.now T
+            → TellsStanding (is_alive conn T) (is_busy (bases_of self.now) conn T) result }
+        ensures key { GivesKey (HasKey self.now conn) result }
+    {
+        if self.ended.is_some() {
+            return Standing::Closed;
+        }
+        self.connections.standing(conn)
     }
 
     /// Whether a connection is alive: it entered, and was not closed.

@@ -1,18 +1,17 @@
 //! The multiplexer as a core.
 
-use crate::act::Act;
-use crate::mux::Mux;
+use crate::mux::{Mux, Plan};
 use gate_bytes::Memory;
-use gateway_claim::{Bases, Core, Event, Outcome, UpCause};
+use gateway_claim::{Bases, ConnectionKey, Core, Event, Outcome, Standing, UpCause};
 use std::alloc::Global;
 
 impl Core for Mux {
     ghost use Rattle.gateway_claim.specs.Follows.{Follows};
     ghost use Rattle.gateway_claim.specs.Tells.{is_busy, requests_waiting, dropped_frames};
-    ghost use Rattle.gateway_mux.specs.Stands.{Stands, IsPlanFor, bases_of, is_prepared};
+    ghost use Rattle.gateway_mux.specs.Stands.{Stands, IsPlanFor, HasKey, bases_of, is_prepared};
     ghost use Rattle.gateway_mux.specs.CoreLaws.{stands_for_history, one_follows, follows_in_order, waits_for_nothing, treats_at_once};
 
-    type Plan = Act;
+    type Plan = Plan;
 
     ghost bases = { bases_of };
 
@@ -21,6 +20,8 @@ impl Core for Mux {
     ghost follows = { Follows };
 
     ghost planned = { IsPlanFor };
+
+    ghost has_key = { HasKey };
 
     ghost is_busy = { is_busy };
 
@@ -38,16 +39,24 @@ impl Core for Mux {
         Mux::enter(self, alloc, conn)
     }
 
-    fn plan(&self, alloc: Global, event: &Event) -> Result<Act, Memory> {
+    fn plan(&self, alloc: Global, event: &Event) -> Result<Plan, Memory> {
         Mux::plan(self, alloc, event)
     }
 
-    fn commit(&mut self, event: Event, plan: Act) -> Outcome {
+    fn plan_at(&self, alloc: Global, event: &Event, key: ConnectionKey) -> Result<Plan, Memory> {
+        Mux::plan_at(self, alloc, event, key)
+    }
+
+    fn commit(&mut self, event: Event, plan: Plan) -> Outcome {
         Mux::commit(self, event, plan)
     }
 
     fn step(&mut self, alloc: Global, event: Event) -> Result<Outcome, (Event, Memory)> {
         Mux::step(self, alloc, event)
+    }
+
+    fn standing(&self, conn: u32) -> Standing {
+        Mux::standing(self, conn)
     }
 
     fn busy(&self, conn: u32) -> bool {

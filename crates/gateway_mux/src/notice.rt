@@ -1,8 +1,10 @@
 //! Requests of the server.
-ghost use Rattle.std.specs.Prelude.{◌≡◌, codes};
+ghost use Rattle.std.specs.Prelude.{◌≡◌, true, codes, IfSome, IfOk};
 ghost use Rattle.std.specs.Option.{option_copied};
+ghost use Rattle.rtsp_head.specs.Headers.{field_of};
+ghost use Rattle.rtsp_small.specs.Sessions.{is_session_id};
 ghost use Rattle.up_books.specs.Ids.{holder_of};
-ghost use Rattle.gateway_claim.specs.Notices.{notice_field, session_named, notice_of, said_reason};
+ghost use Rattle.gateway_claim.specs.ServerItems.{session_named, notice_of, said_reason};
 ghost use Rattle.gateway_mux.specs.NoticeParts.{notice_seen};
 
 use head_two::Ask2;
@@ -60,7 +62,8 @@ pub(crate) fn read_notice<'a>(
     sessions: &SessionBook,
     ask: &'a Ask2<'_>,
 ) -> Result<Notice<'a>, NoticeRefusal>
-    ensures { notice_seen result ≡ notice_of (λ id. holder_of sessions.now id) ask.now }
+    ensures told { notice_seen result ≡ notice_of (λ id. holder_of sessions.now id) ask.now }
+    ensures valid { IfOk result (λ notice. is_session_id notice.id.now ≡ true) }
 {
     if ask.method != b"PLAY_NOTIFY".as_slice() {
         return Err(NoticeRefusal::Method);
@@ -76,7 +79,8 @@ pub(crate) fn read_notice<'a>(
 
 /// The session that it names.
 fn session<'a>(ask: &'a Ask2<'_>) -> Option<&'a [u8]>
-    ensures { option_copied result ≡ session_named ask.now }
+    ensures named { option_copied result ≡ session_named ask.now }
+    ensures valid { IfSome result (λ id. is_session_id id.now ≡ true) }
 {
     let value = ask.head.field(b"Session")?;
     Some(read_session(value)?.id)
@@ -84,8 +88,10 @@ fn session<'a>(ask: &'a Ask2<'_>) -> Option<&'a [u8]>
 
 /// What it tells the connection that has the session.
 fn told<'a>(ask: &'a Ask2<'_>, id: &'a [u8], conn: u32) -> Result<Notice<'a>, NoticeRefusal>
-    ensures { notice_seen result
-        ≡ said_reason ask.now id.now conn (notice_field ask.now (codes "Notify-Reason")) }
+    requires { is_session_id id.now ≡ true }
+    ensures told { notice_seen result
+        ≡ said_reason ask.now id.now conn (field_of ask.now.head.headers (codes "Notify-Reason")) }
+    ensures valid { IfOk result (λ notice. is_session_id notice.id.now ≡ true) }
 {
     let Some(value) = ask.head.field(b"Notify-Reason") else {
         return Err(NoticeRefusal::NoReason);

@@ -3,7 +3,7 @@ ghost use Rattle.std.specs.Prelude.{◌≡◌, ◌<◌, ◌^◌, length, None, S
 ghost use Rattle.client_machine.specs.Plans.{IsShortDone};
 ghost use Rattle.gateway_claim.specs.declared.event.Closed.TheVariants.{Nobody, All};
 ghost use Rattle.gateway_claim.specs.Happenings.{silent};
-ghost use Rattle.gateway_claim.specs.Next.{client_piece, one_closed};
+ghost use Rattle.gateway_claim.specs.Follows.{client_piece, one_closed};
 ghost use Rattle.gateway_claim.specs.declared.event.UpMessage.TheVariants.{Request};
 ghost use Rattle.gateway_mux.specs.Moves.{handed_by, answering, risen_by, fallen_by, ended_by};
 ghost use Rattle.gateway_mux.specs.Short.{IsShort, IsShortAnswer};

@@ -4,6 +4,7 @@ ghost use Rattle.rtsp_head.specs.Shapes.{shape_of};
 ghost use Rattle.rtsp_head.specs.declared.item.ItemKind.TheVariants.{Frame};
 ghost use Rattle.client_slot.specs.Client.{Client};
 ghost use Rattle.client_machine.specs.Plans.{Comes, CanCome, incoming_seen, IsPlan, IsShortPlan};
+ghost use Rattle.gateway_claim.specs.Cores.{IsOwnKey};
 ghost use Rattle.gateway_claim.specs.Happenings.{Happening, takes, happening_of, cause_of};
 
 use crate::act::Act;
@@ -11,15 +12,15 @@ use crate::connections::Connections;
 use crate::frames::channel_of;
 use crate::turn::PlannedTurn;
 use crate::turn_facts::TurnFacts;
-use client_machine::{CloseWhy, Incoming, Plan, half_for, plan, plan_close};
+use client_machine::{CloseWhy, Incoming, PlannedStep, half_for, plan, plan_close};
 use connection_table::KeyedSlot;
 use gate_bytes::Memory;
-use gateway_claim::{Event, UpCause, UpWhy};
+use gateway_claim::{ConnectionKey, Event, UpCause, UpWhy};
 use rtsp_head::{Item, ItemKind};
 use std::alloc::Global;
 
 impl Connections {
-    ghost use Rattle.gateway_mux.specs.Acts.{IsAct, IsSaid, IsClosing, IsShortAct, IsKeyed};
+    ghost use Rattle.gateway_mux.specs.Acts.{IsAct, IsSaid, IsClosing, IsShortAct, IsKeyed, IsEventSeat, RisesOn};
     ghost use Rattle.gateway_mux.specs.Free.{is_client_request, needs_memory};
     ghost use Rattle.gateway_mux.specs.Pictures.{picture};
     ghost use Rattle.connection_table.specs.Tables.{IsKeyOf, IsSeatAt};
@@ -35,18 +36,67 @@ impl Connections {
         ensures key { IfOk result (IsKeyed self.now.seats) }
         ensures free { needs_memory event.now ≡ false → IsOk result }
     {
+        self.plan_seated(alloc, event, self.seat_of(event))
+    }
+
+    /// What an event of a player does whose connection is kept under this key. Its number is not searched for.
+    #[inline(always)]
+    pub fn plan_at(&self, alloc: Global, event: &Event, key: ConnectionKey) -> Result<Act, Memory>
+        requires { IsOwnKey (λ conn key. IsKeyOf self.now.seats conn key.place) event.now key }
+        ensures act { IfOk result
+            (IsAct self.now.bases (picture self.now.seats self.now.upstream) (happening_of event.now)) }
+        ensures short { IfOk result IsShortAct }
+        ensures key { IfOk result (IsKeyed self.now.seats) }
+        ensures free { needs_memory event.now ≡ false → IsOk result }
+    {
+        self.plan_seated(alloc, event, self.seats.seat_at(key.place))
+    }
+
+    /// Where the connection is kept whose own an event is. An event of the server has none.
+    #[inline(always)]
+    fn seat_of(&self, event: &Event) -> Option<KeyedSlot<'_>>
+        ensures { IsEventSeat self.now.seats event.now result }
+    {
         match event {
-            Event::Client(conn, item) => self.plan_item(alloc, *conn, item),
+            Event::Client(conn, _) | Event::End(conn) | Event::Slow(conn) => self.seats.seat(*conn),
+            Event::Up(_) | Event::UpEnd(_) => None,
+        }
+    }
+
+    /// What an event does. Where it is a player's own, the player's connection is kept at this seat.
+    #[inline(always)]
+    fn plan_seated(
+        &self,
+        alloc: Global,
+        event: &Event,
+        seat: Option<KeyedSlot<'_>>,
+    ) -> Result<Act, Memory>
+        requires { IsEventSeat self.now.seats event.now seat }
+        ensures act { IfOk result
+            (IsAct self.now.bases (picture self.now.seats self.now.upstream) (happening_of event.now)) }
+        ensures short { IfOk result IsShortAct }
+        ensures key { IfOk result (IsKeyed self.now.seats) }
+        ensures free { needs_memory event.now ≡ false → IsOk result }
+    {
+        match event {
+            Event::Client(conn, item) => self.plan_item(alloc, *conn, seat, item),
             Event::Up(item) => self.plan_heard(alloc, item),
-            Event::End(conn) => Ok(self.plan_close(alloc, *conn, CloseWhy::Ended)),
-            Event::Slow(conn) => Ok(self.plan_close(alloc, *conn, CloseWhy::Slow)),
+            Event::End(conn) => Ok(self.plan_close(alloc, *conn, seat, CloseWhy::Ended)),
+            Event::Slow(conn) => Ok(self.plan_close(alloc, *conn, seat, CloseWhy::Slow)),
             Event::UpEnd(why) => Ok(Act::Ends(cause_of(*why))),
         }
     }
 
-    /// What an item of a player does.
+    /// What an item of a player does, whose connection is kept at this seat.
     #[inline(always)]
-    fn plan_item(&self, alloc: Global, conn: u32, item: &Item) -> Result<Act, Memory>
+    fn plan_item(
+        &self,
+        alloc: Global,
+        conn: u32,
+        seat: Option<KeyedSlot<'_>>,
+        item: &Item,
+    ) -> Result<Act, Memory>
+        requires { IsSeatAt self.now.seats conn seat }
         ensures act { IfOk result
             (IsAct self.now.bases (picture self.now.seats self.now.upstream) (takes conn (shape_of item.now))) }
         ensures short { IfOk result IsShortAct }
@@ -54,50 +104,70 @@ impl Connections {
         ensures free { is_client_request item.now.kind ≡ false → IsOk result }
     {
         match item.kind {
-            ItemKind::Request => {
-                let seat = self.seats.seat(conn);
-                self.plan_turn(
-                    alloc,
-                    seat,
-                    TurnFacts::alone(conn),
-                    &Incoming::Request(item),
-                )
-            }
+            ItemKind::Request => self.plan_turn(
+                alloc,
+                seat,
+                TurnFacts::alone(conn),
+                &Incoming::Request(item),
+            ),
             ItemKind::Response => Ok(Act::Nothing),
-            ItemKind::Frame => Ok(self.plan_rise(conn, item)),
-            ItemKind::Bad(_) => Ok(self.plan_close(alloc, conn, CloseWhy::BadItem)),
+            ItemKind::Frame => Ok(self.plan_rise(conn, seat, item)),
+            ItemKind::Bad(_) => Ok(self.plan_close(alloc, conn, seat, CloseWhy::BadItem)),
         }
     }
 
-    /// What a frame of a player does.
+    /// What a frame of a player does, whose connection is kept at this seat.
     #[inline(always)]
-    fn plan_rise(&self, conn: u32, item: &Item) -> Act
-        requires { item.now.kind ≡ Frame }
+    fn plan_rise(&self, conn: u32, seat: Option<KeyedSlot<'_>>, item: &Item) -> Act
+        requires frame { item.now.kind ≡ Frame }
+        requires seat { IsSeatAt self.now.seats conn seat }
         ensures act { IsAct self.now.bases (picture self.now.seats self.now.upstream)
             (takes conn (shape_of item.now)) result }
         ensures short { IsShortAct result }
         ensures key { IsKeyed self.now.seats result }
     {
-        let Some(slot) = self.seats.slot(conn) else {
-            return Act::Nothing;
-        };
-        if !slot.alive() {
-            return Act::Nothing;
-        }
-        match half_for(slot, channel_of(item)) {
-            Some(half) => Act::Rises(2 * half.pair + half.half),
+        match self.rise(conn, seat, item) {
+            Some(channel) => Act::Rises(channel),
             None => Act::Nothing,
         }
     }
 
-    /// What the close of a connection does. It takes no memory.
-    fn plan_close(&self, alloc: Global, conn: u32, why: CloseWhy) -> Act
+    /// The channel of the server's connection on which a frame of a player goes up, whose connection is kept at this seat;
+    /// nothing where the frame is dropped.
+    #[inline(always)]
+    pub fn rise(&self, conn: u32, seat: Option<KeyedSlot<'_>>, item: &Item) -> Option<u8>
+        requires frame { item.now.kind ≡ Frame }
+        requires seat { IsSeatAt self.now.seats conn seat }
+        ensures { RisesOn self.now.bases (picture self.now.seats self.now.upstream)
+            (takes conn (shape_of item.now)) result }
+    {
+        let Some(seat) = seat else {
+            return None;
+        };
+        if !seat.slot.alive() {
+            return None;
+        }
+        match half_for(seat.slot, channel_of(item)) {
+            Some(half) => Some(2 * half.pair + half.half),
+            None => None,
+        }
+    }
+
+    /// What the close of a connection does, which is kept at this seat. It takes no memory.
+    fn plan_close(
+        &self,
+        alloc: Global,
+        conn: u32,
+        seat: Option<KeyedSlot<'_>>,
+        why: CloseWhy,
+    ) -> Act
+        requires { IsSeatAt self.now.seats conn seat }
         ensures act { (h : Happening) → IsClosing conn why h
             → IsAct self.now.bases (picture self.now.seats self.now.upstream) h result }
         ensures short { IsShortAct result }
         ensures key { IsKeyed self.now.seats result }
     {
-        match self.seats.seat(conn) {
+        match seat {
             Some(seat) => {
                 let plan = plan_close(alloc, seat.slot, why);
                 self.turned(seat.key, TurnFacts::alone(conn), plan)
@@ -137,7 +207,7 @@ impl Connections {
     /// What the turn of a connection with this plan does, which is kept under this key. Where a request
     /// is due and no number is left, the connection to the server ends.
     #[inline(always)]
-    fn turned(&self, key: usize, said: TurnFacts, plan: Plan) -> Act
+    fn turned(&self, key: usize, said: TurnFacts, plan: PlannedStep) -> Act
         requires key { IsKeyOf self.now.seats said.conn key }
         ensures act { (h : Happening) (comes : Comes) (client : Client)
             → IsSaid self.now.bases (picture self.now.seats self.now.upstream) h said comes

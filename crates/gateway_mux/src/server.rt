@@ -1,10 +1,11 @@
 //! What items of the server do.
-ghost use Rattle.std.specs.Prelude.{◌≡◌, true, false, List, Some, IsOk, IfOk};
+ghost use Rattle.std.specs.Prelude.{◌≡◌, true, false, List, Some, IsOk, IfOk, IfSome};
 ghost use Rattle.gateway_mux.specs.Short.{IsShortAnswer};
 ghost use Rattle.std.specs.Option.{option_copied};
 ghost use Rattle.rtsp_head.specs.Items.{Shape};
 ghost use Rattle.rtsp_head.specs.Shapes.{shape_of};
 ghost use Rattle.rtsp_head.specs.declared.item.ItemKind.TheVariants.{Frame};
+ghost use Rattle.rtsp_small.specs.Sessions.{is_session_id};
 ghost use Rattle.rtsp_status.specs.Reasons.{has_reason};
 ghost use Rattle.client_slot.specs.Purposes.{purpose_seen};
 ghost use Rattle.head_two.specs.Answers.{answer_text};
@@ -12,7 +13,7 @@ ghost use Rattle.gateway_claim.specs.Follows.{session_asked};
 ghost use Rattle.gateway_claim.specs.Happenings.{hears};
 ghost use Rattle.gateway_claim.specs.ServerItems.{replies, requests, heard};
 
-use crate::act::Act;
+use crate::act::{Act, FramePath};
 use crate::connections::Connections;
 use crate::frames::channel_of;
 use crate::grant::{source_in, wrong_grant};
@@ -30,15 +31,12 @@ use rtsp_transport::Grant;
 use session_one::is_success;
 use std::alloc::Global;
 
-/// The most bytes of an answer, so that it and a request behind it have a length of 32 bits.
-const LONGEST_ANSWER: usize = 0x7fff_ffff;
-
 impl Connections {
     ghost use Rattle.client_slot.specs.Session.{PlayerSession};
     ghost use Rattle.gateway_claim.specs.Follows.{kind_breach};
-    ghost use Rattle.gateway_claim.specs.SharedEvents.{kind_pending};
+    ghost use Rattle.gateway_claim.specs.Turns.{kind_pending};
     ghost use Rattle.client_machine.specs.UpTexts.{grant_said};
-    ghost use Rattle.gateway_mux.specs.Acts.{IsAct, IsShortAct, IsKeyed};
+    ghost use Rattle.gateway_mux.specs.Acts.{IsAct, IsShortAct, IsKeyed, FallsTo};
     ghost use Rattle.gateway_mux.specs.Free.{is_message};
     ghost use Rattle.gateway_mux.specs.WrongGrants.{IsLowPurpose};
     ghost use Rattle.gateway_mux.specs.Pictures.{picture, books_in};
@@ -71,22 +69,38 @@ impl Connections {
         ensures short { IsShortAct result }
         ensures key { IsKeyed self.now.seats result }
     {
+        match self.fall(item) {
+            Some(fall) => Act::Falls(fall),
+            None => Act::Nothing,
+        }
+    }
+
+    /// Where a frame of the server goes; nothing where it is dropped.
+    #[inline(always)]
+    pub fn fall(&self, item: &Item) -> Option<FramePath>
+        requires { item.now.kind ≡ Frame }
+        ensures { FallsTo self.now.bases (picture self.now.seats self.now.upstream)
+            (hears (shape_of item.now)) result }
+    {
         let channel = channel_of(item);
         let Some(held) = self.upstream.channels.owner(channel) else {
-            return Act::Nothing;
+            return None;
         };
         if !held.granted {
-            return Act::Nothing;
+            return None;
         }
         let Some(slot) = self.seats.slot(held.conn) else {
-            return Act::Nothing;
+            return None;
         };
         if !slot.alive() {
-            return Act::Nothing;
+            return None;
         }
         match channel_for(slot, channel / 2, channel % 2) {
-            Some(channel) => Act::Falls(held.conn, channel),
-            None => Act::Nothing,
+            Some(channel) => Some(FramePath {
+                conn: held.conn,
+                channel,
+            }),
+            None => None,
         }
     }
 
@@ -187,16 +201,12 @@ fn named_by<'a>(slot: &'a Slot, pending: Pending<'_>) -> Option<&'a [u8]>
     }
 }
 
-/// The answer to a request of the server. A longer one is not given, as if there were no memory for it.
+/// The answer to a request of the server.
 fn answer(alloc: Global, code: u16, cseq: u32, session: Option<&[u8]>) -> Result<Text, Memory>
-    requires { has_reason code ≡ true }
+    requires reason { has_reason code ≡ true }
+    requires session { IfSome session (λ id. is_session_id id.now ≡ true) }
     ensures text { IfOk result (λ text. text ≡ answer_text code cseq (option_copied session.entry)) }
     ensures short { IfOk result (λ text. IsShortAnswer (Some text)) }
 {
-    let text = write_answer(alloc, code, cseq, session)?;
-    if text.len() <= LONGEST_ANSWER {
-        Ok(text)
-    } else {
-        Err(Memory)
-    }
+    write_answer(alloc, code, cseq, session)
 }

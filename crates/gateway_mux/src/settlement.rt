@@ -5,10 +5,10 @@ ghost use Rattle.channel_map.specs.PairSets.{is_in_set};
 ghost use Rattle.session_one.specs.declared.parts.TheConstants.{MOST_SESSIONS};
 ghost use Rattle.client_slot.specs.Client.{Client};
 ghost use Rattle.client_slot.specs.Purposes.{purpose_seen};
-ghost use Rattle.gateway_claim.specs.Settlement.{final_of, id_said};
-ghost use Rattle.gateway_claim.specs.SharedEvents.{kind_pending};
+ghost use Rattle.gateway_claim.specs.Books.{final_of, id_said};
+ghost use Rattle.gateway_claim.specs.Turns.{kind_pending};
 ghost use Rattle.gateway_mux.specs.Settlements.{has_pair, AreSettled};
-ghost use Rattle.gateway_mux.specs.Settling.{pair_named, ending_place, torn_at, IsFreedAt, bound_at};
+ghost use Rattle.gateway_mux.specs.ByPurpose.{pair_named, ending_place, torn_at, IsFreedAt, bound_at};
 
 use crate::grant::id_said;
 use channel_map::{Freed, PairSet};

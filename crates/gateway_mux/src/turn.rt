@@ -15,7 +15,7 @@ ghost use Rattle.gateway_mux.specs.Turn.{asks_pair, asker_lent, issued_then, one
 
 use crate::settlement::Settlement;
 use crate::upstream::UpstreamBooks;
-use client_machine::{Done, Plan};
+use client_machine::{Done, PlannedStep};
 use client_slot::{Pending, Slot};
 use connection_table::ConnectionTable;
 
@@ -33,7 +33,7 @@ pub struct PlannedTurn {
     /// What a final reply settles.
     pub settled: Option<Settlement>,
     /// What the connection does.
-    pub plan: Plan,
+    pub plan: PlannedStep,
     /// Whether a request goes up.
     pub asks: bool,
 }

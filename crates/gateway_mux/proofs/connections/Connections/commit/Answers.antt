@@ -26,8 +26,8 @@ returns-in-Client-clause-commits c =
 pub returns-in-Up-clause-commits : goal.returns-in-Up-clause-commits
 returns-in-Up-clause-commits c =
     committed_as c.args.self.now.bases (picture c.args.self.now.seats c.args.self.now.upstream) (picture c.args.self.now.seats c.args.self.now.upstream) (happening_of c.args.event) c.falling.result
-    (fallen_by c.in-Falls.conn (frame_text c.in-Falls.channel (behind_channel (shape_of c.in-Up.item)))) (c.falling.ensures.falls ∙ ap (fallen_by c.in-Falls.conn) c.on_channel-in-Up.ensures.text)
-    (fall_committed c.args.self.now.bases (picture c.args.self.now.seats c.args.self.now.upstream) (happening_of c.args.event) c.in-Falls.conn c.in-Falls.channel (shape_of c.in-Up.item) (ap happening_of c.in-Up.is)
+    (fallen_by c.in-Falls.fall.conn (frame_text c.in-Falls.fall.channel (behind_channel (shape_of c.in-Up.item)))) (c.falling.ensures.falls ∙ ap (fallen_by c.in-Falls.fall.conn) c.on_channel-in-Up.ensures.text)
+    (fall_committed c.args.self.now.bases (picture c.args.self.now.seats c.args.self.now.upstream) (happening_of c.args.event) c.in-Falls.fall.conn c.in-Falls.fall.channel (shape_of c.in-Up.item) (ap happening_of c.in-Up.is)
     (subst (λ (act : Act). IsAct c.args.self.now.bases (picture c.args.self.now.seats c.args.self.now.upstream) (happening_of c.args.event) act) c.in-Falls.is c.requires.act))
 
 pub returns-in-Answers-clause-commits : goal.returns-in-Answers-clause-commits

@@ -15,5 +15,5 @@ returns-in_ok-answer-in-Ok-clause-act c shape says =
     (subst (λ (it : TurnFacts). IsSaid c.args.self.now.bases (picture c.args.self.now.seats c.args.self.now.upstream) (hears shape) it (notes c.in-Ok.notice.id.now c.in-Ok.notice.reason c.in-Ok.notice.names))
     (ap (λ (alone : TurnFacts). record alone { answer = Some c.in_ok-answer-in-Ok.field-0 }) (sym c.alone.ensures))
     (notice_said c.args.self.now.bases (picture c.args.self.now.seats c.args.self.now.upstream) shape c.args.ask.now (record { conn = c.in-Ok.notice.conn; id = c.in-Ok.notice.id.now; reason = c.in-Ok.notice.reason; names = c.in-Ok.notice.names })
-    c.in_ok-answer-in-Ok.field-0 says (sym c.in-Ok.ensures)
+    c.in_ok-answer-in-Ok.field-0 says (sym c.in-Ok.ensures.told)
     (c.in_ok-answer-in-Ok.ensures.text ∙ ap (λ (ask : AskParts). answer_text 200 ask.cseq (Some c.in-Ok.notice.id.now)) c.ask.view_is)))

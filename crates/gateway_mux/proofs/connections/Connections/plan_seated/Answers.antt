@@ -2,7 +2,7 @@ use Rattle.std.proofs.Common.{refl, sym, ap, subst}
 use Rattle.gateway_claim.specs.Happenings.{Happening, happening_of}
 use Rattle.client_machine.specs.declared.why.CloseWhy.TheVariants.{Ended, Slow}
 use Rattle.gateway_mux.specs.Acts.{IsClosing}
-use Rattle.gateway_mux.proofs.connections.Connections.plan.Goals as goal
+use Rattle.gateway_mux.proofs.connections.Connections.plan_seated.Goals as goal
 
 pub returns-in-End-clause-act : goal.returns-in-End-clause-act
 returns-in-End-clause-act c =

@@ -9,7 +9,7 @@ use Rattle.client_slot.specs.Renumber.{track_under, session_under}
 use Rattle.gateway_claim.specs.Books.{HeldPair, Books}
 use Rattle.gateway_claim.specs.BooksAndSlots.{AreHeld, IsHolding, HasPair, IsStreamPair}
 use Rattle.gateway_mux.specs.Settlements.{has_pair}
-use Rattle.gateway_mux.specs.Pictures.{session_with}
+use Rattle.gateway_mux.specs.Pictures.{session_holding}
 
 -- whether a stream has a pair in the numbers of the one connection
 later_true : (here rest : Bool) → rest ≡ true → (here || rest) ≡ true
@@ -55,17 +55,17 @@ first_by true id rest named at later = at refl
 first_by false id rest named at later = later refl
 
 first_with : (numbers pairs : ℕ → ℕ) (p : ℕ) (id : List ℕ) (place : ℕ) (sessions : List PlayerSession) → ((at : ℕ) → HasPair pairs p (session_at at sessions).tracks → (session_at at sessions).id ≡ Some id)
-    → HasPair pairs p (session_at place sessions).tracks → session_with p (map (session_under numbers pairs) sessions) ≡ Some id
+    → HasPair pairs p (session_at place sessions).tracks → session_holding p (map (session_under numbers pairs) sessions) ≡ Some id
 first_with numbers pairs p id place [] only has = absurd has
 first_with numbers pairs p id zero (one ∷ more) only has =
-    first_by (has_pair p (map (track_under pairs) one.tracks)) one.id (session_with p (map (session_under numbers pairs) more)) (Some id)
+    first_by (has_pair p (map (track_under pairs) one.tracks)) one.id (session_holding p (map (session_under numbers pairs) more)) (Some id)
     (λ e. only zero has) (λ e. absurd (true_is_false (sym (had_true pairs p one.tracks has) ∙ e)))
 first_with numbers pairs p id (suc place) (one ∷ more) only has =
-    first_by (has_pair p (map (track_under pairs) one.tracks)) one.id (session_with p (map (session_under numbers pairs) more)) (Some id)
+    first_by (has_pair p (map (track_under pairs) one.tracks)) one.id (session_holding p (map (session_under numbers pairs) more)) (Some id)
     (λ e. only zero (true_had pairs p one.tracks e)) (λ e. first_with numbers pairs p id place more (λ at. only (suc at)) has)
 
 pub session_found : (books : Books) (i : ℕ) (sessions : List PlayerSession) (p : ℕ) (id : List ℕ) → ((place : ℕ) → IsHolding books i (session_at place sessions).id (session_at place sessions).tracks)
-    → books.held p ≡ Some (record { conn = i; session = Some id }) → IsStreamPair (books.pair_of i) sessions id p → session_with p (map (session_under (books.number_of i) (books.pair_of i)) sessions) ≡ Some id
+    → books.held p ≡ Some (record { conn = i; session = Some id }) → IsStreamPair (books.pair_of i) sessions id p → session_holding p (map (session_under (books.number_of i) (books.pair_of i)) sessions) ≡ Some id
 session_found books i sessions p id holding held stream =
     first_with (books.number_of i) (books.pair_of i) p id stream.place sessions
     (λ at has. same_session (record { conn = i; session = (session_at at sessions).id }) (record { conn = i; session = Some id }) (sym (stream_held books i p (session_at at sessions).id (session_at at sessions).tracks (holding at) has) ∙ held)) stream.has

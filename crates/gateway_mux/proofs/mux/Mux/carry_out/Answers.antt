@@ -3,8 +3,8 @@ use Rattle.gateway_claim.specs.Happenings.{happening_of}
 use Rattle.gateway_claim.specs.declared.event.Outcome.{Outcome}
 use Rattle.gateway_mux.specs.declared.mux.Mux.{Mux}
 use Rattle.gateway_mux.proofs.MuxLemmas.{silent_stands, still_open, planned, commit_drops, commit_stands, frame_dropped, other_item, client_handed, message_handed}
-use Rattle.gateway_mux.proofs.mux.Mux.commit.Goals.{else-is_frame-via-then-is_frame+then-is_none+else-is_none-2, else-is_frame-via-then-is_frame+else-is_none, else-is_frame-via-else-is_frame}
-use Rattle.gateway_mux.proofs.mux.Mux.commit.Goals as goal
+use Rattle.gateway_mux.proofs.mux.Mux.carry_out.Goals.{else-is_frame-via-then-is_frame+then-is_none+else-is_none-2, else-is_frame-via-then-is_frame+else-is_none, else-is_frame-via-else-is_frame}
+use Rattle.gateway_mux.proofs.mux.Mux.carry_out.Goals as goal
 
 -- src/mux.rt:87:13
 pub returns-then-is_some-clause-stands : goal.returns-then-is_some-clause-stands
@@ -13,7 +13,7 @@ returns-then-is_some-clause-stands c = silent_stands c.args.self.now (happening_
 -- src/mux.rt:90:23
 pub commit-outcome-requires : goal.commit-outcome-requires
 commit-outcome-requires c =
-    let is = planned c.args.self.now.ended c.args.self.now c.args.event c.args.plan (sym c.if-is_some.ensures) c.requires in
+    let is = planned c.args.self.now.ended c.args.self.now c.args.event c.args.act (sym c.if-is_some.ensures) c.requires in
     record { act = is.0; key = is.2 }
 
 -- src/mux.rt:80:5
@@ -27,7 +27,7 @@ returns-then-is_none-2-clause-stands c =
 
 -- src/mux.rt:80:5
 pub returns-then-is_none-2-clause-short : goal.returns-then-is_none-2-clause-short
-returns-then-is_none-2-clause-short c = c.commit-outcome.ensures.short (planned c.args.self.now.ended c.args.self.now c.args.event c.args.plan (sym c.if-is_some.ensures) c.requires).1
+returns-then-is_none-2-clause-short c = c.commit-outcome.ensures.short (planned c.args.self.now.ended c.args.self.now c.args.event c.args.act (sym c.if-is_some.ensures) c.requires).1
 
 -- src/mux.rt:80:5
 pub returns-else-is_frame-clause-stands : goal.returns-else-is_frame-clause-stands
@@ -44,4 +44,4 @@ returns-else-is_frame-clause-stands c =
 
 -- src/mux.rt:80:5
 pub returns-else-is_frame-clause-short : goal.returns-else-is_frame-clause-short
-returns-else-is_frame-clause-short c = c.commit-outcome.ensures.short (planned c.args.self.now.ended c.args.self.now c.args.event c.args.plan (sym c.if-is_some.ensures) c.requires).1
+returns-else-is_frame-clause-short c = c.commit-outcome.ensures.short (planned c.args.self.now.ended c.args.self.now c.args.event c.args.act (sym c.if-is_some.ensures) c.requires).1
