@@ -6,7 +6,7 @@ use Rattle.std.proofs.lemmas.Bool.{leb-true, le-leb}
 use Rattle.std.proofs.lemmas.Option.{slice_get_cases, slice_get_within}
 use Rattle.gateway_claim.specs.Happenings.{HistoryEntry, entered, is_alive}
 use Rattle.gateway_claim.specs.Cores.{ever_entered}
-use Rattle.gateway_claim.proofs.CoreLemmas.{never_part}
+use Rattle.gateway_claim.proofs.AskLemmas.{never_part}
 use Rattle.hub_queues.specs.declared.ending.Ending.{Ending}
 use Rattle.gateway_hub.specs.declared.desk.Fall.{Fall}
 use Rattle.gateway_hub.specs.Desks.{fall_heard}

@@ -10,7 +10,7 @@ use Rattle.gateway_claim.specs.declared.event.Outcome.{Outcome}
 use Rattle.gateway_claim.specs.declared.event.UpCause.{UpCause}
 use Rattle.gateway_claim.specs.Happenings.{Happening, HistoryEntry, enters_here, fault_in, entered, closes_of, shut, is_alive}
 use Rattle.gateway_claim.specs.Cores.{stays_alive}
-use Rattle.gateway_claim.proofs.CoreLemmas.{alive_after}
+use Rattle.gateway_claim.proofs.AskLemmas.{alive_after}
 use Rattle.hub_queues.specs.declared.receipt.Close.{Close}
 use Rattle.hub_queues.specs.Closes.{is_heard, closing, close_by, close_in, fall_by, fall_in, fall_close}
 use Rattle.gateway_hub.proofs.OrderLemmas.{Orders, past, falls_down, goes_on, goes_not_all}

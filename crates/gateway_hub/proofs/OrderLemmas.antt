@@ -9,7 +9,7 @@ use Rattle.gateway_claim.specs.declared.event.UpCause.TheVariants as causes
 use Rattle.gate_transcript.specs.declared.entry.UpWhy.{UpWhy}
 use Rattle.gate_transcript.specs.declared.entry.UpWhy.TheVariants as whys
 use Rattle.gateway_claim.specs.Happenings.{Happening, enters, takes, ends, lags, hears, up_ends, HistoryEntry, fault_in, is_alive, silent, nothing_up}
-use Rattle.gateway_claim.specs.Orderly.{HandsToLiving, ClosesAtMostOne, IsOrderlyEvent, closing_all, is_from_outside, MayEndServer, IsOrderlyBy, IsOrderlyAfter, IsOrderly}
+use Rattle.gateway_claim.specs.Cores.{HandsToLiving, ClosesAtMostOne, IsOrderlyEvent, closing_all, is_from_outside, MayEndServer, IsOrderlyBy, IsOrderlyAfter, IsOrderly}
 use Rattle.gateway_hub.specs.Endings.{fell_full}
 use Rattle.gateway_hub.specs.Take.{may_hand, may_ask}
 

@@ -14,9 +14,8 @@ use Rattle.gateway_claim.specs.declared.event.Outcome.{Outcome}
 use Rattle.gateway_claim.specs.declared.event.ToClient.{ToClient}
 use Rattle.gateway_claim.specs.declared.event.UpCause.{UpCause}
 use Rattle.gateway_claim.specs.Happenings.{Happening, HistoryEntry, enters, takes, ends, lags, hears, up_ends, enters_here, fault_in, entered, pieces_to, sent, shut, is_alive}
-use Rattle.gateway_claim.specs.Cores.{ever_entered, stays_alive}
-use Rattle.gateway_claim.specs.Orderly.{IsOrderlyEvent, IsOrderly}
-use Rattle.gateway_claim.proofs.CoreLemmas.{alive_after, entry_closed, never_part}
+use Rattle.gateway_claim.specs.Cores.{ever_entered, stays_alive, IsOrderlyEvent, IsOrderly}
+use Rattle.gateway_claim.proofs.AskLemmas.{alive_after, entry_closed, never_part}
 use Rattle.hub_queues.specs.declared.ending.Ending.{Ending}
 use Rattle.gateway_hub.specs.declared.desk.Fall.{Fall}
 use Rattle.hub_queues.specs.declared.ending.Ending.TheVariants.{Upstream, Stopped}

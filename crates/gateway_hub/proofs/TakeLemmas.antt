@@ -21,9 +21,8 @@ use Rattle.gateway_claim.specs.declared.event.Outcome.{Outcome}
 use Rattle.gateway_claim.specs.declared.event.UpCause.{UpCause}
 use Rattle.gateway_claim.specs.declared.event.ToClient.{ToClient}
 use Rattle.gateway_claim.specs.Happenings.{Happening, HistoryEntry, happening_of, enters_here, fault_in, shut, is_alive}
-use Rattle.gateway_claim.specs.Cores.{IsCoreHistory}
-use Rattle.gateway_claim.specs.Orderly.{IsOrderly}
-use Rattle.gateway_claim.proofs.CoreLemmas.{Following, FollowsOrderly, never_part}
+use Rattle.gateway_claim.specs.Cores.{IsCoreHistory, IsOrderly}
+use Rattle.gateway_claim.proofs.AskLemmas.{Following, FollowsOrderly, never_part}
 use Rattle.hub_queues.specs.declared.ending.Ending.{Ending}
 use Rattle.hub_queues.specs.declared.receipt.Close.{Close}
 use Rattle.hub_queues.specs.declared.receipt.Receipt.{Receipt}

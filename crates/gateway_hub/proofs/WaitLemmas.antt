@@ -4,7 +4,7 @@ use Rattle.std.proofs.Common.{◌≡◌, ℕ, Bool, List, ◌∷◌, sym, subst}
 use Rattle.rtsp_uri.specs.declared.base.Bases.{Bases}
 use Rattle.gateway_claim.specs.Happenings.{HistoryEntry}
 use Rattle.gateway_claim.specs.Cores.{IsCoreHistory, IsTimely, NoneWaits}
-use Rattle.gateway_claim.proofs.CoreLemmas.{Following}
+use Rattle.gateway_claim.proofs.AskLemmas.{Following}
 use Rattle.gateway_hub.specs.Keeps.{StandsIdle}
 
 -- what a core's law says of an event that is timely

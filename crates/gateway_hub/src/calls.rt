@@ -10,7 +10,7 @@ ghost use Rattle.gateway_hub.specs.Take.{is_full_reason};
 
 use crate::state::HubState;
 use crate::{HubFault, Recorder, Taken};
-use gateway_claim::{Core, Event, UpWhy};
+use gateway_claim::{Core, Event, Standing, UpWhy};
 use hub_queues::{is_seated, next_of};
 use std::alloc::Global;
 use std::sync::Wait;
@@ -34,16 +34,15 @@ impl<M: Core, R: Recorder> HubState<M, R> {
         if let Some(ending) = self.desk.ending {
             return Err(HubFault::from(ending));
         }
-        if !self.core.alive(conn) {
-            return Ok(Taken::Closed);
-        }
-        if self.core.busy(conn) {
-            return Ok(Taken::Busy);
-        }
+        let key = match self.core.standing(conn) {
+            Standing::Closed => return Ok(Taken::Closed),
+            Standing::Busy => return Ok(Taken::Busy),
+            Standing::Ready(key) => key,
+        };
         let Some(item) = next_of(&mut self.desk.places, rt, conn) else {
             return Ok(Taken::Empty);
         };
-        match self.take_event(alloc, rt, Event::Client(conn, item)) {
+        match self.take_event(alloc, rt, Event::Client(conn, item), Some(key)) {
             Ok(_) => Ok(Taken::Done),
             Err(refused) => {
                 self.desk.give_back(refused.event);
@@ -75,7 +74,7 @@ impl<M: Core, R: Recorder> HubState<M, R> {
         let Some(item) = self.desk.server.next(rt) else {
             return Ok(false);
         };
-        match self.take_event(alloc, rt, Event::Up(item)) {
+        match self.take_event(alloc, rt, Event::Up(item), None) {
             Ok(landed) => {
                 self.last = landed.or(self.last);
                 Ok(true)
@@ -108,7 +107,7 @@ impl<M: Core, R: Recorder> HubState<M, R> {
         if !is_seated(&self.desk.places, conn) {
             return Ok(());
         }
-        match self.take_event(alloc, rt, Event::End(conn)) {
+        match self.take_event(alloc, rt, Event::End(conn), None) {
             Ok(_) => Ok(()),
             Err(refused) => Err(self.desk.fault_of(refused.fault)),
         }
@@ -133,7 +132,7 @@ impl<M: Core, R: Recorder> HubState<M, R> {
         if let Some(ending) = self.desk.ending {
             return Err(HubFault::from(ending));
         }
-        match self.take_event(alloc, rt, Event::UpEnd(why)) {
+        match self.take_event(alloc, rt, Event::UpEnd(why), None) {
             Ok(_) => Ok(()),
             Err(refused) => Err(self.desk.fault_of(refused.fault)),
         }

@@ -152,7 +152,7 @@ impl<M: Core, R: Recorder> HubState<M, R> {
         if !self.core.alive(conn) {
             return;
         }
-        match self.take_event(alloc, rt, Event::End(conn)) {
+        match self.take_event(alloc, rt, Event::End(conn), None) {
             Ok(_) => {}
             Err(refused) => self.desk.stop(stop_of(refused.fault)),
         }

@@ -1,7 +1,7 @@
 //! The core, the recorder and the desk of a hub, and how one event is taken.
-ghost use Rattle.std.specs.Prelude.{◌≡◌, ◌≤◌, ℕ, false, List, Option, None, IfOk, IfErr, OnOk};
+ghost use Rattle.std.specs.Prelude.{◌≡◌, ◌≤◌, ℕ, false, List, Option, None, IfOk, IfErr, IfSome, OnOk};
 ghost use Rattle.gateway_claim.specs.Happenings.{HistoryEntry, happening_of};
-ghost use Rattle.gateway_claim.specs.Cores.{IsTimely};
+ghost use Rattle.gateway_claim.specs.Cores.{IsTimely, IsOwnKey};
 ghost use Rattle.gateway_hub.specs.Endings.{ShowsFault};
 ghost use Rattle.gateway_hub.specs.Ends.{KeepsEnds, PutsFor};
 ghost use Rattle.gateway_hub.specs.Keeps.{StandsIdle};
@@ -11,7 +11,7 @@ use crate::desk::{Delivery, Desk};
 use crate::note::{asker_of, is_heard, note};
 use crate::{NoteFault, Recorder, StopWhy};
 use gate_bytes::Memory;
-use gateway_claim::{Core, Event, UpWhy};
+use gateway_claim::{ConnectionKey, Core, Event, UpWhy};
 use std::alloc::Global;
 use std::sync::Wait;
 
@@ -49,17 +49,36 @@ pub fn stop_of(fault: NoteFault) -> StopWhy
     }
 }
 
+/// What an event will do: by the key of its connection, where that is known.
+fn plan_of<M: Core>(
+    core: &M,
+    alloc: Global,
+    event: &Event,
+    key: Option<ConnectionKey>,
+) -> Result<M::Plan, Memory>
+    requires { IfSome key (IsOwnKey (M.has_key core.now) event.now) }
+    ensures { IfOk result (M.planned core.now event.now) }
+{
+    match key {
+        Some(key) => core.plan_at(alloc, event, key),
+        None => core.plan(alloc, event),
+    }
+}
+
 impl<M: Core, R: Recorder> HubState<M, R> {
     /// Takes one event: it is planned, noted and committed, and what it hands out is put, first to the client and then to
     /// the server. Tells for whom bytes were put, and whose ports were full. Where memory was wanting, or the note failed, nothing was taken.
-    /// It asks that the event is no item of a client whose connection is busy.
+    /// It asks that the event is no item of a client whose connection is busy. A key is that of the event's connection in the
+    /// core; without one the core searches for it.
     pub fn take_one<W: Wait>(
         &mut self,
         alloc: Global,
         rt: &W,
         event: Event,
+        key: Option<ConnectionKey>,
     ) -> Result<Delivery, RefusedEvent>
-        requires { (T : List HistoryEntry) → M.stands self.old.core T
+        requires key { IfSome key (IsOwnKey (M.has_key self.old.core) event) }
+        requires timely { (T : List HistoryEntry) → M.stands self.old.core T
             → IsTimely (M.is_busy (M.bases self.old.core)) T (happening_of event) }
         ensures ok { IfOk result (λ delivery.
             TakesOneEvent (happening_of event) delivery (StandsIdle M.stands M.waits M.bases self.old.core)
@@ -80,7 +99,7 @@ impl<M: Core, R: Recorder> HubState<M, R> {
         ensures shown { ShowsFault self.old.desk.ending self.new.desk.ending (R.faults self.old.recorder)
             (R.faults self.new.recorder) }
     {
-        let plan = match self.core.plan(alloc, &event) {
+        let plan = match plan_of(&self.core, alloc, &event, key) {
             Ok(plan) => plan,
             Err(Memory) => {
                 let fault = NoteFault::Memory;
@@ -116,7 +135,7 @@ impl<M: Core, R: Recorder> HubState<M, R> {
         if !full {
             return None;
         }
-        match self.take_one(alloc, rt, Event::UpEnd(UpWhy::UpFull)) {
+        match self.take_one(alloc, rt, Event::UpEnd(UpWhy::UpFull), None) {
             Ok(delivery) => delivery.landed,
             Err(refused) => {
                 self.desk.stop(stop_of(refused.fault));
@@ -145,7 +164,7 @@ impl<M: Core, R: Recorder> HubState<M, R> {
         if self.desk.is_stopped() {
             return None;
         }
-        match self.take_one(alloc, rt, Event::Slow(conn)) {
+        match self.take_one(alloc, rt, Event::Slow(conn), None) {
             Ok(delivery) => {
                 self.closed = true;
                 let later = self.end_if_full(alloc, rt, delivery.server);
@@ -161,14 +180,17 @@ impl<M: Core, R: Recorder> HubState<M, R> {
 
     /// Takes one event, and then those that full ports ask for: the end of the connection to the server, and the client
     /// that is too slow. Tells for whom bytes were put last. Where the event itself can't be planned or noted, nothing is
-    /// taken. It asks that the event is no item of a client whose connection is busy.
+    /// taken. It asks that the event is no item of a client whose connection is busy. A key is that of the event's connection
+    /// in the core.
     pub fn take_event<W: Wait>(
         &mut self,
         alloc: Global,
         rt: &W,
         event: Event,
+        key: Option<ConnectionKey>,
     ) -> Result<Option<u32>, RefusedEvent>
-        requires { (T : List HistoryEntry) → M.stands self.old.core T
+        requires key { IfSome key (IsOwnKey (M.has_key self.old.core) event) }
+        requires timely { (T : List HistoryEntry) → M.stands self.old.core T
             → IsTimely (M.is_busy (M.bases self.old.core)) T (happening_of event) }
         ensures ok { OnOk result
             (TakesHubEvent (happening_of event) (StandsIdle M.stands M.waits M.bases self.old.core)
@@ -190,7 +212,7 @@ impl<M: Core, R: Recorder> HubState<M, R> {
         ensures shown { ShowsFault self.old.desk.ending self.new.desk.ending (R.faults self.old.recorder)
             (R.faults self.new.recorder) }
     {
-        let delivery = self.take_one(alloc, rt, event)?;
+        let delivery = self.take_one(alloc, rt, event, key)?;
         let next = self.end_if_full(alloc, rt, delivery.server);
         let last = self.lag_if_full(alloc, rt, delivery.client);
         let earlier = next.or(delivery.landed);

@@ -1,4 +1,4 @@
-use Rattle.std.proofs.Common.{Some, None, sym, ◌∙◌, refl, rules}
+use Rattle.std.proofs.Common.{Some, None, refl, rules}
 use Rattle.rtsp_head.specs.Shapes.{shape_of}
 use Rattle.gateway_hub.specs.Keeps.{StandsIdle}
 use Rattle.gateway_hub.proofs.InwardLemmas.{in_hand, none_in_line, empty_line, client_refused}
@@ -7,7 +7,7 @@ use Rattle.gateway_hub.proofs.ShowLemmas.{shown_same, shown_refused}
 use Rattle.gateway_hub.proofs.state.HubState.take.Goals as goal
 
 pub take_event-requires : goal.take_event-requires
-take_event-requires g c = (search rules, (search rules, λ T s. sym (c.busy.ensures T s) ∙ c.if-busy.false))
+take_event-requires g c = (search rules, (search rules, (c.in-Ready.ensures.key, λ T s. (c.in-Ready.ensures.tells T s).1)))
 
 pub returns-in_default-next_of-clause-takes : goal.returns-in_default-next_of-clause-takes
 returns-in_default-next_of-clause-takes g c =
@@ -15,9 +15,9 @@ returns-in_default-next_of-clause-takes g c =
     let old = c.args.self.now in
     let mid = record old.desk { places = c.next_of.new.places } in (
       c.in_default.is,
-      (λ T k. (sym (c.alive.ensures T k.underway.stood.stood) ∙ c.if-not-alive.false, sym (c.busy.ensures T k.underway.stood.stood) ∙ c.if-busy.false)),
+      (λ T k. c.in-Ready.ensures.tells T k.underway.stood.stood),
       (λ T k. none_in_line c.args.conn (stands old.core) (g.R.Recorder.entries old.recorder) (g.R.Recorder.faults old.recorder) old.desk mid T c.in_default-next_of.ensures.line refl refl refl k),
-      (λ T k. empty_line c.args.conn (stands old.core) (g.R.Recorder.entries old.recorder) (g.R.Recorder.faults old.recorder) old.desk mid T c.in_default-next_of.ensures.line c.in_default.is (sym (c.alive.ensures T k.underway.stood.stood) ∙ c.if-not-alive.false) k),
+      (λ T k. empty_line c.args.conn (stands old.core) (g.R.Recorder.entries old.recorder) (g.R.Recorder.faults old.recorder) old.desk mid T c.in_default-next_of.ensures.line c.in_default.is (c.in-Ready.ensures.tells T k.underway.stood.stood).0 k),
     )
 
 pub returns-in-Ok-clause-takes : goal.returns-in-Ok-clause-takes
@@ -27,7 +27,7 @@ returns-in-Ok-clause-takes g c =
     let mid = record old.desk { places = c.next_of.new.places } in
     let e = c.in-Ok.ensures.ok in (
       c.in_default.is,
-      (λ T k. (sym (c.alive.ensures T k.underway.stood.stood) ∙ c.if-not-alive.false, sym (c.busy.ensures T k.underway.stood.stood) ∙ c.if-busy.false)),
+      (λ T k. c.in-Ready.ensures.tells T k.underway.stood.stood),
       (
         shape_of c.in-Some-next_of.item,
         record {
@@ -35,7 +35,7 @@ returns-in-Ok-clause-takes g c =
           later = e.later;
           late = e.late;
           grows = λ T k. e.keeps T (in_hand c.args.conn c.in-Some-next_of.item (stands old.core) (g.R.Recorder.entries old.recorder) (g.R.Recorder.faults old.recorder) old.desk mid T c.in-Some-next_of.ensures.line refl refl refl c.in_default.is
-              (sym (c.alive.ensures T k.underway.stood.stood) ∙ c.if-not-alive.false) k);
+              (c.in-Ready.ensures.tells T k.underway.stood.stood).0 k);
         },
       ),
     )
@@ -47,7 +47,7 @@ returns-in-Err-clause-takes g c =
     let new = c.take_event.new.self in
     let mid = record old.desk { places = c.next_of.new.places } in
     client_refused c.args.conn c.in-Some-next_of.item c.in-Err.refused.fault c.fault_of.result c.in-Err.refused.event (stands old.core) (stands new.core) (g.R.Recorder.entries old.recorder) (g.R.Recorder.entries new.recorder) (g.R.Recorder.faults old.recorder) (g.R.Recorder.faults new.recorder)
-    old.desk mid new.desk c.give_back.new.self c.fault_of.new.self (λ T s. sym (c.alive.ensures T s.stood) ∙ c.if-not-alive.false) c.in-Some-next_of.ensures.line refl refl refl c.in_default.is c.in-Err.ensures.err.0 c.in-Err.ensures.err.1 c.take_event.ensures.later c.give_back.ensures c.fault_of.ensures
+    old.desk mid new.desk c.give_back.new.self c.fault_of.new.self (λ T s. (c.in-Ready.ensures.tells T s.stood).0) c.in-Some-next_of.ensures.line refl refl refl c.in_default.is c.in-Err.ensures.err.0 c.in-Err.ensures.err.1 c.take_event.ensures.later c.give_back.ensures c.fault_of.ensures
 
 pub returns-in_default-next_of-clause-ends : goal.returns-in_default-next_of-clause-ends
 returns-in_default-next_of-clause-ends g c =
@@ -72,11 +72,11 @@ returns-in-Err-clause-ends g c =
 pub returns-in-Some-clause-ends : goal.returns-in-Some-clause-ends
 returns-in-Some-clause-ends g c = ends_here c.args.self.now.desk
 
-pub returns-then-not-alive-clause-ends : goal.returns-then-not-alive-clause-ends
-returns-then-not-alive-clause-ends g c = ends_here c.args.self.now.desk
+pub returns-in-Closed-clause-ends : goal.returns-in-Closed-clause-ends
+returns-in-Closed-clause-ends g c = ends_here c.args.self.now.desk
 
-pub returns-then-busy-clause-ends : goal.returns-then-busy-clause-ends
-returns-then-busy-clause-ends g c = ends_here c.args.self.now.desk
+pub returns-in-Busy-clause-ends : goal.returns-in-Busy-clause-ends
+returns-in-Busy-clause-ends g c = ends_here c.args.self.now.desk
 
 pub returns-in-Err-clause-shown : goal.returns-in-Err-clause-shown
 returns-in-Err-clause-shown g c =
@@ -93,8 +93,8 @@ returns-in_default-next_of-clause-shown g c = shown_same _ _ _ _ refl
 pub returns-in-Some-clause-shown : goal.returns-in-Some-clause-shown
 returns-in-Some-clause-shown g c = shown_same _ _ _ _ refl
 
-pub returns-then-not-alive-clause-shown : goal.returns-then-not-alive-clause-shown
-returns-then-not-alive-clause-shown g c = shown_same _ _ _ _ refl
+pub returns-in-Closed-clause-shown : goal.returns-in-Closed-clause-shown
+returns-in-Closed-clause-shown g c = shown_same _ _ _ _ refl
 
-pub returns-then-busy-clause-shown : goal.returns-then-busy-clause-shown
-returns-then-busy-clause-shown g c = shown_same _ _ _ _ refl
+pub returns-in-Busy-clause-shown : goal.returns-in-Busy-clause-shown
+returns-in-Busy-clause-shown g c = shown_same _ _ _ _ refl

@@ -20,7 +20,7 @@ returns-clause-ok g c =
     takes_one stands g.M.Core.bases g.M.Core.follows (λ core T s. laws.history core T s.stood) laws.orderly old.core c.commit-outcome.new.self c.args.event c.commit-outcome.result
     (g.R.Recorder.entries old.recorder) (g.R.Recorder.entries c.note.new.recorder) old.desk c.take_outcome.new.self c.take_outcome.result
     (λ T. idle_next g.M.Core.stands g.M.Core.waits g.M.Core.bases g.M.Core.is_busy g.M.Core.follows laws.history laws.none_waits_next old.core c.commit-outcome.new.self c.commit-outcome.ensures.bases T
-    (entry_of c.args.event c.commit-outcome.result) (c.commit-outcome.ensures.stands T) (c.requires T)) c.in-Ok-note.ensures.entries
+    (entry_of c.args.event c.commit-outcome.result) (c.commit-outcome.ensures.stands T) (c.requires.timely T)) c.in-Ok-note.ensures.entries
     (subst (λ (a : Option ℕ). HandsAll a (is_heard (happening_of c.args.event)) c.commit-outcome.result c.take_outcome.result old.desk c.take_outcome.new.self) c.asker_of-asker.ensures
     (subst (λ (b : Bool). HandsAll c.asker_of-asker.result b c.commit-outcome.result c.take_outcome.result old.desk c.take_outcome.new.self) c.is_heard-heard.ensures c.take_outcome.ensures))
 
