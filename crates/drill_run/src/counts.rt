@@ -1,8 +1,7 @@
 //! The counts of a drill.
 ghost use Rattle.std.specs.Prelude.{◌≡◌, ◌+◌, IfOk};
 ghost use Rattle.rtsp_head.specs.Shapes.{shapes};
-ghost use Rattle.gateway_claim.specs.Happenings.{happening_of};
-ghost use Rattle.gateway_claim.specs.Short.{piece_length, message_length, up_length};
+ghost use Rattle.gateway_claim.specs.Happenings.{happening_of, piece_length, message_length, up_length};
 ghost use Rattle.drill_run.specs.CountSteps.{is_frame_kind, requests_told, replies_counted, frames_among, requests_up, frames_up, is_success_answer, successes_up, counts_with, counts_none, counts_sum};
 
 use crate::player::is_response;

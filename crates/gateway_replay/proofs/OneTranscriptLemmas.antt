@@ -12,7 +12,7 @@ use Rattle.gateway_claim.specs.Cores.{ever_entered}
 use Rattle.gateway_claim.specs.Follows.{IsHistory}
 use Rattle.gateway_claim.specs.Happenings.{Happening, HistoryEntry, enters_here, happened}
 use Rattle.gateway_claim.specs.OnePlayer.{HasAll}
-use Rattle.gateway_claim.proofs.OnePlayerLemmas.{one_player}
+use Rattle.gateway_claim.proofs.AskLemmas.{one_player}
 use Rattle.gateway_replay.specs.declared.streams.Speaker.{Speaker}
 use Rattle.gateway_replay.specs.declared.streams.Speaker.TheVariants as speaker
 use Rattle.gateway_replay.specs.Events.{new_items, stream_of, said_by, up_end_told, events_by, events_of}

@@ -8,7 +8,7 @@ use Rattle.gateway_claim.specs.declared.event.Outcome.{Outcome}
 use Rattle.gateway_claim.specs.declared.event.UpCause.{UpCause}
 use Rattle.gateway_claim.specs.Happenings.{HistoryEntry, fault_in, enters_here, happening_of, entry_of, entering}
 use Rattle.gateway_claim.specs.Cores.{IsCoreHistory, ever_entered, stays_alive}
-use Rattle.gateway_claim.proofs.CoreLemmas.{Following, FollowsOrderly, alive_after, alive_entering, unentered_open, never_part}
+use Rattle.gateway_claim.proofs.AskLemmas.{Following, FollowsOrderly, alive_after, alive_entering, unentered_open, never_part}
 use Rattle.gateway_replay.specs.declared.alive.Living.{Living}
 use Rattle.gateway_replay.specs.Alive.{lives}
 use Rattle.gateway_replay.specs.CoreRecords.{StayLiving, Watches, Advances, EntersAs}

@@ -10,8 +10,7 @@ use Rattle.gateway_claim.specs.declared.event.ToUp.{ToUp}
 use Rattle.gateway_claim.specs.declared.event.UpMessage.{UpMessage}
 use Rattle.gateway_claim.specs.declared.event.UpMessage.TheVariants.{Request, Frame}
 use Rattle.gateway_claim.specs.declared.event.Outcome.{Outcome}
-use Rattle.gateway_claim.specs.Closes.{close_byte}
-use Rattle.gateway_claim.specs.Happenings.{HistoryEntry, is_alive}
+use Rattle.gateway_claim.specs.Happenings.{close_byte, HistoryEntry, is_alive}
 use Rattle.run_status.specs.CauseTexts.{fault_text}
 use Rattle.gateway_replay.specs.declared.records.RecordKind.TheVariants as kind
 use Rattle.gateway_replay.specs.Records.{record_byte, record_text}

@@ -2,8 +2,7 @@
 ghost use Rattle.std.specs.Prelude.{◌≡◌, ◌<◌, ◌^◌, [], ◌++◌, List, IfSome, OnOk, length, unwrap_or, decimal};
 ghost use Rattle.gate_outside.specs.Causes.{HasCause};
 ghost use Rattle.gate_outside.specs.Contents.{WritesAll};
-ghost use Rattle.gateway_claim.specs.Happenings.{HistoryEntry};
-ghost use Rattle.gateway_claim.specs.Short.{IsShort, piece_length, message_length, up_length};
+ghost use Rattle.gateway_claim.specs.Happenings.{HistoryEntry, IsShort, piece_length, message_length, up_length};
 ghost use Rattle.gateway_replay.specs.CoreRecords.{AreLiving, StayLiving};
 ghost use Rattle.gateway_replay.specs.RecordTexts.{piece_record, up_message_text, up_record, close_record, ends, closed_records, cause_record, fault_record, records_of};
 ghost use Rattle.gateway_replay.specs.declared.records.TheConstants.{FAULT_BYTE};

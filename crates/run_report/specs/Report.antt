@@ -3,7 +3,7 @@ use Rattle.std.specs.Prelude.{ℕ, zero, suc, codes, decimal, List, [], ◌∷�
 use Rattle.hub_queues.specs.declared.receipt.Receipt.{Receipt}
 use Rattle.gateway_hub.specs.declared.receipts.Receipts.{Receipts}
 use Rattle.gateway_hub.specs.Receipts.{last_receipt, receipt_count}
-use Rattle.gateway_claim.specs.Closes.{close_byte}
+use Rattle.gateway_claim.specs.Happenings.{close_byte}
 
 -- a name and a number
 abbrev pub name_and_number : List ℕ → ℕ → List ℕ

@@ -4,7 +4,7 @@ ghost use Rattle.gate_outside.specs.Causes.{HasCause};
 ghost use Rattle.gate_outside.specs.Contents.{WritesAll};
 ghost use Rattle.gateway_hub.specs.Receipts.{receipt_count};
 ghost use Rattle.hub_queues.specs.declared.limits.TheConstants.{MOST_CONNECTIONS};
-ghost use Rattle.gateway_claim.specs.Closes.{close_byte};
+ghost use Rattle.gateway_claim.specs.Happenings.{close_byte};
 ghost use Rattle.run_report.specs.Report.{name_and_number, came_text, went_text, receipt_line, receipt_line_in, lines_below, report_text};
 
 use gate_outside::{Failed, Sink, write_all};

@@ -18,9 +18,9 @@ abbrev pub due_twice : DuePlayer → DuePlayer → DuePlayer
 due_twice before player = record { conn = player.conn; ring = louder before.ring player.ring; is_ripe = before.is_ripe || player.is_ripe }
 
 -- who is due at a place once this player is too
-abbrev pub due_with : DuePlayer → Option DuePlayer → DuePlayer
-due_with player None = player
-due_with player (Some before) = if before.conn == player.conn then due_twice before player else player
+abbrev pub due_beside : DuePlayer → Option DuePlayer → DuePlayer
+due_beside player None = player
+due_beside player (Some before) = if before.conn == player.conn then due_twice before player else player
 
 -- who is due there no longer: another player
 abbrev pub pushed_out : DuePlayer → Option DuePlayer → Option DuePlayer

@@ -1,6 +1,6 @@
 //! For whom something was put that is not yet written.
 ghost use Rattle.std.specs.Prelude.{◌≡◌, ◌%◌, ℕ, None, Some, slice_set};
-ghost use Rattle.worker_signals.specs.DuePlayers.{due_player_at, due_with, pushed_out, taken_if, left_after};
+ghost use Rattle.worker_signals.specs.DuePlayers.{due_player_at, due_beside, pushed_out, taken_if, left_after};
 
 use crate::flow::PLACES;
 use crate::signals::Ring;
@@ -37,7 +37,7 @@ impl Due {
         ensures out { result ≡ pushed_out player (due_player_at (player.conn % PLACES) self.old.players) }
         ensures due { self.new.players
             ≡ slice_set self.old.players (player.conn % PLACES)
-            (Some (due_with player (due_player_at (player.conn % PLACES) self.old.players))) }
+            (Some (due_beside player (due_player_at (player.conn % PLACES) self.old.players))) }
     {
         let place = &mut self.players[player.conn as usize % PLACES];
         let Some(before) = *place else {

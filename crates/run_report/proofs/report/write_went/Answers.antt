@@ -1,5 +1,5 @@
 use Rattle.std.proofs.Common.{◌∷◌, ◌++◌, codes}
-use Rattle.gateway_claim.specs.Closes.{close_byte}
+use Rattle.gateway_claim.specs.Happenings.{close_byte}
 use Rattle.run_report.specs.Report.{name_and_number}
 use Rattle.run_report.proofs.ReportLemmas.{cut_first, cut_second, then_writes}
 use Rattle.run_report.proofs.report.write_went.Goals as goal
