@@ -1,7 +1,7 @@
 //! Readers and writers of std as source and sink, and a run over them. They tell no content: they are the trusted edge.
-ghost use Rattle.std.specs.Prelude.{◌≡◌, None, map, string_bytes};
+ghost use Rattle.std.specs.Prelude.{◌≡◌, false, None, map, string_bytes};
 ghost use Rattle.gate_outside.specs.Causes.{HasCause};
-ghost use Rattle.command_line.specs.Words.{word_fault};
+ghost use Rattle.command_line.specs.Words.{asks_to_serve, word_fault};
 ghost use Rattle.rtspgate.specs.Usage.{TellsUsageAfterFlush};
 
 use crate::flush::after_flush;
@@ -95,7 +95,8 @@ impl<W: Write> Sink for WriteSink<W> {
 }
 
 /// Does what these words ask for over a reader, a writer and a world, and flushes the writer at the end. A flush that fails
-/// makes it [`Status::SinkFault`].
+/// makes it [`Status::SinkFault`]. Words that are refused are told so, or the want of memory or the flush is; and a command other
+/// than `serve` leaves the world alone.
 #[tactic(auto, using(crate::proofs::UsageLemmas::flushed_usage, crate::proofs::UsageLemmas::memory_usage))]
 pub fn run_between<R: Read, W: Write, O: World, T: Threads + Wait + Clock + Sync>(
     rt: &T,
@@ -105,7 +106,9 @@ pub fn run_between<R: Read, W: Write, O: World, T: Threads + Wait + Clock + Sync
     writer: &mut W,
     world: &mut O,
 ) -> Status
-    ensures { TellsUsageAfterFlush result (word_fault (map string_bytes words.now)) }
+    ensures usage { TellsUsageAfterFlush result (word_fault (map string_bytes words.now)) }
+    ensures apart { asks_to_serve (map string_bytes words.now) ≡ false
+        → O.tally world.new ≡ O.tally world.old }
 {
     let Ok(buffered) = BufWriter::new(alloc, writer) else {
         return Status::Memory;
