@@ -10,10 +10,9 @@ use Rattle.client_machine.specs.declared.why.CloseWhy.TheVariants as why
 use Rattle.gateway_claim.specs.declared.event.Event.{Event}
 use Rattle.gateway_claim.specs.declared.event.Outcome.{Outcome}
 use Rattle.gateway_claim.specs.declared.event.UpCause.{UpCause}
-use Rattle.gateway_claim.specs.Happenings.{Happening, enters, takes, ends, lags, hears, up_ends, HistoryEntry, fault_in, is_alive, silent, happening_of, entry_of, entering}
+use Rattle.gateway_claim.specs.Happenings.{Happening, enters, takes, ends, lags, hears, up_ends, HistoryEntry, fault_in, is_alive, silent, happening_of, entry_of, entering, IsShort}
 use Rattle.gateway_claim.specs.Cores.{ever_entered, stays_alive}
-use Rattle.gateway_claim.specs.Short.{IsShort}
-use Rattle.gateway_claim.proofs.CoreLemmas.{alive_after, alive_entering, unentered_open, never_part}
+use Rattle.gateway_claim.proofs.AskLemmas.{alive_after, alive_entering, unentered_open, never_part}
 use Rattle.test_transcripts.specs.Refuser.{item_refused, closed_if, refusing, refusal_at, FollowsRefusing, StandsRefusing}
 use Rattle.test_transcripts.specs.RefuserLaws.{refusals_orderly}
 use Rattle.gateway_replay.proofs.WatchLemmas.{no_entering}

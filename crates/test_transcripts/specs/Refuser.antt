@@ -11,8 +11,7 @@ use Rattle.gateway_claim.specs.declared.event.Event.TheVariants as event
 use Rattle.gateway_claim.specs.declared.event.Outcome.{Outcome}
 use Rattle.gateway_claim.specs.declared.event.UpCause.{UpCause}
 use Rattle.gateway_claim.specs.Happenings.{Happening, enters, takes, ends, lags, hears, up_ends, cause_of, HistoryEntry, fault_in, is_alive, nothing_up, silent}
-use Rattle.gateway_claim.specs.Cores.{IsCoreHistory}
-use Rattle.gateway_claim.specs.Orderly.{closing_all}
+use Rattle.gateway_claim.specs.Cores.{IsCoreHistory, closing_all}
 use Rattle.gate_bytes.specs.Ascii.{cr, lf}
 
 -- what a request is answered

@@ -10,8 +10,7 @@ use Rattle.gateway_claim.specs.declared.event.Closed.TheVariants.{Nobody, One}
 use Rattle.gateway_claim.specs.declared.event.Outcome.{Outcome}
 use Rattle.gateway_claim.specs.declared.event.UpCause.{UpCause}
 use Rattle.gateway_claim.specs.Happenings.{Happening, enters, takes, ends, lags, hears, up_ends, HistoryEntry, fault_in, is_alive, silent}
-use Rattle.gateway_claim.specs.Cores.{IsCoreHistory}
-use Rattle.gateway_claim.specs.Orderly.{IsOrderlyBy, IsOrderlyAfter, IsOrderly}
+use Rattle.gateway_claim.specs.Cores.{IsCoreHistory, IsOrderlyBy, IsOrderlyAfter, IsOrderly}
 use Rattle.test_transcripts.specs.Refuser.{closing_one, refused_item, refusing, refusal_at, FollowsRefusing}
 
 -- at most one entry with a given happening follows

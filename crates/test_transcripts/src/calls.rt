@@ -1,9 +1,11 @@
 //! Calls of a multiplexer.
+ghost use Rattle.gateway_claim.specs.Cores.{IsOwnKey};
+ghost use Rattle.gateway_mux.specs.Stands.{HasKey};
 
 use crate::gateway::with_two_players;
 use crate::items::item_in;
 use crate::outcomes::tell_outcome;
-use gateway_claim::{Event, UpCause, UpWhy};
+use gateway_claim::{ConnectionKey, Event, Standing, UpCause, UpWhy};
 use gateway_mux::Mux;
 use rtsp_frame::Framer;
 use run_status::Status;
@@ -19,6 +21,8 @@ use test_text::{CaseAnswer, CaseFault, first_number, first_word, meant};
 /// - `E CONNECTION`: a player's connection ends, and `Z R`: reading from the server fails;
 /// - `plan CONNECTION BYTES`: a player's first item, planned and carried out apart, and whether the player was busy before and
 ///   is busy then;
+/// - `stands CONNECTION`: whether it is closed, busy or ready; and with `by_key CONNECTION BYTES` a player's first item is planned
+///   by the key of one that is ready, and carried out;
 /// - `alive CONNECTION`, `waiting CONNECTION` (how many of its requests wait), `next NUMBER` (the first connection from a number
 ///   on that is alive), `dropped` (frames) and `ended` (the cause).
 pub fn call(alloc: Global, mux: &mut Box<Mux>, line: &[u8], answer: &mut CaseAnswer) {
@@ -39,6 +43,8 @@ pub fn call(alloc: Global, mux: &mut Box<Mux>, line: &[u8], answer: &mut CaseAns
 fn look(alloc: Global, mux: &mut Mux, word: &str, conn: u32, text: &[u8], answer: &mut CaseAnswer) {
     match word {
         "plan" => tell_plan(alloc, mux, conn, text, answer),
+        "by_key" => tell_by_key(alloc, mux, conn, text, answer),
+        "stands" => answer.push(standing_word(mux.standing(conn))),
         "alive" => push_yes(mux.alive(conn), answer),
         "waiting" => answer.push_number(mux.waiting(conn) as u64),
         "next" => push_next(mux.next_alive(conn), answer),
@@ -145,6 +151,42 @@ fn tell_plan(alloc: Global, mux: &mut Mux, conn: u32, text: &[u8], answer: &mut 
 /// Has an event planned and carried out, and tells what it hands out.
 fn tell_planned(alloc: Global, mux: &mut Mux, event: Event, answer: &mut CaseAnswer) {
     match mux.plan(alloc, &event) {
+        Ok(plan) => tell_outcome(alloc, &mux.commit(event, plan), answer),
+        Err(_memory) => answer.fail(CaseFault::Memory),
+    }
+}
+
+/// The word for where a connection stands.
+fn standing_word(standing: Standing) -> &'static [u8] {
+    match standing {
+        Standing::Closed => b"closed",
+        Standing::Busy => b"busy",
+        Standing::Ready(_) => b"ready",
+    }
+}
+
+/// Has the first item of a player that is ready planned by its key and carried out, and tells what it hands out.
+fn tell_by_key(alloc: Global, mux: &mut Mux, conn: u32, text: &[u8], answer: &mut CaseAnswer) {
+    match mux.standing(conn) {
+        Standing::Ready(key) => match item_in(alloc, text) {
+            Ok(item) => tell_keyed(alloc, mux, Event::Client(conn, item), key, answer),
+            Err(fault) => answer.fail(fault),
+        },
+        other => answer.push(standing_word(other)),
+    }
+}
+
+/// Has an event planned by the key of its connection and carried out, and tells what it hands out.
+fn tell_keyed(
+    alloc: Global,
+    mux: &mut Mux,
+    event: Event,
+    key: ConnectionKey,
+    answer: &mut CaseAnswer,
+)
+    requires { IsOwnKey (HasKey mux.old) event key }
+{
+    match mux.plan_at(alloc, &event, key) {
         Ok(plan) => tell_outcome(alloc, &mux.commit(event, plan), answer),
         Err(_memory) => answer.fail(CaseFault::Memory),
     }

@@ -5,7 +5,7 @@ ghost use Rattle.client_machine.specs.Plans.{incoming_seen, CanCome, IsReady};
 use crate::items::item_in;
 use crate::trial::Trial;
 use client_machine::{
-    CloseWhy, Done, Incoming, Plan, ServerReply, channel_for, grant_said, half_for, plan,
+    CloseWhy, Done, Incoming, PlannedStep, ServerReply, channel_for, grant_said, half_for, plan,
     plan_close,
 };
 use client_slot::Slot;
@@ -108,7 +108,7 @@ impl Trial {
     }
 
     /// Carries a plan out, and counts the request that goes up.
-    fn carry_out(&mut self, plan: Plan, answer: &mut CaseAnswer)
+    fn carry_out(&mut self, plan: PlannedStep, answer: &mut CaseAnswer)
         requires { IsReady self.old.slot plan }
     {
         let open = self.number;

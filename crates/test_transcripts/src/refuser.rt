@@ -1,13 +1,14 @@
 //! A core that refuses: it answers every request of a player with 501, and asks the server nothing.
 ghost use Rattle.std.specs.Prelude.{◌≡◌, [], ℕ, false, None, Some, nat_eq};
 ghost use Rattle.std.specs.HashSet.{contains};
-ghost use Rattle.gateway_claim.specs.Cores.{stays_alive};
+ghost use Rattle.gateway_claim.specs.Cores.{stays_alive, closing_all};
 ghost use Rattle.gateway_claim.specs.Happenings.{happening_of, nothing_up, silent, cause_of};
-ghost use Rattle.gateway_claim.specs.Orderly.{closing_all};
 ghost use Rattle.test_transcripts.specs.Refuser.{refused_text, handing, closed_if, item_refused, refusing, text_for, text_planned, StandsRefusing};
 
 use gate_bytes::{Memory, Text};
-use gateway_claim::{CloseWhy, Closed, Core, Event, Outcome, ToClient, ToUp, UpCause, UpWhy};
+use gateway_claim::{
+    CloseWhy, Closed, ConnectionKey, Core, Event, Outcome, Standing, ToClient, ToUp, UpCause, UpWhy,
+};
 use rtsp_head::ItemKind;
 use rtsp_uri::Bases;
 use std::alloc::Global;
@@ -160,7 +161,7 @@ fn answered(conn: u32, text: Option<Text>) -> Outcome
 }
 
 impl Core for Refuser {
-    ghost use Rattle.std.specs.Prelude.{◌≡◌, false, nat_eq, refl};
+    ghost use Rattle.std.specs.Prelude.{◌≡◌, true, false, nat_eq, refl};
     ghost use Rattle.std.specs.HashSet.{contains};
     ghost use Rattle.test_transcripts.specs.Refuser.{StandsRefusing, FollowsRefusing, text_planned};
     ghost use Rattle.test_transcripts.specs.RefuserLaws.{one_refusal, refusals_orderly};
@@ -174,6 +175,8 @@ impl Core for Refuser {
     ghost follows = { FollowsRefusing };
 
     ghost planned = { λ core event plan. plan.text ≡ text_planned (λ i. contains nat_eq core.numbers i) event };
+
+    ghost has_key = { λ core i key. contains nat_eq core.numbers i ≡ true };
 
     ghost is_busy = { λ bases i T. false };
 
@@ -210,6 +213,15 @@ impl Core for Refuser {
         Ok(RefuserPlan { text: None })
     }
 
+    fn plan_at(
+        &self,
+        alloc: Global,
+        event: &Event,
+        key: ConnectionKey,
+    ) -> Result<RefuserPlan, Memory> {
+        self.plan(alloc, event)
+    }
+
     fn commit(&mut self, event: Event, plan: RefuserPlan) -> Outcome {
         if self.over.is_some() {
             return nothing();
@@ -221,6 +233,14 @@ impl Core for Refuser {
         match self.plan(alloc, &event) {
             Ok(plan) => Ok(self.commit(event, plan)),
             Err(memory) => Err((event, memory)),
+        }
+    }
+
+    fn standing(&self, conn: u32) -> Standing {
+        if self.numbers.contains(&conn) {
+            Standing::Ready(ConnectionKey { place: 0 })
+        } else {
+            Standing::Closed
         }
     }
 

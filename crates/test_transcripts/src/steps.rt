@@ -1,7 +1,7 @@
 //! The steps that change a connection. One that may not be taken can't be read.
-ghost use Rattle.std.specs.Prelude.{◌≡◌, ◌<◌, true, None, IfOk, IfSome, IsSome};
+ghost use Rattle.std.specs.Prelude.{◌≡◌, ◌≢◌, ◌<◌, true, None, IfOk, IfSome, IsSome};
 ghost use Rattle.client_slot.specs.Bounds.{is_filled};
-ghost use Rattle.client_slot.specs.Made.{described_made};
+ghost use Rattle.client_slot.specs.NewSessions.{described_made};
 ghost use Rattle.session_one.specs.declared.parts.TheConstants.{MOST_SESSIONS};
 
 use crate::items::item_in;
@@ -153,7 +153,9 @@ fn place_filled(slot: &Slot, place: u8) -> Option<u8>
 }
 
 /// The stream that a SETUP brings.
-fn track(alloc: Global, method: Method, uri: &[u8]) -> Result<Option<Track>, Memory> {
+fn track(alloc: Global, method: Method, uri: &[u8]) -> Result<Option<Track>, Memory>
+    ensures { IfOk result (λ track. IfSome track (λ one. one.client.rtp ≢ one.client.rtcp)) }
+{
     if method != Method::Setup {
         return Ok(None);
     }
