@@ -181,17 +181,19 @@ impl WaitingOutlet {
         self.watch.asked.load(Ordering::SeqCst) < self.stuck
     }
 
-    /// Offers bytes to the outlet in memory. While it is stuck it takes none each time, after a pause, as a real one does.
+    /// Offers bytes to the outlet in memory.
     fn hand(&mut self, piece: &[u8]) -> Result<usize, Failed>
         requires { 0 < length piece.now }
         ensures bound { IfOk result (λ count. count ≤ length piece.now) }
         ensures faults { self.new.faults ≡ self.old.faults }
     {
-        if self.shut.load(Ordering::SeqCst) {
-            return Err(Failed);
+        // Whoever offers first may be another than its writer, who is to see too that nothing is taken.
+        if self.is_stuck() && self.pauses < 2 {
+            self.pauses += 1;
+            return Ok(0);
         }
-        if self.is_stuck() {
-            return if self.pause() { Ok(0) } else { Err(Failed) };
+        if !self.await_room() {
+            return Err(Failed);
         }
         let count = self.outlet.offer(piece)?;
         if self.is_server {
@@ -200,13 +202,23 @@ impl WaitingOutlet {
         Ok(count)
     }
 
-    /// Pauses once. False where it has waited in vain.
-    fn pause(&mut self) -> bool
+    /// Waits until it takes something. False where it is shut, or has waited in vain.
+    fn await_room(&mut self) -> bool
         ensures faults { self.new.faults ≡ self.old.faults }
     {
-        let paused = self.watch.pause(&self.host, self.pauses);
-        self.pauses = self.pauses.saturating_add(1);
-        paused
+        for _ in 0..=MOST_PAUSES {
+            if self.shut.load(Ordering::SeqCst) {
+                return false;
+            }
+            if !self.is_stuck() {
+                return true;
+            }
+            if !self.watch.pause(&self.host, self.pauses) {
+                return false;
+            }
+            self.pauses = self.pauses.saturating_add(1);
+        }
+        false
     }
 }
 
