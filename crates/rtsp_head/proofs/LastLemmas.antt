@@ -1,25 +1,19 @@
 -- The last header of a list of them, with which a line goes on or above which it begins another.
-use Rattle.std.proofs.Common.{◌≡◌, ℕ, ◌<◌, Bool, true, cond, nat_lt, List, [], ◌∷◌, ◌++◌, length, Some, Result, Ok, Err, refl, sym, ◌∙◌, ap, arith}
-use Rattle.std.specs.Result.{OnOk}
+use Rattle.std.proofs.Common.{◌≡◌, ℕ, ◌<◌, Bool, true, false, cond, nat_lt, List, [], ◌∷◌, ◌++◌, length, Some, Result, Ok, Err, refl, sym, ◌∙◌, ap, arith}
+use Rattle.std.specs.Result.{OnOk, IsOk}
 use Rattle.std.proofs.lemmas.Bool.{lt-ltb}
 use Rattle.gate_bytes.specs.Ascii.{space}
 use Rattle.gate_bytes.specs.Tokens.{trimmed}
 use Rattle.rtsp_head.specs.declared.fault.HeadFault.{HeadFault}
 use Rattle.rtsp_head.specs.declared.fault.HeadFault.TheVariants as faults
-use Rattle.rtsp_head.specs.declared.further.FurtherLine.{FurtherLine}
 use Rattle.rtsp_head.specs.declared.header.Header.{Header}
 use Rattle.rtsp_head.specs.declared.headers.TheConstants.{MOST_HEADERS}
-use Rattle.rtsp_head.specs.Headers.{SoFar, Further, headers_in, header_limit, continued, with_header}
+use Rattle.rtsp_head.specs.Headers.{SoFar, headers_in, header_limit, continued, with_header}
 use Rattle.rtsp_head.specs.LastHeader.{apart}
-use Rattle.rtsp_head.specs.Views.{further_seen}
 
 -- what was read, without a fault
 abbrev pub read_so_far : SoFar → Result SoFar HeadFault
 read_so_far so_far = Ok so_far
-
--- what a line says, without a fault
-abbrev pub read_further : FurtherLine → Result Further HeadFault
-read_further further = Ok (further_seen further)
 
 pub weaker : {A E : Type 0} (r : Result A E) (P Q : Type 0) → (P → Q) → OnOk r P → OnOk r Q
 weaker (Ok x) P Q f h = f h
@@ -69,3 +63,11 @@ pub tidy_last : (shut new : List Header) (name value placed : List ℕ) → new 
 tidy_last shut new name value placed is placed_is tidy =
     ap (λ (l : List Header). headers_in (apart l)) is ∙ closed_last shut name placed
     ∙ ap (λ (v : List ℕ). shut ++ record { name = name; value = v } ∷ []) (ap trimmed placed_is ∙ tidy ∙ sym placed_is) ∙ sym is
+
+-- where one header more is taken, fewer stand than may
+pub has_place : (so_far : SoFar) (header : Header) → IsOk (with_header header_limit so_far header) → length (headers_in so_far) < MOST_HEADERS
+has_place so_far header ok = by_test (nat_lt (length (headers_in so_far)) MOST_HEADERS) refl ok
+  where
+    by_test : (room : Bool) → nat_lt (length (headers_in so_far)) MOST_HEADERS ≡ room → IsOk (cond room (read_so_far (record { above = headers_in so_far; last = Some header })) (Err faults.Many)) → length (headers_in so_far) < MOST_HEADERS
+    by_test true is ok = grind arith
+    by_test false is ok = cc

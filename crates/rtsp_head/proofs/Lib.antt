@@ -8,6 +8,7 @@ pub mod WriteLemmas
 pub mod FaultLemmas
 pub mod ListLemmas
 pub mod SoundLemmas
+pub mod MessageHeadLemmas
 pub mod MessageLemmas
 pub mod StreamLemmas
 pub mod FieldLemmas

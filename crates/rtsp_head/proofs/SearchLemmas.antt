@@ -6,6 +6,7 @@ use Rattle.std.specs.Option.{option_map}
 use Rattle.std.proofs.lemmas.List.{take-append-drop, length-take, take-take}
 use Rattle.std.proofs.lemmas.List.Folds.{list_all-append}
 use Rattle.gate_bytes.specs.Ascii.{nul, lf, cr}
+use Rattle.gate_bytes.specs.Places.{place_of, cut_at}
 use Rattle.gate_bytes.proofs.SeamLemmas.{lacks, lacks_append, cut_at_seam, cut_nowhere}
 use Rattle.memchr.specs.Find.{IsFirstByte, is_byte3}
 use Rattle.rtsp_head.specs.Lines.{first_line, line_apart}
@@ -113,3 +114,27 @@ pub line_found : (bytes : List ℕ) (k : ℕ) (ends rest : List ℕ) → ends �
     (ends ≡ lf ∷ rest) ⊎ (ends ≡ cr ∷ lf ∷ rest) → ◌≡◌ {A = List ℕ × List ℕ} (first_line bytes) (take k bytes, rest)
 line_found bytes k ends rest same fits (inl h) = joined_again bytes k (lf ∷ rest) (take k bytes) rest (sym same ∙ h) (line_before (take k bytes) rest fits) refl
 line_found bytes k ends rest same fits (inr h) = joined_again bytes k (cr ∷ lf ∷ rest) (take k bytes) rest (sym same ∙ h) (line_before_both (take k bytes) rest fits) refl
+
+-- a byte that stands among the first ones stands there first
+place_near : (byte n : ℕ) (text : List ℕ) (at : ℕ) → place_of byte (take n text) ≡ Some at → place_of byte text ≡ Some at
+place_near byte zero text at is = cc
+place_near byte (suc n) [] at is = cc
+place_near byte (suc n) (b ∷ text) at is = by_test (b == byte) (place_of byte (take n text)) (λ k found. place_near byte n text k found) refl is
+  where
+    by_test : (here : Bool) (place : Option ℕ) → ((k : ℕ) → place_of byte (take n text) ≡ Some k → place_of byte text ≡ Some k) → place_of byte (take n text) ≡ place
+        → cond here (Some 0) (option_map (λ k. k + 1) place) ≡ Some at → cond here (Some 0) (option_map (λ k. k + 1) (place_of byte text)) ≡ Some at
+    by_test true place later found same = same
+    by_test false None later found same = cc
+    by_test false (Some k) later found same = ap (option_map (λ k. k + 1)) (later k found) ∙ same
+
+-- so it stands in the text
+pub near_within : (text : List ℕ) (n : ℕ) (front : List ℕ) (at : ℕ) → front ≡ take n text → at < length front → at < length text
+near_within text n front at is within = omega (arith, within, ap length is, length-take n text)
+
+-- a text that is cut among its first bytes
+pub cut_near : (byte : ℕ) (text : List ℕ) (n : ℕ) (front : List ℕ) (at : ℕ) (before after : List ℕ) → front ≡ take n text → Some at ≡ place_of byte front → before ≡ take at text → after ≡ drop (at + 1) text
+    → ◌≡◌ {A = Option (List ℕ × List ℕ)} (Some (before, after)) (cut_at byte text)
+cut_near byte text n front at before after is found before_is after_is =
+    let place : place_of byte text ≡ Some at = place_near byte n text at (ap (place_of byte) (sym is) ∙ sym found) in
+    ap (λ (t : List ℕ). Some (t, after)) before_is ∙ ap (λ (t : List ℕ). Some (take at text, t)) after_is
+    ∙ sym (ap (option_map (λ (k : ℕ). (take k text, drop (k + 1) text))) place)

@@ -215,10 +215,6 @@ line_tidy line = by_tests (has_control line) (goes_on line)
     by_tests false true = trimmed_twice line
     by_tests false false = header_tidy (cut_at ascii.colon line)
 
--- the value of a header that a line is was trimmed
-pub begun_tidy : (line : List ℕ) (header : Header) → further_of line ≡ Ok (Begins header) → trimmed header.value ≡ header.value
-begun_tidy line header is = subst TidyIfOk is (line_tidy line)
-
 line_alike : (tally : Tally) (so_far : SoFar) (further : Result Further HeadFault) → TidyIfOk further → Fits tally so_far →
     Alike (and_then (tally_with tally) further) (and_then (with_further header_limit so_far) further)
 line_alike tally so_far (Ok further) tidy fits = further_alike tally so_far further tidy fits

@@ -42,7 +42,11 @@ abbrev pub status_of : List ℕ → Option Start
 status_of line = option_and_then (λ first. status_with first.0 (unwrap_or (cut_at space first.1) (first.1, []))) (cut_at space line)
 
 -- A first line that begins with `RTSP/` is a status line, and any other a request line.
+abbrev pub plain_start_of : List ℕ → Option Start
+plain_start_of line = if names_protocol line then status_of line else request_of line
+
+-- what a first line says, or its fault
 abbrev pub start_of : List ℕ → Result Start HeadFault
 start_of line =
     if has_control line then Err faults.Control
-    else ok_or (if names_protocol line then status_of line else request_of line) faults.Start
+    else ok_or (plain_start_of line) faults.Start

@@ -136,7 +136,7 @@ fn header_line(line: &[u8]) -> Result<FurtherLine<'_>, HeadFault>
 }
 
 /// Whether a line goes on with the header above.
-fn goes_on(line: &[u8]) -> bool
+pub(crate) fn goes_on(line: &[u8]) -> bool
     ensures { result ≡ goes_on line.now }
 {
     matches!(line, [b' ' | b'\t', ..])

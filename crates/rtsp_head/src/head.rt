@@ -1,5 +1,5 @@
 //! A head and its fields.
-ghost use Rattle.std.specs.Prelude.{◌≡◌, option_map, IsTrue, IfSome, IfOk};
+ghost use Rattle.std.specs.Prelude.{◌≡◌, Ok, option_map, IsTrue, IsOk, IfSome, IfOk};
 ghost use Rattle.gate_bytes.specs.Outcomes.{UnlessMemory};
 ghost use Rattle.rtsp_head.specs.Lines.{head_refusal, head_lines};
 ghost use Rattle.rtsp_head.specs.Headers.{header_limit, field_of, headers_of};
@@ -8,9 +8,10 @@ ghost use Rattle.rtsp_head.specs.Optional.{said_where};
 ghost use Rattle.rtsp_head.specs.HeadText.{is_value, CanBeWritten};
 ghost use Rattle.rtsp_head.specs.Views.{start_seen};
 
+use crate::facts::check_head;
 use crate::header_lines::Reading;
-use crate::line::next_line;
-use crate::start::start_line;
+use crate::line::plain_line;
+use crate::start::plain_start;
 use crate::{FieldValue, HeadFault, Headers, StartLine};
 use gate_bytes::Memory;
 use std::alloc::Global;
@@ -90,23 +91,39 @@ pub fn read_head(alloc: Global, bytes: &[u8]) -> Result<Head<'_>, HeadFault>
     ensures head { UnlessMemory head_refusal result (head_of bytes.now) }
     ensures writable { IfOk result (λ head. CanBeWritten head.start head.headers) }
 {
-    let Some((line, rest)) = next_line(bytes) else {
-        return Err(HeadFault::Start);
+    match check_head(bytes) {
+        Ok(_) => Ok(sound_head(alloc, bytes)?),
+        Err(fault) => Err(fault),
+    }
+}
+
+/// The head that the bytes spell, which is known to be sound: it is cut into its parts, and no fault is looked for again.
+pub(crate) fn sound_head(alloc: Global, bytes: &[u8]) -> Result<Head<'_>, Memory>
+    requires { IsOk (head_of bytes.now) }
+    ensures head { IfOk result (λ head. head_of bytes.now ≡ Ok head) }
+    ensures writable { IfOk result (λ head. CanBeWritten head.start head.headers) }
+{
+    let Some((line, rest)) = plain_line(bytes) else {
+        unreachable!();
     };
-    let start = start_line(line)?;
+    let Some(start) = plain_start(line) else {
+        unreachable!();
+    };
     let headers = read_headers(alloc, rest)?;
     Ok(Head { start, headers })
 }
 
-/// The headers of a head's further lines, or their first fault.
-fn read_headers(alloc: Global, bytes: &[u8]) -> Result<Headers<'_>, HeadFault>
-    ensures { UnlessMemory head_refusal result (headers_of header_limit (head_lines bytes.now)) }
+/// The headers of a head's further lines, in which there is no fault.
+#[inline(always)]
+fn read_headers(alloc: Global, bytes: &[u8]) -> Result<Headers<'_>, Memory>
+    requires { IsOk (headers_of header_limit (head_lines bytes.now)) }
+    ensures { IfOk result (λ headers. headers_of header_limit (head_lines bytes.now) ≡ Ok headers) }
 {
     let mut reading = Reading::new(alloc);
     let mut rest = bytes;
-    while let Some((line, after)) = next_line(rest) {
+    while let Some((line, after)) = plain_line(rest) {
         reading.take_line(alloc, line)?;
         rest = after;
     }
-    Ok(reading.finish(alloc)?)
+    reading.finish(alloc)
 }

@@ -1,15 +1,12 @@
 //! The headers of a head, line by line.
-ghost use Rattle.std.specs.Prelude.{◌≡◌, Ok, Err, IfOk, IfErr, IfSome, OnOk, true, false};
+ghost use Rattle.std.specs.Prelude.{◌≡◌, Ok, IsOk, IfOk, OnOk, true, false};
 ghost use Rattle.gate_bytes.specs.Tokens.{trimmed};
-ghost use Rattle.rtsp_head.specs.Lines.{head_refusal};
 ghost use Rattle.rtsp_head.specs.Headers.{header_limit, continued, with_header, with_line, headers_in, no_headers};
 ghost use Rattle.rtsp_head.specs.Views.{so_far, IsClosed};
 
-use crate::further::{FurtherLine, further_line};
-use crate::headers::MOST_HEADERS;
-use crate::line::Line;
-use crate::{FieldValue, HeadFault, Header, Headers};
-use gate_bytes::{Memory, trim};
+use crate::further::goes_on;
+use crate::{FieldValue, Header, Headers};
+use gate_bytes::{Memory, split_once, trim};
 use std::alloc::Global;
 
 /// The headers of the lines so far. The next line may go on with the last one.
@@ -32,33 +29,34 @@ impl<'a> Reading<'a> {
         }
     }
 
-    /// Reads one more line. After an error the headers are of no use.
-    pub(crate) fn take_line(&mut self, alloc: Global, line: Line<'a>) -> Result<(), HeadFault>
-        requires { IsClosed self.old }
+    /// Reads one more line, in which there is no fault. Where memory is wanting the headers are of no use.
+    #[inline(always)]
+    pub(crate) fn take_line(&mut self, alloc: Global, line: &'a [u8]) -> Result<(), Memory>
+        requires closed { IsClosed self.old }
+        requires sound { IsOk (with_line header_limit (so_far self.old) line.now) }
         ensures ok { OnOk result
-            (with_line header_limit (so_far self.old) line.entry ≡ Ok (so_far self.new)) }
+            (with_line header_limit (so_far self.old) line.now ≡ Ok (so_far self.new)) }
         ensures closed { OnOk result (IsClosed self.new) }
-        ensures err { IfErr result (λ fault.
-            IfSome (head_refusal fault) (λ refused.
-            with_line header_limit (so_far self.old) line.entry ≡ Err refused)) }
     {
-        match further_line(line)? {
-            FurtherLine::More(text) => self.go_on(alloc, trim(text)),
-            FurtherLine::Begins { name, value } => self.begin(alloc, name, trim(value)),
+        if goes_on(line) {
+            return self.go_on(alloc, trim(line));
         }
+        let Some((name, value)) = split_once(b':', line) else {
+            unreachable!();
+        };
+        self.begin(alloc, name, trim(value))
     }
 
     /// Joins a text to the value of the last header by one space.
-    fn go_on(&mut self, alloc: Global, text: &[u8]) -> Result<(), HeadFault>
+    #[inline(never)]
+    fn go_on(&mut self, alloc: Global, text: &[u8]) -> Result<(), Memory>
+        requires { IsOk (continued (so_far self.old) text.now (so_far self.old).last) }
         ensures ok { OnOk result
             (continued (so_far self.old) text.now (so_far self.old).last ≡ Ok (so_far self.new)) }
         ensures folded { OnOk result (self.new.folded ≡ true) }
-        ensures err { IfErr result (λ fault.
-            IfSome (head_refusal fault) (λ refused.
-            continued (so_far self.old) text.now (so_far self.old).last ≡ Err refused)) }
     {
         let Some(field) = self.headers.pop() else {
-            return Err(HeadFault::Colon);
+            unreachable!();
         };
         self.headers.push(Header {
             name: field.name,
@@ -69,22 +67,18 @@ impl<'a> Reading<'a> {
     }
 
     /// Begins a header.
-    fn begin(&mut self, alloc: Global, name: &'a [u8], value: &'a [u8]) -> Result<(), HeadFault>
+    #[inline(always)]
+    fn begin(&mut self, alloc: Global, name: &'a [u8], value: &'a [u8]) -> Result<(), Memory>
         requires closed { IsClosed self.old }
         requires tidy { trimmed value.now ≡ value.now }
+        requires room { IsOk (with_header header_limit (so_far self.old)
+            (record { name = name.now; value = value.now })) }
         ensures ok { OnOk result
             (with_header header_limit (so_far self.old) (record { name = name.now; value = value.now })
             ≡ Ok (so_far self.new)) }
         ensures closed { OnOk result (IsClosed self.new) }
-        ensures err { IfErr result (λ fault.
-            IfSome (head_refusal fault) (λ refused.
-            with_header header_limit (so_far self.old) (record { name = name.now; value = value.now })
-            ≡ Err refused)) }
     {
         self.close_last(alloc)?;
-        if self.headers.len() >= MOST_HEADERS {
-            return Err(HeadFault::Many);
-        }
         self.headers.push_read(Header {
             name,
             value: FieldValue::new(value),

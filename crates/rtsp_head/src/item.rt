@@ -1,7 +1,13 @@
 //! Items: what stands on a stream, one after another.
 ghost use Rattle.std.specs.Prelude.{◌≡◌, length, take, drop, Some, IfOk};
+ghost use Rattle.gate_bytes.specs.Outcomes.{UnlessMemory};
+ghost use Rattle.rtsp_head.specs.Lines.{head_refusal};
+ghost use Rattle.rtsp_head.specs.Heads.{head_of};
+ghost use Rattle.rtsp_head.specs.HeadText.{CanBeWritten};
 ghost use Rattle.rtsp_head.specs.Items.{first_extent, is_bad};
 
+use crate::head::{read_head, sound_head};
+use crate::{Head, HeadFault};
 use gate_bytes::{Memory, Text, after, before};
 use std::alloc::Global;
 
@@ -101,6 +107,18 @@ impl Item {
             bytes,
             head: self.head,
         })
+    }
+
+    /// Its head, or the first fault of that. The head of a message was looked over when the item was found: no fault is
+    /// looked for again.
+    pub fn head(&self, alloc: Global) -> Result<Head<'_>, HeadFault>
+        ensures head { UnlessMemory head_refusal result (head_of (take self.now.head self.now.bytes)) }
+        ensures writable { IfOk result (λ head. CanBeWritten head.start head.headers) }
+    {
+        match self.kind {
+            ItemKind::Request | ItemKind::Response => Ok(sound_head(alloc, self.head_bytes())?),
+            ItemKind::Frame | ItemKind::Bad(_) => read_head(alloc, self.head_bytes()),
+        }
     }
 
     /// The bytes of its head.

@@ -2,11 +2,12 @@
 ghost use Rattle.std.specs.Prelude.{◌≡◌, ◌<◌, ◌==◌, ◌⊎◌, ◌∷◌, true, false, length, IfSome, option_map};
 ghost use Rattle.std.specs.Str.Lines.{strip_carriage_return};
 ghost use Rattle.gate_bytes.specs.Ascii.{lf, cr};
+ghost use Rattle.gate_bytes.specs.Places.{cut_at};
 ghost use Rattle.rtsp_head.specs.Lines.{first_line, head_lines, lines_with, has_control};
 ghost use Rattle.rtsp_head.specs.HeadText.{is_line_text};
 ghost use Rattle.rtsp_head.specs.LineWalk.{IsPassed, before_place};
 
-use gate_bytes::{after, before, holds_either, split_once};
+use gate_bytes::{after, before, find, holds_either, split_once};
 use memchr::memchr3;
 use std::marker::Model;
 
@@ -133,12 +134,50 @@ fn clean(text: &[u8]) -> Line<'_>
 fn marked_line(bytes: &[u8]) -> (Line<'_>, &[u8])
     ensures { (result.0, result.1.now) ≡ first_line bytes.now }
 {
-    let (text, rest) = match split_once(b'\n', bytes) {
-        Some((line, rest)) => (without_return(line), rest),
-        None => (bytes, after(bytes, bytes.len())),
-    };
+    let (text, rest) = plain_first(bytes);
     let control = holds_either(b'\r', 0, text);
     (Line { text, control }, rest)
+}
+
+/// The next line of a head whose lines were looked over before, without its end, and what follows it. There is none at an
+/// empty line, and none at the end of the bytes.
+#[inline(always)]
+pub(crate) fn plain_line(bytes: &[u8]) -> Option<(&[u8], &[u8])>
+    ensures line { head_lines bytes.now
+        ≡ lines_with (option_map (λ parts. (parts.0.now, parts.1.now)) result) }
+    ensures less { IfSome result (λ parts. length parts.1.now < length bytes.now) }
+{
+    let (line, rest) = plain_first(bytes);
+    if line.is_empty() {
+        None
+    } else {
+        Some((line, rest))
+    }
+}
+
+/// The first line without its end, and what follows it.
+#[inline(always)]
+fn plain_first(bytes: &[u8]) -> (&[u8], &[u8])
+    ensures { (result.0.now, result.1.now) ≡ first_line bytes.now }
+{
+    match cut_line(bytes) {
+        Some((line, rest)) => (without_return(line), rest),
+        None => (bytes, after(bytes, bytes.len())),
+    }
+}
+
+/// What stands before the first LF, and behind it. Few bytes are searched first, as most lines are short.
+#[inline(always)]
+fn cut_line(bytes: &[u8]) -> Option<(&[u8], &[u8])>
+    ensures parts { option_map (λ parts. (parts.0.now, parts.1.now)) result ≡ cut_at lf bytes.now }
+    ensures less { IfSome result (λ parts. length parts.1.now < length bytes.now) }
+{
+    if bytes.len() > SHORT_LINE
+        && let Some(at) = find(b'\n', before(bytes, SHORT_LINE))
+    {
+        return Some((before(bytes, at), after(bytes, at + 1)));
+    }
+    split_once(b'\n', bytes)
 }
 
 /// The next line of a head without its end, and what follows it. There is none at an empty line,

@@ -1,7 +1,7 @@
 //! The first line of a head.
 ghost use Rattle.std.specs.Prelude.{◌≡◌, option_map};
 ghost use Rattle.rtsp_head.specs.Lines.{result_map};
-ghost use Rattle.rtsp_head.specs.Starts.{names_protocol, is_unspaced, code_of, request_of, status_of, start_of};
+ghost use Rattle.rtsp_head.specs.Starts.{plain_start_of, names_protocol, is_unspaced, code_of, request_of, status_of, start_of};
 ghost use Rattle.rtsp_head.specs.Heads.{is_request};
 ghost use Rattle.rtsp_head.specs.Views.{start_seen};
 
@@ -57,15 +57,21 @@ pub(crate) fn start_line(line: Line<'_>) -> Result<StartLine<'_>, HeadFault>
     if line.has_control() {
         return Err(HeadFault::Control);
     }
-    let line = line.text();
-    let found = if names_protocol(line) {
+    match plain_start(line.text()) {
+        Some(start) => Ok(start),
+        None => Err(HeadFault::Start),
+    }
+}
+
+/// What a first line without control bytes says, where it is sound.
+#[inline(always)]
+pub(crate) fn plain_start(line: &[u8]) -> Option<StartLine<'_>>
+    ensures { option_map start_seen result ≡ plain_start_of line.now }
+{
+    if names_protocol(line) {
         status_line(line)
     } else {
         request_line(line)
-    };
-    match found {
-        Some(start) => Ok(start),
-        None => Err(HeadFault::Start),
     }
 }
 
