@@ -6,7 +6,7 @@ ghost use Rattle.drill_run.specs.Players.{is_response_kind, session_in_head, ses
 use crate::script::{PlayerWords, said_at};
 use crate::step::PlayerStep;
 use gate_bytes::{Memory, Text};
-use rtsp_head::{Head, HeadFault, Item, ItemKind, read_head};
+use rtsp_head::{Head, HeadFault, Item, ItemKind};
 use rtsp_small::read_session;
 use std::alloc::Global;
 
@@ -100,7 +100,7 @@ pub fn is_response(item: &Item) -> bool
 fn session_told(alloc: Global, reply: &Item) -> Result<Option<Text>, Memory>
     ensures { IfOk result (λ session. session ≡ session_replied (shape_of reply.now)) }
 {
-    match read_head(alloc, reply.head_bytes()) {
+    match reply.head(alloc) {
         Ok(head) => session_in_head(alloc, &head),
         Err(HeadFault::Memory) => Err(Memory),
         Err(_) => Ok(None),

@@ -9,7 +9,7 @@ ghost use Rattle.head_one.specs.Views.{parts_seen};
 use crate::rule::{RequestParts, check_parts};
 use crate::{Refusal, RequestFault};
 use gate_bytes::{Memory, Text};
-use rtsp_head::{Head, HeadFault, Item, StartLine, read_head};
+use rtsp_head::{Head, HeadFault, Item, StartLine};
 use rtsp_small::Method;
 use rtsp_uri::CutUri;
 use std::alloc::Global;
@@ -52,7 +52,7 @@ impl<'a> Model for Request1<'a> {
 pub fn read_request(alloc: Global, item: &Item) -> Result<Request1<'_>, RequestFault>
     ensures { UnlessMemory request_refusal result (request_of_item (shape_of item.now)) }
 {
-    let head = match read_head(alloc, item.head_bytes()) {
+    let head = match item.head(alloc) {
         Ok(head) => head,
         Err(HeadFault::Memory) => return Err(RequestFault::Memory),
         Err(_) => return Err(RequestFault::Refused(no_request())),

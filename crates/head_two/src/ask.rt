@@ -6,7 +6,7 @@ ghost use Rattle.head_two.specs.Replies.{ask_of_item};
 
 use crate::TwoFault;
 use crate::reply::checked_cseq;
-use rtsp_head::{Head, HeadFault, Item, StartLine, read_head};
+use rtsp_head::{Head, HeadFault, Item, StartLine};
 use std::alloc::Global;
 use std::marker::Model;
 
@@ -35,7 +35,7 @@ impl<'a> Model for Ask2<'a> {
 pub fn read_ask(alloc: Global, item: &Item) -> Result<Ask2<'_>, TwoFault>
     ensures { UnlessMemory two_refusal result (ask_of_item (shape_of item.now)) }
 {
-    let head = match read_head(alloc, item.head_bytes()) {
+    let head = match item.head(alloc) {
         Ok(head) => head,
         Err(HeadFault::Memory) => return Err(TwoFault::Memory),
         Err(_) => return Err(TwoFault::Version),

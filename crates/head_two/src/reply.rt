@@ -6,7 +6,7 @@ ghost use Rattle.head_two.specs.Messages.{checked_cseq, two_refusal};
 ghost use Rattle.head_two.specs.Replies.{reply_of_item};
 
 use crate::TwoFault;
-use rtsp_head::{Head, HeadFault, Item, StartLine, read_head};
+use rtsp_head::{Head, HeadFault, Item, StartLine};
 use rtsp_small::read_cseq_two;
 use std::alloc::Global;
 use std::marker::Model;
@@ -41,7 +41,7 @@ const VERSION: &[u8] = b"RTSP/2.0";
 pub fn read_reply(alloc: Global, item: &Item) -> Result<Reply2<'_>, TwoFault>
     ensures { UnlessMemory two_refusal result (reply_of_item (shape_of item.now)) }
 {
-    let head = match read_head(alloc, item.head_bytes()) {
+    let head = match item.head(alloc) {
         Ok(head) => head,
         Err(HeadFault::Memory) => return Err(TwoFault::Memory),
         Err(_) => return Err(TwoFault::Version),
