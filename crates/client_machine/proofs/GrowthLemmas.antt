@@ -1,12 +1,10 @@
 -- A description under the player's address is not much longer than it came.
-use Rattle.std.proofs.Common.{ℕ, ◌+◌, ◌-◌, ◌*◌, ◌≤◌, ◌==◌, Bool, true, false, cond, List, [], ◌∷◌, ◌++◌, length, drop, subst, length-append, arith}
-use Rattle.std.specs.Prelude.{slice_index}
+use Rattle.std.proofs.Common.{ℕ, ◌+◌, ◌*◌, ◌≤◌, List, [], ◌∷◌, length, subst, length-append, arith}
 use Rattle.std.specs.List.{join_with_byte}
 use Rattle.std.specs.Str.Lines.{strip_carriage_return}
 use Rattle.std.proofs.lemmas.List.Splits.{join_with_byte-slice_split}
 use Rattle.gate_bytes.specs.Ascii.{lf}
 use Rattle.gate_bytes.specs.Places.{parts_at}
-use Rattle.rtsp_uri.specs.Swaps.{rest_behind, swapped}
 use Rattle.translate_up.proofs.UriLengthLemmas.{drop_within, strip_within, rest_within, with_length}
 use Rattle.rtsp_uri.specs.Descriptions.{swapped_control, return_of, swapped_ended, swapped_lines, rewritten}
 

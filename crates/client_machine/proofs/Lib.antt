@@ -25,5 +25,6 @@ pub mod SeenTreatLemmas
 pub mod SeenWalkLemmas
 pub mod SightLemmas
 pub mod TreatLemmas
+pub mod CourseLemmas
 pub mod WayLemmas
 pub mod ShortUriLemmas

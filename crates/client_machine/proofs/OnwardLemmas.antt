@@ -25,18 +25,17 @@ use Rattle.std.proofs.Math.Seq.{drop-length}
 use Rattle.std.proofs.lemmas.List.{drop-append-le}
 use Rattle.client_machine.specs.declared.parts.Change.{Change}
 use Rattle.client_machine.specs.declared.parts.Up.{Up}
+use Rattle.client_machine.specs.declared.parts.Change.TheVariants as own_changes
 use Rattle.client_machine.specs.declared.parts.Up.TheVariants as ups
 use Rattle.client_machine.specs.declared.parts.PlannedStep.{PlannedStep}
-use Rattle.client_machine.specs.declared.treat.Upward.{Upward}
-use Rattle.client_machine.specs.declared.treat.Progress.{Progress}
 use Rattle.client_machine.specs.Events.{Effect}
 use Rattle.client_machine.specs.Step as going
-use Rattle.client_machine.specs.Treatment.{session_found, given, decision_on, Treated, treated, ahead, given_shown}
+use Rattle.client_machine.specs.Treatment.{session_found, given, decision_on, Going, Treated, treated, ahead, given_shown}
 use Rattle.client_machine.specs.Plans.{ArePlaced, IsReadyUp, without, risen, risen_text, is_up}
-use Rattle.client_machine.specs.Progresses.{going_of, progressed, given_then, joined_at, with_progress, sessions_queued, IsAskedIn, IsTreated}
+use Rattle.client_machine.specs.Progresses.{Progress, progressed, given_then, joined_at, with_progress, sessions_queued, IsAskedIn, IsTreated}
 use Rattle.client_machine.specs.Sights.{Sight, sight, sight_at, due_seen, filled_seen, given_by, session_in_sight}
 use Rattle.client_machine.specs.UpTexts.{spelled}
-use Rattle.client_machine.specs.Onward.{leave_up, up_for, due_with, due_at, due_for, IsFinished, IsShown, Onward, GoesOnward}
+use Rattle.client_machine.specs.Onward.{IsTreatedBy, leave_up, up_for, due_with, due_at, due_for, IsFinished, IsShown, Onward, GoesOnward}
 use Rattle.client_machine.proofs.SightLemmas.{shown_at, due_shown, filled_shown, found_shown}
 use Rattle.client_machine.proofs.TreatLemmas.{seen_in, named_within, named_filled, same_treated, one_on}
 
@@ -128,10 +127,10 @@ pub go_closed : (bases : Bases) (pair : Option ℕ) (client : Client) → client
 go_closed bases pair client idle closed = ap (λ (purpose : Option Purpose). going.go_at bases pair purpose client) idle ∙ ap (λ b. going.go_idle bases pair b client) closed
 
 -- Requests were treated to the end, or until one goes up.
-abbrev ended : List ℕ → List Play → Option Upward → List Shape → Treated
-ended hand plays one left = record { hand = hand; plays = plays; going = option_map going_of one; left = left }
+abbrev ended : List ℕ → List Play → Option Going → List Shape → Treated
+ended hand plays one left = record { hand = hand; plays = plays; going = one; left = left }
 
-joined_end : (one : Option Upward) (hand : List ℕ) (plays : List Play) (judged : Given) (left : List Shape) → (one ≡ None → left ≡ []) → joined_at one hand plays judged left ≡ ended hand plays one left
+joined_end : (one : Option Going) (hand : List ℕ) (plays : List Play) (judged : Given) (left : List Shape) → (one ≡ None → left ≡ []) → joined_at one hand plays judged left ≡ ended hand plays one left
 joined_end None hand plays judged left none =
     let empty : left ≡ [] = none refl in
     ap (λ (shapes : List Shape). ahead hand plays (treated shapes judged)) empty
@@ -154,23 +153,23 @@ plays_sessions [] client = refl
 plays_sessions (play ∷ plays) client = plays_sessions plays (changes.after_queueing play client)
 
 -- what goes up then
-goes_client : (one : Option Upward) (next : ℕ) (pair : Option ℕ) (hand : List ℕ) (client : Client) → risen (up_for next pair one) client ≡ (going.goes_at (option_map going_of one) pair hand client).client
+goes_client : (one : Option Going) (next : ℕ) (pair : Option ℕ) (hand : List ℕ) (client : Client) → risen (up_for next pair one) client ≡ (going.goes_at one pair hand client).client
 goes_client None next pair hand client = refl
 goes_client (Some one) next pair hand client = refl
 
-goes_hand : (one : Option Upward) (pair : Option ℕ) (hand : List ℕ) (client : Client) → (going.goes_at (option_map going_of one) pair hand client).hand ≡ hand
+goes_hand : (one : Option Going) (pair : Option ℕ) (hand : List ℕ) (client : Client) → (going.goes_at one pair hand client).hand ≡ hand
 goes_hand None pair hand client = refl
 goes_hand (Some one) pair hand client = refl
 
-goes_text : (one : Option Upward) (next : ℕ) (pair : Option ℕ) (hand : List ℕ) (client : Client) → risen_text next (up_for next pair one) client ≡ spelled next pair (going.goes_at (option_map going_of one) pair hand client).message
+goes_text : (one : Option Going) (next : ℕ) (pair : Option ℕ) (hand : List ℕ) (client : Client) → risen_text next (up_for next pair one) client ≡ spelled next pair (going.goes_at one pair hand client).message
 goes_text None next pair hand client = refl
 goes_text (Some one) next pair hand client = refl
 
-goes_asks : (one : Option Upward) (next : ℕ) (pair : Option ℕ) (hand : List ℕ) (client : Client) → is_up (up_for next pair one) ≡ is_some (going.goes_at (option_map going_of one) pair hand client).message
+goes_asks : (one : Option Going) (next : ℕ) (pair : Option ℕ) (hand : List ℕ) (client : Client) → is_up (up_for next pair one) ≡ is_some (going.goes_at one pair hand client).message
 goes_asks None next pair hand client = refl
 goes_asks (Some one) next pair hand client = refl
 
-goes_close : (one : Option Upward) (pair : Option ℕ) (hand : List ℕ) (client : Client) → (going.goes_at (option_map going_of one) pair hand client).close ≡ None
+goes_close : (one : Option Going) (pair : Option ℕ) (hand : List ℕ) (client : Client) → (going.goes_at one pair hand client).close ≡ None
 goes_close None pair hand client = refl
 goes_close (Some one) pair hand client = refl
 
@@ -185,7 +184,7 @@ stream_apart uri None channels apart = tt
 stream_apart uri (Some number) None apart = tt
 stream_apart uri (Some number) (Some client) apart = apart
 
-ready_up : (next : ℕ) (pair : Option ℕ) (one : Option Upward) (seen : List SeenSession) (client : Client) → client.alive ≡ true → client.pending ≡ None → seen ≡ map session_found client.sessions → length seen ≤ MOST_SESSIONS → IsAskedIn seen one →
+ready_up : (next : ℕ) (pair : Option ℕ) (one : Option Going) (seen : List SeenSession) (client : Client) → client.alive ≡ true → client.pending ≡ None → seen ≡ map session_found client.sessions → length seen ≤ MOST_SESSIONS → IsAskedIn seen one →
     IsReadyUp client (up_for next pair one)
 ready_up next pair None seen client lives idle is few asked = tt
 ready_up next pair (Some one) seen client lives idle is few asked = record {
@@ -229,7 +228,7 @@ treat_onward bases next pair base last all first progress change plan lives idle
     let left : List Shape = drop progress.treated base.waiting in
     let end : ahead first [] became ≡ ended progress.hand progress.plays progress.going left = sym done.leads ∙ joined_end progress.going progress.hand progress.plays last left done.none in
     let then : Client = going.after_plays progress.plays (without progress.treated base) in
-    let same : going.go bases pair (record base { waiting = all }) ≡ going.goes_at (option_map going_of progress.going) pair became.hand then =
+    let same : going.go bases pair (record base { waiting = all }) ≡ going.goes_at progress.going pair became.hand then =
     go_alive bases pair (record base { waiting = all }) idle lives
     ∙ ap (λ (one : Option ℕ). going.go_due bases pair one (record base { waiting = all })) due
     ∙ ap (λ (one : Treated). going.goes_at one.going pair became.hand (going.after_plays one.plays (record base { waiting = one.left }))) end in
@@ -268,7 +267,7 @@ done_before client judged last shape progress same all goes =
     let filled = all.way.filled client.sessions same in
     record {
       leads = ap (λ (left : List Shape). with_progress progress last left) (drop-append-le progress.treated client.waiting (shape ∷ []) all.way.within) ∙ all.way.leads (shape ∷ []);
-      none = λ none. let clash : true ≡ false = sym goes ∙ ap (λ (one : Option Upward). is_some one) none in cc;
+      none = λ none. let clash : true ≡ false = sym goes ∙ ap (λ (one : Option Going). is_some one) none in cc;
       counts = filled.counts;
       placed = filled.placed;
       few = all.way.few;
@@ -353,3 +352,17 @@ judged_now bases pair full client found described same about is =
 pub treated_now : (view judged last : Given) (waiting : List Shape) (first : List ℕ) (progress : Progress) → view ≡ judged → first ≡ [] → IsTreated view last waiting first progress → IsTreated judged last waiting [] progress
 treated_now view judged last waiting first progress same empty all =
     subst (λ (one : Given). IsTreated one last waiting [] progress) same (subst (λ (bytes : List ℕ). IsTreated view last waiting bytes progress) empty all)
+
+-- what becomes of those that wait, by a plan that began so
+pub treated_by_goes : (bases : Bases) (next : ℕ) (pair : Option ℕ) (lives : Client) (seen : List Sight) (described : Option (List ℕ)) (first : List ℕ) (change : Change) (last : Given) (begins plan : PlannedStep) → lives.alive ≡ true → due_for next seen ≡ None
+    → begins ≡ still change first ups.Nothing → IsTreatedBy next pair (given_by bases (is_none pair) seen described) last lives.waiting begins.hand begins.change plan → GoesOnward bases next pair lives seen described first change plan
+treated_by_goes bases next pair lives seen described first change last begins plan alive due is all =
+    let by = subst (λ (one : PlannedStep). IsTreatedBy next pair (given_by bases (is_none pair) seen described) last lives.waiting one.hand one.change plan) is all in
+    treated_goes bases next pair (is_none pair) lives seen described first change last by.progress plan alive due refl by.treated by.finished
+
+-- by what is judged now, where nothing is handed out before
+pub treated_by_now : (next : ℕ) (pair : Option ℕ) (view judged last : Given) (waiting : List Shape) (begins plan : PlannedStep) → view ≡ judged → begins ≡ still own_changes.Nothing [] ups.Nothing → IsTreatedBy next pair view last waiting begins.hand begins.change plan
+    → IsTreatedBy next pair judged last waiting [] own_changes.Nothing plan
+treated_by_now next pair view judged last waiting begins plan same is all =
+    subst (λ (one : Given). IsTreatedBy next pair one last waiting [] own_changes.Nothing plan) same
+    (subst (λ (one : PlannedStep). IsTreatedBy next pair view last waiting one.hand one.change plan) is all)

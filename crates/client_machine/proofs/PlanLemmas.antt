@@ -30,9 +30,8 @@ use Rattle.client_machine.specs.Onward.{leave_up, due_for, IsFinished, Onward, G
 use Rattle.translate_up.specs.Views.{Given}
 use Rattle.client_machine.specs.declared.parts.Up.{Up}
 use Rattle.client_machine.specs.declared.parts.Up.TheVariants as ups
-use Rattle.client_machine.specs.declared.treat.Progress.{Progress}
 use Rattle.client_machine.specs.Treatment.{given, decision_on}
-use Rattle.client_machine.specs.Progresses.{progressed, given_then, IsTreated}
+use Rattle.client_machine.specs.Progresses.{Progress, progressed, given_then, IsTreated}
 use Rattle.rtsp_small.specs.declared.notify.NotifyReason.TheVariants.{EndOfStream}
 use Rattle.session_one.specs.declared.parts.TheConstants.{MOST_SESSIONS}
 use Rattle.session_two.specs.declared.names.Names.{Names}

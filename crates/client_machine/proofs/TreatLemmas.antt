@@ -22,14 +22,12 @@ use Rattle.translate_up.specs.declared.decision.Decision.{Decision}
 use Rattle.translate_up.specs.declared.decision.Decision.TheVariants.{Answer, Forward, Queue, Setup}
 use Rattle.translate_up.proofs.SessionPlaceLemmas.{decided_in}
 use Rattle.translate_up.proofs.UriLengthLemmas.{decided_within}
-use Rattle.client_machine.specs.declared.treat.Upward.{Upward}
-use Rattle.client_machine.specs.declared.treat.Progress.{Progress}
 use Rattle.client_machine.specs.Treatment.{session_found, queued_more, queued_more_where, fits_memory, Going, Treated, decision_on, treated_first, treated, ahead, given_shown}
 use Rattle.rtsp_uri.specs.declared.base.Bases.{Bases}
 use Rattle.client_machine.specs.Plans.{IsQueueable, ArePlaced}
-use Rattle.client_machine.specs.Progresses.{begun, progressed, sessions_then, given_then, joined_at, with_progress, sessions_queued, IsFilled, IsAskedIn, IsOnTheWay}
+use Rattle.client_machine.specs.Progresses.{Progress, begun, progressed, sessions_then, given_then, joined_at, with_progress, sessions_queued, IsFilled, IsAskedIn, IsOnTheWay}
 
-pub not_going : (going : Option Upward) → is_some going ≡ false → going ≡ None
+pub not_going : (going : Option Going) → is_some going ≡ false → going ≡ None
 not_going None is = refl
 not_going (Some one) is = cc
 
@@ -106,7 +104,7 @@ filled_then sessions given old (Queue play text) filled few decided short = reco
 filled_then sessions given old (Forward request asked) filled few decided short = record { counts = filled.counts; placed = filled.placed }
 filled_then sessions given old (Setup request asked channels) filled few decided short = record { counts = filled.counts; placed = filled.placed }
 
-none_asked : (sessions : List SeenSession) (going : Option Upward) → going ≡ None → IsAskedIn sessions going
+none_asked : (sessions : List SeenSession) (going : Option Going) → going ≡ None → IsAskedIn sessions going
 none_asked sessions going none = subst (IsAskedIn sessions) (sym none) tt
 
 asked_then : (given : Given) (old : Progress) (decision : Decision) → old.going ≡ None → IsDecidedIn given.sessions decision → HasUriWithin LONGEST_URI decision → IsAskedIn (given_then decision given).sessions (progressed decision old).going
@@ -161,13 +159,13 @@ by_decision : (progress : Progress) (given : Given) (more : List Shape) (decisio
 by_decision progress given more (Answer text) none =
     let later = treated more given in
     ap (λ (hand : List ℕ). with_parts hand (progress.plays ++ later.plays) later) (sym (append_assoc progress.hand text later.hand))
-    ∙ ap (λ (going : Option Upward). joined_at going (progress.hand ++ text) progress.plays given more) (sym none)
+    ∙ ap (λ (going : Option Going). joined_at going (progress.hand ++ text) progress.plays given more) (sym none)
 by_decision progress given more (Queue play text) none =
     let next : Given = given_then (Queue play text) given in
     let later = treated more next in
     ap (λ (hand : List ℕ). with_parts hand (progress.plays ++ play ∷ later.plays) later) (sym (append_assoc progress.hand text later.hand))
     ∙ ap (λ (plays : List Play). with_parts ((progress.hand ++ text) ++ later.hand) plays later) (sym (append_assoc progress.plays (play ∷ []) later.plays))
-    ∙ ap (λ (going : Option Upward). joined_at going (progress.hand ++ text) (progress.plays ++ play ∷ []) next more) (sym none)
+    ∙ ap (λ (going : Option Going). joined_at going (progress.hand ++ text) (progress.plays ++ play ∷ []) next more) (sym none)
 by_decision progress given more (Forward request asked) none =
     let up : Option Going = Some (record { request = request; asked = asked; channels = None }) in
     ap (λ (hand : List ℕ). record { hand = hand; plays = progress.plays ++ []; going = up; left = more }) (append-nil progress.hand)
@@ -180,7 +178,7 @@ by_decision progress given more (Setup request asked channels) none =
 pub joined_step : (progress : Progress) (given : Given) (shape : Shape) (more : List Shape) → progress.going ≡ None →
     with_progress progress given (shape ∷ more) ≡ with_progress (progressed (decision_on given shape) progress) (given_then (decision_on given shape) given) more
 joined_step progress given shape more none =
-    ap (λ (going : Option Upward). joined_at going progress.hand progress.plays given (shape ∷ more)) none
+    ap (λ (going : Option Going). joined_at going progress.hand progress.plays given (shape ∷ more)) none
     ∙ by_decision progress given more (decision_on given shape) none
 
 pub progressed_treated : (decision : Decision) (progress : Progress) → (progressed decision progress).treated ≡ progress.treated

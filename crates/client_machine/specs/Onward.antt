@@ -9,8 +9,10 @@ use Rattle.client_machine.specs.declared.parts.Change.{Change}
 use Rattle.client_machine.specs.declared.parts.Up.{Up}
 use Rattle.client_machine.specs.declared.parts.Up.TheVariants as ups
 use Rattle.client_machine.specs.declared.parts.PlannedStep.{PlannedStep}
-use Rattle.client_machine.specs.declared.treat.Upward.{Upward}
-use Rattle.client_machine.specs.declared.treat.Progress.{Progress}
+use Rattle.client_machine.specs.Progresses.{Progress, progressed, sessions_then, IsTreated}
+use Rattle.client_machine.specs.Treatment.{Going, decision_on}
+use Rattle.rtsp_head.specs.Items.{Shape}
+use Rattle.translate_up.specs.Views.{SeenSession, Given}
 use Rattle.client_machine.specs.Events.{Effect}
 use Rattle.client_machine.specs.Step.{track_of, pair_if_wanted, after_plays, go}
 use Rattle.client_machine.specs.Plans.{ArePlaced, IsReadyUp, without, risen, risen_text, is_up}
@@ -23,7 +25,7 @@ leave_up None = ups.Nothing
 leave_up (Some place) = ups.Leave
 
 -- a request that goes up, with its text
-abbrev pub up_for : ℕ → Option ℕ → Option Upward → Up
+abbrev pub up_for : ℕ → Option ℕ → Option Going → Up
 up_for next pair None = ups.Nothing
 up_for next pair (Some one) = ups.Ask (text_up next pair (pair_if_wanted one.channels pair) one.request) one.asked (track_of one.asked.uri pair one.channels)
 
@@ -48,6 +50,17 @@ pub record IsFinished (next : ℕ) (pair : Option ℕ) (first : Change) (progres
   pub plays : plan.plays ≡ progress.plays
   pub hand : plan.hand ≡ progress.hand
   pub up : plan.up ≡ up_for next pair progress.going
+
+-- One request more is treated, which is judged by this, and what the next one is judged by is known.
+pub record IsNextTreated (next : ℕ) (pair : Option ℕ) (given : Given) (shape : Shape) (old new : PlannedStep) (sessions : List SeenSession) : Type 0 where
+  pub progress : (change : Change) (before : Progress) → IsFinished next pair change before old → IsFinished next pair change (progressed (decision_on given shape) before) new
+  pub found : sessions ≡ sessions_then (decision_on given shape) given.sessions
+
+-- Requests that wait are treated until one goes up, as a plan says that makes this change.
+pub record IsTreatedBy (next : ℕ) (pair : Option ℕ) (first_given given : Given) (waiting : List Shape) (first : List ℕ) (change : Change) (plan : PlannedStep) : Type 0 where
+  pub progress : Progress
+  pub finished : IsFinished next pair change progress plan
+  pub treated : IsTreated first_given given waiting first progress
 
 -- a connection without an open request that shows this
 pub record IsShown (lives : Client) (seen : List Sight) (described : Option (List ℕ)) (client : Client) : Type 0 where

@@ -10,17 +10,19 @@ use Rattle.translate_up.specs.UriLengths.{AreGivenWithin}
 use Rattle.client_slot.specs.declared.limits.TheConstants.{LONGEST_URI}
 use Rattle.translate_up.specs.declared.decision.Decision.{Decision}
 use Rattle.translate_up.specs.declared.decision.Decision.TheVariants.{Answer, Forward, Queue, Setup}
-use Rattle.client_machine.specs.declared.treat.Upward.{Upward}
-use Rattle.client_machine.specs.declared.treat.Progress.{Progress}
 use Rattle.client_slot.specs.Session.{PlayerSession}
 use Rattle.client_slot.specs.Places.{changed_where}
 use Rattle.client_slot.specs.SessionChanges.{when_queued}
-use Rattle.client_machine.specs.Treatment.{session_found, queued_more_where, decision_on, Going, Treated, treated, ahead}
+use Rattle.client_machine.specs.Treatment.{session_found, queued_more_where, Going, Treated, treated, ahead}
 use Rattle.client_machine.specs.Plans.{ArePlaced}
 
--- a request that goes up, without where it lies in memory
-abbrev pub going_of : Upward → Going
-going_of one = record { request = one.request; asked = one.asked; channels = one.channels }
+-- How far requests in a row were treated: their answers, the PLAYs that wait now and did not before, how many of those
+-- that waited were treated, and the one that goes up.
+pub record Progress : Type 0 where
+  pub hand : List ℕ
+  pub plays : List Play
+  pub treated : ℕ
+  pub going : Option Going
 
 -- none is treated yet, after these bytes
 abbrev pub begun : List ℕ → Progress
@@ -43,9 +45,9 @@ abbrev pub given_then : Decision → Given → Given
 given_then decision given = record given { sessions = sessions_then decision given.sessions }
 
 -- what becomes of all, where these are left
-abbrev pub joined_at : Option Upward → List ℕ → List Play → Given → List Shape → Treated
+abbrev pub joined_at : Option Going → List ℕ → List Play → Given → List Shape → Treated
 joined_at None hand plays given left = ahead hand plays (treated left given)
-joined_at (Some one) hand plays given left = record { hand = hand; plays = plays; going = Some (going_of one); left = left }
+joined_at (Some one) hand plays given left = record { hand = hand; plays = plays; going = Some one; left = left }
 
 -- what was treated, and what comes after
 abbrev pub with_progress : Progress → Given → List Shape → Treated
@@ -63,7 +65,7 @@ pub record IsFilled (sessions : List PlayerSession) (given : Given) (progress : 
 
 -- A request that goes up names a session that is there, or none, by a URI that is short enough; and a SETUP finds room for
 -- its stream, which has two channels.
-abbrev pub IsAskedIn : List SeenSession → Option Upward → Type 0
+abbrev pub IsAskedIn : List SeenSession → Option Going → Type 0
 IsAskedIn sessions None = Unit {0}
 IsAskedIn sessions (Some one) =
     NamesSession one.asked.place sessions × (length one.asked.uri ≤ LONGEST_URI) × (IsSome one.channels → length (session_or_none one.asked.place sessions).tracks < MOST_TRACKS) × IfSome one.channels AreApart
@@ -82,8 +84,3 @@ pub record IsOnTheWay (first_given given : Given) (waiting : List Shape) (first 
 pub record IsTreated (first_given given : Given) (waiting : List Shape) (first : List ℕ) (progress : Progress) : Type 0 where
   pub way : IsOnTheWay first_given given waiting first progress
   pub all : progress.going ≡ None → progress.treated ≡ length waiting
-
--- One request more is treated, which is judged by this, and what the next one is judged by is known.
-pub record IsNextTreated (given : Given) (shape : Shape) (old new : Progress) (sessions : List SeenSession) : Type 0 where
-  pub progress : new ≡ progressed (decision_on given shape) old
-  pub found : sessions ≡ sessions_then (decision_on given shape) given.sessions

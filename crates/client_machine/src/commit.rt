@@ -83,7 +83,7 @@ impl Change {
 
 impl Up {
     /// Whether it is a request.
-    fn is_up(&self) -> bool
+    pub(crate) fn is_up(&self) -> bool
         ensures { result ≡ is_up self.now }
     {
         !matches!(self, Up::Nothing)

@@ -1,5 +1,5 @@
 //! What goes up for a connection with no open request.
-ghost use Rattle.std.specs.Prelude.{◌≡◌, ◌<◌, [], Some, None, IsSome, IfOk, IfSome, if◌then◌else◌};
+ghost use Rattle.std.specs.Prelude.{◌≡◌, ◌<◌, [], Some, None, is_none, IfOk, IfSome, OnOk, if◌then◌else◌};
 ghost use Rattle.std.specs.Option.{option_copied};
 ghost use Rattle.channel_map.specs.declared.map.TheConstants.{PAIRS};
 ghost use Rattle.head_two.specs.Requests.{request_text};
@@ -11,17 +11,17 @@ ghost use Rattle.client_machine.specs.UpTexts.{text_up};
 ghost use Rattle.translate_up.specs.Views.{Given};
 ghost use Rattle.client_machine.specs.Sights.{filled_seen, given_by};
 ghost use Rattle.client_machine.specs.Outlooks.{sights_of};
-ghost use Rattle.client_machine.specs.Progresses.{IsTreated};
-ghost use Rattle.client_machine.specs.Onward.{leave_up, up_for, due_for, IsFinished, GoesOnward};
+ghost use Rattle.client_machine.specs.Progresses.{begun};
+ghost use Rattle.client_machine.specs.Onward.{leave_up, up_for, due_for, IsFinished, IsTreatedBy, GoesOnward};
 
 use crate::outlook::Outlook;
 use crate::parts::{Change, PlannedStep, Up};
-use crate::treat::{Progress, Upward, treat_waiting};
+use crate::treat::{Course, treat_waiting};
 use gate_bytes::{Memory, Text};
 use head_two::{Request2, write_request};
 use rtsp_transport::Pair;
 use rtsp_uri::Bases;
-use session_one::{Play, Track};
+use session_one::{Asked, Play, Track};
 use std::alloc::Global;
 use std::collections::LinkedList;
 use translate_up::{play_up, with_transport};
@@ -84,49 +84,20 @@ fn going_text(
 }
 
 /// A request goes up, and a SETUP with the stream that it sets up.
-fn ask(alloc: Global, next: u32, pair: Option<u8>, going: Upward<'_>) -> Result<Up, Memory>
-    requires { IfSome pair (λ one. one < PAIRS) }
-    ensures { IfOk result (λ up. up ≡ up_for next pair (Some going.entry)) }
-{
-    let Upward {
-        request,
-        asked,
-        channels,
-    } = going;
-    let track = stream(alloc, asked.uri.as_bytes(), pair, channels)?;
-    let text = going_text(alloc, request, next, pair, channels.is_some())?;
-    Ok(Up::Ask(text, asked, track))
-}
-
-/// The plan for what became of requests, after this change.
-pub(crate) fn finished(
+pub(crate) fn ask(
     alloc: Global,
-    next: u32,
-    pair: Option<u8>,
-    change: Change,
-    progress: Progress<'_>,
-) -> Result<PlannedStep, Memory>
-    requires pair { IfSome pair (λ one. one < PAIRS) }
-    ensures { IfOk result (IsFinished next pair change progress.entry) }
+    course: Course<'_>,
+    request: Request2<'_>,
+    asked: Asked,
+    channels: Option<Pair>,
+) -> Result<Up, Memory>
+    requires { IfSome course.pair (λ one. one < PAIRS) }
+    ensures { IfOk result (λ up. up ≡ up_for course.entry.next course.entry.pair
+        (Some (record { request = request.entry; asked = asked; channels = channels }))) }
 {
-    let Progress {
-        hand,
-        plays,
-        treated,
-        going,
-        ..
-    } = progress;
-    let up = match going {
-        Some(going) => ask(alloc, next, pair, going)?,
-        None => Up::Nothing,
-    };
-    Ok(PlannedStep {
-        change,
-        treated,
-        plays,
-        hand,
-        up,
-    })
+    let track = stream(alloc, asked.uri.as_bytes(), course.pair, channels)?;
+    let text = going_text(alloc, request, course.next, course.pair, channels.is_some())?;
+    Ok(Up::Ask(text, asked, track))
 }
 
 /// The plan by which nothing goes up but this, and no request that waits is treated.
@@ -168,31 +139,26 @@ pub(crate) fn due_up(alloc: Global, outlook: &Outlook<'_>, next: u32) -> Result<
 /// What becomes of the requests that wait, which are judged by the connection that is seen.
 fn treat_after<'a>(
     alloc: Global,
-    bases: &'a Bases,
+    course: Course<'a>,
     outlook: &Outlook<'a>,
-    full: bool,
-    hand: Text,
-) -> Result<Progress<'a>, Memory>
-    ensures { IfOk result (λ progress. (last : Given)
-        × IsTreated
-        (given_by bases.entry.now full (sights_of outlook.entry.now) (option_copied outlook.entry.now.described))
-        last outlook.entry.now.slot.now.waiting hand progress) }
+    plan: &mut PlannedStep,
+) -> Result<(), Memory>
+    requires pair { IfSome course.pair (λ one. one < PAIRS) }
+    requires described { option_copied course.described ≡ option_copied outlook.now.described }
+    requires begun { IsFinished course.next course.pair plan.old.change (begun plan.old.hand) plan.old }
+    ensures { OnOk result ((last : Given)
+        × IsTreatedBy course.entry.next course.entry.pair
+        (given_by course.entry.bases.now (is_none course.entry.pair) (sights_of outlook.entry.now)
+        (option_copied outlook.entry.now.described))
+        last outlook.entry.now.slot.now.waiting plan.old.hand plan.old.change plan.new) }
 {
     let slot = outlook.slot;
     if slot.waiting() == 0 {
-        return Ok(Progress::begun(alloc, hand));
+        return Ok(());
     }
     let streams = outlook.streams(alloc)?;
     let mut sessions = outlook.sessions(&streams);
-    treat_waiting(
-        alloc,
-        &mut sessions,
-        outlook.described,
-        full,
-        bases,
-        slot,
-        hand,
-    )
+    treat_waiting(alloc, &mut sessions, course, slot, plan)
 }
 
 /// The plan for a connection that this change leaves with no open request and as it is seen, after
@@ -216,8 +182,15 @@ pub(crate) fn onward<'a>(
     if let Some(up) = due_up(alloc, outlook, next)? {
         return Ok(still(alloc, change, hand, up));
     }
-    let progress = treat_after(alloc, bases, outlook, pair.is_none(), hand)?;
-    finished(alloc, next, pair, change, progress)
+    let mut plan = still(alloc, change, hand, Up::Nothing);
+    let course = Course {
+        bases,
+        described: outlook.described,
+        next,
+        pair,
+    };
+    treat_after(alloc, course, outlook, &mut plan)?;
+    Ok(plan)
 }
 
 /// The closing TEARDOWN, where a session is left.

@@ -7,10 +7,10 @@ ghost use Rattle.client_slot.specs.Changes.{due_place};
 ghost use Rattle.client_machine.specs.declared.parts.Change.TheVariants as changes;
 ghost use Rattle.client_machine.specs.Plans.{requests, CanCome, IsPlan};
 
-use crate::onward::{due_up, finished, idle, still};
+use crate::onward::{due_up, idle, still};
 use crate::outlook::Outlook;
 use crate::parts::{Change, PlannedStep, Up};
-use crate::treat::treat_waiting;
+use crate::treat::{Course, treat_waiting};
 use client_slot::{MOST_WAITING, Slot, Waiting};
 use gate_bytes::{Memory, Text};
 use rtsp_head::Item;
@@ -78,20 +78,18 @@ fn treat_request<'a>(
 {
     let outlook = Outlook::now(slot);
     let mut sessions = outlook.sessions(&[]);
-    let full = pair.is_none();
-    let mut progress = treat_waiting(
-        alloc,
-        &mut sessions,
-        outlook.described,
-        full,
+    let course = Course {
         bases,
-        slot,
-        Text::new(alloc),
-    )?;
-    if progress.going.is_some() {
-        let change = waits(alloc, slot, item)?;
-        return finished(alloc, next, pair, change, progress);
+        described: outlook.described,
+        next,
+        pair,
+    };
+    let mut plan = idle(alloc);
+    treat_waiting(alloc, &mut sessions, course, slot, &mut plan)?;
+    if plan.up.is_up() {
+        plan.change = waits(alloc, slot, item)?;
+        return Ok(plan);
     }
-    progress.then(alloc, &mut sessions, outlook.described, full, bases, item)?;
-    finished(alloc, next, pair, Change::Nothing, progress)
+    plan.then(alloc, &mut sessions, course, item)?;
+    Ok(plan)
 }

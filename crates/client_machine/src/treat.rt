@@ -1,5 +1,5 @@
 //! Requests that wait are treated.
-ghost use Rattle.std.specs.Prelude.{◌≡◌, ◌≤◌, ◌<◌, length, map, [], ◌∷◌, ◌++◌, Some, IfOk, OnOk};
+ghost use Rattle.std.specs.Prelude.{◌≡◌, ◌≤◌, ◌<◌, length, map, is_none, IfSome, IfOk, OnOk};
 ghost use Rattle.std.specs.Option.{option_copied};
 ghost use Rattle.session_one.specs.declared.parts.TheConstants.{MOST_SESSIONS};
 ghost use Rattle.client_slot.specs.declared.limits.TheConstants.{LONGEST_URI};
@@ -9,96 +9,90 @@ ghost use Rattle.translate_up.specs.DecisionPlaces.{NamesSession, IsDecidedIn};
 ghost use Rattle.translate_up.specs.UriLengths.{AreGivenWithin};
 ghost use Rattle.client_machine.specs.Treatment.{queued_more_where, decision_on, given_shown};
 ghost use Rattle.play_queue.specs.declared.queue.TheConstants.{MOST_PLAYS};
-ghost use Rattle.client_machine.specs.Progresses.{begun, progressed, sessions_then, IsTreated, IsNextTreated};
+ghost use Rattle.channel_map.specs.declared.map.TheConstants.{PAIRS};
+ghost use Rattle.client_machine.specs.Progresses.{begun, sessions_then};
+ghost use Rattle.client_machine.specs.Onward.{IsFinished, IsTreatedBy};
 
+use crate::onward::ask;
+use crate::parts::PlannedStep;
 use client_slot::Slot;
 use gate_bytes::{Memory, Text};
-use head_two::Request2;
 use rtsp_head::Item;
-use rtsp_transport::Pair;
 use rtsp_uri::Bases;
-use session_one::{Asked, Play};
+use session_one::Play;
 use std::alloc::Global;
-use std::collections::LinkedList;
 use translate_up::{Decision, SessionView, View, decide};
 
-/// A request that goes up.
-#[derive(Drop)]
-pub(crate) struct Upward<'a> {
-    /// The request, without its number, and a SETUP without its channels.
-    pub request: Request2<'a>,
-    /// What is kept of the player's request until the reply comes.
-    pub asked: Asked,
-    /// The player's own channels of a SETUP.
-    pub channels: Option<Pair>,
+/// By what requests in a row are treated.
+#[derive(Clone, Copy)]
+pub(crate) struct Course<'v> {
+    /// The addresses.
+    pub bases: &'v Bases,
+    /// The URI that was described last.
+    pub described: Option<&'v [u8]>,
+    /// The number of the next request.
+    pub next: u32,
+    /// The lowest pair of channels that is free.
+    pub pair: Option<u8>,
 }
 
-/// What became of requests in a row so far.
-#[derive(Drop)]
-pub(crate) struct Progress<'a> {
-    /// The bytes for the client.
-    pub hand: Text,
-    /// The PLAYs that wait now, and did not before.
-    pub plays: LinkedList<Play>,
-    /// How many of the requests that waited were treated.
-    pub treated: usize,
-    /// The request that goes up.
-    pub going: Option<Upward<'a>>,
-}
-
-impl<'a> Progress<'a> {
-    /// No request was treated yet. These bytes come before the answers.
-    pub fn begun(alloc: Global, hand: Text) -> Progress<'a>
-        ensures { result ≡ begun hand }
-    {
-        Progress {
-            hand,
-            plays: LinkedList::new(alloc),
-            treated: 0,
-            going: None,
-        }
-    }
+impl PlannedStep {
+    ghost use Rattle.std.specs.Prelude.{◌≡◌, ◌≤◌, ◌∷◌, ◌++◌, [], map, length, is_none, OnOk};
+    ghost use Rattle.std.specs.Option.{option_copied};
+    ghost use Rattle.rtsp_head.specs.Shapes.{shape_of};
+    ghost use Rattle.session_one.specs.declared.parts.TheConstants.{MOST_SESSIONS};
+    ghost use Rattle.translate_up.specs.Views.{session_shown};
+    ghost use Rattle.client_machine.specs.declared.parts.Change.{Change};
+    ghost use Rattle.client_machine.specs.Treatment.{given_shown};
+    ghost use Rattle.client_machine.specs.Progresses.{Progress, progressed};
+    ghost use Rattle.client_machine.specs.Onward.{IsFinished, IsNextTreated};
 
     /// One request more is treated, and a PLAY that waits is counted.
-    pub fn then<'v>(
+    pub(crate) fn then<'a, 'v>(
         &mut self,
         alloc: Global,
         sessions: &mut [Option<SessionView<'a, 'v>>],
-        described: Option<&'v [u8]>,
-        full: bool,
-        bases: &'v Bases,
+        course: Course<'v>,
         item: &'a Item,
     ) -> Result<(), Memory>
         requires few { length sessions.old ≤ MOST_SESSIONS }
-        ensures { OnOk result (IsNextTreated
-            (given_shown bases.entry.now full (map session_shown sessions.old) (option_copied described.entry))
+        requires pair { IfSome course.pair (λ one. one < PAIRS) }
+        ensures { OnOk result (IsNextTreated course.entry.next course.entry.pair
+            (given_shown course.entry.bases.now (is_none course.entry.pair) (map session_shown sessions.old)
+            (option_copied course.entry.described))
             (shape_of item.entry.now) self.old self.new (map session_shown sessions.new)) }
     {
-        let decision = judge(alloc, sessions, described, full, bases, item)?;
+        let decision = judge(alloc, sessions, course, course.pair.is_none(), item)?;
         count(sessions, &decision);
-        self.decided(decision)
+        self.decided(alloc, course, decision)
     }
 
     /// This becomes of one request more.
-    fn decided(&mut self, decision: Decision<'a>) -> Result<(), Memory>
-        ensures { OnOk result (self.new ≡ progressed decision.entry self.old) }
+    fn decided(
+        &mut self,
+        alloc: Global,
+        course: Course<'_>,
+        decision: Decision<'_>,
+    ) -> Result<(), Memory>
+        requires { IfSome course.pair (λ one. one < PAIRS) }
+        ensures { OnOk result ((change : Change) (before : Progress)
+            → IsFinished course.entry.next course.entry.pair change before self.old
+            → IsFinished course.entry.next course.entry.pair change (progressed decision.entry before) self.new) }
     {
         match decision {
             Decision::Answer(text) => self.answered(text),
             Decision::Queue(play, text) => self.put(play, text),
             Decision::Forward(request, asked) => {
-                self.send(request, asked, None);
+                self.up = ask(alloc, course, request, asked, None)?;
                 Ok(())
             }
             Decision::Setup(request, asked, channels) => {
-                self.send(request, asked, Some(channels));
+                self.up = ask(alloc, course, request, asked, Some(channels))?;
                 Ok(())
             }
         }
     }
-}
 
-impl<'a> Progress<'a> {
     /// One request is answered. The first answer is handed out as it is.
     fn answered(&mut self, text: Text) -> Result<(), Memory>
         ensures { OnOk result (self.new ≡ record self.old { hand = self.old.hand ++ text }) }
@@ -118,42 +112,29 @@ impl<'a> Progress<'a> {
         self.plays.push_back(play)?;
         self.answered(text)
     }
-
-    /// A request goes up, where it sets up a stream with its player's own channels.
-    fn send(&mut self, request: Request2<'a>, asked: Asked, channels: Option<Pair>)
-        ensures { self.new
-            ≡ record self.old
-            { going = Some (record { request = request.entry; asked = asked; channels = channels }) } }
-    {
-        self.going = Some(Upward {
-            request,
-            asked,
-            channels,
-        });
-    }
 }
 
-/// What becomes of a request of a player with these sessions.
+/// What becomes of a request of a player with these sessions, where all pairs of channels are held or not.
 fn judge<'a, 'v>(
     alloc: Global,
     sessions: &'v [Option<SessionView<'a, 'v>>],
-    described: Option<&'v [u8]>,
+    course: Course<'v>,
     full: bool,
-    bases: &'v Bases,
     item: &'a Item,
 ) -> Result<Decision<'a>, Memory>
     requires few { length sessions.now ≤ MOST_SESSIONS }
     ensures { IfOk result (λ decision.
         decision
         ≡ decision_on
-        (given_shown bases.entry.now full (map session_shown sessions.entry.now) (option_copied described.entry))
+        (given_shown course.entry.bases.now full (map session_shown sessions.entry.now)
+        (option_copied course.entry.described))
         (shape_of item.entry.now)) }
 {
     let view = View {
         sessions,
-        described,
+        described: course.described,
         full,
-        bases,
+        bases: course.bases,
     };
     let decision = decide(alloc, &view, item)?;
     prove!(item.bytes.len() <= usize::MAX);
@@ -183,33 +164,35 @@ fn count_play(sessions: &mut [Option<SessionView<'_, '_>>], place: Option<u8>)
     }
 }
 
-/// Treats the requests that wait in order, until one of them goes up. Their answers follow the bytes
-/// that are handed already. The URIs that are known are short enough, and so is each one that goes up.
+/// Treats the requests that wait in order, until one of them goes up: the plan says so. Their answers follow the bytes that
+/// it hands out already. The URIs that are known are short enough, and so is each one that goes up.
 pub(crate) fn treat_waiting<'a, 'v>(
     alloc: Global,
     sessions: &mut [Option<SessionView<'a, 'v>>],
-    described: Option<&'v [u8]>,
-    full: bool,
-    bases: &'v Bases,
+    course: Course<'v>,
     slot: &'a Slot,
-    first: Text,
-) -> Result<Progress<'a>, Memory>
+    plan: &mut PlannedStep,
+) -> Result<(), Memory>
     requires few { length sessions.old ≤ MOST_SESSIONS }
     requires known { AreGivenWithin LONGEST_URI
-        (given_shown bases.now full (map session_shown sessions.old) (option_copied described)) }
-    ensures { IfOk result (IsTreated
-        (given_shown bases.entry.now full (map session_shown sessions.old) (option_copied described.entry))
-        (given_shown bases.entry.now full (map session_shown sessions.new) (option_copied described.entry))
-        slot.entry.now.waiting first) }
+        (given_shown course.bases.now (is_none course.pair) (map session_shown sessions.old)
+        (option_copied course.described)) }
+    requires pair { IfSome course.pair (λ one. one < PAIRS) }
+    requires begun { IsFinished course.next course.pair plan.old.change (begun plan.old.hand) plan.old }
+    ensures { OnOk result (IsTreatedBy course.entry.next course.entry.pair
+        (given_shown course.entry.bases.now (is_none course.entry.pair) (map session_shown sessions.old)
+        (option_copied course.entry.described))
+        (given_shown course.entry.bases.now (is_none course.entry.pair) (map session_shown sessions.new)
+        (option_copied course.entry.described))
+        slot.entry.now.waiting plan.old.hand plan.old.change plan.new) }
 {
     let count = slot.waiting();
-    let mut progress = Progress::begun(alloc, first);
-    while progress.treated < count && progress.going.is_none() {
-        let Some(item) = slot.waiting_at(progress.treated) else {
+    while plan.treated < count && !plan.up.is_up() {
+        let Some(item) = slot.waiting_at(plan.treated) else {
             unreachable!()
         };
-        progress.then(alloc, sessions, described, full, bases, item)?;
-        progress.treated += 1;
+        plan.then(alloc, sessions, course, item)?;
+        plan.treated += 1;
     }
-    Ok(progress)
+    Ok(())
 }

@@ -1,10 +1,9 @@
 -- By what is seen of the connection.
 use Rattle.std.proofs.Common.{◌∙◌, sym, ap}
 use Rattle.std.specs.Option.{option_copied}
-use Rattle.std.proofs.lemmas.Result.{IfOk-weaker}
 use Rattle.client_machine.specs.declared.parts.Up.{Up}
 use Rattle.client_machine.specs.Outlooks.{sights_of}
-use Rattle.client_machine.proofs.OnwardLemmas.{none_is, still, closed_goes, due_goes, treated_goes}
+use Rattle.client_machine.proofs.OnwardLemmas.{still, closed_goes, due_goes, treated_by_goes}
 use Rattle.client_machine.proofs.onward.onward.Goals as goal
 
 pub returns-then-not-alive : goal.returns-then-not-alive
@@ -22,8 +21,5 @@ returns-in-Some c =
 pub returns : goal.returns
 returns c =
     let outlook = c.args.outlook.now in
-    IfOk-weaker c.finished.result _ _
-    (λ plan finished.
-    treated_goes c.args.bases.now c.args.next c.args.pair c.is_none.result outlook.slot.now (sights_of outlook) (option_copied outlook.described) c.args.hand c.args.change c.in_ok-progress.ensures.0 c.in_ok-progress.progress plan
-    (sym c.if-not-alive.ensures) (sym c.in_ok-up.ensures ∙ c.in_default.is) (none_is c.args.pair c.is_none.result c.is_none.ensures) c.in_ok-progress.ensures.1 finished)
-    c.finished.ensures
+    treated_by_goes c.args.bases.now c.args.next c.args.pair outlook.slot.now (sights_of outlook) (option_copied outlook.described) c.args.hand c.args.change c.in_ok-treat_after.ensures.0 c.still-plan.result c.treat_after.new.plan
+    (sym c.if-not-alive.ensures) (sym c.in_ok-up.ensures ∙ c.in_default.is) c.still-plan.ensures c.in_ok-treat_after.ensures.1

@@ -1,53 +1,52 @@
 -- A request that comes waits behind one that goes up, or is treated with those that waited.
-use Rattle.std.proofs.Common.{◌∙◌, map, sym, ap}
+use Rattle.std.proofs.Common.{◌∙◌, map, refl, sym, ap}
 use Rattle.std.specs.Prelude.{is_none}
 use Rattle.std.specs.Option.{option_copied}
-use Rattle.std.proofs.lemmas.Result.{IfOk-weaker}
 use Rattle.rtsp_head.specs.Shapes.{shape_of}
 use Rattle.translate_up.specs.Views.{session_shown}
 use Rattle.translate_up.proofs.ItemHeadLemmas.{item_head}
+use Rattle.client_machine.specs.declared.parts.Change.TheVariants as changes
 use Rattle.client_machine.specs.Treatment.{given, decision_on, given_shown}
 use Rattle.client_machine.specs.Sights.{session_in_sight, streams_where}
 use Rattle.client_machine.proofs.TreatLemmas.{shown_then}
-use Rattle.client_machine.proofs.OnwardLemmas.{none_is, judged_now, treated_now}
+use Rattle.client_machine.proofs.CourseLemmas.{up_is, with_change}
+use Rattle.client_machine.proofs.OnwardLemmas.{judged_now, treated_by_now}
 use Rattle.client_machine.proofs.PlanLemmas.{plan_before, plan_with}
 use Rattle.client_machine.proofs.ShortUriLemmas.{known_shown}
 use Rattle.client_machine.proofs.requests.treat_request.Goals as goal
 
 pub treat_waiting-requires-clause-known : goal.treat_waiting-requires-clause-known
 treat_waiting-requires-clause-known c =
-    known_shown c.args.bases.now c.is_none-full.result c.now-outlook.result (map session_shown c.sessions-sessions.result)
+    known_shown c.args.bases.now (is_none c.args.pair) c.now-outlook.result (map session_shown c.sessions-sessions.result)
     (c.sessions-sessions.ensures (sym (ap streams_where c.now-outlook.ensures.same)))
 
-pub returns-then-is_some : goal.returns-then-is_some
-returns-then-is_some c =
+pub returns-then-is_up : goal.returns-then-is_up
+returns-then-is_up c =
     let bases = c.args.bases.now in
     let slot = c.args.slot.now in
+    let full = is_none c.args.pair in
     let about = option_copied c.now-outlook.result.described in
-    let last = given_shown bases c.is_none-full.result (map session_shown c.treat_waiting.new.sessions) about in
+    let last = given_shown bases full (map session_shown c.treat_waiting.new.sessions) about in
     let found = c.sessions-sessions.ensures (sym (ap streams_where c.now-outlook.ensures.same)) ∙ ap (map session_in_sight) c.now-outlook.ensures.sights in
-    let judged = judged_now bases c.args.pair c.is_none-full.result slot (map session_shown c.sessions-sessions.result) about found c.now-outlook.ensures.described (none_is c.args.pair c.is_none-full.result c.is_none-full.ensures) in
-    let all = treated_now _ (given bases (is_none c.args.pair) slot) last slot.waiting c.new.result c.in_ok-progress.progress judged c.new.ensures c.in_ok-progress.ensures in
-    IfOk-weaker c.finished.result _ _
-    (λ plan finished.
-    plan_before bases c.args.next c.args.pair slot last (shape_of c.args.item.now) c.in_ok-progress.progress c.in_ok-change.change plan c.requires.sound c.in_ok-change.ensures.room c.requires.alive c.requires.idle c.requires.due all
-    (sym c.if-is_some.ensures) c.in_ok-change.ensures.waits finished)
-    c.finished.ensures
+    let judged = judged_now bases c.args.pair full slot (map session_shown c.sessions-sessions.result) about found c.now-outlook.ensures.described refl in
+    let all = treated_by_now c.args.next c.args.pair _ (given bases full slot) last slot.waiting c.idle-plan.result c.treat_waiting.new.plan judged c.idle-plan.ensures c.in_ok-treat_waiting.ensures in
+    plan_before bases c.args.next c.args.pair slot last (shape_of c.args.item.now) all.progress c.in_ok-plan.field-0 _ c.requires.sound c.in_ok-plan.ensures.room c.requires.alive c.requires.idle c.requires.due all.treated
+    (sym (up_is c.args.next c.args.pair changes.Nothing all.progress c.treat_waiting.new.plan all.finished) ∙ sym c.if-is_up.ensures) c.in_ok-plan.ensures.waits
+    (with_change c.args.next c.args.pair changes.Nothing c.in_ok-plan.field-0 all.progress c.treat_waiting.new.plan all.finished)
 
 pub returns : goal.returns
 returns c =
     let bases = c.args.bases.now in
     let slot = c.args.slot.now in
+    let full = is_none c.args.pair in
     let about = option_copied c.now-outlook.result.described in
-    let last = given_shown bases c.is_none-full.result (map session_shown c.treat_waiting.new.sessions) about in
-    let then = given_shown bases c.is_none-full.result (map session_shown c.then.new.sessions) about in
+    let last = given_shown bases full (map session_shown c.treat_waiting.new.sessions) about in
+    let then = given_shown bases full (map session_shown c.then.new.sessions) about in
     let found = c.sessions-sessions.ensures (sym (ap streams_where c.now-outlook.ensures.same)) ∙ ap (map session_in_sight) c.now-outlook.ensures.sights in
-    let judged = judged_now bases c.args.pair c.is_none-full.result slot (map session_shown c.sessions-sessions.result) about found c.now-outlook.ensures.described (none_is c.args.pair c.is_none-full.result c.is_none-full.ensures) in
-    let all = treated_now _ (given bases (is_none c.args.pair) slot) last slot.waiting c.new.result c.in_ok-progress.progress judged c.new.ensures c.in_ok-progress.ensures in
+    let judged = judged_now bases c.args.pair full slot (map session_shown c.sessions-sessions.result) about found c.now-outlook.ensures.described refl in
+    let all = treated_by_now c.args.next c.args.pair _ (given bases full slot) last slot.waiting c.idle-plan.result c.treat_waiting.new.plan judged c.idle-plan.ensures c.in_ok-treat_waiting.ensures in
     let shape = shape_of c.args.item.now in
-    IfOk-weaker c.finished-2.result _ _
-    (λ plan finished.
-    plan_with bases c.args.next c.args.pair slot last then shape c.in_ok-progress.progress c.then.new.self plan c.requires.sound c.requires.alive c.requires.idle c.requires.due all
-    (sym c.if-is_some.ensures) (item_head c.args.item.now) c.in_ok-then.ensures.progress
-    (shown_then bases c.is_none-full.result about (map session_shown c.treat_waiting.new.sessions) (decision_on last shape) (map session_shown c.then.new.sessions) c.in_ok-then.ensures.found) finished)
-    c.finished-2.ensures
+    plan_with bases c.args.next c.args.pair slot last then shape all.progress _ c.then.new.self c.requires.sound c.requires.alive c.requires.idle c.requires.due all.treated
+    (sym (up_is c.args.next c.args.pair changes.Nothing all.progress c.treat_waiting.new.plan all.finished) ∙ sym c.if-is_up.ensures) (item_head c.args.item.now) refl
+    (shown_then bases full about (map session_shown c.treat_waiting.new.sessions) (decision_on last shape) (map session_shown c.then.new.sessions) c.in_ok-then.ensures.found)
+    (c.in_ok-then.ensures.progress changes.Nothing all.progress all.finished)

@@ -1,29 +1,39 @@
 -- Each is treated in its turn.
-use Rattle.std.proofs.Common.{rules, arith, sym, map}
+use Rattle.std.proofs.Common.{◌≤◌, rules, arith, sym, subst, map}
+use Rattle.std.specs.Prelude.{is_none}
 use Rattle.std.specs.Option.{option_copied}
+use Rattle.std.proofs.lemmas.List.{length-map}
+use Rattle.session_one.specs.declared.parts.TheConstants.{MOST_SESSIONS}
 use Rattle.rtsp_head.specs.Shapes.{shape_of}
 use Rattle.translate_up.specs.Views.{session_shown}
 use Rattle.translate_up.proofs.ItemHeadLemmas.{item_head}
 use Rattle.client_machine.specs.Treatment.{decision_on, given_shown}
-use Rattle.client_machine.proofs.TreatLemmas.{not_going, same_treated, shown_then, way_goes_on}
+use Rattle.client_machine.specs.Progresses.{begun}
+use Rattle.client_machine.proofs.TreatLemmas.{shown_then, way_begins}
+use Rattle.client_machine.proofs.CourseLemmas.{treated_same, way_by}
 use Rattle.client_machine.proofs.treat.treat_waiting.Goals as goal
 
-pub overflow_add-progress : goal.overflow_add-progress
-overflow_add-progress c =
-    let given = given_shown c.args.bases.now c.args.full (map session_shown c.loop-progress.sessions) (option_copied c.args.described) in
-    let same = same_treated given c.loop-progress.progress c.then.new.self (shape_of c.in-Some.item.now) c.in_ok-then.ensures.progress in
+pub loop-plan-init : goal.loop-plan-init
+loop-plan-init c =
+    let given = given_shown c.args.course.bases.now (is_none c.args.course.pair) (map session_shown c.args.sessions.now) (option_copied c.args.course.described) in
+    record { progress = begun c.args.plan.now.hand; finished = c.requires.begun; way = way_begins given c.args.slot.now.waiting c.args.plan.now.hand (subst (λ n. n ≤ MOST_SESSIONS) (sym (length-map c.args.sessions.now session_shown)) c.requires.few) c.requires.known }
+
+pub overflow_add-plan : goal.overflow_add-plan
+overflow_add-plan c =
+    let given = given_shown c.args.course.bases.now (is_none c.args.course.pair) (map session_shown c.loop-plan.sessions) (option_copied c.args.course.described) in
+    let same = treated_same c.args.course.next c.args.course.pair given (shape_of c.in-Some.item.now) c.loop-plan.plan c.then.new.self (map session_shown c.then.new.sessions) c.args.plan.now.change c.loop-plan.invariant.progress c.loop-plan.invariant.finished c.in_ok-then.ensures in
     rw same (search rules)
 
-pub loop-progress-smaller : goal.loop-progress-smaller
-loop-progress-smaller c =
-    let given = given_shown c.args.bases.now c.args.full (map session_shown c.loop-progress.sessions) (option_copied c.args.described) in
-    let same = same_treated given c.loop-progress.progress c.then.new.self (shape_of c.in-Some.item.now) c.in_ok-then.ensures.progress in
-    omega (arith, same, c.loop-progress-test.true)
+pub loop-plan-smaller : goal.loop-plan-smaller
+loop-plan-smaller c =
+    let given = given_shown c.args.course.bases.now (is_none c.args.course.pair) (map session_shown c.loop-plan.sessions) (option_copied c.args.course.described) in
+    let same = treated_same c.args.course.next c.args.course.pair given (shape_of c.in-Some.item.now) c.loop-plan.plan c.then.new.self (map session_shown c.then.new.sessions) c.args.plan.now.change c.loop-plan.invariant.progress c.loop-plan.invariant.finished c.in_ok-then.ensures in
+    omega (arith, same, c.loop-plan-test.true)
 
-pub loop-progress-preserved : goal.loop-progress-preserved
-loop-progress-preserved c =
-    let given = given_shown c.args.bases.now c.args.full (map session_shown c.loop-progress.sessions) (option_copied c.args.described) in
-    let none = not_going c.loop-progress.progress.going c.if-is_none.ensures in
-    way_goes_on _ given _ c.args.slot.now.waiting c.args.first c.loop-progress.progress c.then.new.self (shape_of c.in-Some.item.now) c.loop-progress.invariant
-    none (sym c.in-Some.ensures) (item_head c.in-Some.item.now) c.in_ok-then.ensures.progress
-    (shown_then c.args.bases.now c.args.full (option_copied c.args.described) (map session_shown c.loop-progress.sessions) (decision_on given (shape_of c.in-Some.item.now)) (map session_shown c.then.new.sessions) c.in_ok-then.ensures.found)
+pub loop-plan-preserved : goal.loop-plan-preserved
+loop-plan-preserved c =
+    let given = given_shown c.args.course.bases.now (is_none c.args.course.pair) (map session_shown c.loop-plan.sessions) (option_copied c.args.course.described) in
+    let shape = shape_of c.in-Some.item.now in
+    way_by c.args.course.next c.args.course.pair _ given _ c.args.slot.now.waiting c.args.plan.now.hand c.args.plan.now.change c.loop-plan.plan c.then.new.self shape (map session_shown c.then.new.sessions) c.loop-plan.invariant
+    (sym c.if-not-is_up.ensures) (sym c.in-Some.ensures) (item_head c.in-Some.item.now) c.in_ok-then.ensures
+    (shown_then c.args.course.bases.now (is_none c.args.course.pair) (option_copied c.args.course.described) (map session_shown c.loop-plan.sessions) (decision_on given shape) (map session_shown c.then.new.sessions) c.in_ok-then.ensures.found)

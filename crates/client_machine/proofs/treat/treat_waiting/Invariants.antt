@@ -1,13 +1,16 @@
 -- So many are treated.
 use Rattle.std.proofs.Common.{◌-◌, map}
+use Rattle.std.specs.Prelude.{is_none}
 use Rattle.std.specs.Option.{option_copied}
 use Rattle.translate_up.specs.Views.{session_shown}
-use Rattle.client_machine.specs.Progresses.{IsOnTheWay}
-use Rattle.client_machine.proofs.treat.treat_waiting.Given as goal
 use Rattle.client_machine.specs.Treatment.{given_shown}
+use Rattle.client_machine.proofs.CourseLemmas.{IsWayBy}
+use Rattle.client_machine.proofs.treat.treat_waiting.Given as goal
 
-abbrev pub invariant-loop-progress : goal.invariant-loop-progress
-invariant-loop-progress l = IsOnTheWay (given_shown l.bases l.full (map session_shown l.initial.sessions) (option_copied l.described)) (given_shown l.bases l.full (map session_shown l.sessions) (option_copied l.described)) l.slot.waiting l.fn.first l.progress
+abbrev pub invariant-loop-plan : goal.invariant-loop-plan
+invariant-loop-plan l =
+    IsWayBy l.course.next l.course.pair (given_shown l.course.bases.now (is_none l.course.pair) (map session_shown l.initial.sessions) (option_copied l.course.described))
+    (given_shown l.course.bases.now (is_none l.course.pair) (map session_shown l.sessions) (option_copied l.course.described)) l.slot.waiting l.initial.plan.hand l.initial.plan.change l.plan
 
-abbrev pub decreases-loop-progress : goal.decreases-loop-progress
-decreases-loop-progress l = l.count - l.progress.treated
+abbrev pub decreases-loop-plan : goal.decreases-loop-plan
+decreases-loop-plan l = l.count - l.plan.treated
