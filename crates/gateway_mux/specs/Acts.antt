@@ -1,5 +1,5 @@
 -- When what was planned is what an event does (this project's own).
-use Rattle.std.specs.Prelude.{◌≡◌, ℕ, ◌+◌, ◌*◌, ◌/◌, ◌%◌, ◌^◌, ◌<◌, true, is_some, length, List, Option, Some, None}
+use Rattle.std.specs.Prelude.{◌≡◌, ℕ, ◌+◌, ◌*◌, ◌/◌, ◌%◌, ◌^◌, ◌<◌, true, is_some, IsSome, length, List, Option, Some, None}
 use Rattle.rtsp_head.specs.Items.{Shape}
 use Rattle.rtsp_head.specs.declared.item.ItemKind.{ItemKind}
 use Rattle.rtsp_head.specs.declared.item.ItemKind.TheVariants as kinds
@@ -11,7 +11,7 @@ use Rattle.client_machine.specs.declared.why.CloseWhy.TheVariants.{Ended, BadIte
 use Rattle.client_machine.specs.Events.{PrivateEvent}
 use Rattle.client_machine.specs.Frames.{channel_in, Half, half_for, channel_for}
 use Rattle.client_machine.specs.Step.{hear}
-use Rattle.client_machine.specs.Plans.{Comes, CanCome, heard_by, effect_by, IsPlan, IsShortPlan}
+use Rattle.client_machine.specs.Plans.{Comes, shuts, CanCome, heard_by, effect_by, IsPlan, IsShortPlan}
 use Rattle.gateway_claim.specs.declared.event.Event.{Event}
 use Rattle.gateway_claim.specs.declared.event.Event.TheVariants as events
 use Rattle.gateway_claim.specs.Happenings.{Happening, enters, takes, ends, lags, hears, up_ends}
@@ -20,7 +20,8 @@ use Rattle.gateway_claim.specs.Follows.{answer_due}
 use Rattle.gateway_claim.specs.Turns.{raw_event, number_heard}
 use Rattle.gateway_mux.specs.declared.act.FramePath.{FramePath}
 use Rattle.gateway_mux.specs.declared.act.Act.{Act}
-use Rattle.gateway_mux.specs.declared.act.Act.TheVariants.{Nothing, Rises, Falls, Answers, Turns, Ends}
+use Rattle.gateway_mux.specs.declared.act.PlannedClose.{PlannedClose}
+use Rattle.gateway_mux.specs.declared.act.Act.TheVariants.{Nothing, Rises, Falls, Answers, Turns, Closes, Ends}
 use Rattle.gateway_mux.specs.declared.turn_facts.TurnFacts.{TurnFacts}
 use Rattle.gateway_mux.specs.declared.turn.PlannedTurn.{PlannedTurn}
 use Rattle.gateway_mux.specs.Moves.{wrong_in, TakesTurn, IsIdle, IsEndAt}
@@ -31,6 +32,7 @@ use Rattle.connection_table.specs.Tables.{IsKeyOf, IsSeatAt}
 use Rattle.gateway_mux.specs.Settlements.{AreSettled}
 use Rattle.gateway_mux.specs.Short.{IsShortAnswer}
 use Rattle.gateway_mux.specs.Turn.{free_once}
+use Rattle.up_books.specs.Numbers.{next_number}
 
 -- the item is Bad
 abbrev pub IsBadKind : ItemKind → Type 0
@@ -80,6 +82,18 @@ IsClosing conn why (lags i) = (i ≡ conn) × (why ≡ Slow)
 IsClosing conn why (hears shape) = ⊥
 IsClosing conn why (up_ends cause) = ⊥
 
+-- A connection closes that is kept, and where its TEARDOWN is due, a number is left for that.
+pub record IsPlannedClose (bases : Bases) (one : Picture) (happening : Happening) (it : PlannedClose) : Type 0 where
+  pub closes : IsClosing it.conn it.why happening
+  pub client : Client
+  pub here : one.clients it.conn ≡ Some client
+  pub left : is_some (effect_by bases 0 (free_once None one.held) client (shuts it.why)).message ≡ true → IsSome (next_number one.issued)
+
+-- a planned close is that of some event
+pub record IsCloseOfSome (bases : Bases) (one : Picture) (it : PlannedClose) : Type 0 where
+  pub happening : Happening
+  pub is_planned : IsPlannedClose bases one happening it
+
 -- A frame of a player that is alive goes up, on the channel that its own channel stands for.
 pub record IsRise (one : Picture) (happening : Happening) (channel : ℕ) : Type 0 where
   pub i : ℕ
@@ -122,7 +136,8 @@ IsAct bases one happening Nothing = IsIdle bases one happening None
 IsAct bases one happening (Rises channel) = IsRise one happening channel
 IsAct bases one happening (Falls fall) = IsFall one happening fall.conn fall.channel
 IsAct bases one happening (Answers answer) = IsIdle bases one happening (Some answer)
-IsAct bases one happening (Turns answer it) = IsPlannedTurn bases one happening answer it
+IsAct bases one happening (Turns answer it) = IsPlannedTurn bases one happening answer it.value
+IsAct bases one happening (Closes it) = IsPlannedClose bases one happening it
 IsAct bases one happening (Ends cause) = IsEndAt bases one happening (wrong_in one happening) cause
 
 -- the answer to the server alone
@@ -136,7 +151,8 @@ IsKeyed seats Nothing = Unit {0}
 IsKeyed seats (Rises channel) = Unit {0}
 IsKeyed seats (Falls fall) = Unit {0}
 IsKeyed seats (Answers answer) = Unit {0}
-IsKeyed seats (Turns answer it) = IsKeyOf seats it.conn it.key
+IsKeyed seats (Turns answer it) = IsKeyOf seats it.value.conn it.value.key
+IsKeyed seats (Closes it) = IsKeyOf seats it.conn it.key
 IsKeyed seats (Ends cause) = Unit {0}
 
 -- The connection whose own the event is is kept there; nothing where it isn't kept.
@@ -153,5 +169,6 @@ IsShortAct Nothing = Unit {0}
 IsShortAct (Rises channel) = Unit {0}
 IsShortAct (Falls fall) = Unit {0}
 IsShortAct (Answers answer) = IsShortAnswer (Some answer)
-IsShortAct (Turns answer it) = IsShortAnswer answer × IsShortPlan it.plan
+IsShortAct (Turns answer it) = IsShortAnswer answer × IsShortPlan it.value.plan
+IsShortAct (Closes it) = Unit {0}
 IsShortAct (Ends cause) = Unit {0}

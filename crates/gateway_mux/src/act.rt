@@ -1,8 +1,10 @@
 //! What an event does.
 
 use crate::turn::PlannedTurn;
+use client_machine::CloseWhy;
 use gate_bytes::Text;
 use gateway_claim::UpCause;
+use std::alloc::Global;
 
 /// Where a frame of the server goes.
 #[derive(Clone, Copy)]
@@ -11,6 +13,19 @@ pub(crate) struct FramePath {
     pub conn: u32,
     /// The channel of its player.
     pub channel: u8,
+}
+
+/// The close of a connection.
+#[derive(Clone, Copy)]
+pub(crate) struct PlannedClose {
+    /// Where its plan is made.
+    pub alloc: Global,
+    /// The connection.
+    pub conn: u32,
+    /// The key under which it is kept.
+    pub key: usize,
+    /// Why it closes.
+    pub why: CloseWhy,
 }
 
 /// What an event will do to a multiplexer while the connection to the server stands; after that it
@@ -26,7 +41,9 @@ pub(crate) enum Act {
     /// The server is answered, and no connection has its turn.
     Answers(Text),
     /// A connection has its turn, once the server is answered, where it asked.
-    Turns(Option<Text>, PlannedTurn),
+    Turns(Option<Text>, Box<PlannedTurn>),
+    /// A connection closes. Its turn is planned when this is carried out, so that no memory is taken for that.
+    Closes(PlannedClose),
     /// The connection to the server ends.
     Ends(UpCause),
 }

@@ -4,16 +4,17 @@ ghost use Rattle.client_machine.specs.Plans.{IsShortPlan};
 ghost use Rattle.gateway_claim.specs.Happenings.{Happening, happening_of};
 ghost use Rattle.gateway_claim.specs.Tells.{is_frame_item};
 
-use crate::act::Act;
+use crate::act::{Act, PlannedClose};
 use crate::connections::Connections;
 use crate::frames::on_channel;
 use crate::outcome::{answering, ending, falling, handed, nothing, rising};
 use crate::turn::{PlannedTurn, commit_turn};
+use client_machine::plan_close;
 use gate_bytes::Text;
 use gateway_claim::{Event, Outcome};
 
 impl Connections {
-    ghost use Rattle.gateway_mux.specs.Acts.{IsAct, IsPlannedTurn, IsTurnOfSome, IsShortAct, IsKeyed};
+    ghost use Rattle.gateway_mux.specs.Acts.{IsAct, IsPlannedTurn, IsTurnOfSome, IsPlannedClose, IsCloseOfSome, IsShortAct, IsKeyed};
     ghost use Rattle.gateway_mux.specs.Moves.{IsCommitted};
     ghost use Rattle.gateway_mux.specs.Pictures.{picture};
     ghost use Rattle.connection_table.specs.Tables.{IsKeyOf};
@@ -41,7 +42,11 @@ impl Connections {
                 _ => unreachable!(),
             },
             Act::Answers(answer) => answering(Some(answer)),
-            Act::Turns(answer, turn) => self.turn(answer, turn),
+            Act::Turns(answer, turn) => self.turn(answer, Box::into_inner(turn)),
+            Act::Closes(close) => {
+                let turn = self.closing(close);
+                self.turn(None, turn)
+            }
             Act::Ends(cause) => ending(cause),
         }
     }
@@ -88,6 +93,33 @@ impl Connections {
                 handed(conn, answer, done)
             }
             None => unreachable!(),
+        }
+    }
+
+    /// The turn of a connection that closes. It takes no memory.
+    #[inline(never)]
+    fn closing(&self, close: PlannedClose) -> PlannedTurn
+        requires key { IsKeyOf self.now.seats close.conn close.key }
+        requires close { IsCloseOfSome self.now.bases (picture self.now.seats self.now.upstream) close }
+        ensures turn { (h : Happening)
+            → IsPlannedClose self.now.bases (picture self.now.seats self.now.upstream) h close
+            → IsPlannedTurn self.now.bases (picture self.now.seats self.now.upstream) h None result }
+        ensures key { IsKeyOf self.now.seats result.conn result.key }
+        ensures short { IsShortPlan result.plan }
+    {
+        let Some(slot) = self.seats.at(close.key) else {
+            unreachable!();
+        };
+        let plan = plan_close(close.alloc, slot, close.why);
+        let asks = plan.asks();
+        PlannedTurn {
+            conn: close.conn,
+            key: close.key,
+            number: 0,
+            next: self.upstream.requests.issued() + 1,
+            settled: None,
+            plan,
+            asks,
         }
     }
 }

@@ -7,7 +7,7 @@ ghost use Rattle.client_machine.specs.Plans.{Comes, CanCome, incoming_seen, IsPl
 ghost use Rattle.gateway_claim.specs.Cores.{IsOwnKey};
 ghost use Rattle.gateway_claim.specs.Happenings.{Happening, takes, happening_of, cause_of};
 
-use crate::act::Act;
+use crate::act::{Act, PlannedClose};
 use crate::connections::Connections;
 use crate::frames::channel_of;
 use crate::turn::PlannedTurn;
@@ -168,12 +168,30 @@ impl Connections {
         ensures key { IsKeyed self.now.seats result }
     {
         match seat {
-            Some(seat) => {
-                let plan = plan_close(alloc, seat.slot, why);
-                self.turned(seat.key, TurnFacts::alone(conn), plan)
-            }
+            Some(seat) => self.closed(alloc, conn, seat, why),
             None => Act::Nothing,
         }
+    }
+
+    /// What the close of a connection does that is kept here. Where its TEARDOWN is due and no number is left, the
+    /// connection to the server ends.
+    fn closed(&self, alloc: Global, conn: u32, seat: KeyedSlot<'_>, why: CloseWhy) -> Act
+        requires { IsSeatAt self.now.seats conn (Some seat) }
+        ensures act { (h : Happening) → IsClosing conn why h
+            → IsAct self.now.bases (picture self.now.seats self.now.upstream) h result }
+        ensures short { IsShortAct result }
+        ensures key { IsKeyed self.now.seats result }
+    {
+        let asks = plan_close(alloc, seat.slot, why).asks();
+        if asks && self.upstream.requests.next().is_none() {
+            return Act::Ends(UpCause::CseqSpent);
+        }
+        Act::Closes(PlannedClose {
+            alloc,
+            conn,
+            key: seat.key,
+            why,
+        })
     }
 
     /// What the turn of a connection does, which is kept at this seat.
@@ -201,26 +219,32 @@ impl Connections {
         let next = self.upstream.requests.issued() + 1;
         let pair = self.upstream.free_once(&said.settled);
         let plan = plan(alloc, &self.bases, seat.slot, next, pair, incoming)?;
-        Ok(self.turned(seat.key, said, plan))
+        self.turned(alloc, seat.key, said, plan)
     }
 
     /// What the turn of a connection with this plan does, which is kept under this key. Where a request
     /// is due and no number is left, the connection to the server ends.
     #[inline(always)]
-    fn turned(&self, key: usize, said: TurnFacts, plan: PlannedStep) -> Act
+    fn turned(
+        &self,
+        alloc: Global,
+        key: usize,
+        said: TurnFacts,
+        plan: PlannedStep,
+    ) -> Result<Act, Memory>
         requires key { IsKeyOf self.now.seats said.conn key }
         ensures act { (h : Happening) (comes : Comes) (client : Client)
             → IsSaid self.now.bases (picture self.now.seats self.now.upstream) h said comes
             → (picture self.now.seats self.now.upstream).clients said.conn ≡ Some client
             → IsPlan self.now.bases (self.now.upstream.requests.issued + 1)
             (free_once said.settled (picture self.now.seats self.now.upstream).held) client comes plan
-            → IsAct self.now.bases (picture self.now.seats self.now.upstream) h result }
-        ensures short { IsShortAnswer said.answer → IsShortPlan plan → IsShortAct result }
-        ensures key { IsKeyed self.now.seats result }
+            → IfOk result (IsAct self.now.bases (picture self.now.seats self.now.upstream) h) }
+        ensures short { IsShortAnswer said.answer → IsShortPlan plan → IfOk result IsShortAct }
+        ensures key { IfOk result (IsKeyed self.now.seats) }
     {
         let asks = plan.asks();
         if asks && self.upstream.requests.next().is_none() {
-            return Act::Ends(UpCause::CseqSpent);
+            return Ok(Act::Ends(UpCause::CseqSpent));
         }
         let TurnFacts {
             conn,
@@ -237,7 +261,7 @@ impl Connections {
             plan,
             asks,
         };
-        Act::Turns(answer, turn)
+        Ok(Act::Turns(answer, Box::new(alloc, turn)?))
     }
 }
 

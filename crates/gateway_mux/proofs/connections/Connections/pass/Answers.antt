@@ -1,4 +1,4 @@
-use Rattle.std.proofs.Common.{◌∙◌, Some, None, sym, ap, subst}
+use Rattle.std.proofs.Common.{◌∙◌, None, sym, ap, subst}
 use Rattle.rtsp_head.specs.Shapes.{shape_of}
 use Rattle.client_machine.specs.Frames.{behind_channel, frame_text}
 use Rattle.gateway_claim.specs.Happenings.{Happening, happening_of}

@@ -3,6 +3,8 @@ use Rattle.session_one.specs.declared.parts.TheConstants.{MOST_SESSIONS}
 use Rattle.std.proofs.Common.{◌≡◌, ◌∙◌, ◌+◌, ◌≤◌, ℕ, true, false, sym, ap, subst}
 use Rattle.up_books.specs.declared.cseq.TheConstants.{LAST_NUMBER}
 use Rattle.up_books.specs.Numbers.{next_number}
+use Rattle.gateway_mux.specs.declared.turn.PlannedTurn.{PlannedTurn}
+use Rattle.gateway_mux.specs.Acts.{IsPlannedTurn}
 use Rattle.gateway_mux.specs.Pictures.{picture}
 use Rattle.gateway_mux.specs.Turn.{free_once}
 use Rattle.gateway_mux.proofs.PlanLemmas.{spent_act, turned_act, none_left, one_left}
@@ -18,13 +20,14 @@ returns-then-is_none-clause-act c h comes client said here planned =
 
 pub returns-clause-act : goal.returns-clause-act
 returns-clause-act c h comes client said here planned =
-    turned_act c.args.self.now.bases (picture c.args.self.now.seats c.args.self.now.upstream) (left 1 c.args.self.now.upstream.requests.spare c.args.self.now.seats) (left MOST_SESSIONS c.args.self.now.upstream.sessions.spare c.args.self.now.seats) h c.args.said comes client c.args.plan c.asks-asks.result c.args.key (c.issued.result + 1) c.args.self.now.kept (ap (λ n. n + 1) c.issued.ensures.number) said here planned
+    subst (λ (it : PlannedTurn). IsPlannedTurn c.args.self.now.bases (picture c.args.self.now.seats c.args.self.now.upstream) h c.args.said.answer it) (sym c.in_ok-new.ensures.ok)
+    (turned_act c.args.self.now.bases (picture c.args.self.now.seats c.args.self.now.upstream) (left 1 c.args.self.now.upstream.requests.spare c.args.self.now.seats) (left MOST_SESSIONS c.args.self.now.upstream.sessions.spare c.args.self.now.seats) h c.args.said comes client c.args.plan c.asks-asks.result c.args.key (c.issued.result + 1) c.args.self.now.kept (ap (λ n. n + 1) c.issued.ensures.number) said here planned
     (c.asks-asks.ensures c.args.self.now.bases c.args.said.number (c.args.self.now.upstream.requests.issued + 1) (free_once c.args.said.settled (picture c.args.self.now.seats c.args.self.now.upstream).held) client comes planned)
     (subst (λ (n : ℕ). n ≤ LAST_NUMBER) c.issued.ensures.number c.issued.ensures.high)
     (elim c.else-asks.branch [
       | else-asks-via-then-asks+else-is_none w ↦ λ asks. one_left (next_number c.args.self.now.upstream.requests.issued) w.next.result w.is_none.result w.next.ensures w.is_none.ensures w.if-is_none.false
       | else-asks-via-else-asks w ↦ λ asks. absurd (true_false (sym asks ∙ w.if-asks.false))
-    ])
+    ]))
   where
     true_false : true ≡ false → ⊥
     true_false e = cc
