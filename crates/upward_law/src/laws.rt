@@ -1,0 +1,49 @@
+//! Laws over the bytes that the server is handed in a history. Each holds by its contract alone: no
+//! call is made.
+ghost use Rattle.std.specs.Prelude.{◌≡◌, ◌∷◌, ℕ, List, Some};
+ghost use Rattle.rtsp_uri.specs.declared.base.Bases.{Bases};
+ghost use Rattle.gateway_claim.specs.declared.event.UpMessage.TheVariants.{Request};
+ghost use Rattle.gateway_claim.specs.Happenings.{HistoryEntry};
+ghost use Rattle.gateway_claim.specs.OwnEvents.{turn, books_of};
+ghost use Rattle.gateway_claim.specs.Follows.{IsHistory, Follows};
+ghost use Rattle.upward_law.specs.ServerStream.{ServerRead, AreRead};
+ghost use Rattle.upward_law.specs.OpenRequest.{IsOpenRequest};
+ghost use Rattle.upward_law.specs.Due.{bytes_up, stream_up, meant_for, all_meant, IsItemTaken, AreItemsTaken};
+
+/// A stream of bytes to the server is read in one way at most.
+pub fn a_stream_has_one_reading()
+    ensures { (stream : List ℕ) (one other : List ServerRead) → AreRead stream one → AreRead stream other
+        → one ≡ other }
+{}
+
+/// What the server is handed for an entry is read, by the lengths that it says itself, as the answer
+/// that is due to its own request, and then as what the machine of the connection whose turn it is
+/// asks alone: a player's request, a PLAY that waited and the TEARDOWN of a connection that closed
+/// alike, each with the next number, and a SETUP with the lowest pair of channels that is free; or
+/// a frame, on the pair that its stream has. So is all that it is handed in a history. It asks that
+/// what comes of a player is one item at a time, as each event of a core is one by its type.
+pub fn what_goes_up_is_read_as_it_was_meant()
+    ensures entry { (bases : Bases) (earlier : List HistoryEntry) (entry : HistoryEntry)
+        → IsHistory bases earlier
+        → Follows bases earlier entry
+        → IsItemTaken entry.happening
+        → AreRead (bytes_up entry.outcome.to_up) (meant_for bases earlier entry) }
+    ensures stream { (bases : Bases) (history : List HistoryEntry) → IsHistory bases history
+        → AreItemsTaken history
+        → AreRead (stream_up history) (all_meant bases history) }
+{}
+
+/// Each request that the server is handed is read as one, with the last number that was given. The
+/// connection whose turn it is has asked it, and has it open: it is the player's request, by its
+/// method, its URI and its session's id, and a SETUP asks for the channels of its stream's pair; or
+/// the PLAY that waited, for its session; or the TEARDOWN of the session at a place. Its kind, which
+/// the books take of the first letters of its text, is that of the request that is read.
+pub fn a_request_that_goes_up_is_the_open_one()
+    ensures { (bases : Bases) (earlier : List HistoryEntry) (entry : HistoryEntry) (i : ℕ) (text : List ℕ)
+        → IsHistory bases earlier
+        → Follows bases earlier entry
+        → IsItemTaken entry.happening
+        → turn (books_of earlier) entry.happening ≡ Some i
+        → entry.outcome.to_up.message ≡ Some (Request text)
+        → IsOpenRequest bases (entry ∷ earlier) i text }
+{}
