@@ -46,7 +46,7 @@ use Rattle.upward_law.specs.ServerStream.{reads_answer, AreRead}
 use Rattle.upward_law.specs.Due.{message_bytes, bytes_up, stream_up, answer_meant, heard_due, answers_due, message_meant, messages_due, meant_next, meant_for, all_meant, IsItemTaken, AreItemsTaken}
 use Rattle.upward_law.proofs.PlayLemmas.{alone_plays}
 use Rattle.upward_law.proofs.ReadLemmas.{AreWritten, one_written, none_written, both_written, written_read, request_written, answer_written, frame_written}
-use Rattle.upward_law.proofs.SoundLemmas.{IsSoundUp, IsPairAt, IsWhole, step_sound}
+use Rattle.upward_law.proofs.SoundLemmas.{IsLoad, IsSoundUp, IsPairAt, IsWhole, sound_where, step_sound}
 
 -- The session of a notify has an id in the grammar, and a refusal has a code that can be told.
 abbrev IsTold : Result HeardNotice ℕ → Type 0
@@ -124,63 +124,64 @@ answers_so books (hears shape) = heard_so books (heard shape) (heard_small shape
 answers_so books (up_ends cause) = none_written
 
 -- So is a message, where a number is left.
-asked_so : (books settled : Books) (i : ℕ) (message : Option Outgoing) → spent books.issued message ≡ None → IsSoundUp (free_in settled) message
+asked_so : (whole : Type 0) (books settled : Books) (i : ℕ) (message : Option Outgoing) → whole → spent books.issued message ≡ None → IsSoundUp whole (free_in settled) message
     → AreWritten (message_bytes (option_map (message_up books settled i) message)) (option_to_list (option_map (message_meant books settled i) message))
-asked_so books settled i None left sound = none_written
-asked_so books settled i (Some (asks request named)) left sound =
+asked_so whole books settled i None is left sound = none_written
+asked_so whole books settled i (Some (asks request named)) is left sound =
     one_written (request_text (books.issued + 1) (over_pair named (free_in settled) request)) _ (request_written (books.issued + 1) (over_pair named (free_in settled) request) (sound (books.issued + 1) short))
   where
     short : books.issued + 1 < 10 ^ CSEQ_TWO_DIGITS
     short = grind (arith, nat_lt, ltb-true)
-asked_so books settled i (Some (carries pair half rest)) left sound =
-    subst (λ (l : List ℕ). AreWritten (frame_text (2 * books.pair_of i pair + half) l) (message_meant books settled i (carries pair half l) ∷ [])) (sym sound.spelled)
-    (one_written (frame_text (2 * books.pair_of i pair + half) (sound.high ∷ sound.low ∷ sound.load)) _ (frame_written (2 * books.pair_of i pair + half) sound.high sound.low sound.load sound.counted))
+asked_so whole books settled i (Some (carries pair half rest)) is left sound =
+    let load : IsLoad rest = sound is in
+    subst (λ (l : List ℕ). AreWritten (frame_text (2 * books.pair_of i pair + half) l) (message_meant books settled i (carries pair half l) ∷ [])) (sym load.spelled)
+    (one_written (frame_text (2 * books.pair_of i pair + half) (load.high ∷ load.low ∷ load.load)) _ (frame_written (2 * books.pair_of i pair + half) load.high load.low load.load load.counted))
 
-messages_so : (books settled : Books) (who : Option ℕ) (message : Option Outgoing) → spent books.issued message ≡ None → IsSoundUp (free_in settled) message
+messages_so : (whole : Type 0) (books settled : Books) (who : Option ℕ) (message : Option Outgoing) → whole → spent books.issued message ≡ None → IsSoundUp whole (free_in settled) message
     → AreWritten (message_bytes (message_due books settled who message)) (messages_due books settled who message)
-messages_so books settled None message left sound = none_written
-messages_so books settled (Some i) message left sound = asked_so books settled i message left sound
+messages_so whole books settled None message is left sound = none_written
+messages_so whole books settled (Some i) message is left sound = asked_so whole books settled i message is left sound
 
 -- The event of a connection is one item, where that of the history is.
-event_whole : (books settled : Books) (i : ℕ) (waiting : List Shape) (h : Happening) → IsItemTaken h → IfSome (event_of books i waiting h) IsWhole
-event_whole books settled i waiting (enters conn) taken = tt
-event_whole books settled i waiting (takes conn shape) taken = taken
-event_whole books settled i waiting (ends conn) taken = tt
-event_whole books settled i waiting (lags conn) taken = tt
-event_whole books settled i waiting (hears shape) taken =
+event_whole : (books : Books) (i : ℕ) (waiting : List Shape) (h : Happening) → IsItemTaken h → IfSome (event_of books i waiting h) IsWhole
+event_whole books i waiting (enters conn) taken = tt
+event_whole books i waiting (takes conn shape) taken = taken
+event_whole books i waiting (ends conn) taken = tt
+event_whole books i waiting (lags conn) taken = tt
+event_whole books i waiting (hears shape) taken =
     heard_event_as (λ event. IfSome event IsWhole) books (settled_by books (hears shape)) i waiting (heard shape) tt (λ reply is. tt) (λ id reason names. tt) (λ pair half rest. tt)
-event_whole books settled i waiting (up_ends cause) taken = tt
+event_whole books i waiting (up_ends cause) taken = tt
 
 pair_at : (free : Option ℕ) (books : Books) → free_in books ≡ free → IsPairAt free
 pair_at None books is = tt
 pair_at (Some p) books is = lowest_free_below _ p is
 
 -- What goes up at the turn of a connection can be written.
-turn_sound : (bases : Bases) (T : List HistoryEntry) (h : Happening) (i : ℕ) → IsHistory bases T → fault_in T ≡ None → turn (books_of T) h ≡ Some i → said_breach bases T h ≡ None → IsItemTaken h
-    → IsSoundUp (free_in (settled_by (books_of T) h)) (effect_of_turn bases T (Some i) h).message
-turn_sound bases T h i history standing turns said taken = by (entered i T) (own_event bases T i h) refl refl
+turn_sound : (bases : Bases) (T : List HistoryEntry) (h : Happening) (i : ℕ) → IsHistory bases T → fault_in T ≡ None → turn (books_of T) h ≡ Some i → said_breach bases T h ≡ None
+    → IsSoundUp (IsItemTaken h) (free_in (settled_by (books_of T) h)) (effect_of_turn bases T (Some i) h).message
+turn_sound bases T h i history standing turns said = by (entered i T) (own_event bases T i h) refl refl
   where
     free : Option ℕ
     free = free_in (settled_by (books_of T) h)
 
-    silent : (message : Option Outgoing) → message ≡ None → IsSoundUp free message
-    silent message e = subst (IsSoundUp free) (sym e) tt
+    silent : (message : Option Outgoing) → message ≡ None → IsSoundUp (IsItemTaken h) free message
+    silent message e = subst (IsSoundUp (IsItemTaken h) free) (sym e) tt
 
-    by : (en : Bool) (event : Option PrivateEvent) → entered i T ≡ en → own_event bases T i h ≡ event → IsSoundUp free (effect_of_turn bases T (Some i) h).message
+    by : (en : Bool) (event : Option PrivateEvent) → entered i T ≡ en → own_event bases T i h ≡ event → IsSoundUp (IsItemTaken h) free (effect_of_turn bases T (Some i) h).message
     by false event en is = silent (effect_of_turn bases T (Some i) h).message (effect_absent bases T h i en)
     by true None en is = silent (effect_of_turn bases T (Some i) h).message (ap (λ (done : Effect). done.message) (effect_present bases T h i None en is))
     by true (Some event) en is =
         let p : Private = alone bases T i in
         let made : IsStep bases (books_of T) (final_in (books_of T) h) i p event =
         subst (λ (one : Option PrivateEvent). IsTurnStep bases (books_of T) i p one (final_in (books_of T) h)) is (turn_step bases T i h ((joined bases T history standing).1 i) en turns said) in
-        let whole : IsWhole event = subst (λ (one : Option PrivateEvent). IfSome one IsWhole) is (event_whole (books_of T) (books_of T) i p.client.waiting h taken) in
-        subst (λ (done : Effect). IsSoundUp free done.message) (sym (effect_present bases T h i (Some event) en is ∙ step_is bases (books_of T) (final_in (books_of T) h) i p event (not_over bases T standing i) made))
-        (step_sound bases p.count free (p.count + 1) p.client event (alone_fit bases (own bases i T)) (alone_plays bases (own bases i T)) (pair_at free (settled_by (books_of T) h) refl) whole)
+        subst (λ (done : Effect). IsSoundUp (IsItemTaken h) free done.message) (sym (effect_present bases T h i (Some event) en is ∙ step_is bases (books_of T) (final_in (books_of T) h) i p event (not_over bases T standing i) made))
+        (sound_where (IsItemTaken h) (IsWhole event) free _ (λ taken. subst (λ (one : Option PrivateEvent). IfSome one IsWhole) is (event_whole (books_of T) i p.client.waiting h taken))
+        (step_sound bases p.count free (p.count + 1) p.client event (alone_fit bases (own bases i T)) (alone_plays bases (own bases i T)) (pair_at free (settled_by (books_of T) h) refl)))
 
-pub who_sound : (bases : Bases) (T : List HistoryEntry) (h : Happening) (who : Option ℕ) → IsHistory bases T → fault_in T ≡ None → turn (books_of T) h ≡ who → said_breach bases T h ≡ None → IsItemTaken h
-    → IsSoundUp (free_in (settled_by (books_of T) h)) (effect_of_turn bases T who h).message
-who_sound bases T h None history standing turns said taken = tt
-who_sound bases T h (Some i) history standing turns said taken = turn_sound bases T h i history standing turns said taken
+pub who_sound : (bases : Bases) (T : List HistoryEntry) (h : Happening) (who : Option ℕ) → IsHistory bases T → fault_in T ≡ None → turn (books_of T) h ≡ who → said_breach bases T h ≡ None
+    → IsSoundUp (IsItemTaken h) (free_in (settled_by (books_of T) h)) (effect_of_turn bases T who h).message
+who_sound bases T h None history standing turns said = tt
+who_sound bases T h (Some i) history standing turns said = turn_sound bases T h i history standing turns said
 
 -- So it is of an entry
 pub left_for : (bases : Bases) (T : List HistoryEntry) (e : HistoryEntry) → Follows bases T e → fault_in (e ∷ T) ≡ None → spent (books_of T).issued (effect bases T e.happening).message ≡ None
@@ -195,7 +196,7 @@ entry_so bases T e None history follows taken is =
     let who = turn books e.happening in
     let message = (effect bases T e.happening).message in
     both_written (unwrap_or (answer_due books e.happening) []) (message_bytes (message_due books settled who message)) (answers_due books e.happening) (messages_due books settled who message) (answers_so books e.happening)
-    (messages_so books settled who message (left_for bases T e follows is) (who_sound bases T e.happening who history (both_none (fault_in T) e.outcome.fault is).0 refl (said_right bases T e follows is) taken))
+    (messages_so (IsItemTaken e.happening) books settled who message taken (left_for bases T e follows is) (who_sound bases T e.happening who history (both_none (fault_in T) e.outcome.fault is).0 refl (said_right bases T e follows is)))
 
 entry_written : (bases : Bases) (T : List HistoryEntry) (e : HistoryEntry) → IsHistory bases T → Follows bases T e → IsItemTaken e.happening → AreWritten (bytes_up e.outcome.to_up) (meant_for bases T e)
 entry_written bases T e history follows taken =

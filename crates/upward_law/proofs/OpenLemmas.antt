@@ -1,7 +1,7 @@
 -- A request that the server is handed is the one that its connection has open then, and the books have it so.
 use Rattle.std.proofs.Common.{◌≡◌, ◌∙◌, ℕ, suc, ◌+◌, ◌<◌, ◌^◌, ◌==◌, ◌&&◌, nat_lt, Bool, true, false, cond, List, [], ◌∷◌, ◌++◌, length, take, Option, Some, None, refl, sym, ap, subst, unwrap_or, arith}
 use Rattle.std.specs.Prelude.{codes, is_some}
-use Rattle.std.specs.Option.{option_map, option_and_then}
+use Rattle.std.specs.Option.{option_and_then}
 use Rattle.std.specs.Str.{bytes_eq}
 use Rattle.std.proofs.lemmas.Bool.{eq-eqb, ltb-true}
 use Rattle.gate_bytes.specs.Ascii.{space}
@@ -42,7 +42,7 @@ begins_with word number request none other =
     let (rest, is) = method_first number request in
     ap (λ (text : List ℕ). bytes_eq (take (suc (length word)) text) (word ++ (space ∷ []))) is ∙ spaced word request.method rest none other
 
-pub kind_told : (number : ℕ) (request : Request2) (pair : Option ℕ) (shut : Bool) → IsRequest number request → kind_of_text (request_text number request) pair shut ≡ kind_read request pair shut
+kind_told : (number : ℕ) (request : Request2) (pair : Option ℕ) (shut : Bool) → IsRequest number request → kind_of_text (request_text number request) pair shut ≡ kind_read request pair shut
 kind_told number request pair shut is =
     let other : is_unspaced request.method ≡ true = method_unspaced request.method request.uri is.writable.start in
     let text = request_text number request in
@@ -57,8 +57,8 @@ lent_pair books i count kind p counted asked =
     let here : (i == i && (count + 1 == books.counts i + 1)) ≡ true = ap (λ t. t && (count + 1 == books.counts i + 1)) (eq-eqb i i refl) ∙ eq-eqb (count + 1) (books.counts i + 1) (ap (λ n. n + 1) counted) in
     ap (λ t. cond t (unwrap_or (pair_asked kind) (books.pair_of i (count + 1))) (books.pair_of i (count + 1))) here ∙ ap (λ (one : Option ℕ). unwrap_or one (books.pair_of i (count + 1))) asked
 
-lent_asker : (books : Books) (i : ℕ) (kind : RequestKind) → option_map (λ opened. opened.conn) ((lends i kind books).opened (books.issued + 1)) ≡ Some i
-lent_asker books i kind = ap (λ t. option_map (λ opened. opened.conn) (cond t (Some (record { conn = i; kind = kind })) (books.opened (books.issued + 1)))) (eq-eqb (books.issued + 1) (books.issued + 1) refl)
+lent_open : (books : Books) (i : ℕ) (kind : RequestKind) → (lends i kind books).opened (books.issued + 1) ≡ Some (record { conn = i; kind = kind })
+lent_open books i kind = ap (λ t. cond t (Some (record { conn = i; kind = kind })) (books.opened (books.issued + 1))) (eq-eqb (books.issued + 1) (books.issued + 1) refl)
 
 setup_pair : (request : Request2) (free : Option ℕ) (shut : Bool) (p : ℕ) → free ≡ Some p → request.method ≡ method_name methods.Setup → pair_asked (kind_read request free shut) ≡ Some p
 setup_pair request free shut p is setup =
@@ -109,10 +109,10 @@ books_asked bases T e i text follows standing turns is =
     ∙ ap (λ (one : Option UpMessage). lends_where (Some i) (kind_of one (free_in (settled_by (books_of T) e.happening)) (has_shut (Some i) (e ∷ T))) (settled_by (books_of T) e.happening)) is
 
 -- A request that goes up, by what is open.
-asked_open : (bases : Bases) (T : List HistoryEntry) (e : HistoryEntry) (i : ℕ) (request : Request2) (named : Option ℕ) → IsHistory bases T → Follows bases T e → fault_in (e ∷ T) ≡ None → turn (books_of T) e.happening ≡ Some i → IsItemTaken e.happening
+asked_open : (bases : Bases) (T : List HistoryEntry) (e : HistoryEntry) (i : ℕ) (request : Request2) (named : Option ℕ) → IsHistory bases T → Follows bases T e → fault_in (e ∷ T) ≡ None → turn (books_of T) e.happening ≡ Some i
     → (effect_of_turn bases T (Some i) e.happening).message ≡ Some (asks request named)
-    → IsOpenRequest bases (e ∷ T) i (request_text ((books_of T).issued + 1) (over_pair named (free_in (settled_by (books_of T) e.happening)) request))
-asked_open bases T e i request named history follows standing turns taken is = by (client_alone bases (e ∷ T) i).pending refl meant
+    → IsOpenRequest bases T e (request_text ((books_of T).issued + 1) (over_pair named (free_in (settled_by (books_of T) e.happening)) request))
+asked_open bases T e i request named history follows standing turns is = by (client_alone bases (e ∷ T) i).pending refl meant
   where
     h : Happening
     h = e.happening
@@ -145,7 +145,7 @@ asked_open bases T e i request named history follows standing turns taken is = b
         numbered issued request named left = grind (arith, nat_lt, ltb-true)
 
     sound : IsRequest number up
-    sound = subst (IsSoundUp free) made (who_sound bases T h (turn (books_of T) h) history stood refl (said_right bases T e follows standing) taken) number short
+    sound = subst (IsSoundUp (IsItemTaken h) free) made (who_sound bases T h (turn (books_of T) h) history stood refl (said_right bases T e follows standing)) number short
 
     lent : books_of (e ∷ T) ≡ lends i (kind_of_text (request_text number up) free shut) settled
     lent = books_asked bases T e i (request_text number up) follows standing turns (ap (message_due (books_of T) settled (Some i)) is)
@@ -161,37 +161,41 @@ asked_open bases T e i request named history follows standing turns taken is = b
         (turn_for bases T e i ((books_of (e ∷ T)).pair_of i) history standing turns (said_right bases T e follows standing))
 
     by : (pending : Option Purpose) → (client_alone bases (e ∷ T) i).pending ≡ pending → MeantBy free ((alone bases T i).count + 1) ((books_of (e ∷ T)).pair_of i) (client_alone bases (e ∷ T) i).sessions (Some (asks request named)) pending
-        → IsOpenRequest bases (e ∷ T) i (request_text number up)
+        → IsOpenRequest bases T e (request_text number up)
     by None here meant = absurd meant
     by (Some purpose) here meant = record {
       asked = record { number = number; request = up };
       read = request_read number up sound;
       number = sym (ap (λ (books : Books). books.issued) lent);
-      asker = ap (λ (books : Books). option_map (λ opened. opened.conn) (books.opened number)) lent ∙ lent_asker settled i (kind_of_text (request_text number up) free shut);
+      conn = i;
+      turns = turns;
+      opened = ap (λ (books : Books). books.opened number) lent
+          ∙ lent_open settled i (kind_of_text (request_text number up) free shut)
+          ∙ ap (λ (kind : RequestKind). Some (record { conn = i; kind = kind })) (kind_told number up free shut sound);
       purpose = purpose;
       is_open = here;
       says = meant right;
-      kind = λ pair shut. kind_told number up pair shut sound;
     }
 
 -- by the message
-message_open : (bases : Bases) (T : List HistoryEntry) (e : HistoryEntry) (i : ℕ) (text : List ℕ) (message : Option Outgoing) → IsHistory bases T → Follows bases T e → fault_in (e ∷ T) ≡ None → turn (books_of T) e.happening ≡ Some i → IsItemTaken e.happening
-    → (effect_of_turn bases T (Some i) e.happening).message ≡ message → message_due (books_of T) (settled_by (books_of T) e.happening) (Some i) message ≡ Some (Request text) → IsOpenRequest bases (e ∷ T) i text
-message_open bases T e i text None history follows standing turns taken is due = cc
-message_open bases T e i text (Some (carries pair half rest)) history follows standing turns taken is due = cc
-message_open bases T e i text (Some (asks request named)) history follows standing turns taken is due =
+message_open : (bases : Bases) (T : List HistoryEntry) (e : HistoryEntry) (i : ℕ) (text : List ℕ) (message : Option Outgoing) → IsHistory bases T → Follows bases T e → fault_in (e ∷ T) ≡ None → turn (books_of T) e.happening ≡ Some i
+    → (effect_of_turn bases T (Some i) e.happening).message ≡ message → message_due (books_of T) (settled_by (books_of T) e.happening) (Some i) message ≡ Some (Request text) → IsOpenRequest bases T e text
+message_open bases T e i text None history follows standing turns is due = cc
+message_open bases T e i text (Some (carries pair half rest)) history follows standing turns is due = cc
+message_open bases T e i text (Some (asks request named)) history follows standing turns is due =
     let same : request_text ((books_of T).issued + 1) (over_pair named (free_in (settled_by (books_of T) e.happening)) request) ≡ text = cc in
-    subst (λ (one : List ℕ). IsOpenRequest bases (e ∷ T) i one) same (asked_open bases T e i request named history follows standing turns taken is)
+    subst (λ (one : List ℕ). IsOpenRequest bases T e one) same (asked_open bases T e i request named history follows standing turns is)
 
--- and by whether the connection to the server stands
-entry_open : (bases : Bases) (T : List HistoryEntry) (e : HistoryEntry) (i : ℕ) (text : List ℕ) (fault : Option UpCause) → IsHistory bases T → Follows bases T e → turn (books_of T) e.happening ≡ Some i → IsItemTaken e.happening → fault_in (e ∷ T) ≡ fault
-    → (cond (is_some fault) nothing_up (up_due bases T e.happening)).message ≡ Some (Request text) → IsOpenRequest bases (e ∷ T) i text
-entry_open bases T e i text (Some cause) history follows turns taken is due = cc
-entry_open bases T e i text None history follows turns taken is due =
-    message_open bases T e i text (effect_of_turn bases T (Some i) e.happening).message history follows is turns taken refl
-    (ap (λ (who : Option ℕ). message_due (books_of T) (settled_by (books_of T) e.happening) who (effect_of_turn bases T who e.happening).message) (sym turns) ∙ due)
+-- by whose turn it is, and by whether the connection to the server stands
+who_open : (bases : Bases) (T : List HistoryEntry) (e : HistoryEntry) (text : List ℕ) (who : Option ℕ) → IsHistory bases T → Follows bases T e → fault_in (e ∷ T) ≡ None → turn (books_of T) e.happening ≡ who
+    → message_due (books_of T) (settled_by (books_of T) e.happening) who (effect_of_turn bases T who e.happening).message ≡ Some (Request text) → IsOpenRequest bases T e text
+who_open bases T e text None history follows standing turns due = cc
+who_open bases T e text (Some i) history follows standing turns due = message_open bases T e i text (effect_of_turn bases T (Some i) e.happening).message history follows standing turns refl due
 
-pub open_request : (bases : Bases) (T : List HistoryEntry) (e : HistoryEntry) (i : ℕ) (text : List ℕ) → IsHistory bases T → Follows bases T e → IsItemTaken e.happening → turn (books_of T) e.happening ≡ Some i → e.outcome.to_up.message ≡ Some (Request text)
-    → IsOpenRequest bases (e ∷ T) i text
-open_request bases T e i text history follows taken turns due =
-    entry_open bases T e i text (fault_in (e ∷ T)) history follows turns taken refl (ap (λ (up : ToUp). up.message) (sym follows.spelled) ∙ due)
+entry_open : (bases : Bases) (T : List HistoryEntry) (e : HistoryEntry) (text : List ℕ) (fault : Option UpCause) → IsHistory bases T → Follows bases T e → fault_in (e ∷ T) ≡ fault
+    → (cond (is_some fault) nothing_up (up_due bases T e.happening)).message ≡ Some (Request text) → IsOpenRequest bases T e text
+entry_open bases T e text (Some cause) history follows is due = cc
+entry_open bases T e text None history follows is due = who_open bases T e text (turn (books_of T) e.happening) history follows is refl due
+
+pub open_request : (bases : Bases) (T : List HistoryEntry) (e : HistoryEntry) (text : List ℕ) → IsHistory bases T → Follows bases T e → e.outcome.to_up.message ≡ Some (Request text) → IsOpenRequest bases T e text
+open_request bases T e text history follows due = entry_open bases T e text (fault_in (e ∷ T)) history follows refl (ap (λ (up : ToUp). up.message) (sym follows.spelled) ∙ due)

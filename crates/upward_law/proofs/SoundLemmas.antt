@@ -80,11 +80,16 @@ pub record IsLoad (rest : List ℕ) : Type 0 where
   pub spelled : rest ≡ high ∷ low ∷ load
   pub counted : length load ≡ 256 * high + low
 
--- A message by the pair that is free.
-abbrev pub IsSoundUp : Option ℕ → Option Outgoing → Type 0
-IsSoundUp free None = Unit {0}
-IsSoundUp free (Some (asks request named)) = IsSound (over_pair named free request)
-IsSoundUp free (Some (carries pair half rest)) = IsLoad rest
+-- A message by the pair that is free: a request can be written, and a frame has its load where it came whole.
+abbrev pub IsSoundUp : Type 0 → Option ℕ → Option Outgoing → Type 0
+IsSoundUp whole free None = Unit {0}
+IsSoundUp whole free (Some (asks request named)) = IsSound (over_pair named free request)
+IsSoundUp whole free (Some (carries pair half rest)) = whole → IsLoad rest
+
+pub sound_where : (one other : Type 0) (free : Option ℕ) (message : Option Outgoing) → (one → other) → IsSoundUp other free message → IsSoundUp one free message
+sound_where one other free None both sound = tt
+sound_where one other free (Some (asks request named)) both sound = sound
+sound_where one other free (Some (carries pair half rest)) both sound = λ is. sound (both is)
 
 -- a pair is one of those that there are
 abbrev pub IsPairAt : Option ℕ → Type 0
@@ -94,35 +99,35 @@ unpaired : (free : Option ℕ) (request : Request2) → IsSound request → IsSo
 unpaired None request sound = sound
 unpaired (Some p) request sound = sound
 
-goes_sound : (free : Option ℕ) (own : ℕ) (one : Option Going) (text : List ℕ) (client : Client) → IsPairAt free → GoesSound (is_none (pair_where free own)) one → IsSoundUp free (goes_at one (pair_where free own) text client).message
-goes_sound free own None text client low sound = tt
-goes_sound free own (Some one) text client low sound = by free one.channels low sound
+goes_sound : (whole : Type 0) (free : Option ℕ) (own : ℕ) (one : Option Going) (text : List ℕ) (client : Client) → IsPairAt free → GoesSound (is_none (pair_where free own)) one → IsSoundUp whole free (goes_at one (pair_where free own) text client).message
+goes_sound whole free own None text client low sound = tt
+goes_sound whole free own (Some one) text client low sound = by free one.channels low sound
   where
     by : (free : Option ℕ) (channels : Option Pair) → IsPairAt free → GoesSound (is_none (pair_where free own)) (Some (record one { channels = channels }))
-        → IsSoundUp free (goes_at (Some (record one { channels = channels })) (pair_where free own) text client).message
+        → IsSoundUp whole free (goes_at (Some (record one { channels = channels })) (pair_where free own) text client).message
     by free None low sound = unpaired free one.request sound
     by None (Some pair) low sound = cc
     by (Some p) (Some pair) low sound = sound.0 (record { rtp = 2 * p; rtcp = 2 * p + 1 }) (omega (arith, low)) (omega (arith, low))
 
-pub going_sound : (bases : Bases) (free : Option ℕ) (own : ℕ) (next : NextPart) (client : Client) → IsFitClient client → WaitSound client.sessions → IsPairAt free → IsSoundUp free (going_on bases (pair_where free own) next client).message
-going_sound bases free own next client fit plays low = going_as (λ effect. IsSoundUp free effect.message) bases (pair_where free own) next client (record {
+pub going_sound : (whole : Type 0) (bases : Bases) (free : Option ℕ) (own : ℕ) (next : NextPart) (client : Client) → IsFitClient client → WaitSound client.sessions → IsPairAt free → IsSoundUp whole free (going_on bases (pair_where free own) next client).message
+going_sound whole bases free own next client fit plays low = going_as (λ effect. IsSoundUp whole free effect.message) bases (pair_where free own) next client (record {
   still = tt;
   released = λ place play idle due is.
       unpaired free _ (play_sound (session_at place client.sessions).id play (fit_at place client.sessions fit.sessions).id (first_play (session_at place client.sessions).queue play (plays_at place client.sessions plays) is));
   treats = λ idle alive.
       let full = is_none (pair_where free own) in
       let done = treated client.waiting (given bases full client) in
-      goes_sound free own done.going done.hand (after_plays done.plays (record client { waiting = done.left })) low (treated_sound client.waiting (given bases full client) (given_fit bases full client fit)).1;
+      goes_sound whole free own done.going done.hand (after_plays done.plays (record client { waiting = done.left })) low (treated_sound client.waiting (given bases full client) (given_fit bases full client fit)).1;
   left = λ place id idle dead filled is.
       let one : IsFitOne (session_at place client.sessions) = fit_at place client.sessions fit.sessions in
       unpaired free _ (closing_sound (session_at place client.sessions).control id one.control (subst (λ (named : Option (List ℕ)). IfSome named (λ one. is_session_id one ≡ true)) is one.id));
 })
 
 -- An event by itself sends a frame at most.
-abbrev IsFrameAtMost : Option Outgoing → Type 0
-IsFrameAtMost None = Unit {0}
-IsFrameAtMost (Some (asks request named)) = ⊥
-IsFrameAtMost (Some (carries pair half rest)) = IsLoad rest
+abbrev IsFrameAtMost : Type 0 → Option Outgoing → Type 0
+IsFrameAtMost whole None = Unit {0}
+IsFrameAtMost whole (Some (asks request named)) = ⊥
+IsFrameAtMost whole (Some (carries pair half rest)) = whole → IsLoad rest
 
 -- an item of the player is one
 abbrev pub IsWhole : PrivateEvent → Type 0
@@ -132,37 +137,37 @@ IsWhole event = Unit {0}
 load_behind : (bytes : List ℕ) → IsFrame bytes → IsLoad (drop 2 bytes)
 load_behind bytes is = record { high = is.high; low = is.low; load = is.load; spelled = ap (drop 2) is.spelled; counted = is.counted }
 
-carry_load : (half : Option Half) (shape : Shape) (client : Client) → IsFrame shape.bytes → IsFrameAtMost (carry half (behind_channel shape) client).effect.message
-carry_load None shape client is = tt
-carry_load (Some half) shape client is = load_behind shape.bytes is
+carry_load : (half : Option Half) (shape : Shape) (client : Client) → IsFrameAtMost (IsItem items.Frame shape.bytes shape.head) (carry half (behind_channel shape) client).effect.message
+carry_load None shape client = tt
+carry_load (Some half) shape client = λ is. load_behind shape.bytes is.0
 
-item_load : (kind : ItemKind) (shape : Shape) (client : Client) → IsItem kind shape.bytes shape.head → IsFrameAtMost (take_item kind shape client).effect.message
-item_load items.Request shape client is = tt
-item_load items.Response shape client is = tt
-item_load items.Frame shape client is = carry_load (half_for (channel_in shape) (tracks_of client.sessions)) shape client is.0
-item_load (items.Bad kind) shape client is = tt
+item_load : (kind : ItemKind) (shape : Shape) (client : Client) → IsFrameAtMost (IsItem kind shape.bytes shape.head) (take_item kind shape client).effect.message
+item_load items.Request shape client = tt
+item_load items.Response shape client = tt
+item_load items.Frame shape client = carry_load (half_for (channel_in shape) (tracks_of client.sessions)) shape client
+item_load (items.Bad kind) shape client = tt
 
-take_load : (alive : Bool) (shape : Shape) (client : Client) → IsItem shape.kind shape.bytes shape.head → IsFrameAtMost (take alive shape client).effect.message
-take_load true shape client is = item_load shape.kind shape client is
-take_load false shape client is = tt
+take_load : (alive : Bool) (shape : Shape) (client : Client) → IsFrameAtMost (IsItem shape.kind shape.bytes shape.head) (take alive shape client).effect.message
+take_load true shape client = item_load shape.kind shape client
+take_load false shape client = tt
 
-hear_load : (bases : Bases) (number : ℕ) (client : Client) (event : PrivateEvent) → IsWhole event → IsFrameAtMost (hear bases number client event).effect.message
-hear_load bases number client (arrive shape full) is = take_load client.alive shape client is
-hear_load bases number client (answer told ssrc full) is = grind arith
-hear_load bases number client (note id reason names) is = grind arith
-hear_load bases number client (media pair half rest) is = grind arith
-hear_load bases number client end is = grind arith
-hear_load bases number client slow is = grind arith
-hear_load bases number client up_end is = tt
+hear_load : (bases : Bases) (number : ℕ) (client : Client) (event : PrivateEvent) → IsFrameAtMost (IsWhole event) (hear bases number client event).effect.message
+hear_load bases number client (arrive shape full) = take_load client.alive shape client
+hear_load bases number client (answer told ssrc full) = grind arith
+hear_load bases number client (note id reason names) = grind arith
+hear_load bases number client (media pair half rest) = grind arith
+hear_load bases number client end = grind arith
+hear_load bases number client slow = grind arith
+hear_load bases number client up_end = tt
 
-either_sound : (free : Option ℕ) (first second : Option Outgoing) → IsFrameAtMost first → IsSoundUp free second → IsSoundUp free (option_or first second)
-either_sound free None second frame sound = sound
-either_sound free (Some (asks request named)) second frame sound = absurd frame
-either_sound free (Some (carries pair half rest)) second frame sound = frame
+either_sound : (whole : Type 0) (free : Option ℕ) (first second : Option Outgoing) → IsFrameAtMost whole first → IsSoundUp whole free second → IsSoundUp whole free (option_or first second)
+either_sound whole free None second frame sound = sound
+either_sound whole free (Some (asks request named)) second frame sound = absurd frame
+either_sound whole free (Some (carries pair half rest)) second frame sound = frame
 
-pub step_sound : (bases : Bases) (number : ℕ) (free : Option ℕ) (own : ℕ) (client : Client) (event : PrivateEvent) → IsFitClient client → WaitSound client.sessions → IsPairAt free → IsWhole event
-    → IsSoundUp free (step bases number (pair_where free own) client event).message
-step_sound bases number free own client event fit plays low whole =
+pub step_sound : (bases : Bases) (number : ℕ) (free : Option ℕ) (own : ℕ) (client : Client) (event : PrivateEvent) → IsFitClient client → WaitSound client.sessions → IsPairAt free
+    → IsSoundUp (IsWhole event) free (step bases number (pair_where free own) client event).message
+step_sound bases number free own client event fit plays low =
     let heard = hear bases number client event in
-    either_sound free heard.effect.message (going_on bases (pair_where free own) heard.next heard.effect.client).message (hear_load bases number client event whole)
-    (going_sound bases free own heard.next heard.effect.client (hear_fit bases number client event fit) (hear_plays bases number client event plays) low)
+    either_sound (IsWhole event) free heard.effect.message (going_on bases (pair_where free own) heard.next heard.effect.client).message (hear_load bases number client event)
+    (going_sound (IsWhole event) bases free own heard.next heard.effect.client (hear_fit bases number client event fit) (hear_plays bases number client event plays) low)

@@ -1,6 +1,6 @@
 -- What a request that goes up says, by what it is for, and what the books keep of it (RFC 7826, 13.3, 13.4, 13.7, 18.49 and
 -- 18.54; the rest is this project's own).
-use Rattle.std.specs.Prelude.{◌≡◌, ℕ, Bool, codes, List, Option, Some, None, if◌then◌else◌}
+use Rattle.std.specs.Prelude.{◌≡◌, ℕ, Bool, codes, List, ◌∷◌, Option, Some, None, if◌then◌else◌}
 use Rattle.std.specs.Option.{option_map}
 use Rattle.std.specs.Str.{bytes_eq}
 use Rattle.rtsp_head.specs.Headers.{field_of}
@@ -19,9 +19,9 @@ use Rattle.client_slot.specs.ClosingRequest.{closing_request}
 use Rattle.client_slot.specs.Places.{session_at, session_where}
 use Rattle.client_slot.specs.Session.{PlayerSession}
 use Rattle.client_machine.specs.UpTexts.{channels}
-use Rattle.gateway_claim.specs.Books.{RequestKind, plain, setup_kind, teardown_kind, kind_of_text}
+use Rattle.gateway_claim.specs.Books.{RequestKind, plain, setup_kind, teardown_kind, free_in}
 use Rattle.gateway_claim.specs.Happenings.{HistoryEntry}
-use Rattle.gateway_claim.specs.OwnEvents.{books_of}
+use Rattle.gateway_claim.specs.OwnEvents.{turn, settled_by, has_shut, books_of}
 use Rattle.gateway_claim.specs.Turns.{client_alone}
 
 -- A player's request has its method on its way up, the URI that is kept of it, and the id of the session at its place, where
@@ -42,20 +42,23 @@ IsRequestFor pairs sessions (purposes.Client asked track) request = IsAskOf sess
 IsRequestFor pairs sessions (purposes.Released play) request = request ≡ play_up (session_where play.place sessions).id play
 IsRequestFor pairs sessions (purposes.Closing place) request = option_map (closing_request (session_at place sessions).control) (session_at place sessions).id ≡ Some request
 
--- the kind of a request, by its method and the session that it names
+-- The kind of a request, by its method and the session that it names: a SETUP has the pair that is free, and a TEARDOWN is a
+-- closing one where its connection has shut.
 abbrev pub kind_read : Request2 → Option ℕ → Bool → RequestKind
 kind_read request pair shut =
     if bytes_eq request.method (codes "SETUP") then setup_kind pair
     else (if bytes_eq request.method (codes "TEARDOWN") then teardown_kind shut (field_of request.headers (codes "Session")) else plain)
 
--- A text is one request with the last number that was given, to this connection; it says what the connection has open; and
--- its kind is that of the request.
-pub record IsOpenRequest (bases : Bases) (history : List HistoryEntry) (i : ℕ) (text : List ℕ) : Type 0 where
+-- A text is one request with the last number that was given, in the turn of a connection. The books have it open for this
+-- connection, as a request of its kind; and it says what the connection has open.
+pub record IsOpenRequest (bases : Bases) (earlier : List HistoryEntry) (entry : HistoryEntry) (text : List ℕ) : Type 0 where
   pub asked : Numbered
   pub read : request_in text ≡ Some asked
-  pub number : asked.number ≡ (books_of history).issued
-  pub asker : option_map (λ opened. opened.conn) ((books_of history).opened asked.number) ≡ Some i
+  pub number : asked.number ≡ (books_of (entry ∷ earlier)).issued
+  pub conn : ℕ
+  pub turns : turn (books_of earlier) entry.happening ≡ Some conn
+  pub opened : (books_of (entry ∷ earlier)).opened asked.number
+      ≡ Some (record { conn = conn; kind = kind_read asked.request (free_in (settled_by (books_of earlier) entry.happening)) (has_shut (Some conn) (entry ∷ earlier)) })
   pub purpose : Purpose
-  pub is_open : (client_alone bases history i).pending ≡ Some purpose
-  pub says : IsRequestFor ((books_of history).pair_of i) (client_alone bases history i).sessions purpose asked.request
-  pub kind : (pair : Option ℕ) (shut : Bool) → kind_of_text text pair shut ≡ kind_read asked.request pair shut
+  pub is_open : (client_alone bases (entry ∷ earlier) conn).pending ≡ Some purpose
+  pub says : IsRequestFor ((books_of (entry ∷ earlier)).pair_of conn) (client_alone bases (entry ∷ earlier) conn).sessions purpose asked.request

@@ -1,10 +1,9 @@
 //! Laws over the bytes that the server is handed in a history. Each holds by its contract alone: no
 //! call is made.
-ghost use Rattle.std.specs.Prelude.{◌≡◌, ◌∷◌, ℕ, List, Some};
+ghost use Rattle.std.specs.Prelude.{◌≡◌, ℕ, List, Some};
 ghost use Rattle.rtsp_uri.specs.declared.base.Bases.{Bases};
 ghost use Rattle.gateway_claim.specs.declared.event.UpMessage.TheVariants.{Request};
 ghost use Rattle.gateway_claim.specs.Happenings.{HistoryEntry};
-ghost use Rattle.gateway_claim.specs.OwnEvents.{turn, books_of};
 ghost use Rattle.gateway_claim.specs.Follows.{IsHistory, Follows};
 ghost use Rattle.upward_law.specs.ServerStream.{ServerRead, AreRead};
 ghost use Rattle.upward_law.specs.OpenRequest.{IsOpenRequest};
@@ -33,17 +32,15 @@ pub fn what_goes_up_is_read_as_it_was_meant()
         → AreRead (stream_up history) (all_meant bases history) }
 {}
 
-/// Each request that the server is handed is read as one, with the last number that was given. The
-/// connection whose turn it is has asked it, and has it open: it is the player's request, by its
-/// method, its URI and its session's id, and a SETUP asks for the channels of its stream's pair; or
-/// the PLAY that waited, for its session; or the TEARDOWN of the session at a place. Its kind, which
-/// the books take of the first letters of its text, is that of the request that is read.
+/// Each request that the server is handed is read as one, with the last number that was given, and the
+/// books have it open for the connection whose turn it is, as one of the kind that its method and its
+/// session tell. It says what this connection alone has open then: the player's request, by its
+/// method, its URI and the id of its session, and a SETUP asks for the channels of its stream's pair;
+/// or the PLAY that waited, for its session; or the TEARDOWN of the session at a place.
 pub fn a_request_that_goes_up_is_the_open_one()
-    ensures { (bases : Bases) (earlier : List HistoryEntry) (entry : HistoryEntry) (i : ℕ) (text : List ℕ)
+    ensures { (bases : Bases) (earlier : List HistoryEntry) (entry : HistoryEntry) (text : List ℕ)
         → IsHistory bases earlier
         → Follows bases earlier entry
-        → IsItemTaken entry.happening
-        → turn (books_of earlier) entry.happening ≡ Some i
         → entry.outcome.to_up.message ≡ Some (Request text)
-        → IsOpenRequest bases (entry ∷ earlier) i text }
+        → IsOpenRequest bases earlier entry text }
 {}
