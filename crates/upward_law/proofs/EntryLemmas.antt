@@ -124,7 +124,7 @@ answers_so books (hears shape) = heard_so books (heard shape) (heard_small shape
 answers_so books (up_ends cause) = none_written
 
 -- So is a message, where a number is left.
-asked_so : (whole : Type 0) (books settled : Books) (i : ℕ) (message : Option Outgoing) → whole → spent books.issued message ≡ None → IsSoundUp whole (free_in settled) message
+pub asked_so : (whole : Type 0) (books settled : Books) (i : ℕ) (message : Option Outgoing) → whole → spent books.issued message ≡ None → IsSoundUp whole (free_in settled) message
     → AreWritten (message_bytes (option_map (message_up books settled i) message)) (option_to_list (option_map (message_meant books settled i) message))
 asked_so whole books settled i None is left sound = none_written
 asked_so whole books settled i (Some (asks request named)) is left sound =
@@ -157,7 +157,7 @@ pair_at None books is = tt
 pair_at (Some p) books is = lowest_free_below _ p is
 
 -- What goes up at the turn of a connection can be written.
-turn_sound : (bases : Bases) (T : List HistoryEntry) (h : Happening) (i : ℕ) → IsHistory bases T → fault_in T ≡ None → turn (books_of T) h ≡ Some i → said_breach bases T h ≡ None
+pub turn_sound : (bases : Bases) (T : List HistoryEntry) (h : Happening) (i : ℕ) → IsHistory bases T → fault_in T ≡ None → turn (books_of T) h ≡ Some i → said_breach bases T h ≡ None
     → IsSoundUp (IsItemTaken h) (free_in (settled_by (books_of T) h)) (effect_of_turn bases T (Some i) h).message
 turn_sound bases T h i history standing turns said = by (entered i T) (own_event bases T i h) refl refl
   where

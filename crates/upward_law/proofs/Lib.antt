@@ -1,5 +1,6 @@
 mod EntryLemmas
 mod OpenLemmas
+mod OwnLemmas
 mod PlayLemmas
 mod PurposeLemmas
 mod ReadLemmas

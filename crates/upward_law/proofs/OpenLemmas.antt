@@ -66,7 +66,7 @@ setup_pair request free shut p is setup =
     ∙ ap (λ (one : Option ℕ). pair_asked (setup_kind one)) is
 
 -- The connection whose turn it is, once a request went up.
-turn_for : (bases : Bases) (T : List HistoryEntry) (e : HistoryEntry) (i : ℕ) (pairs : ℕ → ℕ) → IsHistory bases T → fault_in (e ∷ T) ≡ None → turn (books_of T) e.happening ≡ Some i → said_breach bases T e.happening ≡ None
+pub turn_for : (bases : Bases) (T : List HistoryEntry) (e : HistoryEntry) (i : ℕ) (pairs : ℕ → ℕ) → IsHistory bases T → fault_in (e ∷ T) ≡ None → turn (books_of T) e.happening ≡ Some i → said_breach bases T e.happening ≡ None
     → MeantBy (free_in (settled_by (books_of T) e.happening)) ((alone bases T i).count + 1) pairs (client_alone bases (e ∷ T) i).sessions (effect_of_turn bases T (Some i) e.happening).message (client_alone bases (e ∷ T) i).pending
 turn_for bases T e i pairs history standing turns said = by (entered i T) (own_event bases T i h) refl refl
   where
@@ -174,7 +174,7 @@ asked_open bases T e i request named history follows standing turns is = by (cli
           ∙ ap (λ (kind : RequestKind). Some (record { conn = i; kind = kind })) (kind_told number up free shut sound);
       purpose = purpose;
       is_open = here;
-      says = meant right;
+      says = meant.1 right;
     }
 
 -- by the message

@@ -1,6 +1,7 @@
 -- A request that goes up says what it is for.
-use Rattle.std.proofs.Common.{◌≡◌, ◌∙◌, ℕ, Bool, true, false, cond, find, List, [], ◌∷◌, map, Option, Some, None, Result, Ok, Err, refl, sym, ap, arith}
+use Rattle.std.proofs.Common.{◌≡◌, ◌∙◌, ℕ, Bool, not, true, false, cond, find, List, [], ◌∷◌, map, Option, Some, None, Result, Ok, Err, refl, sym, ap, arith}
 use Rattle.std.specs.Prelude.{codes, is_none, option_map}
+use Rattle.std.specs.List.{list_all}
 use Rattle.std.specs.Option.{option_or}
 use Rattle.std.specs.Str.{bytes_eq}
 use Rattle.gate_bytes.specs.Tokens.{equal_fold}
@@ -8,7 +9,7 @@ use Rattle.rtsp_head.specs.declared.header.Header.{Header}
 use Rattle.rtsp_head.specs.Headers.{field_of}
 use Rattle.rtsp_head.specs.Items.{Shape}
 use Rattle.rtsp_head.specs.Optional.{said_where}
-use Rattle.rtsp_head.proofs.FieldLemmas.{field_told}
+use Rattle.rtsp_head.proofs.FieldLemmas.{field_told, names_hold}
 use Rattle.rtsp_small.specs.Methods.{method_name}
 use Rattle.rtsp_small.specs.declared.method.Method.TheVariants as methods
 use Rattle.rtsp_range.specs.declared.range.Range.{Range}
@@ -24,9 +25,9 @@ use Rattle.session_one.specs.declared.table.State.TheVariants.{Init, Ready, Play
 use Rattle.translate_up.specs.Answers.{options_text}
 use Rattle.translate_up.specs.Decisions.{play_in, serve, is_for_gateway, by_rules, decide_read, judged_read, judged_of, decide}
 use Rattle.translate_up.specs.Fields.{Said, said_of}
-use Rattle.translate_up.specs.QueuedPlay.{play_up}
+use Rattle.translate_up.specs.QueuedPlay.{play_fields_up, play_up}
 use Rattle.translate_up.specs.Rules.{rules_checked}
-use Rattle.translate_up.specs.Upward.{method_up, session_said, uri_up, fields_up, request_up, transport_header, headers_with_transport}
+use Rattle.translate_up.specs.Upward.{method_up, session_said, uri_up, fields_up, request_up, transport_header, headers_with_transport, is_other}
 use Rattle.translate_up.specs.Views.{SeenSession, Given, Judged, session_or_none}
 use Rattle.translate_up.specs.declared.decision.Decision.{Decision}
 use Rattle.translate_up.specs.declared.decision.Decision.TheVariants.{Answer, Forward, Queue, Setup}
@@ -50,9 +51,9 @@ use Rattle.gateway_claim.proofs.CaseLemmas.{pair_where}
 use Rattle.gateway_claim.proofs.TurnLemmas.{same_where}
 use Rattle.upward_law.specs.OpenRequest.{IsAskOf, IsRequestFor}
 
--- What goes up has the URI that is kept of it, and names its session.
+-- What goes up has the URI that is kept of it, names its session, and has no channels yet.
 abbrev IsAskAt : Option (List ℕ) → Request2 → Asked → Type 0
-IsAskAt id request asked = (request.uri ≡ asked.uri) × (field_of request.headers (codes "Session") ≡ said_where asked.named id)
+IsAskAt id request asked = (request.uri ≡ asked.uri) × (field_of request.headers (codes "Session") ≡ said_where asked.named id) × (list_all is_other request.headers ≡ true)
 
 abbrev AsksAs : Judged → Decision → Type 0
 AsksAs judged (Answer text) = Unit {0}
@@ -67,14 +68,17 @@ up_session judged request said uri range = field_told (codes "Session") (fields_
     first None = refl
     first (Some id) = refl
 
+up_bare : (judged : Judged) (request : Request1) (said : Said) (uri : List ℕ) (range : Option Range) → list_all is_other (request_up judged request said uri range).headers ≡ true
+up_bare judged request said uri range = names_hold is_other (λ name. not (equal_fold name (codes "Transport"))) (λ header other. other) (fields_up judged request said range) refl
+
 play_asks : (state : State) (judged : Judged) (request : Request1) (said : Said) (uri : List ℕ) (range : Option Range) → AsksAs judged (play_in state judged request said uri range)
-play_asks Init judged request said uri range = (refl, (refl, up_session judged request said uri range))
-play_asks Ready judged request said uri range = (refl, (refl, up_session judged request said uri range))
+play_asks Init judged request said uri range = (refl, (refl, up_session judged request said uri range, up_bare judged request said uri range))
+play_asks Ready judged request said uri range = (refl, (refl, up_session judged request said uri range, up_bare judged request said uri range))
 play_asks Playing judged request said uri None = tt
 play_asks Playing judged request said uri (Some range) = tt
 
 serve_asks : (judged : Judged) (request : Request1) (said : Said) (uri : List ℕ) (admitted : _) → AsksAs judged (serve judged request said uri admitted)
-serve_asks judged request said uri admitted = grind (arith, up_session, play_asks)
+serve_asks judged request said uri admitted = grind (arith, up_session, up_bare, play_asks)
 
 either_asks : (own : Bool) (judged : Judged) (text : List ℕ) (served : Decision) → AsksAs judged served → AsksAs judged (cond own (Answer text) served)
 either_asks true judged text served is = tt
@@ -115,12 +119,12 @@ judged_session given read = grind arith
 ask_in : (given : Given) (shape : Shape) (request : Request2) (asked : Asked) → request.method ≡ method_name (method_up asked.method) → asked.place ≡ (judged_of given shape).place → IsAskAt (judged_of given shape).session request asked
     → IsAskIn given.sessions request asked
 ask_in given shape request asked method place is =
-    (method, (is.0, is.1 ∙ ap (λ (id : Option (List ℕ)). said_where asked.named id) (judged_session given (request_of_item shape) ∙ ap (λ (at : Option ℕ). (session_or_none at given.sessions).id) (sym place))))
+    (method, (is.0, is.1 ∙ ap (λ (id : Option (List ℕ)). said_where asked.named id) (judged_session given (request_of_item shape) ∙ ap (λ (at : Option ℕ). (session_or_none at given.sessions).id) (sym place)), is.2))
 
 queued_in : (queued : Option ℕ) (sessions : List SeenSession) (one : Option Going) → GoesIn (queued_more_where queued sessions) one → GoesIn sessions one
 queued_in queued sessions None is = tt
 queued_in queued sessions (Some one) is =
-    ((is.0.0, (is.0.1.0, is.0.1.1 ∙ ap (λ (id : Option (List ℕ)). said_where one.asked.named id) (calm_in (λ seen. seen.id) queued one.asked.place sessions (λ seen n. refl)))), is.1)
+    ((is.0.0, (is.0.1.0, is.0.1.1 ∙ ap (λ (id : Option (List ℕ)). said_where one.asked.named id) (calm_in (λ seen. seen.id) queued one.asked.place sessions (λ seen n. refl)), is.0.1.2)), is.1)
 
 first_in : (decision : Decision) (given : Given) (shape : Shape) (more : List Shape) (again : Given → Treated) → AsksAs (judged_of given shape) decision → SpeaksAs (judged_of given shape) decision → ((one : Given) → GoesIn one.sessions (again one).going)
     → GoesIn given.sessions (treated_first decision given more again).going
@@ -153,7 +157,9 @@ session_kept pair (header ∷ headers) = by (bytes_eq header.name (codes "Accept
 -- What goes up, and what is open then, where its pair is the one that is free.
 abbrev IsFor : Option ℕ → ℕ → (ℕ → ℕ) → List PlayerSession → Request2 → Option ℕ → Option Purpose → Type 0
 IsFor free own pairs sessions request named None = ⊥
-IsFor free own pairs sessions request named (Some purpose) = ((p : ℕ) → free ≡ Some p → (over_pair named free request).method ≡ method_name methods.Setup → pairs own ≡ p) → IsRequestFor pairs sessions purpose (over_pair named free request)
+IsFor free own pairs sessions request named (Some purpose) =
+    (list_all is_other request.headers ≡ true)
+    × (((p : ℕ) → free ≡ Some p → (over_pair named free request).method ≡ method_name methods.Setup → pairs own ≡ p) → IsRequestFor pairs sessions purpose (over_pair named free request))
 
 abbrev pub MeantBy : Option ℕ → ℕ → (ℕ → ℕ) → List PlayerSession → Option Outgoing → Option Purpose → Type 0
 MeantBy free own pairs sessions None new = Unit {0}
@@ -181,27 +187,35 @@ goes_for free own pairs (Some one) text before client is same = by free one.chan
     ask = ask_of before.sessions client.sessions one.request one.asked same is.0
 
     by : (free : Option ℕ) (channels : Option Pair) → IsSetupWith channels one.request → MeantBy free own pairs client.sessions (goes_at (Some (record one { channels = channels })) (pair_where free own) text client).message (goes_at (Some (record one { channels = channels })) (pair_where free own) text client).client.pending
-    by None None setup right = (ask, tt)
-    by (Some p) None setup right = (ask, tt)
-    by None (Some pair) setup right = (ask, tt)
-    by (Some p) (Some pair) setup right = (
-      record { method = ask.method; uri = ask.uri; session = session_kept (channels p) one.request.headers ∙ ask.session },
-      (one.request, ap (λ (n : ℕ). over_pair (Some own) (Some n) one.request) (sym (right p refl setup))),
+    by None None setup = (is.0.1.2, λ right. (ask, tt))
+    by (Some p) None setup = (is.0.1.2, λ right. (ask, tt))
+    by None (Some pair) setup = (is.0.1.2, λ right. (ask, tt))
+    by (Some p) (Some pair) setup = (
+      is.0.1.2,
+      λ right. (
+        record { method = ask.method; uri = ask.uri; session = session_kept (channels p) one.request.headers ∙ ask.session },
+        (one.request, ap (λ (n : ℕ). over_pair (Some own) (Some n) one.request) (sym (right p refl setup))),
+      ),
     )
 
 going_for : (bases : Bases) (free : Option ℕ) (own : ℕ) (pairs : ℕ → ℕ) (next : NextPart) (client : Client)
     → MeantBy free own pairs (going_on bases (pair_where free own) next client).client.sessions (going_on bases (pair_where free own) next client).message (going_on bases (pair_where free own) next client).client.pending
 going_for bases free own pairs next client = going_as (λ effect. MeantBy free own pairs effect.client.sessions effect.message effect.client.pending) bases (pair_where free own) next client (record {
   still = tt;
-  released = λ place play idle due is right.
-      unpaired free (play_up (session_at place client.sessions).id play)
-      ∙ ap (λ (id : Option (List ℕ)). play_up id play) (sym (same_at place client.sessions _ (changed_same place when_next client.sessions (λ session. record { id = refl; tracks = refl }))).id);
+  released = λ place play idle due is. (
+    names_hold is_other (λ name. not (equal_fold name (codes "Transport"))) (λ header other. other) (play_fields_up (session_at place client.sessions).id play) refl,
+    λ right. unpaired free (play_up (session_at place client.sessions).id play)
+        ∙ ap (λ (id : Option (List ℕ)). play_up id play) (sym (same_at place client.sessions _ (changed_same place when_next client.sessions (λ session. record { id = refl; tracks = refl }))).id),
+  );
   treats = λ idle alive.
       let done = treated client.waiting (given bases (is_none (pair_where free own)) client) in
       let left : Client = record client { waiting = done.left } in
       goes_for free own pairs done.going done.hand client (after_plays done.plays left) (treated_in client.waiting (given bases (is_none (pair_where free own)) client)) (plays_steady done.plays left).sessions;
-  left = λ place id idle dead filled is right.
-      ap (option_map (closing_request (session_at place client.sessions).control)) is ∙ ap (λ (one : Request2). Some one) (sym (unpaired free (closing_request (session_at place client.sessions).control id)));
+  left = λ place id idle dead filled is. (
+    refl,
+    λ right. ap (option_map (closing_request (session_at place client.sessions).control)) is
+        ∙ ap (λ (one : Request2). Some one) (sym (unpaired free (closing_request (session_at place client.sessions).control id))),
+  );
 })
 
 first_for : (free : Option ℕ) (own : ℕ) (pairs : ℕ → ℕ) (sessions : List PlayerSession) (next : NextPart) (first second : Option Outgoing) (new : Option Purpose) → IsMute next first → MeantBy free own pairs sessions second new → MeantBy free own pairs sessions (option_or first second) new

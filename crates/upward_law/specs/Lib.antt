@@ -1,3 +1,4 @@
 pub mod Due
 pub mod OpenRequest
+pub mod OwnForm
 pub mod ServerStream

@@ -5,8 +5,10 @@ ghost use Rattle.rtsp_uri.specs.declared.base.Bases.{Bases};
 ghost use Rattle.gateway_claim.specs.declared.event.UpMessage.TheVariants.{Request};
 ghost use Rattle.gateway_claim.specs.Happenings.{HistoryEntry};
 ghost use Rattle.gateway_claim.specs.Follows.{IsHistory, Follows};
+ghost use Rattle.gateway_claim.specs.OwnEvents.{own};
 ghost use Rattle.upward_law.specs.ServerStream.{ServerRead, AreRead};
 ghost use Rattle.upward_law.specs.OpenRequest.{IsOpenRequest};
+ghost use Rattle.upward_law.specs.OwnForm.{asked_alone, AreReadFor};
 ghost use Rattle.upward_law.specs.Due.{bytes_up, stream_up, meant_for, all_meant, IsItemTaken, AreItemsTaken};
 
 /// A stream of bytes to the server is read in one way at most.
@@ -43,4 +45,14 @@ pub fn a_request_that_goes_up_is_the_open_one()
         → Follows bases earlier entry
         → entry.outcome.to_up.message ≡ Some (Request text)
         → IsOpenRequest bases earlier entry text }
+{}
+
+/// What is read of the bytes that the server is handed in the turns of a connection is, in that
+/// connection's own numbers, and without the channels of the server's one connection, exactly what the
+/// machine alone asks on its own events: each request with all that it says, and each frame with its
+/// load. It asks that what comes of a player is one item at a time.
+pub fn what_is_read_of_a_connection_is_what_it_asks_alone()
+    ensures { (bases : Bases) (history : List HistoryEntry) (i : ℕ) → IsHistory bases history
+        → AreItemsTaken history
+        → AreReadFor i history (asked_alone bases (own bases i history)) }
 {}
