@@ -1,4 +1,5 @@
 mod EntryLemmas
+mod ItemLemmas
 mod OpenLemmas
 mod OwnLemmas
 mod PlayLemmas

@@ -2,8 +2,9 @@
 //! call is made.
 ghost use Rattle.std.specs.Prelude.{◌≡◌, ℕ, List, Some};
 ghost use Rattle.rtsp_uri.specs.declared.base.Bases.{Bases};
+ghost use Rattle.gateway_claim.specs.declared.event.Event.{Event};
 ghost use Rattle.gateway_claim.specs.declared.event.UpMessage.TheVariants.{Request};
-ghost use Rattle.gateway_claim.specs.Happenings.{HistoryEntry};
+ghost use Rattle.gateway_claim.specs.Happenings.{HistoryEntry, happening_of};
 ghost use Rattle.gateway_claim.specs.Follows.{IsHistory, Follows};
 ghost use Rattle.gateway_claim.specs.OwnEvents.{own};
 ghost use Rattle.upward_law.specs.ServerStream.{ServerRead, AreRead};
@@ -22,7 +23,7 @@ pub fn a_stream_has_one_reading()
 /// asks alone: a player's request, a PLAY that waited and the TEARDOWN of a connection that closed
 /// alike, each with the next number, and a SETUP with the lowest pair of channels that is free; or
 /// a frame, on the pair that its stream has. So is all that it is handed in a history. It asks that
-/// what comes of a player is one item at a time, as each event of a core is one by its type.
+/// what comes of a player is one item at a time.
 pub fn what_goes_up_is_read_as_it_was_meant()
     ensures entry { (bases : Bases) (earlier : List HistoryEntry) (entry : HistoryEntry)
         → IsHistory bases earlier
@@ -32,6 +33,12 @@ pub fn what_goes_up_is_read_as_it_was_meant()
     ensures stream { (bases : Bases) (history : List HistoryEntry) → IsHistory bases history
         → AreItemsTaken history
         → AreRead (stream_up history) (all_meant bases history) }
+{}
+
+/// What an event brings of a player is one item, by its type. So the premise on items holds of every
+/// history whose entries are events, or connections that enter.
+pub fn an_event_brings_one_item()
+    ensures { (event : Event) → IsItemTaken (happening_of event) }
 {}
 
 /// Each request that the server is handed is read as one, with the last number that was given, and the
