@@ -1,0 +1,9 @@
+mod EntryLemmas
+mod ItemLemmas
+mod OpenLemmas
+mod OwnLemmas
+mod PlayLemmas
+mod PurposeLemmas
+mod ReadLemmas
+mod SoundLemmas
+mod WordLemmas

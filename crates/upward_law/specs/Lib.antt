@@ -1,0 +1,4 @@
+pub mod Due
+pub mod OpenRequest
+pub mod OwnForm
+pub mod ServerStream
