@@ -132,10 +132,10 @@ heard_quiet p books settled i waiting one readable fresh = grind (arith, heard_e
 id_is : (id : List ℕ) (one : Option (List ℕ)) → is_session id one ≡ true → one ≡ Some id
 id_is id one e = grind (arith, bytes_eq-Decides)
 
-found_at : (place : ℕ) (id : List ℕ) (sessions : List PlayerSession) → place_with id sessions ≡ Some place → (session_at place sessions).id ≡ Some id
+pub found_at : (place : ℕ) (id : List ℕ) (sessions : List PlayerSession) → place_with id sessions ≡ Some place → (session_at place sessions).id ≡ Some id
 found_at place id sessions e = id_is id (session_at place sessions).id (place_is (λ session. is_session id session.id) place sessions e).passes
 
-none_found : (id : List ℕ) (from : ℕ) (sessions : List PlayerSession) → first_place (λ session. is_session id session.id) from sessions ≡ None → (place : ℕ) → (session_at place sessions).id ≡ Some id → ⊥
+pub none_found : (id : List ℕ) (from : ℕ) (sessions : List PlayerSession) → first_place (λ session. is_session id session.id) from sessions ≡ None → (place : ℕ) → (session_at place sessions).id ≡ Some id → ⊥
 none_found id from [] e place here = cc
 none_found id from (one ∷ more) e place here = by place (is_session id one.id) refl e here (none_found id (from + 1) more)
   where
