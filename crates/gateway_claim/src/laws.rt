@@ -151,9 +151,10 @@ pub fn a_turn_is_one_step_by_the_books()
 {}
 
 /// What a player sees is a run of the table of states (RFC 2326, A.2). The replies that are read from
-/// the pieces answer the first of its requests, each one request in order, and have its number. For each
-/// session's id a walk from Init goes through its replies: a success goes by the row for the method of
-/// its request, and any other reply leaves the state; before each of them what played may have ended.
+/// the pieces, each a stream in which whole frames are passed over, answer the first of its requests,
+/// each one request in order, and have its number. For each session's id a walk from Init goes through
+/// its replies: a success goes by the row for the method of its request, and any other reply leaves the
+/// state; before each of them what played may have ended.
 /// What comes of the server are items, as each event of a core is one by its type.
 pub fn replies_walk_the_table()
     ensures { (bases : Bases) (history : List HistoryEntry) (i : ℕ) → IsHistory bases history
