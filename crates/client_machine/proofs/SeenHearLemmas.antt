@@ -32,6 +32,7 @@ use Rattle.client_machine.specs.SeenRun.{may_become, request_among, request_take
 use Rattle.client_machine.proofs.WayLemmas.{hear_as}
 use Rattle.client_machine.proofs.PlaceLemmas.{IsInPlace}
 use Rattle.client_machine.proofs.SeenTreatLemmas.{counted, IsNamedAt, same_function}
+use Rattle.client_machine.proofs.SeenWalkLemmas.{IsLoad}
 use Rattle.client_machine.proofs.SeenGoLemmas.{places_of, states_of, IsCalm, IsSound, IsOpen, IsStanding, IsWalking, IsDead, walks_on, walks_then, going_walks, going_dead, then_dead, calm_playing, one_where, each_where, same_places}
 use Rattle.client_machine.proofs.SeenSettleLemmas.{AreDistinct, settle_walks}
 
@@ -39,7 +40,7 @@ use Rattle.client_machine.proofs.SeenSettleLemmas.{AreDistinct, settle_walks}
 data IsHeard (at : List ℕ → State) (requests : List Shape) (heard : Hearing) : Type 0 where
   walks : IsWalking at requests heard.effect → IsHeard at requests heard
   dies : heard.effect.client.alive ≡ false → heard.effect.hand ≡ [] → IsHeard at requests heard
-  shows : (channel : ℕ) → (rest : List ℕ) → heard.effect.hand ≡ frame_text channel rest → heard.next ≡ rests → IsStanding at heard.effect.client requests → IsHeard at requests heard
+  shows : (channel : ℕ) → (rest : List ℕ) → IsLoad rest → heard.effect.hand ≡ frame_text channel rest → heard.next ≡ rests → IsStanding at heard.effect.client requests → IsHeard at requests heard
 
 idle : (at : List ℕ → State) (requests : List Shape) (client : Client) → IsStanding at client requests → IsHeard at requests (idles client)
 idle at requests client st = walks (walks_on at requests (stays client) refl st)
@@ -137,9 +138,10 @@ abbrev pub asked_by : PrivateEvent → List Shape
 asked_by (arrive shape full) = request_taken shape
 asked_by event = []
 
--- A reply has the fields of a head that was read, and no longer a body than an item has.
+-- A reply has the fields of a head that was read, and no longer a body than an item has; a frame is whole.
 abbrev pub IsReadableEvent : PrivateEvent → Type 0
 IsReadableEvent (answer told ssrc full) = (list_all is_header told.fields ≡ true) × (length told.body ≤ MOST_BODY)
+IsReadableEvent (media pair half rest) = IsLoad rest
 IsReadableEvent event = Unit {0}
 
 -- the session that a success makes is none that is there
@@ -167,7 +169,7 @@ other_heard bases number at requests client event other readable fresh distinct 
       let can : IsReadableEvent (answer told ssrc full) = subst IsReadableEvent here readable in
       walks (settle_walks bases number at client requests purpose told ssrc is can.0 can.1 distinct placed (subst (λ (p : Option Purpose). IsNew client.sessions p told) is (subst (IsFreshEvent client) here fresh)) st);
   notes = λ id names here. walks (walks_on at requests (stays (after_note (place_with id client.sessions) names client)) refl (noted at requests client (place_with id client.sessions) names st));
-  gives = λ pair half channel rest here is alive. shows channel rest refl refl st;
+  gives = λ pair half channel rest here is alive. shows channel rest (subst IsReadableEvent here readable) refl refl st;
 })
 
 hear_heard : (bases : Bases) (number : ℕ) (at : List ℕ → State) (requests : List Shape) (client : Client) (event : PrivateEvent) → IsReadableEvent event → IsFreshEvent client event → AreDistinct client.sessions → IsInPlace client → IsStanding at client requests
@@ -185,16 +187,16 @@ hear_heard bases number at requests client up_end readable fresh distinct placed
 pub data IsStepped (at : List ℕ → State) (requests : List Shape) (effect : Effect) : Type 0 where
   walked : IsWalking at requests effect → IsStepped at requests effect
   died : IsDead effect → IsStepped at requests effect
-  shown : (channel : ℕ) → (rest : List ℕ) → effect.hand ≡ frame_text channel rest → IsStanding at effect.client requests → IsStepped at requests effect
+  shown : (channel : ℕ) → (rest : List ℕ) → IsLoad rest → effect.hand ≡ frame_text channel rest → IsStanding at effect.client requests → IsStepped at requests effect
 
 heard_stepped : (bases : Bases) (pair : Option ℕ) (at : List ℕ → State) (requests : List Shape) (heard : Hearing) → IsHeard at requests heard → IsStepped at requests (heard_step bases pair heard)
 heard_stepped bases pair at requests heard (walks one) =
     walked (walks_then at requests heard.effect (going_on bases pair heard.next heard.effect.client) one (λ now left st. going_walks bases pair heard.next now heard.effect.client left st))
 heard_stepped bases pair at requests heard (dies closed none) =
     died (then_dead heard.effect (going_on bases pair heard.next heard.effect.client) none (going_dead bases pair heard.next heard.effect.client closed))
-heard_stepped bases pair at requests heard (shows channel rest text quiet st) =
+heard_stepped bases pair at requests heard (shows channel rest whole text quiet st) =
     subst (λ (next : NextPart). IsStepped at requests (then_effect heard.effect (going_on bases pair next heard.effect.client))) (sym quiet)
-    (shown channel rest (append-nil heard.effect.hand ∙ text) st)
+    (shown channel rest whole (append-nil heard.effect.hand ∙ text) st)
 
 pub step_stepped : (bases : Bases) (number : ℕ) (pair : Option ℕ) (at : List ℕ → State) (requests : List Shape) (client : Client) (event : PrivateEvent) → IsReadableEvent event → IsFreshEvent client event → AreDistinct client.sessions → IsInPlace client
     → IsStanding at client requests → IsStepped at (requests ++ asked_by event) (step bases number pair client event)

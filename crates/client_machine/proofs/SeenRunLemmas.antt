@@ -115,14 +115,14 @@ steps_next at left extra asked live effect pieces before same all e (walked one)
       kept = subst (λ b. IsKeptAt b one.now effect.client one.left) (sym alive) one.stands;
     }
 steps_next at left extra asked live effect pieces before same all e (died dead) = ends_next at left extra live effect pieces before (same ∙ dead.closed) dead.none e
-steps_next at left extra asked live effect pieces before same all e (shown channel rest text st) =
+steps_next at left extra asked live effect pieces before same all e (shown channel rest whole text st) =
     let alive : live ≡ true = same ∙ st.alive in
     record {
       steps = [];
       now = at;
       numbers = tt;
       walks = λ id. refl;
-      replies_are = ap (λ t. replies_handed (piece t ++ pieces)) text ∙ handed_frame channel rest pieces before e ∙ ap (λ (l : List Reply1). Some l) (sym (append-nil before));
+      replies_are = ap (λ t. replies_handed (piece t ++ pieces)) text ∙ handed_frame channel rest pieces before whole e ∙ ap (λ (l : List Reply1). Some l) (sym (append-nil before));
       more = left ++ extra;
       requests_are = refl;
       kept = subst (λ b. IsKeptAt b at effect.client (left ++ extra)) (sym alive) (subst (λ (l : List Shape). IsStanding at effect.client (left ++ l)) (sym (all alive)) st);

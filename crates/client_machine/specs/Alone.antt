@@ -90,11 +90,6 @@ abbrev pub hand : Bases → List PrivateEvent → List (List ℕ)
 hand bases [] = []
 hand bases (event ∷ events) = piece (effect_after bases events event).hand ++ hand bases events
 
--- all that goes up for a player alone, newest first
-abbrev pub sent_up : Bases → List PrivateEvent → List Outgoing
-sent_up bases [] = []
-sent_up bases (event ∷ events) = option_to_list (effect_after bases events event).message ++ sent_up bases events
-
 -- how a player alone was closed
 abbrev pub shut_alone : Bases → List PrivateEvent → List CloseWhy
 shut_alone bases [] = []

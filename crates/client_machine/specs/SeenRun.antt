@@ -1,11 +1,11 @@
 -- What a player sees of its connection: replies to its requests, first with first, that walk the table of states of each of
 -- its sessions (RFC 2326, A.2), with frames of media between them (RFC 2326, 10.12).
-use Rattle.std.specs.Prelude.{◌≡◌, ℕ, Bool, true, ◌&&◌, ◌||◌, codes, List, [], ◌∷◌, ◌++◌, map, filter, Option, Some, None, Result, Ok, Err, if◌then◌else◌}
+use Rattle.std.specs.Prelude.{◌≡◌, ℕ, zero, suc, ◌==◌, Bool, true, ◌&&◌, ◌||◌, codes, List, [], ◌∷◌, ◌++◌, length, drop, map, filter, Option, Some, None, Result, Ok, Err, if◌then◌else◌}
 use Rattle.std.specs.Option.{option_and_then, option_map}
 use Rattle.rtsp_head.specs.Headers.{field_of}
-use Rattle.rtsp_head.specs.Items.{Shape}
-use Rattle.rtsp_head.specs.Messages.{Message, messages_of}
-use Rattle.rtsp_head.specs.Spellings.{begins_frame}
+use Rattle.gate_bytes.specs.Ascii.{dollar}
+use Rattle.rtsp_head.specs.Items.{Shape, frame_span}
+use Rattle.rtsp_head.specs.Messages.{Front, first_message}
 use Rattle.rtsp_head.specs.declared.item.ItemKind.{ItemKind}
 use Rattle.rtsp_head.specs.declared.item.ItemKind.TheVariants.{Request}
 use Rattle.head_one.specs.declared.reply.Reply1.{Reply1}
@@ -24,15 +24,26 @@ use Rattle.client_slot.specs.Places.{is_session}
 use Rattle.client_machine.specs.Treatment.{fits_memory}
 use Rattle.std.specs.List.{AllByRecursion}
 
--- the replies that messages are, where each is one (RFC 2326, 7)
-abbrev pub replies_among : List Message → Option (List Reply1)
-replies_among [] = Some []
-replies_among (message ∷ more) = option_and_then (λ reply. option_map (λ replies. reply ∷ replies) (replies_among more)) (client_reply message)
+-- what stands behind the frame at the front of some bytes, where it is whole (RFC 2326, 10.12)
+abbrev pub behind_frame : List ℕ → Option (List ℕ)
+behind_frame bytes = option_map (λ span. drop span.len bytes) (frame_span bytes)
 
--- The replies in a piece of bytes that a player was handed: a piece that begins as a frame does is a frame and has none,
--- and any other one is replies, one behind another. Nothing where it is anything else.
+-- a message that is a reply, before the replies behind it (RFC 2326, 7)
+abbrev pub reply_before : Option Front → (List ℕ → Option (List Reply1)) → Option (List Reply1)
+reply_before None again = None
+reply_before (Some front) again = option_and_then (λ reply. option_map (λ replies. reply ∷ replies) (again front.rest)) (client_reply front.message)
+
+-- at most so many frames and replies
+abbrev pub replies_by : ℕ → List ℕ → Option (List Reply1)
+replies_by most [] = Some []
+replies_by zero (b ∷ bytes) = None
+replies_by (suc most) (b ∷ bytes) =
+    if b == dollar then option_and_then (replies_by most) (behind_frame (b ∷ bytes)) else reply_before (first_message (b ∷ bytes)) (replies_by most)
+
+-- The replies in a piece of bytes that a player was handed, which it reads as a stream: whole frames are passed over, and
+-- all else is replies, also behind a frame. Nothing where it is anything else.
 abbrev pub replies_in : List ℕ → Option (List Reply1)
-replies_in piece = if begins_frame piece then Some [] else option_and_then replies_among (messages_of piece)
+replies_in piece = replies_by (length piece) piece
 
 -- those of earlier pieces and those of one more
 abbrev pub and_replies : Option (List Reply1) → Option (List Reply1) → Option (List Reply1)

@@ -262,13 +262,13 @@ pub told_session : (reply : Reply2) → session_told (told_by reply) ≡ option_
 told_session reply = ap (option_and_then session_of) (untransported_field (own_fields reply.head.headers) (codes "Session") refl ∙ own_field reply.head.headers (codes "Session") refl)
 
 -- A grant that is right.
-abbrev RightGrant : Books → Option (List ℕ) → Reply2 → Type 0
+abbrev pub RightGrant : Books → Option (List ℕ) → Reply2 → Type 0
 RightGrant books session reply = (is_session_for session (id_said reply) ≡ true) × ((is_none session && is_bound books (id_said reply)) ≡ false)
 
 both_true : (a b : Bool) → (a && b) ≡ true → b ≡ true
 both_true a b e = grind arith
 
-right_grant : (books : Books) (pair : ℕ) (session : Option (List ℕ)) (reply : Reply2) → grant_breach books pair session reply ≡ None → RightGrant books session reply
+pub right_grant : (books : Books) (pair : ℕ) (session : Option (List ℕ)) (reply : Reply2) → grant_breach books pair session reply ≡ None → RightGrant books session reply
 right_grant books pair session reply none = grind arith
 
 -- So the session is the one that was named, or a new one that nobody has.

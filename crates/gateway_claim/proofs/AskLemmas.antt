@@ -26,7 +26,7 @@ use Rattle.client_machine.proofs.WayLemmas.{alone_as}
 use Rattle.client_machine.proofs.KeepLemmas.{IsOver}
 use Rattle.gateway_claim.specs.declared.event.ToUp.{ToUp}
 use Rattle.gateway_claim.specs.declared.event.UpMessage.{UpMessage}
-use Rattle.gateway_claim.specs.OnePlayer.{asked_for, asked_up, spelled_for, spelled_up, IsOnlyPlayer, all_handed, all_asked, piece_for, HasAll}
+use Rattle.gateway_claim.specs.OnePlayer.{OwnMessage, asked_alone, asked_for, asked_up, spelled_for, spelled_up, IsOnlyPlayer, all_handed, all_asked, piece_for, HasAll}
 use Rattle.gateway_claim.specs.Books.{RequestKind, kind_of, Books, Final, settles, free_in}
 use Rattle.gateway_claim.specs.OwnEvents.{turn, is_turn, final_in, settled_by, lends_where, has_shut, books_after, books_of, own}
 use Rattle.gateway_claim.specs.Follows.{said_breach, effect_of_turn, message_up, message_due, up_due, IsHistory}
@@ -105,18 +105,35 @@ fewer_alike one other i n more alike = (λ k le. alike.0 k (grind arith), λ k l
 alone_carries : (bases : Bases) (p : Private) (event : PrivateEvent) → ArePairsBelow p.count (tracks_of p.client.sessions) → CarriesBelow p.count (effect_alone bases p event).message
 alone_carries bases p event below = alone_as (λ effect. CarriesBelow p.count effect.message) bases p event tt tt (step_below bases p.count (pair_alone event (p.count + 1)) p.client event below)
 
+-- a message with its own number, spelled
+abbrev numbered_for : Books → ℕ → ℕ → Outgoing → UpMessage
+numbered_for books i number message = spelled_for books i (record { number = number; message = message })
+
+-- What one event sends up stands before what earlier ones did.
+spelled_more : (books : Books) (i n : ℕ) (message : Option Outgoing) (earlier : List OwnMessage)
+    → map (spelled_for books i) (option_to_list (option_map (λ (one : Outgoing). let own : OwnMessage = record { number = n; message = one } in own) message) ++ earlier) ≡ option_to_list (option_map (numbered_for books i n) message) ++ map (spelled_for books i) earlier
+spelled_more books i n None earlier = refl
+spelled_more books i n (Some message) earlier = refl
+
+event_spelled : (bases : Bases) (books : Books) (i : ℕ) (event : PrivateEvent) (events : List PrivateEvent)
+    → spelled_up books i bases (event ∷ events)
+    ≡ option_to_list (option_map (numbered_for books i ((private_after bases events).count + 1)) (effect_alone bases (private_after bases events) event).message) ++ spelled_up books i bases events
+event_spelled bases books i event events = spelled_more books i ((private_after bases events).count + 1) (effect_alone bases (private_after bases events) event).message (asked_alone bases events)
+
 message_alike : (one other : Books) (i n : ℕ) (message : Option Outgoing) → AreAlike one other i (n + asked_in message) → CarriesBelow n message
-    → option_map (spelled_for one i (n + 1)) message ≡ option_map (spelled_for other i (n + 1)) message
+    → option_map (numbered_for one i (n + 1)) message ≡ option_map (numbered_for other i (n + 1)) message
 message_alike one other i n message alike below = grind arith
 
 events_alike : (bases : Bases) (one other : Books) (i : ℕ) (events : List PrivateEvent) → AreAlike one other i (private_after bases events).count → spelled_up one i bases events ≡ spelled_up other i bases events
 events_alike bases one other i [] alike = refl
 events_alike bases one other i (event ∷ events) alike =
-    ap (λ message. option_to_list message ++ spelled_up one i bases events)
+    event_spelled bases one i event events
+    ∙ ap (λ message. option_to_list message ++ spelled_up one i bases events)
     (message_alike one other i (private_after bases events).count (effect_alone bases (private_after bases events) event).message alike
     (alone_carries bases (private_after bases events) event (tracks_below (private_after bases events).count (private_after bases events).client.sessions (alone_below bases events).sessions)))
-    ∙ ap (λ more. option_to_list (option_map (spelled_for other i ((private_after bases events).count + 1)) (effect_alone bases (private_after bases events) event).message) ++ more)
+    ∙ ap (λ more. option_to_list (option_map (numbered_for other i ((private_after bases events).count + 1)) (effect_alone bases (private_after bases events) event).message) ++ more)
     (events_alike bases one other i events (fewer_alike one other i (private_after bases events).count (asked_in (effect_alone bases (private_after bases events) event).message) alike))
+    ∙ sym (event_spelled bases other i event events)
 
 -- After the end of the connection to the server, and at it, nothing goes up.
 spelled_end : (bases : Bases) (books : Books) (i : ℕ) (events : List PrivateEvent) (en : Bool) → spelled_up books i bases (cond en (up_end ∷ []) [] ++ events) ≡ spelled_up books i bases events
@@ -148,7 +165,7 @@ step_named bases number free next client event = grind (arith, first_named, hear
 -- The message that goes up is spelled in the number and the pair that it is given.
 message_asked : (books : Books) (final : Option Final) (i n : ℕ) (shut : Bool) (message : Option Outgoing) → n ≡ books.counts i → IsNamed (free_in (settles final books)) message
     → option_map (message_up books (settles final books) i) message
-    ≡ option_map (spelled_for (lends_where (Some i) (kind_of (option_map (message_up books (settles final books) i) message) (free_in (settles final books)) shut) (settles final books)) i (n + 1)) message
+    ≡ option_map (numbered_for (lends_where (Some i) (kind_of (option_map (message_up books (settles final books) i) message) (free_in (settles final books)) shut) (settles final books)) i (n + 1)) message
 message_asked books final i n shut message counted named = grind arith
 
 -- What was given stays as it is.
@@ -207,8 +224,9 @@ turn_spelled bases T h i shut history standing before turns said = by (entered i
         subst (λ (done : Effect). IsSpelledWith bases T h i (Some i) done.message shut) (sym (effect_present bases T h i (Some event) en is))
         (ap (λ t. cond t (option_to_list (option_map (message_up (books_of T) (settled_by (books_of T) h) i) message)) [] ++ asked_up i T) (same_number i)
         ∙ ap (λ one. option_to_list one ++ asked_up i T) (message_asked (books_of T) (final_in (books_of T) h) i (alone bases T i).count shut message now.counted named)
-        ∙ ap (λ more. option_to_list (option_map (spelled_for after i ((alone bases T i).count + 1)) message) ++ more)
+        ∙ ap (λ more. option_to_list (option_map (numbered_for after i ((alone bases T i).count + 1)) message) ++ more)
         (before ∙ events_alike bases (books_of T) after i (own bases i T) (own_alike (books_of T) (final_in (books_of T) h) i (alone bases T i).count kind now.counted))
+        ∙ sym (event_spelled bases after i event (own bases i T))
         ∙ sym (ap (λ one. spelled_up after i bases (option_to_list one ++ own bases i T)) (event_present bases T h i event en is)))
 
 -- by whose turn it is, while the connection to the server stands
@@ -269,14 +287,14 @@ asked bases (e ∷ T) i history = by (fault_in (e ∷ T)) refl (asked bases T i 
     by (Some cause) ended before = ended_next bases T e i cause history ended before
 
 -- the older entries have the one player too
-only_before : (i : ℕ) (T : List HistoryEntry) (e : HistoryEntry) → IsOnlyPlayer i (e ∷ T) → IsOnlyPlayer i T
+pub only_before : (i : ℕ) (T : List HistoryEntry) (e : HistoryEntry) → IsOnlyPlayer i (e ∷ T) → IsOnlyPlayer i T
 only_before i T e only j other = (or_parts (enters_here j e.happening) (ever_entered j T) (only j other)).1
 
 -- whoever takes part is that player
-part_is_only : (i : ℕ) (T : List HistoryEntry) (j : ℕ) → IsOnlyPlayer i T → entered j T ≡ true → j ≡ i
+pub part_is_only : (i : ℕ) (T : List HistoryEntry) (j : ℕ) → IsOnlyPlayer i T → entered j T ≡ true → j ≡ i
 part_is_only i T j only part = grind (arith, cases_Bool, eqb-true, eq-eqb, never_part)
 
-alive_is_only : (i : ℕ) (T : List HistoryEntry) (j : ℕ) → IsOnlyPlayer i T → is_alive j T ≡ true → j ≡ i
+pub alive_is_only : (i : ℕ) (T : List HistoryEntry) (j : ℕ) → IsOnlyPlayer i T → is_alive j T ≡ true → j ≡ i
 alive_is_only i T j only alive = part_is_only i T j only (was (entered j T) (is_empty_list (shut j T)) alive)
   where
     was : (en unshut : Bool) → (en && unshut) ≡ true → en ≡ true

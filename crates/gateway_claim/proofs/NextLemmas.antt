@@ -13,7 +13,7 @@ use Rattle.gateway_claim.specs.declared.event.ToClient.{ToClient}
 use Rattle.gateway_claim.specs.declared.event.UpCause.{UpCause}
 use Rattle.gateway_claim.specs.Happenings.{HistoryEntry, fault_in, entered, pieces_to, closes_of, sent, shut, is_all, nothing_up, Happening, silent}
 use Rattle.gateway_claim.specs.OwnEvents.{own, turn, is_turn, books_of, event_of}
-use Rattle.gateway_claim.specs.Follows.{breach, up_due, Follows, IsHistory, event_in, effect_at, effect_of_turn, effect, client_piece, one_closed, outcome_with, next}
+use Rattle.gateway_claim.specs.Follows.{breach, up_due, Follows, IsHistory, event_in, effect_at, effect_of_turn, effect, client_piece, one_closed, outcome_with, next, history_of}
 use Rattle.client_machine.specs.declared.why.CloseWhy.TheVariants as why
 use Rattle.client_machine.specs.Events.{Effect, PrivateEvent, up_end}
 use Rattle.client_machine.proofs.KeepLemmas.{IsOver, ends_shut, live_unclosed}
@@ -262,3 +262,12 @@ next_by bases T h None history e =
 -- What is computed as the next entry follows.
 pub next_follows : (bases : Bases) (T : List HistoryEntry) (h : Happening) → IsHistory bases T → Follows bases T (record { happening = h; outcome = next bases T h })
 next_follows bases T h history = next_by bases T h (fault_in T) history refl
+
+-- The history that is computed is one, it tells all that happens, and there is no other.
+pub history_is : (bases : Bases) (happenings : List Happening) → IsHistory bases (history_of bases happenings)
+history_is bases [] = tt
+history_is bases (happening ∷ earlier) = (history_is bases earlier, next_follows bases (history_of bases earlier) happening (history_is bases earlier))
+
+pub history_tells : (bases : Bases) (happenings : List Happening) → map (λ (e : HistoryEntry). e.happening) (history_of bases happenings) ≡ happenings
+history_tells bases [] = refl
+history_tells bases (happening ∷ earlier) = ap (λ (l : List Happening). happening ∷ l) (history_tells bases earlier)

@@ -1,16 +1,19 @@
 -- What a player sees in a history walks the table.
-use Rattle.std.proofs.Common.{◌≡◌, ◌∙◌, ◌==◌, ◌+◌, ◌≤◌, ℕ, Bool, true, false, cond, List, [], ◌∷◌, ◌++◌, length, take, drop, filter, Option, None, Some, IfSome, IfOk, Result, Ok, option_to_list, refl, sym, ap, subst, arith}
+use Rattle.std.proofs.Common.{◌≡◌, ◌∙◌, ◌==◌, ◌+◌, ◌*◌, ◌≤◌, ℕ, Bool, true, false, cond, List, [], ◌∷◌, ◌++◌, length, take, drop, filter, Option, None, Some, IfSome, IfOk, Result, Ok, Err, option_to_list, nat_lt, refl, sym, ap, subst, arith}
 use Rattle.std.specs.Option.{option_map}
 use Rattle.std.specs.List.{list_all}
 use Rattle.std.proofs.lemmas.List.{append-nil, length-drop}
 use Rattle.std.proofs.lemmas.Bool.{and_parts}
 use Rattle.std.proofs.lemmas.Slice.Eq.{bytes_eq-Decides}
 use Rattle.gate_bytes.specs.Ascii.{dollar}
-use Rattle.rtsp_head.specs.Items.{Shape, body_span, judged_span, headed_span, message_span, frame_span, span_of, head_len, blank_lines}
-use Rattle.rtsp_head.specs.Heads.{head_of}
+use Rattle.rtsp_head.specs.Items.{Shape, bad_span, bad_kind, when_whole, body_span, judged_span, headed_span, message_span, frame_span, span_of, head_len, blank_lines}
+use Rattle.rtsp_head.specs.Heads.{head_of, facts_of}
 use Rattle.rtsp_head.specs.HeadText.{is_header, CanBeWritten}
 use Rattle.rtsp_head.specs.declared.facts.Facts.{Facts}
 use Rattle.rtsp_head.specs.declared.facts.Length.{Length}
+use Rattle.rtsp_head.specs.declared.facts.Length.TheVariants as lengths
+use Rattle.rtsp_head.specs.declared.item.BadKind.{BadKind}
+use Rattle.rtsp_head.specs.declared.item.BadKind.TheVariants as bad
 use Rattle.rtsp_head.specs.declared.head.Head.{Head}
 use Rattle.rtsp_head.specs.declared.header.Header.{Header}
 use Rattle.rtsp_head.specs.declared.fault.HeadFault.{HeadFault}
@@ -33,24 +36,26 @@ use Rattle.client_slot.specs.Places.{session_at, first_place, is_session, place_
 use Rattle.client_slot.specs.Client.{Client}
 use Rattle.client_slot.proofs.PlaceLemmas.{place_is}
 use Rattle.client_machine.specs.Alone.{Private, is_live, private_after, hand}
-use Rattle.client_machine.specs.Events.{PrivateEvent, arrive, end, slow, up_end}
+use Rattle.client_machine.specs.Events.{PrivateEvent, arrive, answer, end, slow, up_end}
 use Rattle.client_machine.specs.Step.{new_id}
+use Rattle.client_machine.specs.UpTexts.{source_said}
 use Rattle.client_machine.specs.SeenRun.{request_taken, IsTableRun}
 use Rattle.client_machine.proofs.SeenHearLemmas.{asked_by, IsReadableEvent, IsNew, IsFreshEvent}
 use Rattle.client_machine.proofs.SeenSettleLemmas.{AreDistinct}
+use Rattle.client_machine.proofs.SeenWalkLemmas.{IsLoad}
 use Rattle.client_machine.proofs.SeenRunLemmas.{IsRun, seen_run, run_begins, run_more}
 use Rattle.gateway_claim.specs.declared.event.UpCause.{UpCause}
 use Rattle.gateway_claim.specs.Books.{Opened, Books}
 use Rattle.gateway_claim.specs.BooksAndSlots.{kind_for, IsPurpose, opened_for, IsOpenFor, IsJoined}
-use Rattle.gateway_claim.specs.ServerItems.{Heard, replies, heard_reply, heard_ask, heard_at, heard}
+use Rattle.gateway_claim.specs.ServerItems.{Heard, replies, requests, frames, faults, HeardNotice, notice_of, heard_reply, heard_ask, heard_at, heard}
 use Rattle.gateway_claim.specs.Happenings.{Happening, enters, takes, ends, lags, hears, up_ends, HistoryEntry, fault_in, entered, sent}
-use Rattle.gateway_claim.specs.OwnEvents.{is_turn, settled_by, heard_turn, books_of, heard_event, own_here, own}
+use Rattle.gateway_claim.specs.OwnEvents.{is_turn, is_full, settled_by, heard_turn, notice_event, books_of, heard_event, own_here, own}
 use Rattle.gateway_claim.specs.Follows.{IsHistory, private_in, kind_breach, session_asked, session_of_private, reply_breach, heard_breach}
 use Rattle.gateway_claim.specs.SeenRun.{request_here, requests_from, IsItemHeard, AreItemsHeard, IsSeenRun}
 use Rattle.gateway_claim.proofs.AgreeLemmas.{joined, said_right, alone}
 use Rattle.gateway_claim.proofs.AnswerLemmas.{IsSaid, said_for}
 use Rattle.gateway_claim.proofs.NextLemmas.{sent_as_alone}
-use Rattle.gateway_claim.proofs.CaseLemmas.{faults_over, heard_event_as}
+use Rattle.gateway_claim.proofs.CaseLemmas.{faults_over}
 
 -- What a reply of the server tells has headers of a head that was read.
 filtered : (test keep : Header → Bool) (headers : List Header) → list_all test headers ≡ true → list_all test (filter keep headers) ≡ true
@@ -102,9 +107,88 @@ IsReadableReply reply = (list_all is_header reply.head.headers ≡ true) × (len
 read_head : (found : Result Head HeadFault) (body : List ℕ) → ((head : Head) → found ≡ Ok head → CanBeWritten head.start head.headers) → length body ≤ MOST_BODY → IfOk (reply_of_head found body) IsReadableReply
 read_head found body can short = grind arith
 
+-- A frame of the server is whole.
+abbrev IsWholeFrame : List ℕ → Option Span → Type 0
+IsWholeFrame bytes span = IfSome span (λ one. one.kind ≡ Frame → one.len ≡ length bytes → IsLoad (drop 2 bytes))
+
+when_no_frame : (bytes : List ℕ) (come : ℕ) (span : Span) → (span.kind ≡ Frame → ⊥) → IsWholeFrame bytes (when_whole come span)
+when_no_frame bytes come span other = by (nat_lt come span.len)
+  where
+    by : (t : Bool) → IsWholeFrame bytes (cond t None (Some span))
+    by true = tt
+    by false = λ is len. absurd (other is)
+
+bad_no_frame : (bytes : List ℕ) (kind : BadKind) (n : ℕ) → IsWholeFrame bytes (Some (bad_span kind n))
+bad_no_frame bytes kind n = λ is len. let never : ⊥ = cc in absurd never
+
+body_no_frame : (bytes : List ℕ) (kind : ItemKind) (come n : ℕ) (named : Length) → (kind ≡ Frame → ⊥) → IsWholeFrame bytes (body_span kind come n named)
+body_no_frame bytes kind come n lengths.Absent other = when_no_frame bytes come (record { kind = kind; len = n; head = n }) other
+body_no_frame bytes kind come n (lengths.Bytes body) other = by (nat_lt MOST_BODY body)
+  where
+    by : (t : Bool) → IsWholeFrame bytes (cond t (Some (bad_span bad.Body n)) (when_whole come (record { kind = kind; len = n + body; head = n })))
+    by true = bad_no_frame bytes bad.Body n
+    by false = when_no_frame bytes come (record { kind = kind; len = n + body; head = n }) other
+body_no_frame bytes kind come n lengths.Bad other = bad_no_frame bytes bad.Length n
+
+judged_no_frame : (bytes : List ℕ) (come n : ℕ) (facts : Result Facts HeadFault) → IsWholeFrame bytes (judged_span come n facts)
+judged_no_frame bytes come n (Err fault) = bad_no_frame bytes (bad_kind fault) n
+judged_no_frame bytes come n (Ok facts) = by facts.request
+  where
+    by : (request : Bool) → IsWholeFrame bytes (body_span (cond request Request Response) come n facts.length)
+    by true = body_no_frame bytes Request come n facts.length (λ e. cc)
+    by false = body_no_frame bytes Response come n facts.length (λ e. cc)
+
+headed_no_frame : (bytes stream : List ℕ) (len : Option ℕ) → IsWholeFrame bytes (headed_span stream len)
+headed_no_frame bytes stream None = by (nat_lt (length stream) MOST_HEAD)
+  where
+    by : (t : Bool) → IsWholeFrame bytes (cond t None (Some (bad_span bad.Head MOST_HEAD)))
+    by true = tt
+    by false = bad_no_frame bytes bad.Head MOST_HEAD
+headed_no_frame bytes stream (Some n) = judged_no_frame bytes (length stream) n (facts_of (take n stream))
+
+frame_whole : (bytes : List ℕ) → IsWholeFrame bytes (frame_span bytes)
+frame_whole [] = tt
+frame_whole (a ∷ []) = tt
+frame_whole (a ∷ b ∷ []) = tt
+frame_whole (a ∷ b ∷ high ∷ []) = tt
+frame_whole (a ∷ b ∷ high ∷ low ∷ load) = by (nat_lt (length (a ∷ b ∷ high ∷ low ∷ load)) 4) (nat_lt (length (a ∷ b ∷ high ∷ low ∷ load)) (4 + (256 * high + low)))
+  where
+    by : (short cut : Bool) → IsWholeFrame (a ∷ b ∷ high ∷ low ∷ load) (cond short None (cond cut None (Some (record { kind = Frame; len = 4 + (256 * high + low); head = 0 }))))
+    by true cut = tt
+    by false true = tt
+    by false false = λ is len.
+        let whole : 4 + (256 * high + low) ≡ length (a ∷ b ∷ high ∷ low ∷ load) = len in
+        let load_is : length (high ∷ low ∷ load) ≡ 2 + (256 * high + low) = omega (arith, whole) in
+        (omega arith, load_is)
+
+span_whole : (bytes : List ℕ) → IsWholeFrame bytes (span_of bytes)
+span_whole [] = tt
+span_whole (b ∷ bytes) = by (b == dollar)
+  where
+    by : (t : Bool) → IsWholeFrame (b ∷ bytes) (cond t (frame_span (b ∷ bytes)) (message_span (b ∷ bytes)))
+    by true = frame_whole (b ∷ bytes)
+    by false = headed_no_frame (b ∷ bytes) (b ∷ bytes) (head_len (take MOST_HEAD (b ∷ bytes)))
+
+frame_load : (shape : Shape) → IsItemHeard (hears shape) → shape.kind ≡ Frame → IsLoad (drop 2 shape.bytes)
+frame_load shape is kind = by (span_of (drop (blank_lines shape.bytes) shape.bytes)) refl is
+  where
+    extents : (a b : Extent) → Some a ≡ Some b → a ≡ b
+    extents a b e = cc
+
+    by : (found : Option Span) → span_of (drop (blank_lines shape.bytes) shape.bytes) ≡ found
+        → option_map {U = Extent} (λ (one : Span). record { skipped = blank_lines shape.bytes; span = one }) found ≡ Some (record { skipped = 0; span = record { kind = shape.kind; len = length shape.bytes; head = shape.head } })
+        → IsLoad (drop 2 shape.bytes)
+    by None f e = let never : ⊥ = cc in absurd never
+    by (Some span) f e =
+        let same : ◌≡◌ {A = Extent} (record { skipped = blank_lines shape.bytes; span = span }) (record { skipped = 0; span = record { kind = shape.kind; len = length shape.bytes; head = shape.head } }) = extents _ _ e in
+        let here : span_of shape.bytes ≡ Some (record { kind = shape.kind; len = length shape.bytes; head = shape.head }) =
+        ap (λ n. span_of (drop n shape.bytes)) (sym (ap (λ (one : Extent). one.skipped) same)) ∙ f ∙ ap (λ (one : Extent). Some one.span) same in
+        subst (IsWholeFrame shape.bytes) here (span_whole shape.bytes) kind refl
+
 -- what is heard of the server
 abbrev IsReadableHeard : Heard → Type 0
 IsReadableHeard (replies reply) = IsReadableReply reply
+IsReadableHeard (frames channel rest) = IsLoad rest
 IsReadableHeard one = Unit {0}
 
 reply_readable : (found : Result Reply2 TwoFault) → IfOk found IsReadableReply → IsReadableHeard (heard_reply found)
@@ -117,25 +201,35 @@ kind_readable : (kind : ItemKind) (shape : Shape) → shape.kind ≡ kind → Is
 kind_readable Request shape is item = ask_readable (ask_of_item shape)
 kind_readable Response shape is item =
     reply_readable (reply_of_item shape) (read_head (head_of (take shape.head shape.bytes)) (drop shape.head shape.bytes) (read_sound (take shape.head shape.bytes)) (item_short shape item is))
-kind_readable Frame shape is item = tt
+kind_readable Frame shape is item = frame_load shape item is
 kind_readable (Bad kind) shape is item = tt
 
 -- an event that brings no request, and no session that is there
 abbrev IsQuiet : Private → PrivateEvent → Type 0
 IsQuiet p event = IsReadableEvent event × (asked_by event ≡ []) × (is_live p ≡ true → IsFreshEvent p.client event)
 
+reply_quiet : (p : Private) (reply : Reply2) (ssrc : Option ℕ) (full : Bool) → IsReadableReply reply → (is_live p ≡ true → IsNew p.client.sessions p.client.pending (told_by reply)) → IsQuiet p (answer (told_by reply) ssrc full)
+reply_quiet p reply ssrc full readable fresh = grind (arith, filtered)
+
+notice_quiet : (p : Private) (books : Books) (i : ℕ) (notice : Result HeardNotice ℕ) → IfSome (notice_event books i notice) (IsQuiet p)
+notice_quiet p books i (Ok notice) = (tt, refl, λ live. tt)
+notice_quiet p books i (Err code) = tt
+
 heard_quiet : (p : Private) (books settled : Books) (i : ℕ) (waiting : List Shape) (one : Heard) → IsReadableHeard one → ((reply : Reply2) → one ≡ replies reply → is_live p ≡ true → IsNew p.client.sessions p.client.pending (told_by reply))
     → IfSome (heard_event books settled i waiting one) (IsQuiet p)
-heard_quiet p books settled i waiting one readable fresh = grind (arith, heard_event_as, filtered)
+heard_quiet p books settled i waiting (replies reply) readable fresh = reply_quiet p reply (source_said reply) (is_full settled waiting) readable (fresh reply refl)
+heard_quiet p books settled i waiting (requests request) readable fresh = notice_quiet p books i (notice_of books.holder request)
+heard_quiet p books settled i waiting (frames channel rest) readable fresh = (readable, refl, λ live. tt)
+heard_quiet p books settled i waiting (faults fault) readable fresh = tt
 
 -- The sessions of a connection whose books agree are distinct.
 id_is : (id : List ℕ) (one : Option (List ℕ)) → is_session id one ≡ true → one ≡ Some id
 id_is id one e = grind (arith, bytes_eq-Decides)
 
-found_at : (place : ℕ) (id : List ℕ) (sessions : List PlayerSession) → place_with id sessions ≡ Some place → (session_at place sessions).id ≡ Some id
+pub found_at : (place : ℕ) (id : List ℕ) (sessions : List PlayerSession) → place_with id sessions ≡ Some place → (session_at place sessions).id ≡ Some id
 found_at place id sessions e = id_is id (session_at place sessions).id (place_is (λ session. is_session id session.id) place sessions e).passes
 
-none_found : (id : List ℕ) (from : ℕ) (sessions : List PlayerSession) → first_place (λ session. is_session id session.id) from sessions ≡ None → (place : ℕ) → (session_at place sessions).id ≡ Some id → ⊥
+pub none_found : (id : List ℕ) (from : ℕ) (sessions : List PlayerSession) → first_place (λ session. is_session id session.id) from sessions ≡ None → (place : ℕ) → (session_at place sessions).id ≡ Some id → ⊥
 none_found id from [] e place here = cc
 none_found id from (one ∷ more) e place here = by place (is_session id one.id) refl e here (none_found id (from + 1) more)
   where

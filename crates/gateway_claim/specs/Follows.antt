@@ -1,5 +1,5 @@
 -- When an entry follows a history, and the next one as it is computed (this project's own).
-use Rattle.std.specs.Prelude.{◌≡◌, ℕ, ◌+◌, ◌*◌, ◌==◌, ◌&&◌, not, nat_lt, codes, Bool, true, false, is_some, is_none, List, ◌∷◌, Option, Some, None, if◌then◌else◌, length}
+use Rattle.std.specs.Prelude.{◌≡◌, ℕ, ◌+◌, ◌*◌, ◌==◌, ◌&&◌, not, nat_lt, codes, Bool, true, false, is_some, is_none, List, [], ◌∷◌, Option, Some, None, if◌then◌else◌, length}
 use Rattle.std.specs.Option.{option_or, option_map, option_and_then}
 use Rattle.std.specs.Result.{result_ok}
 use Rattle.std.specs.Str.{bytes_eq}
@@ -196,3 +196,12 @@ abbrev pub next : Bases → List HistoryEntry → Happening → Outcome
 next bases earlier happening =
     if is_some (fault_in earlier) then silent
     else outcome_with (breach bases earlier happening) (turn (books_of earlier) happening) (up_due bases earlier happening) (effect bases earlier happening)
+
+-- the history with its next entry
+abbrev pub with_next_entry : Bases → List HistoryEntry → Happening → List HistoryEntry
+with_next_entry bases history happening = record { happening = happening; outcome = next bases history happening } ∷ history
+
+-- the history of all that happens, the newest first
+abbrev pub history_of : Bases → List Happening → List HistoryEntry
+history_of bases [] = []
+history_of bases (happening ∷ earlier) = with_next_entry bases (history_of bases earlier) happening

@@ -22,16 +22,24 @@ abbrev pub asked_up : ℕ → List HistoryEntry → List UpMessage
 asked_up i [] = []
 asked_up i (entry ∷ earlier) = asked_for i (turn (books_of earlier) entry.happening) entry.outcome.to_up ++ asked_up i earlier
 
--- A message of connection i in the numbers and on the channels that the books have for it, where a request has this own
--- number.
-abbrev pub spelled_for : Books → ℕ → ℕ → Outgoing → UpMessage
-spelled_for books i own message = message_with (books.number_of i own) (Some (books.pair_of i own)) (books.pair_of i) message
+-- a message that goes up, and the number of its request among the connection's own
+pub record OwnMessage : Type 0 where
+  pub number : ℕ
+  pub message : Outgoing
 
--- What the private machine sends up, spelled so, the newest first: its requests have the numbers from 1 on.
+-- all that goes up for a player alone, newest first; its requests have the numbers from 1 on
+abbrev pub asked_alone : Bases → List PrivateEvent → List OwnMessage
+asked_alone bases [] = []
+asked_alone bases (event ∷ events) =
+    option_to_list (option_map (λ message. record { number = (private_after bases events).count + 1; message = message }) (effect_after bases events event).message) ++ asked_alone bases events
+
+-- a message of connection i in the numbers and on the channels that the books have for it
+abbrev pub spelled_for : Books → ℕ → OwnMessage → UpMessage
+spelled_for books i one = message_with (books.number_of i one.number) (Some (books.pair_of i one.number)) (books.pair_of i) one.message
+
+-- what the private machine sends up, spelled so, the newest first
 abbrev pub spelled_up : Books → ℕ → Bases → List PrivateEvent → List UpMessage
-spelled_up books i bases [] = []
-spelled_up books i bases (event ∷ events) =
-    option_to_list (option_map (spelled_for books i ((private_after bases events).count + 1)) (effect_after bases events event).message) ++ spelled_up books i bases events
+spelled_up books i bases events = map (spelled_for books i) (asked_alone bases events)
 
 -- no connection but this one ever entered
 abbrev pub IsOnlyPlayer : ℕ → List HistoryEntry → Type 0

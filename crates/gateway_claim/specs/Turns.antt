@@ -1,6 +1,6 @@
 -- The turn of a connection, in the numbers of requests and of pairs of channels that the server's one connection has for all
 -- players, by the books (this project's own).
-use Rattle.std.specs.Prelude.{ℕ, ◌+◌, ◌/◌, ◌%◌, false, List, Option, Some, None, Result, Ok, Err, ◌≡◌, ◌≢◌, true, ◌∷◌}
+use Rattle.std.specs.Prelude.{ℕ, ◌+◌, ◌/◌, ◌%◌, false, List, Option, Some, None, Result, Ok, Err, ◌≡◌, ◌≢◌, true}
 use Rattle.std.specs.Option.{option_map}
 use Rattle.rtsp_uri.specs.declared.base.Bases.{Bases}
 use Rattle.translate_down.specs.Replies.{told_by}
@@ -17,7 +17,7 @@ use Rattle.gateway_claim.specs.Happenings.{Happening, takes, ends, lags, hears, 
 use Rattle.gateway_claim.specs.BooksAndSlots.{kind_for}
 use Rattle.gateway_claim.specs.OwnEvents.{settled_by, books_of, turn, lends_where, event_of, own}
 use Rattle.gateway_claim.specs.declared.event.Outcome.{Outcome}
-use Rattle.gateway_claim.specs.Follows.{client_piece, one_closed, next, private_in, answer_due, said_breach, spent, IsHistory, message_with}
+use Rattle.gateway_claim.specs.Follows.{client_piece, one_closed, next, with_next_entry, private_in, answer_due, said_breach, spent, IsHistory, message_with}
 use Rattle.client_machine.specs.Alone.{private_after}
 use Rattle.client_machine.specs.Step.{step}
 
@@ -103,10 +103,6 @@ pub record IsItsTurn (bases : Bases) (history : List HistoryEntry) (i : ℕ) (ha
   pub is_raw : raw_event (books_of history) happening ≡ Some raw
   pub said : said_breach bases history happening ≡ None
   pub left : spent (books_of history).issued (step_by_books bases history i happening raw).message ≡ None
-
--- the history with its next entry
-abbrev pub with_next_entry : Bases → List HistoryEntry → Happening → List HistoryEntry
-with_next_entry bases history happening = record { happening = happening; outcome = next bases history happening } ∷ history
 
 -- The next entry hands out what that step hands out; the connection is then what the step leaves, by the books; every
 -- other connection is as it was; and the books have what the reply settled and the request that went up.

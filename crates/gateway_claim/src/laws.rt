@@ -4,16 +4,16 @@ ghost use Rattle.rtsp_head.specs.Items.{Shape};
 ghost use Rattle.rtsp_head.specs.declared.item.ItemKind.TheVariants as items;
 ghost use Rattle.rtsp_uri.specs.declared.base.Bases.{Bases};
 ghost use Rattle.rtsp_small.specs.declared.cseq.TheConstants.{CSEQ_TWO_DIGITS, LAST_CSEQ_TWO};
-ghost use Rattle.client_machine.specs.Alone.{private_after, sent_up};
+ghost use Rattle.client_machine.specs.Alone.{private_after};
 ghost use Rattle.client_machine.specs.Bounds.{streams_of, AreAllStreamsApart};
 ghost use Rattle.client_machine.specs.Events.{PrivateEvent};
 ghost use Rattle.gateway_claim.specs.declared.event.Closed.TheVariants.{Nobody};
 ghost use Rattle.gateway_claim.specs.Apart.{pairs_held, session_held, IsFrameDown, IsFrameUp};
-ghost use Rattle.gateway_claim.specs.OnePlayer.{asked_up, spelled_up, IsOnlyPlayer, HasAll};
+ghost use Rattle.gateway_claim.specs.OnePlayer.{asked_alone, asked_up, spelled_for, spelled_up, IsOnlyPlayer, HasAll};
 ghost use Rattle.gateway_claim.specs.ServerItems.{frames, heard};
 ghost use Rattle.gateway_claim.specs.Happenings.{Happening, takes, hears, HistoryEntry, fault_in, sent, shut, nothing_up};
 ghost use Rattle.gateway_claim.specs.OwnEvents.{books_of, own};
-ghost use Rattle.gateway_claim.specs.Follows.{IsHistory, Follows, next};
+ghost use Rattle.gateway_claim.specs.Follows.{IsHistory, Follows, history_of};
 ghost use Rattle.gateway_claim.specs.Cores.{IsCoreHistory, IsOrderly};
 ghost use Rattle.gateway_claim.specs.BooksAndSlots.{IsJoined, AreSound};
 ghost use Rattle.gateway_claim.specs.Turns.{client_alone, IsItsTurn, IsSteppedBy};
@@ -21,37 +21,29 @@ ghost use Rattle.gateway_claim.specs.SeenRun.{AreItemsHeard, IsSeenRun};
 
 use crate::cores::Core;
 
-/// At most one entry with a given happening follows a history.
-pub fn one_next_entry()
-    ensures { (bases : Bases) (earlier : List HistoryEntry) (one other : HistoryEntry)
-        → Follows bases earlier one
-        → Follows bases earlier other
-        → one.happening ≡ other.happening
-        → one ≡ other }
+/// For every list of happenings, newest first, there is exactly one history that tells them:
+/// `history_of`.
+pub fn what_happens_has_one_history()
+    ensures { (bases : Bases) (happenings : List Happening)
+        → IsHistory bases (history_of bases happenings)
+        × (map (λ e. e.happening) (history_of bases happenings) ≡ happenings)
+        × ((other : List HistoryEntry) → IsHistory bases other
+        → map (λ e. e.happening) other ≡ happenings
+        → other ≡ history_of bases happenings) }
 {}
 
-/// A list of happenings has at most one history.
-pub fn at_most_one_history()
-    ensures { (bases : Bases) (one other : List HistoryEntry) → IsHistory bases one → IsHistory bases other
-        → map (λ e. e.happening) one ≡ map (λ e. e.happening) other → one ≡ other }
-{}
-
-/// Every list of happenings has a history: after every history, what happens next has an entry that
-/// follows.
-pub fn some_next_entry()
-    ensures { (bases : Bases) (earlier : List HistoryEntry) (happening : Happening) → IsHistory bases earlier
-        → Follows bases earlier (record { happening = happening; outcome = next bases earlier happening }) }
-{}
-
-/// Connections that take the same events are handed the same bytes and closed alike, and the machine
-/// alone asks the same on them, in any two histories with the same bases and under any two numbers.
+/// Connections that take the same events are handed the same bytes and closed alike, in any two
+/// histories with the same bases and under any two numbers; and what the server is asked for each is
+/// one list of requests and frames, those of the machine alone with its own numbers. Each history
+/// only spells them in the numbers and on the channels of its connection to the server.
 pub fn equal_own_events()
     ensures { (bases : Bases) (one other : List HistoryEntry) (i j : ℕ) → IsHistory bases one
         → IsHistory bases other
         → own bases i one ≡ own bases j other
         → (sent i one ≡ sent j other)
         × (shut i one ≡ shut j other)
-        × (sent_up bases (own bases i one) ≡ sent_up bases (own bases j other)) }
+        × (asked_up i one ≡ map (spelled_for (books_of one) i) (asked_alone bases (own bases i one)))
+        × (asked_up j other ≡ map (spelled_for (books_of other) j) (asked_alone bases (own bases i one))) }
 {}
 
 /// The server is asked, for each connection, exactly what the machine alone asks on that connection's
@@ -159,9 +151,10 @@ pub fn a_turn_is_one_step_by_the_books()
 {}
 
 /// What a player sees is a run of the table of states (RFC 2326, A.2). The replies that are read from
-/// the pieces answer the first of its requests, each one request in order, and have its number. For each
-/// session's id a walk from Init goes through its replies: a success goes by the row for the method of
-/// its request, and any other reply leaves the state; before each of them what played may have ended.
+/// the pieces, each a stream in which whole frames are passed over, answer the first of its requests,
+/// each one request in order, and have its number. For each session's id a walk from Init goes through
+/// its replies: a success goes by the row for the method of its request, and any other reply leaves the
+/// state; before each of them what played may have ended.
 /// What comes of the server are items, as each event of a core is one by its type.
 pub fn replies_walk_the_table()
     ensures { (bases : Bases) (history : List HistoryEntry) (i : ℕ) → IsHistory bases history

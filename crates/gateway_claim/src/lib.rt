@@ -21,10 +21,10 @@ pub use event::{Closed, Event, FramingFault, Outcome, ToClient, ToUp, UpCause, U
 pub use gate_transcript::UpWhy;
 pub use laws::{
     a_frame_of_a_player_goes_up_on_its_own_pair, a_frame_of_the_server_reaches_its_holder_alone,
-    a_turn_is_one_step_by_the_books, at_most_one_history, at_most_one_history_of_a_core,
-    books_and_connections_agree, entries_are_orderly, equal_own_events,
-    no_two_connections_have_one_session, no_two_streams_share_channels, one_next_entry,
-    one_player_has_all_that_is_handed_out, replies_walk_the_table, some_next_entry,
+    a_turn_is_one_step_by_the_books, at_most_one_history_of_a_core, books_and_connections_agree,
+    entries_are_orderly, equal_own_events, no_two_connections_have_one_session,
+    no_two_streams_share_channels, one_player_has_all_that_is_handed_out, replies_walk_the_table,
     the_last_number_is_the_greatest_read, the_server_is_asked_what_each_asks_alone,
+    what_happens_has_one_history,
 };
 pub use rtsp_uri::{Base, Bases};

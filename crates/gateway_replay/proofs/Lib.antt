@@ -2,6 +2,7 @@ pub mod RecordLemmas
 pub mod FeedLemmas
 pub mod AliveLemmas
 pub mod EndLemmas
+pub mod WalkLemmas
 pub mod OneTranscriptLemmas
 pub mod OutcomeLemmas
 pub mod TellLemmas

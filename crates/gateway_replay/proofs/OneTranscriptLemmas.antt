@@ -11,7 +11,7 @@ use Rattle.gate_transcript.specs.Transcript.{is_enter, has_entered}
 use Rattle.gateway_claim.specs.Cores.{ever_entered}
 use Rattle.gateway_claim.specs.Follows.{IsHistory}
 use Rattle.gateway_claim.specs.Happenings.{Happening, HistoryEntry, enters_here, happened}
-use Rattle.gateway_claim.specs.OnePlayer.{HasAll}
+use Rattle.gateway_claim.specs.OnePlayer.{IsOnlyPlayer, HasAll}
 use Rattle.gateway_claim.proofs.AskLemmas.{one_player}
 use Rattle.gateway_replay.specs.declared.streams.Speaker.{Speaker}
 use Rattle.gateway_replay.specs.declared.streams.Speaker.TheVariants as speaker
@@ -80,7 +80,9 @@ told_enters j (entry ∷ earlier) =
     ∙ ap (λ now. has_entered j earlier || now) (entry_enters j entry.kind entry earlier)
     ∙ swap_or (has_entered j earlier) (is_enter entry.kind && entry.conn == j)
 
+-- So no other connection enters in a history that tells them.
+pub only_told : (entries : List Entry) (history : List HistoryEntry) (i : ℕ) → happened history ≡ events_of entries → EntersAlone i entries → IsOnlyPlayer i history
+only_told entries history i told alone j other = sym (ever_told j history) ∙ ap (enters_in j) told ∙ told_enters j entries ∙ alone j other
+
 pub one_transcript : (bases : Bases) (entries : List Entry) (history : List HistoryEntry) (i : ℕ) → IsHistory bases history → happened history ≡ events_of entries → EntersAlone i entries → HasAll bases i history
-one_transcript bases entries history i is told alone =
-    one_player bases history i is
-    (λ j other. sym (ever_told j history) ∙ ap (enters_in j) told ∙ told_enters j entries ∙ alone j other)
+one_transcript bases entries history i is told alone = one_player bases history i is (only_told entries history i told alone)

@@ -7,10 +7,12 @@ ghost use Rattle.gateway_claim.specs.Happenings.{HistoryEntry, happened};
 ghost use Rattle.gateway_claim.specs.Cores.{IsCoreHistory};
 ghost use Rattle.gateway_claim.specs.Follows.{IsHistory};
 ghost use Rattle.gateway_claim.specs.OnePlayer.{HasAll};
+ghost use Rattle.gateway_claim.specs.SeenRun.{IsSeenRun};
 ghost use Rattle.run_status.specs.declared.status.Status.{Status};
 ghost use Rattle.gateway_replay.specs.Events.{events_of};
 ghost use Rattle.gateway_replay.specs.OneTranscript.{EntersAlone};
 ghost use Rattle.gateway_replay.specs.Replays.{ReplaySays, FaultRose};
+ghost use Rattle.gateway_replay.specs.Runs.{ToldInPart};
 ghost use Rattle.gateway_replay.specs.Sound.{IsSoundTranscript, EndsSoundReplay};
 
 use gateway_claim::Core;
@@ -24,6 +26,16 @@ pub fn a_transcript_of_one_player_is_its_own()
         → happened history ≡ events_of entries
         → EntersAlone i entries
         → HasAll bases i history }
+{}
+
+/// What a player sees of a replay is a run of the table of states (RFC 2326, A.2), for the very history
+/// whose records are written: what happens in it is what the entries tell, or the first part of that
+/// where memory ran out or the sink failed. Nothing else is asked of the transcript.
+pub fn a_replay_walks_the_table()
+    ensures { (bases : Bases) (entries : List Entry) (history : List HistoryEntry) (i : ℕ)
+        → IsHistory bases history
+        → ToldInPart (happened history) (events_of entries)
+        → IsSeenRun i history }
 {}
 
 /// A transcript without a fault, and no longer than the limit, is replayed whole, where the counts of

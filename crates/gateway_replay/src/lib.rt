@@ -13,5 +13,7 @@ mod run;
 mod streams;
 mod whole_replay;
 
-pub use laws::{a_sound_transcript_is_replayed, a_transcript_of_one_player_is_its_own};
+pub use laws::{
+    a_replay_walks_the_table, a_sound_transcript_is_replayed, a_transcript_of_one_player_is_its_own,
+};
 pub use whole_replay::{LONGEST_TRANSCRIPT, replay};

@@ -1,0 +1,5 @@
+pub mod OwnBookLemmas
+pub mod AlikeLemmas
+pub mod BookLemmas
+pub mod LoneLemmas
+pub mod RecordRunLemmas

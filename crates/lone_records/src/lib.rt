@@ -1,0 +1,7 @@
+//! The records of a transcript of one player are those of a gateway that has this player alone, byte
+//! for byte.
+#![tactic(auto)]
+
+mod laws;
+
+pub use laws::the_records_of_one_player_are_its_own;
