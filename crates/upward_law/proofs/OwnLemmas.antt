@@ -35,7 +35,7 @@ use Rattle.gateway_claim.proofs.ApartLemmas.{all_are}
 use Rattle.gateway_claim.proofs.CaseLemmas.{own_event, own_quiet, own_ended, faults_over, both_none, not_over, pair_where}
 use Rattle.upward_law.specs.ServerStream.{ServerRead, reads_request, reads_frame, AreRead}
 use Rattle.upward_law.specs.Due.{message_bytes, message_meant, IsItemTaken, AreItemsTaken}
-use Rattle.upward_law.specs.OwnForm.{without_channels, in_own_numbers, message_alone, asked_alone, AreReadFor}
+use Rattle.upward_law.specs.OwnForm.{without_channels, in_own_numbers, message_alone, read_alone, AreReadFor}
 use Rattle.upward_law.proofs.EntryLemmas.{asked_so, left_for, turn_sound}
 use Rattle.upward_law.proofs.OpenLemmas.{turn_for}
 use Rattle.upward_law.proofs.PurposeLemmas.{MeantBy}
@@ -150,16 +150,16 @@ own_so books final i count shut (Some (carries pair half rest)) counted bare car
     ∙ ap (λ (n : ℕ). reads_frame (2 * n + half) (drop 2 rest) ∷ []) carried.0
 
 -- Nothing is asked at the end of the connection to the server, and after it.
-end_mute : (bases : Bases) (en : Bool) (events : List PrivateEvent) → asked_alone bases (cond en (up_end ∷ []) [] ++ events) ≡ asked_alone bases events
+end_mute : (bases : Bases) (en : Bool) (events : List PrivateEvent) → read_alone bases (cond en (up_end ∷ []) [] ++ events) ≡ read_alone bases events
 end_mute bases en events = grind arith
 
-over_mute : (bases : Bases) (en : Bool) (event : Option PrivateEvent) (events : List PrivateEvent) → (en ≡ true → IsOver bases events) → asked_alone bases (option_to_list (cond en event None) ++ events) ≡ asked_alone bases events
+over_mute : (bases : Bases) (en : Bool) (event : Option PrivateEvent) (events : List PrivateEvent) → (en ≡ true → IsOver bases events) → read_alone bases (option_to_list (cond en event None) ++ events) ≡ read_alone bases events
 over_mute bases en event events over = grind arith
 
-ended_mute : (bases : Bases) (T : List HistoryEntry) (e : HistoryEntry) (i : ℕ) (cause : UpCause) (now : Option UpCause) → IsHistory bases (e ∷ T) → fault_in (e ∷ T) ≡ Some cause → e.outcome.fault ≡ now → asked_alone bases (own bases i (e ∷ T)) ≡ asked_alone bases (own bases i T)
-ended_mute bases T e i cause (Some other) history ended now = ap (asked_alone bases) (own_ended bases T e i other now) ∙ end_mute bases (entered i T) (own bases i T)
+ended_mute : (bases : Bases) (T : List HistoryEntry) (e : HistoryEntry) (i : ℕ) (cause : UpCause) (now : Option UpCause) → IsHistory bases (e ∷ T) → fault_in (e ∷ T) ≡ Some cause → e.outcome.fault ≡ now → read_alone bases (own bases i (e ∷ T)) ≡ read_alone bases (own bases i T)
+ended_mute bases T e i cause (Some other) history ended now = ap (read_alone bases) (own_ended bases T e i other now) ∙ end_mute bases (entered i T) (own bases i T)
 ended_mute bases T e i cause None history ended now =
-    ap (asked_alone bases) (own_quiet bases T e i now)
+    ap (read_alone bases) (own_quiet bases T e i now)
     ∙ over_mute bases (entered i T) (cond (is_turn i (turn (books_of T) e.happening)) (own_event bases T i e.happening) None) (own bases i T)
     (faults_over bases T history.0 cause (first_of (fault_in T) (sym (ap (option_or (fault_in T)) now) ∙ ended)) i)
   where
@@ -169,10 +169,10 @@ ended_mute bases T e i cause None history ended now =
 -- What is to be shown of an entry.
 abbrev IsReadOwn : Bases → List HistoryEntry → HistoryEntry → ℕ → List ℕ → List PrivateEvent → Type 0
 IsReadOwn bases T e i bytes events =
-    (here later : List ServerRead) × AreRead bytes here × (asked_alone bases events ≡ map (in_own_numbers (books_of (e ∷ T))) here ++ later) × AreReadFor i T later
+    (here later : List ServerRead) × AreRead bytes here × (read_alone bases events ≡ map (in_own_numbers (books_of (e ∷ T))) here ++ later) × AreReadFor i T later
 
-nothing_read : (bases : Bases) (T : List HistoryEntry) (e : HistoryEntry) (i : ℕ) (bytes : List ℕ) (events : List PrivateEvent) → bytes ≡ [] → asked_alone bases events ≡ asked_alone bases (own bases i T) → AreReadFor i T (asked_alone bases (own bases i T)) → IsReadOwn bases T e i bytes events
-nothing_read bases T e i bytes events none same before = ([], asked_alone bases (own bases i T), none, same, before)
+nothing_read : (bases : Bases) (T : List HistoryEntry) (e : HistoryEntry) (i : ℕ) (bytes : List ℕ) (events : List PrivateEvent) → bytes ≡ [] → read_alone bases events ≡ read_alone bases (own bases i T) → AreReadFor i T (read_alone bases (own bases i T)) → IsReadOwn bases T e i bytes events
+nothing_read bases T e i bytes events none same before = ([], read_alone bases (own bases i T), none, same, before)
 
 either_empty : (here : Bool) (bytes : List ℕ) → bytes ≡ [] → cond here bytes [] ≡ []
 either_empty true bytes e = e
@@ -183,7 +183,7 @@ either_none true event e = e
 either_none false event e = refl
 
 -- It is the turn of the connection.
-turn_own : (bases : Bases) (T : List HistoryEntry) (e : HistoryEntry) (i : ℕ) → IsHistory bases (e ∷ T) → fault_in (e ∷ T) ≡ None → turn (books_of T) e.happening ≡ Some i → IsItemTaken e.happening → AreReadFor i T (asked_alone bases (own bases i T))
+turn_own : (bases : Bases) (T : List HistoryEntry) (e : HistoryEntry) (i : ℕ) → IsHistory bases (e ∷ T) → fault_in (e ∷ T) ≡ None → turn (books_of T) e.happening ≡ Some i → IsItemTaken e.happening → AreReadFor i T (read_alone bases (own bases i T))
     → IsReadOwn bases T e i (message_bytes (message_due (books_of T) (settled_by (books_of T) e.happening) (Some i) (effect_of_turn bases T (Some i) e.happening).message)) (option_to_list (event_for bases T e.happening (Some i) i) ++ own bases i T)
 turn_own bases T e i history standing turns taken before = by (entered i T) (own_event bases T i h) refl refl
   where
@@ -207,7 +207,7 @@ turn_own bases T e i history standing turns taken before = by (entered i T) (own
 
     silent : message ≡ None → event_for bases T h (Some i) i ≡ None → IsReadOwn bases T e i (message_bytes (message_due books settled (Some i) message)) (option_to_list (event_for bases T h (Some i) i) ++ own bases i T)
     silent none quiet = nothing_read bases T e i (message_bytes (message_due books settled (Some i) message)) (option_to_list (event_for bases T h (Some i) i) ++ own bases i T) (ap (λ (one : Option Outgoing). message_bytes (message_due books settled (Some i) one)) none)
-        (ap (λ (one : Option PrivateEvent). asked_alone bases (option_to_list one ++ own bases i T)) quiet) before
+        (ap (λ (one : Option PrivateEvent). read_alone bases (option_to_list one ++ own bases i T)) quiet) before
 
     by : (en : Bool) (event : Option PrivateEvent) → entered i T ≡ en → own_event bases T i h ≡ event
         → IsReadOwn bases T e i (message_bytes (message_due books settled (Some i) message)) (option_to_list (event_for bases T h (Some i) i) ++ own bases i T)
@@ -229,21 +229,21 @@ turn_own bases T e i history standing turns taken before = by (entered i T) (own
         books_next bases T e history.1 standing ∙ ap (λ (who : Option ℕ). books_with books h who (effect_of_turn bases T who h).message (has_shut who (e ∷ T))) turns in
         let here : List ServerRead = option_to_list (option_map (message_meant books settled i) message) in (
           here,
-          asked_alone bases (own bases i T),
+          read_alone bases (own bases i T),
           written_read _ _ (asked_so (IsItemTaken h) books settled i message taken left (turn_sound bases T h i history.0 stood turns said)),
-          ap (λ (one : Option PrivateEvent). asked_alone bases (option_to_list one ++ own bases i T)) (event_present bases T h i event en is)
-              ∙ ap (λ (done : Effect). option_to_list (option_map (message_alone (p.count + 1)) done.message) ++ asked_alone bases (own bases i T)) (sym (effect_present bases T h i (Some event) en is))
-              ∙ ap (λ (items : List ServerRead). items ++ asked_alone bases (own bases i T))
+          ap (λ (one : Option PrivateEvent). read_alone bases (option_to_list one ++ own bases i T)) (event_present bases T h i event en is)
+              ∙ ap (λ (done : Effect). option_to_list (option_map (message_alone (p.count + 1)) done.message) ++ read_alone bases (own bases i T)) (sym (effect_present bases T h i (Some event) en is))
+              ∙ ap (λ (items : List ServerRead). items ++ read_alone bases (own bases i T))
               (sym (own_so books (final_in books h) i p.count (has_shut (Some i) (e ∷ T)) message ((joined bases T history.0 stood).1 i).counted bare carried) ∙ ap (λ (one : Books). map (in_own_numbers one) here) (sym after)),
           before,
         )
 
 -- by whose turn it is, while the connection to the server stands
-who_own : (bases : Bases) (T : List HistoryEntry) (e : HistoryEntry) (i : ℕ) (who : Option ℕ) → IsHistory bases (e ∷ T) → fault_in (e ∷ T) ≡ None → turn (books_of T) e.happening ≡ who → IsItemTaken e.happening → AreReadFor i T (asked_alone bases (own bases i T))
+who_own : (bases : Bases) (T : List HistoryEntry) (e : HistoryEntry) (i : ℕ) (who : Option ℕ) → IsHistory bases (e ∷ T) → fault_in (e ∷ T) ≡ None → turn (books_of T) e.happening ≡ who → IsItemTaken e.happening → AreReadFor i T (read_alone bases (own bases i T))
     → IsReadOwn bases T e i (cond (is_turn i who) (message_bytes (message_due (books_of T) (settled_by (books_of T) e.happening) who (effect_of_turn bases T who e.happening).message)) []) (option_to_list (event_for bases T e.happening who i) ++ own bases i T)
 who_own bases T e i None history standing turns taken before =
     nothing_read bases T e i [] (option_to_list (event_for bases T e.happening None i) ++ own bases i T) refl
-    (ap (λ (one : Option PrivateEvent). asked_alone bases (option_to_list one ++ own bases i T)) (either_none (entered i T) None refl)) before
+    (ap (λ (one : Option PrivateEvent). read_alone bases (option_to_list one ++ own bases i T)) (either_none (entered i T) None refl)) before
 who_own bases T e i (Some j) history standing turns taken before = by (j == i) refl
   where
     by : (here : Bool) → (j == i) ≡ here
@@ -257,11 +257,11 @@ who_own bases T e i (Some j) history standing turns taken before = by (j == i) r
     by false other =
         nothing_read bases T e i _ (option_to_list (event_for bases T e.happening (Some j) i) ++ own bases i T)
         (ap (λ (t : Bool). cond t (message_bytes (message_due (books_of T) (settled_by (books_of T) e.happening) (Some j) (effect_of_turn bases T (Some j) e.happening).message)) []) other)
-        (ap (λ (one : Option PrivateEvent). asked_alone bases (option_to_list one ++ own bases i T))
+        (ap (λ (one : Option PrivateEvent). read_alone bases (option_to_list one ++ own bases i T))
         (either_none (entered i T) (cond (j == i) (own_event bases T i e.happening) None) (ap (λ t. cond {A = Option PrivateEvent} t (own_event bases T i e.happening) None) other)))
         before
 
-entry_own : (bases : Bases) (T : List HistoryEntry) (e : HistoryEntry) (i : ℕ) (fault : Option UpCause) → IsHistory bases (e ∷ T) → fault_in (e ∷ T) ≡ fault → IsItemTaken e.happening → AreReadFor i T (asked_alone bases (own bases i T))
+entry_own : (bases : Bases) (T : List HistoryEntry) (e : HistoryEntry) (i : ℕ) (fault : Option UpCause) → IsHistory bases (e ∷ T) → fault_in (e ∷ T) ≡ fault → IsItemTaken e.happening → AreReadFor i T (read_alone bases (own bases i T))
     → IsReadOwn bases T e i (cond (is_turn i (turn (books_of T) e.happening)) (message_bytes (cond (is_some fault) nothing_up (up_due bases T e.happening)).message) []) (own bases i (e ∷ T))
 entry_own bases T e i (Some cause) history is taken before =
     nothing_read bases T e i _ (own bases i (e ∷ T)) (either_empty (is_turn i (turn (books_of T) e.happening)) [] refl) (ended_mute bases T e i cause e.outcome.fault history is refl) before
@@ -269,7 +269,7 @@ entry_own bases T e i None history is taken before =
     subst (IsReadOwn bases T e i (cond (is_turn i (turn (books_of T) e.happening)) (message_bytes (up_due bases T e.happening).message) [])) (sym (own_quiet bases T e i (both_none (fault_in T) e.outcome.fault is).1))
     (who_own bases T e i (turn (books_of T) e.happening) history is refl taken before)
 
-pub own_read : (bases : Bases) (T : List HistoryEntry) (i : ℕ) → IsHistory bases T → AreItemsTaken T → AreReadFor i T (asked_alone bases (own bases i T))
+pub own_read : (bases : Bases) (T : List HistoryEntry) (i : ℕ) → IsHistory bases T → AreItemsTaken T → AreReadFor i T (read_alone bases (own bases i T))
 own_read bases [] i history taken = refl
 own_read bases (e ∷ T) i history taken =
     subst (λ (up : ToUp). IsReadOwn bases T e i (cond (is_turn i (turn (books_of T) e.happening)) (message_bytes up.message) []) (own bases i (e ∷ T))) (sym history.1.spelled)

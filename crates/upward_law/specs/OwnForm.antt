@@ -31,9 +31,9 @@ message_alone number (asks request named) = reads_request (record { number = num
 message_alone number (carries pair half rest) = reads_frame (2 * pair + half) (drop 2 rest)
 
 -- all that a connection alone asks on its events, the newest first
-abbrev pub asked_alone : Bases → List PrivateEvent → List ServerRead
-asked_alone bases [] = []
-asked_alone bases (event ∷ events) = option_to_list (option_map (message_alone ((private_after bases events).count + 1)) (effect_after bases events event).message) ++ asked_alone bases events
+abbrev pub read_alone : Bases → List PrivateEvent → List ServerRead
+read_alone bases [] = []
+read_alone bases (event ∷ events) = option_to_list (option_map (message_alone ((private_after bases events).count + 1)) (effect_after bases events event).message) ++ read_alone bases events
 
 -- the bytes of the message of connection i, by whose turn it is
 abbrev pub bytes_for : ℕ → Option ℕ → ToUp → List ℕ

@@ -9,7 +9,7 @@ ghost use Rattle.gateway_claim.specs.Follows.{IsHistory, Follows};
 ghost use Rattle.gateway_claim.specs.OwnEvents.{own};
 ghost use Rattle.upward_law.specs.ServerStream.{ServerRead, AreRead};
 ghost use Rattle.upward_law.specs.OpenRequest.{IsOpenRequest};
-ghost use Rattle.upward_law.specs.OwnForm.{asked_alone, AreReadFor};
+ghost use Rattle.upward_law.specs.OwnForm.{read_alone, AreReadFor};
 ghost use Rattle.upward_law.specs.Due.{bytes_up, stream_up, meant_for, all_meant, IsItemTaken, AreItemsTaken};
 
 /// A stream of bytes to the server is read in one way at most.
@@ -61,5 +61,5 @@ pub fn a_request_that_goes_up_is_the_open_one()
 pub fn what_is_read_of_a_connection_is_what_it_asks_alone()
     ensures { (bases : Bases) (history : List HistoryEntry) (i : ℕ) → IsHistory bases history
         → AreItemsTaken history
-        → AreReadFor i history (asked_alone bases (own bases i history)) }
+        → AreReadFor i history (read_alone bases (own bases i history)) }
 {}
