@@ -5,3 +5,6 @@ pub mod ReplyLemmas
 pub mod PlayLemmas
 pub mod ReadyLemmas
 pub mod RunLemmas
+pub mod OneDrillLemmas
+pub mod AddressLemmas
+pub mod OneTextLemmas
