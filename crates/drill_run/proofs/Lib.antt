@@ -6,5 +6,6 @@ pub mod PlayLemmas
 pub mod ReadyLemmas
 pub mod RunLemmas
 pub mod OneDrillLemmas
+pub mod TurnCountLemmas
 pub mod AddressLemmas
 pub mod OneTextLemmas

@@ -1,11 +1,13 @@
 //! Laws over the definitions of a drill. Each holds by its contract alone: no call is made.
-ghost use Rattle.std.specs.Prelude.{◌≡◌, ℕ, Option, List};
+ghost use Rattle.std.specs.Prelude.{◌≡◌, ◌+◌, ◌*◌, ◌≤◌, ℕ, Option, List, [], length};
 ghost use Rattle.gate_outside.specs.Causes.{Rose};
 ghost use Rattle.rtsp_uri.specs.declared.base.Bases.{Bases};
 ghost use Rattle.gateway_claim.specs.Cores.{IsCoreHistory};
 ghost use Rattle.run_status.specs.declared.status.Status.{Status};
 ghost use Rattle.run_status.specs.declared.status.Status.TheVariants.{Done, SinkFault};
 ghost use Rattle.drill_run.specs.Reports.{TellsDrill, DrillSays, EndsDrill, IsDrilledHistory};
+ghost use Rattle.drill_run.specs.Turns.{Drilled, DrillRun, candidates};
+ghost use Rattle.drill_run.specs.TurnCounts.{steps_taken, requests_heard};
 
 use gateway_claim::Core;
 
@@ -43,4 +45,17 @@ pub fn equal_words_have_one_drill<M: Core>()
         → TellsDrill (IsCoreHistory M.follows bases) players number one
         → TellsDrill (IsCoreHistory M.follows bases) players number other
         → one ≡ other }
+{}
+
+/// Each turn of a drill is a step of a player, of which each has eight at most, or answers one of the
+/// requests that came to the server. Once the drill is over all of these are answered.
+pub fn each_turn_is_a_step_or_an_answer()
+    ensures going { (players number : ℕ) (drilled : Drilled) → DrillRun players number drilled
+        → drilled.turns + length drilled.server.waiting
+        ≡ steps_taken drilled.players + requests_heard drilled.server }
+    ensures over { (players number : ℕ) (drilled : Drilled) → DrillRun players number drilled
+        → candidates drilled ≡ []
+        → drilled.turns ≡ steps_taken drilled.players + requests_heard drilled.server }
+    ensures steps { (players number : ℕ) (drilled : Drilled) → DrillRun players number drilled
+        → steps_taken drilled.players ≤ 8 * players }
 {}
