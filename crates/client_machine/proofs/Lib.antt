@@ -26,4 +26,6 @@ pub mod SeenWalkLemmas
 pub mod SightLemmas
 pub mod TreatLemmas
 pub mod WayLemmas
+pub mod SessionSumLemmas
+pub mod AskCountLemmas
 pub mod ShortUriLemmas
