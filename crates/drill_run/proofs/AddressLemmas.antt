@@ -1,5 +1,5 @@
 -- An address is told by its text.
-use Rattle.std.proofs.Common.{◌≡◌, ℕ, ◌+◌, List, length, take, Option, Some, refl, sym, ap, ◌∙◌, subst, arith}
+use Rattle.std.proofs.Common.{◌≡◌, ℕ, List, length, take, Option, Some, sym, ap, ◌∙◌, subst, arith}
 use Rattle.std.proofs.Props.{props}
 use Rattle.rtsp_uri.specs.declared.base.Base.{Base}
 use Rattle.rtsp_uri.specs.declared.base.Bases.{Bases}

@@ -9,3 +9,5 @@ pub mod OneDrillLemmas
 pub mod TurnCountLemmas
 pub mod AddressLemmas
 pub mod OneTextLemmas
+pub mod UpstreamLemmas
+pub mod EnterLemmas

@@ -1,14 +1,14 @@
 -- Two drills of the same words are one drill.
-use Rattle.std.proofs.Common.{◌≡◌, ℕ, ◌+◌, ◌≤◌, ◌<◌, List, [], ◌∷◌, ◌++◌, Option, Some, None, inl, inr, refl, sym, ap, ◌∙◌, subst, arith}
+use Rattle.std.proofs.Common.{◌≡◌, ℕ, ◌+◌, ◌≤◌, List, [], ◌∷◌, ◌++◌, Some, None, inl, inr, refl, sym, ap, ◌∙◌, subst, arith}
 use Rattle.std.specs.Prelude.{◌⊎◌}
 use Rattle.std.proofs.lemmas.Bool.{cases_eq}
 use Rattle.rtsp_uri.specs.declared.base.Bases.{Bases}
-use Rattle.gateway_claim.specs.Happenings.{Happening, HistoryEntry, happened}
+use Rattle.gateway_claim.specs.Happenings.{HistoryEntry, happened}
 use Rattle.gateway_claim.specs.Cores.{IsCoreHistory}
 use Rattle.gateway_claim.proofs.AskLemmas.{Following, FollowsOnce}
 use Rattle.drill_run.specs.declared.turn.Who.{Who}
 use Rattle.drill_run.specs.declared.turn.Who.TheVariants.{Client, Server}
-use Rattle.drill_run.specs.Turns.{Drilled, DrillRun, begins, goes_on, started, Turn, candidates, chosen, drawn_among, after_draw, after_saying, after_entry, after_entries, turn_told}
+use Rattle.drill_run.specs.Turns.{Drilled, DrillRun, begins, goes_on, started, Turn, candidates, drawn_among, after_draw, after_saying, after_entries, turn_told}
 use Rattle.drill_server.specs.Draws.{next_draw}
 
 -- a list with one more at its end is none
@@ -61,7 +61,7 @@ pub saying_turns : (who : Who) (drilled : Drilled) → (after_saying who drilled
 saying_turns (Client i) drilled = refl
 saying_turns Server drilled = refl
 
-turn_history : (drilled next : Drilled) (turn : Turn drilled next) → next.history ≡ turn.more ++ drilled.history
+pub turn_history : (drilled next : Drilled) (turn : Turn drilled next) → next.history ≡ turn.more ++ drilled.history
 turn_history drilled next turn =
     ap (λ (d : Drilled). d.history) turn.after
     ∙ entries_history turn.more (after_saying turn.who (after_draw drilled))

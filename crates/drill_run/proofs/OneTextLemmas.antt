@@ -1,8 +1,7 @@
 -- Two drills of the same words have one text.
-use Rattle.std.proofs.Common.{◌≡◌, ℕ, List, ◌++◌, Option, Some, None, refl, sym, ap, ◌∙◌, subst}
+use Rattle.std.proofs.Common.{◌≡◌, ℕ, List, Option, Some, None, refl, sym, ap, ◌∙◌, subst}
 use Rattle.gate_outside.specs.Contents.{Grows}
 use Rattle.rtsp_uri.specs.declared.base.Bases.{Bases}
-use Rattle.gateway_claim.specs.Happenings.{HistoryEntry}
 use Rattle.gateway_claim.specs.Cores.{IsCoreHistory}
 use Rattle.gateway_claim.specs.Follows.{Follows, IsHistory}
 use Rattle.gateway_claim.proofs.AskLemmas.{Following, FollowsOnce}

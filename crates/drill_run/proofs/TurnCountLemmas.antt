@@ -12,7 +12,7 @@ use Rattle.gateway_claim.specs.declared.event.ToUp.{ToUp}
 use Rattle.gateway_claim.specs.declared.event.UpMessage.{UpMessage}
 use Rattle.gateway_claim.specs.declared.event.UpMessage.TheVariants.{Request, Frame}
 use Rattle.drill_server.specs.Draws.{next_draw, drawn_below}
-use Rattle.drill_server.specs.ServerSteps.{Serving, is_request_kind, requests_among, items_added, serving_fed, serving_answered}
+use Rattle.drill_server.specs.ServerSteps.{Serving, is_request_kind, requests_among, items_added, serving_fed}
 use Rattle.drill_run.specs.declared.player.Player.{Player}
 use Rattle.drill_run.specs.declared.step.PlayerStep.{PlayerStep}
 use Rattle.drill_run.specs.declared.step.PlayerStep.TheVariants as steps
@@ -20,7 +20,7 @@ use Rattle.drill_run.specs.declared.turn.Who.{Who}
 use Rattle.drill_run.specs.declared.turn.Who.TheVariants.{Client, Server}
 use Rattle.drill_run.specs.Steps.{step_after}
 use Rattle.drill_run.specs.Players.{new_player, is_ready_player, is_response_kind, heard_kind, heard_player, player_at, handed_players, stepped_by, stepped_player}
-use Rattle.drill_run.specs.Turns.{Drilled, DrillRun, begins, goes_on, started, Turn, ready_one, ready_from, server_ready, candidates_among, candidates, chosen, drawn_among, after_draw, after_saying, after_entry, after_entries, fed_answer, fed_message, fed_up}
+use Rattle.drill_run.specs.Turns.{Drilled, DrillRun, begins, goes_on, Turn, ready_one, ready_from, server_ready, candidates_among, candidates, chosen, after_draw, after_saying, after_entry, after_entries, fed_answer, fed_message, fed_up}
 use Rattle.drill_run.specs.TurnCounts.{steps_before, steps_taken, requests_heard}
 
 -- A step is one more.

@@ -2,11 +2,13 @@
 ghost use Rattle.std.specs.Prelude.{◌≡◌, ◌+◌, ◌*◌, ◌≤◌, ℕ, Option, List, [], length};
 ghost use Rattle.gate_outside.specs.Causes.{Rose};
 ghost use Rattle.rtsp_uri.specs.declared.base.Bases.{Bases};
+ghost use Rattle.session_one.specs.declared.parts.TheConstants.{MOST_SESSIONS};
 ghost use Rattle.gateway_claim.specs.Cores.{IsCoreHistory};
 ghost use Rattle.run_status.specs.declared.status.Status.{Status};
 ghost use Rattle.run_status.specs.declared.status.Status.TheVariants.{Done, SinkFault};
 ghost use Rattle.drill_run.specs.Reports.{TellsDrill, DrillSays, EndsDrill, IsDrilledHistory};
 ghost use Rattle.drill_run.specs.Turns.{Drilled, DrillRun, candidates};
+ghost use Rattle.drill_run.specs.CountSteps.{counts_of};
 ghost use Rattle.drill_run.specs.TurnCounts.{steps_taken, requests_heard};
 
 use gateway_claim::Core;
@@ -58,4 +60,12 @@ pub fn each_turn_is_a_step_or_an_answer()
         → drilled.turns ≡ steps_taken drilled.players + requests_heard drilled.server }
     ensures steps { (players number : ℕ) (drilled : Drilled) → DrillRun players number drilled
         → steps_taken drilled.players ≤ 8 * players }
+{}
+
+/// The server of a drill is asked no more than the players ask, and for each of them once more for each
+/// of the sessions that it may leave behind. These are counts that the drill prints.
+pub fn the_server_is_asked_little_more_than_players_ask()
+    ensures { (players number : ℕ) (drilled : Drilled) → DrillRun players number drilled
+        → IsDrilledHistory drilled.history
+        → (counts_of drilled.history).upstream ≤ (counts_of drilled.history).requests + MOST_SESSIONS * players }
 {}
