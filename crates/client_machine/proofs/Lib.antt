@@ -27,4 +27,6 @@ pub mod SightLemmas
 pub mod TreatLemmas
 pub mod CourseLemmas
 pub mod WayLemmas
+pub mod SessionSumLemmas
+pub mod AskCountLemmas
 pub mod ShortUriLemmas

@@ -1,5 +1,6 @@
 pub mod Outlooks
 pub mod Alone
+pub mod AskCounts
 pub mod OpenRequests
 pub mod Bounds
 pub mod Events

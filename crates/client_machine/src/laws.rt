@@ -1,9 +1,11 @@
 //! Laws over the definitions of the machine. Each holds by its contract alone: no call is made.
-ghost use Rattle.std.specs.Prelude.{◌≡◌, ◌&&◌, ℕ, false, is_none, Option, Some, None, option_map};
+ghost use Rattle.std.specs.Prelude.{◌≡◌, ◌+◌, ◌≤◌, ◌&&◌, ℕ, false, is_none, Option, Some, None, option_map};
 ghost use Rattle.rtsp_uri.specs.declared.base.Bases.{Bases};
 ghost use Rattle.client_slot.specs.Client.{Client};
 ghost use Rattle.client_slot.specs.Renumber.{client_under};
 ghost use Rattle.client_machine.specs.Alone.{private_after, is_live, is_empty_list, shut_alone};
+ghost use Rattle.session_one.specs.declared.parts.TheConstants.{MOST_SESSIONS};
+ghost use Rattle.client_machine.specs.AskCounts.{requests_brought};
 ghost use Rattle.client_machine.specs.Bounds.{streams_of, AreAllStreamsApart, IsBelow};
 ghost use Rattle.client_machine.specs.OpenRequests.{has_setup};
 ghost use Rattle.client_machine.specs.Events.{PrivateEvent};
@@ -50,4 +52,11 @@ pub fn what_is_not_closed_is_alive()
 pub fn own_streams_are_apart()
     ensures { (bases : Bases) (events : List PrivateEvent)
         → AreAllStreamsApart (streams_of (private_after bases events).client) }
+{}
+
+/// A connection asks the server no more often than its player asked, and once more for each session that
+/// it may leave behind.
+pub fn no_more_goes_up_than_came()
+    ensures { (bases : Bases) (events : List PrivateEvent)
+        → (private_after bases events).count ≤ requests_brought events + MOST_SESSIONS }
 {}

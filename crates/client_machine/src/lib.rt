@@ -27,8 +27,8 @@ pub use ends::plan_close;
 pub use frames::{StreamHalf, channel_for, half_for};
 pub use input::{Incoming, ServerReply};
 pub use laws::{
-    a_free_pair_matters_to_a_setup_alone, a_step_keeps_any_numbering, own_numbers_are_kept,
-    own_streams_are_apart, what_is_not_closed_is_alive,
+    a_free_pair_matters_to_a_setup_alone, a_step_keeps_any_numbering, no_more_goes_up_than_came,
+    own_numbers_are_kept, own_streams_are_apart, what_is_not_closed_is_alive,
 };
 pub use parts::{Done, PlannedStep};
 pub use plans::plan;

@@ -5,3 +5,9 @@ pub mod ReplyLemmas
 pub mod PlayLemmas
 pub mod ReadyLemmas
 pub mod RunLemmas
+pub mod OneDrillLemmas
+pub mod TurnCountLemmas
+pub mod AddressLemmas
+pub mod OneTextLemmas
+pub mod UpstreamLemmas
+pub mod EnterLemmas

@@ -14,7 +14,7 @@ use Rattle.run_status.specs.declared.status.Status.TheVariants.{Done, Usage, Sou
 use Rattle.drill_run.specs.Reports.{drill_lines, TellsDrill, DrillSays}
 
 -- numbers from n on have not entered
-never_entered : (n i : ℕ) → n ≤ i → ever_entered i (entered_below n) ≡ false
+pub never_entered : (n i : ℕ) → n ≤ i → ever_entered i (entered_below n) ≡ false
 never_entered zero i above = refl
 never_entered (suc n) i above =
     let other : (n == i) ≡ false = grind (arith, nat_tests) in

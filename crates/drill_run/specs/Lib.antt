@@ -2,6 +2,7 @@ pub mod Steps
 pub mod Players
 pub mod CountSteps
 pub mod Turns
+pub mod TurnCounts
 pub mod Stages
 pub mod FramerSteps
 pub mod Plays

@@ -1,11 +1,15 @@
-//! A law over the definitions of a drill. It holds by its contract alone: no call is made.
-ghost use Rattle.std.specs.Prelude.{◌≡◌, ℕ, Option, List};
+//! Laws over the definitions of a drill. Each holds by its contract alone: no call is made.
+ghost use Rattle.std.specs.Prelude.{◌≡◌, ◌+◌, ◌*◌, ◌≤◌, ℕ, Option, List, [], length};
 ghost use Rattle.gate_outside.specs.Causes.{Rose};
 ghost use Rattle.rtsp_uri.specs.declared.base.Bases.{Bases};
+ghost use Rattle.session_one.specs.declared.parts.TheConstants.{MOST_SESSIONS};
 ghost use Rattle.gateway_claim.specs.Cores.{IsCoreHistory};
 ghost use Rattle.run_status.specs.declared.status.Status.{Status};
-ghost use Rattle.run_status.specs.declared.status.Status.TheVariants.{SinkFault};
-ghost use Rattle.drill_run.specs.Reports.{DrillSays, EndsDrill, IsDrilledHistory};
+ghost use Rattle.run_status.specs.declared.status.Status.TheVariants.{Done, SinkFault};
+ghost use Rattle.drill_run.specs.Reports.{TellsDrill, DrillSays, EndsDrill, IsDrilledHistory};
+ghost use Rattle.drill_run.specs.Turns.{Drilled, DrillRun, candidates};
+ghost use Rattle.drill_run.specs.CountSteps.{counts_of};
+ghost use Rattle.drill_run.specs.TurnCounts.{steps_taken, requests_heard};
 
 use gateway_claim::Core;
 
@@ -25,4 +29,43 @@ pub fn a_drill_is_written<M: Core>()
         → (status ≡ SinkFault → Rose sink_before sink_now)
         → (Rose sink_before sink_now → ⊥)
         → EndsDrill (IsCoreHistory M.follows bases) players number status before now }
+{}
+
+/// A drill is fixed by its words: of so many players, from one number, there is one text, of the
+/// multiplexer and of any core between given addresses. So two runs that are `Done`, into sinks that
+/// told the same before, leave them telling the same.
+pub fn equal_words_have_one_drill<M: Core>()
+    ensures drilled { (players number : ℕ) (one other : List ℕ)
+        → TellsDrill IsDrilledHistory players number one
+        → TellsDrill IsDrilledHistory players number other
+        → one ≡ other }
+    ensures written { (players number : ℕ) (before one other : Option (List ℕ))
+        → DrillSays IsDrilledHistory players number Done before one
+        → DrillSays IsDrilledHistory players number Done before other
+        → one ≡ other }
+    ensures on_a_core { (bases : Bases) (players number : ℕ) (one other : List ℕ)
+        → TellsDrill (IsCoreHistory M.follows bases) players number one
+        → TellsDrill (IsCoreHistory M.follows bases) players number other
+        → one ≡ other }
+{}
+
+/// Each turn of a drill is a step of a player, of which each has eight at most, or answers one of the
+/// requests that came to the server. Once the drill is over all of these are answered.
+pub fn each_turn_is_a_step_or_an_answer()
+    ensures going { (players number : ℕ) (drilled : Drilled) → DrillRun players number drilled
+        → drilled.turns + length drilled.server.waiting
+        ≡ steps_taken drilled.players + requests_heard drilled.server }
+    ensures over { (players number : ℕ) (drilled : Drilled) → DrillRun players number drilled
+        → candidates drilled ≡ []
+        → drilled.turns ≡ steps_taken drilled.players + requests_heard drilled.server }
+    ensures steps { (players number : ℕ) (drilled : Drilled) → DrillRun players number drilled
+        → steps_taken drilled.players ≤ 8 * players }
+{}
+
+/// The server of a drill is asked no more than the players ask, and for each of them once more for each
+/// of the sessions that it may leave behind. These are counts that the drill prints.
+pub fn the_server_is_asked_little_more_than_players_ask()
+    ensures { (players number : ℕ) (drilled : Drilled) → DrillRun players number drilled
+        → IsDrilledHistory drilled.history
+        → (counts_of drilled.history).upstream ≤ (counts_of drilled.history).requests + MOST_SESSIONS * players }
 {}

@@ -1,0 +1,28 @@
+-- How many turns a drill has (this project's own).
+use Rattle.std.specs.Prelude.{ℕ, ◌+◌, List, [], ◌∷◌, length, Option, Some, None}
+use Rattle.rtsp_head.specs.Items.{items_of}
+use Rattle.drill_server.specs.ServerSteps.{Serving, requests_among}
+use Rattle.drill_run.specs.declared.player.Player.{Player}
+use Rattle.drill_run.specs.declared.step.PlayerStep.{PlayerStep}
+use Rattle.drill_run.specs.declared.step.PlayerStep.TheVariants.{Options, Describe, SetupFirst, SetupSecond, Play, Frame, Teardown, End}
+
+-- how many steps come before this one; none is left after all eight
+abbrev pub steps_before : Option PlayerStep → ℕ
+steps_before (Some Options) = 0
+steps_before (Some Describe) = 1
+steps_before (Some SetupFirst) = 2
+steps_before (Some SetupSecond) = 3
+steps_before (Some Play) = 4
+steps_before (Some Frame) = 5
+steps_before (Some Teardown) = 6
+steps_before (Some End) = 7
+steps_before None = 8
+
+-- how many steps these players took, in all
+abbrev pub steps_taken : List Player → ℕ
+steps_taken [] = 0
+steps_taken (player ∷ players) = steps_before player.next + steps_taken players
+
+-- how many requests came to the server
+abbrev pub requests_heard : Serving → ℕ
+requests_heard serving = length (requests_among (items_of serving.heard))
