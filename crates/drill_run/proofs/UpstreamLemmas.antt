@@ -1,5 +1,5 @@
 -- No more requests go up in a history than players sent, and four more for each player.
-use Rattle.std.proofs.Common.{◌≡◌, ℕ, zero, suc, ◌+◌, ◌*◌, ◌≤◌, ◌<◌, ◌==◌, Bool, true, false, cond, List, [], ◌∷◌, ◌++◌, Option, Some, None, Result, Ok, Err, inl, inr, refl, sym, ap, ◌∙◌, subst, arith}
+use Rattle.std.proofs.Common.{◌≡◌, ℕ, zero, suc, ◌+◌, ◌*◌, ◌≤◌, ◌<◌, ◌==◌, Bool, true, false, cond, List, [], ◌∷◌, ◌++◌, map, Option, Some, None, Result, Ok, Err, inl, inr, refl, sym, ap, ◌∙◌, subst, arith}
 use Rattle.std.specs.Prelude.{is_some}
 use Rattle.std.specs.Option.{option_map, option_to_list}
 use Rattle.std.proofs.lemmas.Bool.{cases_Bool, cases_eq, cases_lt, or_parts, eq-eqb, eqb-true}
@@ -17,7 +17,7 @@ use Rattle.gateway_claim.specs.Happenings.{Happening, enters, takes, ends, lags,
 use Rattle.gateway_claim.specs.Cores.{ever_entered}
 use Rattle.gateway_claim.specs.OwnEvents.{turn, is_turn, settled_by, books_of, heard_event, notice_event, event_of, own_here, own}
 use Rattle.gateway_claim.specs.Follows.{effect_of_turn, message_due, up_due, IsHistory}
-use Rattle.gateway_claim.specs.OnePlayer.{asked_for, asked_up, spelled_for, spelled_up}
+use Rattle.gateway_claim.specs.OnePlayer.{OwnMessage, asked_alone, asked_for, asked_up, spelled_for, spelled_up}
 use Rattle.gateway_claim.specs.declared.event.ToUp.{ToUp}
 use Rattle.gateway_claim.specs.declared.event.UpCause.{UpCause}
 use Rattle.gateway_claim.specs.declared.event.UpMessage.{UpMessage}
@@ -96,17 +96,21 @@ in_one None = refl
 in_one (Some message) = omega arith
 
 -- A connection alone counts its requests.
-one_spelled : (books : Books) (i own_number : ℕ) (message : Option Outgoing) → requests_in (option_to_list (option_map (spelled_for books i own_number) message)) ≡ asked_in message
+one_spelled : (books : Books) (i own_number : ℕ) (message : Option Outgoing) → requests_in (map (spelled_for books i) (option_to_list (option_map (λ one. record { number = own_number; message = one }) message))) ≡ asked_in message
 one_spelled books i own_number None = refl
 one_spelled books i own_number (Some (asks request pair)) = refl
 one_spelled books i own_number (Some (carries pair half rest)) = refl
+
+spelled_both : (books : Books) (i : ℕ) (one other : List OwnMessage) → requests_in (map (spelled_for books i) (one ++ other)) ≡ requests_in (map (spelled_for books i) one) + requests_in (map (spelled_for books i) other)
+spelled_both books i [] other = omega arith
+spelled_both books i (message ∷ one) other = let rest = spelled_both books i one other in omega (arith, rest)
 
 spelled_count : (books : Books) (i : ℕ) (bases : Bases) (events : List PrivateEvent) → requests_in (spelled_up books i bases events) ≡ (private_after bases events).count
 spelled_count books i bases [] = refl
 spelled_count books i bases (event ∷ events) =
     let message = (effect_alone bases (private_after bases events) event).message in
-    let first = option_to_list (option_map (spelled_for books i ((private_after bases events).count + 1)) message) in
-    let both = in_both first (spelled_up books i bases events) in
+    let first : List OwnMessage = option_to_list (option_map (λ one. record { number = (private_after bases events).count + 1; message = one }) message) in
+    let both = spelled_both books i first (asked_alone bases events) in
     let here = one_spelled books i ((private_after bases events).count + 1) message in
     let rest = spelled_count books i bases events in
     omega (arith, both, here, rest)
