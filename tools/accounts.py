@@ -27,6 +27,11 @@ class Frames:
         self.size += size
 
 
+def session_of(item):
+    """The id of the session that a message names; empty where it names none."""
+    return (item.field(b"session") or b"").partition(b";")[0]
+
+
 @dataclass
 class Account:
     """What a connection asked and was told, its frames, its PLAYs that waited, and the cause of its end."""
@@ -38,14 +43,15 @@ class Account:
     waited: int = 0
     ended: bytes = b""
     unanswered: collections.deque = field(default_factory=collections.deque)
-    waiting: int = 0
+    waiting: collections.Counter = field(default_factory=collections.Counter)   # by the session's id
 
 
 @dataclass
 class Asked:
-    """A request that is open at the server: whose it is, its method, and whether the player gets the reply."""
+    """A request that is open at the server: whose it is, its method and session, and whether the player gets the reply."""
     connection: int
     method: bytes
+    session: bytes
     is_released: bool = False
 
 
@@ -117,9 +123,9 @@ class Accounts:
             return False
         is_success = item.code in SUCCESS
         if asked.method == b"SETUP" and is_success:
-            self.sessions[(item.field(b"session") or b"").partition(b";")[0]] = asked.connection
+            self.sessions[session_of(item)] = asked.connection
         if asked.is_released and not is_success or asked.method in (b"PAUSE", b"TEARDOWN") and is_success:
-            own.waiting = 0
+            own.waiting[asked.session] = 0
         return not asked.is_released
 
     def hand(self, account, event, items, is_servers):
@@ -133,7 +139,7 @@ class Accounts:
             if request and not is_servers and item.code == FINAL and request.method == b"PLAY" \
                     and request.field(b"range") is not None:
                 account.waited += 1
-                account.waiting += 1
+                account.waiting[session_of(request)] += 1
             is_servers = False
 
     def send(self, event, owner, items):
@@ -142,13 +148,15 @@ class Accounts:
         for item in items:
             if item.kind != "request" or account is None:
                 continue
-            is_released = item.method == b"PLAY" and account.waiting > 0
-            account.waiting -= is_released
-            self.asked[item.number()] = Asked(owner, item.method, is_released)
+            session = session_of(item)
+            is_released = item.method == b"PLAY" and account.waiting[session] > 0
+            account.waiting[session] -= is_released
+            self.asked[item.number()] = Asked(owner, item.method, session, is_released)
 
     def close(self, account, cause):
         """A connection is closed. Requests of it that have no reply get none."""
-        account.ended, account.waiting = cause, 0
+        account.ended = cause
+        account.waiting.clear()
         account.unanswered.clear()
 
 
