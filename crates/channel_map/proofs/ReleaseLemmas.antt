@@ -1,11 +1,14 @@
 -- Lemmas on the pairs that are freed one after another.
-use Rattle.std.proofs.Common.{◌≡◌, ◌≢◌, ◌∙◌, ℕ, ◌-◌, ◌*◌, ◌%◌, ◌^◌, ◌<◌, ◌≤◌, ◌==◌, Bool, true, false, List, length, Option, Some, None, inl, inr, suc, zero, if◌then◌else◌, refl, sym, ap, arith, bit_and}
+use Rattle.std.proofs.Common.{◌≡◌, ◌≢◌, ◌∙◌, ℕ, ◌-◌, ◌*◌, ◌%◌, ◌^◌, ◌<◌, ◌≤◌, ◌==◌, ◌&&◌, Bool, true, false, List, length, Option, Some, None, inl, inr, suc, zero, if◌then◌else◌, refl, sym, ap, arith, bit_and, min, ◌⊎◌}
 use Rattle.std.specs.Int.{w128, bit_at, bit_not}
 use Rattle.std.proofs.lemmas.Bool.{eqb-true, eqb-false, cases_lt, cases_eq}
 use Rattle.std.proofs.lemmas.Nat.{and_le_l}
-use Rattle.std.proofs.lemmas.Nat.Bits.{bit_at-lt, bit_at_not, bit_at_above, bit_at_clear_same, bit_at_clear_other}
+use Rattle.std.proofs.lemmas.Nat.Bits.{bit_at-lt, bit_at_and, bit_at_not, bit_at_above, bit_at_clear_same, bit_at_clear_other}
 use Rattle.channel_map.specs.declared.map.Held.{Held}
 use Rattle.channel_map.specs.declared.map.Freed.{Freed}
+use Rattle.channel_map.specs.declared.map.Freed.TheVariants.{Granted}
+use Rattle.channel_map.specs.declared.pair_set.PairSet.{PairSet}
+use Rattle.channel_map.specs.PairSets.{is_in_set}
 use Rattle.channel_map.specs.Pairs.{held_at, is_free, kept, lowest_free, IsTable}
 use Rattle.channel_map.specs.Bits.{HasBitWhere}
 use Rattle.channel_map.proofs.PairLemmas.{held_at-past, lowest_free_below, lowest_free_is_free, first_free_none}
@@ -24,7 +27,21 @@ itself (suc (suc n)) few = absurd (omega arith)
 pub bits-itself : (bits : ℕ) → HasBitWhere bits (λ p. bit_at bits p == 1)
 bits-itself bits = record { each = λ p low. itself (bit_at bits p) (bit_at-lt bits p) }
 
--- nothing is freed with a pair that nobody holds
+-- a pair that is not in a set is not freed with it
+not_in : (bits p : ℕ) → bit_at bits p ≡ 0 → (bit_at bits p == 1) ≡ false
+not_in bits p none = rw none refl
+
+never : (t granted : Bool) → t ≡ false → (granted && t) ≡ false
+never t true out = out
+never t false out = refl
+
+stays : (pairs : PairSet) (p : ℕ) (place : Option Held) → bit_at pairs.bits p ≡ 0 → ((held : Held) → place ≡ Some held → held.pair ≡ p) → place ≡ kept (Granted pairs) place
+stays pairs p None none own = refl
+stays pairs p (Some held) none own =
+    let out : is_in_set pairs held.pair ≡ false = rw (own held refl) (not_in pairs.bits p none) in
+    sym (ap (λ t. if t then None else Some held) (never (is_in_set pairs held.pair) held.granted out))
+
+-- nor is one that nobody holds
 none_by : (freed : Freed) (place : Option Held) → is_free place ≡ true → place ≡ kept freed place
 none_by freed None free = refl
 none_by freed (Some held) free = cc
@@ -33,11 +50,25 @@ was_free : (b : Bool) (n : ℕ) → n ≡ (if b then 1 else 0) → 1 - n ≡ 0 �
 was_free true n is none = refl
 was_free false n is none = absurd (omega arith)
 
-pub freeing-init : (freed : Freed) (free : ℕ) (table : List (Option Held)) → IsTable table → free < 2 ^ 128 → HasBitWhere free (λ p. is_free (held_at p table)) → IsFreeing freed (bit_not w128 free) table table
-freeing-init freed free table is fits has = record {
-  done = λ p none. elim (cases_lt p 128) [
-    | inl low ↦ none_by freed (held_at p table) (was_free (is_free (held_at p table)) (bit_at free p) (has.each p low) (sym (bit_at_not w128 free p fits low) ∙ none))
-    | inr high ↦ let past : length table ≤ p = rw is.size high in none_by freed (held_at p table) (rw (held_at-past table p past) refl)
+free_stays : (freed : Freed) (free : ℕ) (table : List (Option Held)) (p : ℕ) → IsTable table → free < 2 ^ 128 → HasBitWhere free (λ q. is_free (held_at q table)) → bit_at (bit_not w128 free) p ≡ 0
+    → held_at p table ≡ kept freed (held_at p table)
+free_stays freed free table p is fits has none = elim (cases_lt p 128) [
+  | inl low ↦ none_by freed (held_at p table) (was_free (is_free (held_at p table)) (bit_at free p) (has.each p low) (sym (bit_at_not w128 free p fits low) ∙ none))
+  | inr high ↦ let past : length table ≤ p = rw is.size high in none_by freed (held_at p table) (rw (held_at-past table p past) refl)
+]
+
+lesser_none : (a b : ℕ) → min a b ≡ 0 → (a ≡ 0) ⊎ (b ≡ 0)
+lesser_none zero b none = inl refl
+lesser_none (suc a) zero none = inr refl
+lesser_none (suc a) (suc b) none = absurd (omega arith)
+
+-- the pairs of the set that are held are yet to be looked at
+pub freeing-init : (pairs : PairSet) (free : ℕ) (table : List (Option Held)) → IsTable table → free < 2 ^ 128 → HasBitWhere free (λ p. is_free (held_at p table))
+    → IsFreeing (Granted pairs) (bit_and pairs.bits (bit_not w128 free)) table table
+freeing-init pairs free table is fits has = record {
+  done = λ p none. elim (lesser_none (bit_at pairs.bits p) (bit_at (bit_not w128 free) p) (sym (bit_at_and pairs.bits (bit_not w128 free) p) ∙ none)) [
+    | inl out ↦ stays pairs p (held_at p table) out (is.own p)
+    | inr nobody ↦ free_stays (Granted pairs) free table p is fits has nobody
   ];
   other = λ p one. refl;
 }

@@ -178,8 +178,8 @@ impl ChannelMap {
                     self.release(pair);
                 }
             }
-            Freed::Granted(_) => {
-                let mut left = !self.free;
+            Freed::Granted(pairs) => {
+                let mut left = pairs.bits() & !self.free;
                 while let Some(pair) = lowest(left) {
                     left &= !(1 << pair);
                     self.free_pair(pair, freed);

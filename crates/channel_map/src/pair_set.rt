@@ -28,6 +28,13 @@ impl PairSet {
         }
     }
 
+    /// Its bits, that of each pair from the lowest on.
+    pub(crate) fn bits(self) -> u128
+        ensures { result ≡ self.bits }
+    {
+        self.bits
+    }
+
     /// Whether a pair is in it.
     pub fn contains(self, pair: u8) -> bool
         ensures { result ≡ is_in_set self pair }
