@@ -8,6 +8,9 @@ use crate::ssrc::push_source;
 use gate_bytes::{Memory, Text, push_decimal};
 use std::alloc::Global;
 
+/// Room for a field with a source: 53 bytes at most.
+const USUAL_TRANSPORT: usize = 56;
+
 /// What the gateway asks of the server: RTP over the connection, on these two channels.
 /// [`crate::read_grant`] gives the same pair back.
 pub fn write_two(alloc: Global, pair: &Pair) -> Result<Text, Memory>
@@ -26,7 +29,8 @@ pub fn write_one(alloc: Global, pair: &Pair, ssrc: Option<u32>) -> Result<Text, 
     ensures read { IfOk result (λ text. grant_of text ≡ Ok (record { pair = pair.now; ssrc = ssrc })) }
 {
     let Pair { rtp, rtcp } = *pair;
-    let mut text = Text::copy(alloc, b"RTP/AVP/TCP;unicast;interleaved=")?;
+    let mut text = Text::with_room(alloc, USUAL_TRANSPORT)?;
+    text.push_slice(b"RTP/AVP/TCP;unicast;interleaved=")?;
     push_channels(&mut text, rtp, rtcp)?;
     push_ssrc(&mut text, ssrc)?;
     Ok(text)
