@@ -32,7 +32,7 @@ use Rattle.client_machine.specs.Events.{Effect}
 use Rattle.client_machine.specs.Step as going
 use Rattle.client_machine.specs.Treatment.{session_found, given, decision_on, Going, Treated, treated, ahead, given_shown}
 use Rattle.client_machine.specs.Plans.{ArePlaced, IsReadyUp, without, risen, risen_text, is_up}
-use Rattle.client_machine.specs.Progresses.{Progress, progressed, given_then, joined_at, with_progress, sessions_queued, IsAskedIn, IsTreated}
+use Rattle.client_machine.specs.Progresses.{begun, Progress, progressed, given_then, joined_at, with_progress, sessions_queued, IsAskedIn, IsTreated}
 use Rattle.client_machine.specs.Sights.{Sight, sight, sight_at, due_seen, filled_seen, given_by, session_in_sight}
 use Rattle.client_machine.specs.UpTexts.{spelled}
 use Rattle.client_machine.specs.Onward.{IsTreatedBy, leave_up, up_for, due_with, due_at, due_for, IsFinished, IsShown, Onward, GoesOnward}
@@ -42,6 +42,15 @@ use Rattle.client_machine.proofs.TreatLemmas.{seen_in, named_within, named_fille
 -- nothing but this goes up
 abbrev pub still : Change → List ℕ → Up → PlannedStep
 still change hand up = record { change = change; treated = 0; plays = []; hand = hand; up = up }
+
+-- A plan by which nothing goes up yet and no request is treated, with what goes up.
+pub begun_still : (next : ℕ) (pair : Option ℕ) (plan : PlannedStep) (up : Up) → IsFinished next pair plan.change (begun plan.hand) plan → record plan { up = up } ≡ still plan.change plan.hand up
+begun_still next pair plan up is =
+    ap (λ n. record { change = plan.change; treated = n; plays = plan.plays; hand = plan.hand; up = up }) is.treated
+    ∙ ap (λ (all : List Play). record { change = plan.change; treated = 0; plays = all; hand = plan.hand; up = up }) is.plays
+
+pub begun_is : (next : ℕ) (pair : Option ℕ) (plan : PlannedStep) → IsFinished next pair plan.change (begun plan.hand) plan → plan ≡ still plan.change plan.hand ups.Nothing
+begun_is next pair plan is = begun_still next pair plan plan.up is ∙ ap (λ (up : Up). still plan.change plan.hand up) is.up
 
 -- nothing goes up
 pub still_onward : (next : ℕ) (pair : Option ℕ) (client : Client) (change : Change) (first : List ℕ) → Onward next pair client first (still change first ups.Nothing) (record { client = client; hand = []; message = None; close = None })
@@ -89,6 +98,13 @@ none_due next client seen idle shows none = by (changes.due_place client) refl
         let empty : due_with next (queued_at k client.sessions) (session_at k client.sessions).id ≡ None =
         ap (λ (one : Sight). due_with next one.first one.id) (sym (ap (sight_at k) (sym shows) ∙ shown_at k client.sessions)) ∙ sym (ap (λ (one : Option ℕ). due_at next one seen) (found ∙ is)) ∙ none in
         absurd (with_play k (queued_at k client.sessions) refl (place_is has_due k client.sessions first).passes empty)
+
+none_some : (place : Option ℕ) → place ≡ None → IsSome place → ⊥
+none_some None is some = cc
+none_some (Some k) is some = cc
+
+pub is_due : (next : ℕ) (client : Client) (seen : List Sight) → client.pending ≡ None → map sight client.sessions ≡ seen → IsSome (changes.due_place client) → due_for next seen ≡ None → ⊥
+is_due next client seen idle shows some none = none_some (changes.due_place client) (none_due next client seen idle shows none) some
 
 -- The closing TEARDOWN of the first session that is left.
 leaves : (client : Client) → client.alive ≡ false → client.pending ≡ None → changes.closing_place client ≡ filled_place client.sessions

@@ -22,7 +22,12 @@ found_short (one ∷ more) short =
     let parts = and_parts (is_short_where one.control) (are_sights_short more) short in
     (is_short one.control parts.0, found_short more parts.1)
 
+pub known_by : (bases : Bases) (full : Bool) (sights : List Sight) (described : Option (List ℕ)) (found : List SeenSession) → are_sights_short sights ≡ true → is_short_where described ≡ true → found ≡ map session_in_sight sights
+    → AreGivenWithin LONGEST_URI (given_shown bases full found described)
+known_by bases full sights described found controls short is =
+    subst (λ (all : List SeenSession). AreGivenWithin LONGEST_URI (given_shown bases full all described)) (sym is)
+    (record { up = bases.up.whole.short; sessions = found_short sights controls; described = is_short described short })
+
 pub known_shown : (bases : Bases) (full : Bool) (outlook : Outlook) (found : List SeenSession) → found ≡ map session_in_sight (sights_of outlook) → AreGivenWithin LONGEST_URI (given_shown bases full found (option_copied outlook.described))
 known_shown bases full outlook found is =
-    subst (λ (all : List SeenSession). AreGivenWithin LONGEST_URI (given_shown bases full all (option_copied outlook.described))) (sym is)
-    (record { up = bases.up.whole.short; sessions = found_short (sights_of outlook) outlook.controls; described = is_short (option_copied outlook.described) outlook.short })
+    known_by bases full (sights_of outlook) (option_copied outlook.described) found outlook.controls outlook.short is

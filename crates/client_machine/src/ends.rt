@@ -1,5 +1,5 @@
 //! Plans for the end of what plays, and for closes.
-ghost use Rattle.std.specs.Prelude.{ℕ, Option, IfOk};
+ghost use Rattle.std.specs.Prelude.{ℕ, Option, OnOk};
 ghost use Rattle.rtsp_uri.specs.declared.base.Bases.{Bases};
 ghost use Rattle.rtsp_small.specs.declared.notify.NotifyReason.TheVariants.{EndOfStream};
 ghost use Rattle.client_machine.specs.Plans.{notes, shuts, IsPlan, IsShortPlan};
@@ -24,13 +24,17 @@ pub(crate) fn plan_notice(
     id: &[u8],
     reason: NotifyReason,
     names: Names,
-) -> Result<PlannedStep, Memory>
+    plan: &mut PlannedStep,
+) -> Result<(), Memory>
     ensures { (bases : Bases) (pair : Option ℕ)
-        → IfOk result (IsPlan bases next pair slot.now (notes id.now reason names)) }
+        → OnOk result (IsPlan bases next pair slot.now (notes id.now reason names) plan.new) }
 {
     match reason {
-        NotifyReason::EndOfStream => plan_end(alloc, slot, next, id, names),
-        NotifyReason::MediaProperties | NotifyReason::ScaleChange => Ok(idle(alloc)),
+        NotifyReason::EndOfStream => plan_end(alloc, slot, next, id, names, plan),
+        NotifyReason::MediaProperties | NotifyReason::ScaleChange => {
+            plan.become_idle(alloc);
+            Ok(())
+        }
     }
 }
 
@@ -41,18 +45,26 @@ fn plan_end(
     next: u32,
     id: &[u8],
     names: Names,
-) -> Result<PlannedStep, Memory>
+    plan: &mut PlannedStep,
+) -> Result<(), Memory>
     ensures { (bases : Bases) (pair : Option ℕ)
-        → IfOk result (IsPlan bases next pair slot.now (notes id.now EndOfStream names)) }
+        → OnOk result (IsPlan bases next pair slot.now (notes id.now EndOfStream names) plan.new) }
 {
     let place = slot.find(id);
     let change = Change::Ends(place, names);
     if slot.busy() {
-        return Ok(still(alloc, change, Text::new(alloc), Up::Nothing));
+        plan.become_still(alloc, change, Text::new(alloc), Up::Nothing);
+        return Ok(());
     }
     match due_up(alloc, &after_end(slot, place, names), next)? {
-        Some(up) => Ok(still(alloc, change, Text::new(alloc), up)),
-        None => Ok(still(alloc, change, Text::new(alloc), Up::Nothing)),
+        Some(up) => {
+            plan.become_still(alloc, change, Text::new(alloc), up);
+            Ok(())
+        }
+        None => {
+            plan.become_still(alloc, change, Text::new(alloc), Up::Nothing);
+            Ok(())
+        }
     }
 }
 

@@ -2,8 +2,8 @@
 //!
 //! The definitions in `specs/` are what the gateway's claim is made of: a connection alone, with its
 //! own numbers, and the same step under the numbers of the server's one connection. The functions
-//! here take that step in two parts: [`plan`] changes nothing and takes all memory, as [`plan_close`]
-//! does for a close, which needs none, and [`PlannedStep::commit`] takes none and can't be refused.
+//! here take that step in two parts: [`plan`] writes a plan, changes nothing else and takes all memory, as
+//! [`plan_close`] does for a close, which needs none, and [`PlannedStep::commit`] takes none and can't be refused.
 #![tactic(auto)]
 
 mod after;

@@ -20,7 +20,6 @@ use crate::treat::{Course, treat_waiting};
 use gate_bytes::{Memory, Text};
 use head_two::{Request2, write_request};
 use rtsp_transport::Pair;
-use rtsp_uri::Bases;
 use session_one::{Asked, Play, Track};
 use std::alloc::Global;
 use std::collections::LinkedList;
@@ -121,6 +120,36 @@ pub(crate) fn idle(alloc: Global) -> PlannedStep
     still(alloc, Change::Nothing, Text::new(alloc), Up::Nothing)
 }
 
+impl PlannedStep {
+    ghost use Rattle.std.specs.Prelude.{◌≡◌, []};
+    ghost use Rattle.client_machine.specs.declared.parts.Change.TheVariants as changes;
+    ghost use Rattle.client_machine.specs.declared.parts.Up.TheVariants as ups;
+
+    /// A plan by which nothing is done. It takes no memory, and [`plan`](crate::plan) writes over it.
+    pub fn blank(alloc: Global) -> PlannedStep
+        ensures { result
+            ≡ record { change = changes.Nothing; treated = 0; plays = []; hand = []; up = ups.Nothing } }
+    {
+        idle(alloc)
+    }
+
+    /// It becomes the plan by which nothing goes up but this, and no request that waits is treated.
+    pub(crate) fn become_still(&mut self, alloc: Global, change: Change, hand: Text, up: Up)
+        ensures { self.new
+            ≡ record { change = change; treated = 0; plays = []; hand = hand; up = up } }
+    {
+        *self = still(alloc, change, hand, up);
+    }
+
+    /// It becomes the plan by which nothing is done.
+    pub(crate) fn become_idle(&mut self, alloc: Global)
+        ensures { self.new
+            ≡ record { change = changes.Nothing; treated = 0; plays = []; hand = []; up = ups.Nothing } }
+    {
+        *self = idle(alloc);
+    }
+}
+
 /// The PLAY that is due in the light of an event, where one is, with the next number.
 pub(crate) fn due_up(alloc: Global, outlook: &Outlook<'_>, next: u32) -> Result<Option<Up>, Memory>
     ensures { IfOk result (λ up. up ≡ due_for next (sights_of outlook.now)) }
@@ -161,36 +190,30 @@ fn treat_after<'a>(
     treat_waiting(alloc, &mut sessions, course, slot, plan)
 }
 
-/// The plan for a connection that this change leaves with no open request and as it is seen, after
-/// these bytes for its client.
+/// What goes up for a connection that the change of a plan leaves with no open request and as it is seen. The plan says so,
+/// by which nothing goes up yet.
 pub(crate) fn onward<'a>(
     alloc: Global,
-    bases: &'a Bases,
-    next: u32,
-    pair: Option<u8>,
+    course: Course<'a>,
     outlook: &Outlook<'a>,
-    change: Change,
-    hand: Text,
-) -> Result<PlannedStep, Memory>
-    requires { IfSome pair (λ one. one < PAIRS) }
-    ensures { IfOk result (GoesOnward bases.entry.now next pair outlook.now.slot.now (sights_of outlook.now)
-        (option_copied outlook.now.described) hand change) }
+    plan: &mut PlannedStep,
+) -> Result<(), Memory>
+    requires pair { IfSome course.pair (λ one. one < PAIRS) }
+    requires described { option_copied course.described ≡ option_copied outlook.now.described }
+    requires begun { IsFinished course.next course.pair plan.old.change (begun plan.old.hand) plan.old }
+    ensures { OnOk result (GoesOnward course.entry.bases.now course.entry.next course.entry.pair
+        outlook.now.slot.now (sights_of outlook.now) (option_copied outlook.now.described) plan.old.hand
+        plan.old.change plan.new) }
 {
     if !outlook.slot.alive() {
-        return Ok(still(alloc, change, hand, leave(outlook)));
+        plan.up = leave(outlook);
+        return Ok(());
     }
-    if let Some(up) = due_up(alloc, outlook, next)? {
-        return Ok(still(alloc, change, hand, up));
+    if let Some(up) = due_up(alloc, outlook, course.next)? {
+        plan.up = up;
+        return Ok(());
     }
-    let mut plan = still(alloc, change, hand, Up::Nothing);
-    let course = Course {
-        bases,
-        described: outlook.described,
-        next,
-        pair,
-    };
-    treat_after(alloc, course, outlook, &mut plan)?;
-    Ok(plan)
+    treat_after(alloc, course, outlook, plan)
 }
 
 /// The closing TEARDOWN, where a session is left.

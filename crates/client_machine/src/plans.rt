@@ -1,5 +1,5 @@
 //! Plans are made.
-ghost use Rattle.std.specs.Prelude.{◌≡◌, ◌<◌, true, IfOk, IfSome};
+ghost use Rattle.std.specs.Prelude.{◌≡◌, ◌<◌, true, IfSome, OnOk};
 ghost use Rattle.channel_map.specs.declared.map.TheConstants.{PAIRS};
 ghost use Rattle.client_machine.specs.Plans.{incoming_seen, CanCome, IsPlan, IsShortUp, IsShortPlan};
 
@@ -20,12 +20,14 @@ const LONGEST_HAND: usize = 0xffff_ffff;
 const LONGEST_REQUEST: usize = 0x7fff_ffff;
 
 /// What an event will do to a connection, by the number that the next request would have and the
-/// lowest pair of channels that is free once the event is heard. Nothing changes, and all memory is
-/// taken.
+/// lowest pair of channels that is free once the event is heard: it is written over a plan. Nothing else
+/// changes, and all memory is taken.
 ///
 /// `Memory` is the answer where memory is wanting, and past two limits:
 /// - the player would be handed 2^32 bytes or more, or a request of 2^31 bytes or more would go up;
 /// - [`MOST_WAITING`](client_slot::MOST_WAITING) requests wait, which no memory holds.
+///
+/// What the plan says then is of no use.
 #[inline(always)]
 pub fn plan(
     alloc: Global,
@@ -34,28 +36,15 @@ pub fn plan(
     next: u32,
     pair: Option<u8>,
     incoming: &Incoming<'_>,
-) -> Result<PlannedStep, Memory>
+    plan: &mut PlannedStep,
+) -> Result<(), Memory>
     requires sound { CanCome (incoming_seen incoming.now) }
     requires pair { IfSome pair (λ one. one < PAIRS) }
-    ensures plan { IfOk result (IsPlan bases.now next pair slot.now (incoming_seen incoming.now)) }
-    ensures short { IfOk result IsShortPlan }
+    ensures plan { OnOk result (IsPlan bases.now next pair slot.now (incoming_seen incoming.now) plan.new) }
+    ensures short { OnOk result (IsShortPlan plan.new) }
 {
-    let planned = plan_any(alloc, bases, slot, next, pair, incoming);
-    if is_short(&planned) {
-        planned
-    } else {
-        Err(Memory)
-    }
-}
-
-/// Whether a plan, where there is one, hands out what is short enough. It is looked at where it stands: a plan is large.
-fn is_short(planned: &Result<PlannedStep, Memory>) -> bool
-    ensures { result ≡ true → IfOk planned.now IsShortPlan }
-{
-    match planned {
-        Ok(plan) => plan.is_short(),
-        Err(Memory) => true,
-    }
+    plan_any(alloc, bases, slot, next, pair, incoming, plan)?;
+    if plan.is_short() { Ok(()) } else { Err(Memory) }
 }
 
 /// A plan of any length.
@@ -66,15 +55,18 @@ fn plan_any(
     next: u32,
     pair: Option<u8>,
     incoming: &Incoming<'_>,
-) -> Result<PlannedStep, Memory>
+    plan: &mut PlannedStep,
+) -> Result<(), Memory>
     requires sound { CanCome (incoming_seen incoming.now) }
     requires pair { IfSome pair (λ one. one < PAIRS) }
-    ensures { IfOk result (IsPlan bases.now next pair slot.now (incoming_seen incoming.now)) }
+    ensures { OnOk result (IsPlan bases.now next pair slot.now (incoming_seen incoming.now) plan.new) }
 {
     match *incoming {
-        Incoming::Request(item) => plan_request(alloc, bases, slot, next, pair, item),
-        Incoming::Reply(answer) => plan_reply(alloc, bases, slot, next, pair, answer),
-        Incoming::Notice(id, reason, names) => plan_notice(alloc, slot, next, id, reason, names),
+        Incoming::Request(item) => plan_request(alloc, bases, slot, next, pair, item, plan),
+        Incoming::Reply(answer) => plan_reply(alloc, bases, slot, next, pair, answer, plan),
+        Incoming::Notice(id, reason, names) => {
+            plan_notice(alloc, slot, next, id, reason, names, plan)
+        }
     }
 }
 

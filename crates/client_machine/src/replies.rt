@@ -1,5 +1,5 @@
 //! Plans for replies of the server.
-ghost use Rattle.std.specs.Prelude.{◌≡◌, ◌<◌, ◌≤◌, Some, IfOk, IfSome};
+ghost use Rattle.std.specs.Prelude.{◌≡◌, ◌<◌, ◌≤◌, Some, IfOk, IfSome, OnOk};
 ghost use Rattle.channel_map.specs.declared.map.TheConstants.{PAIRS};
 ghost use Rattle.client_slot.specs.Purposes.{purpose_seen};
 ghost use Rattle.std.specs.Prelude.{true, IsSome};
@@ -10,9 +10,10 @@ ghost use Rattle.client_machine.specs.Plans.{replies, IsPlan};
 
 use crate::after::after_reply;
 use crate::input::ServerReply;
-use crate::onward::{idle, onward};
-use crate::parts::{Change, PlannedStep};
+use crate::onward::onward;
+use crate::parts::{Change, PlannedStep, Up};
 use crate::player_reply::{new_id, reply_hand, session_told, timeout_told};
+use crate::treat::Course;
 use client_slot::{MadeSession, Pending, Slot};
 use gate_bytes::{Memory, Text};
 use rtsp_uri::Bases;
@@ -26,36 +27,45 @@ pub(crate) fn plan_reply(
     next: u32,
     pair: Option<u8>,
     answer: ServerReply<'_>,
-) -> Result<PlannedStep, Memory>
+    plan: &mut PlannedStep,
+) -> Result<(), Memory>
     requires { IfSome pair (λ one. one < PAIRS) }
-    ensures { IfOk result
-        (IsPlan bases.now next pair slot.now (replies answer.entry.reply.now answer.entry.source)) }
+    ensures { OnOk result
+        (IsPlan bases.now next pair slot.now (replies answer.entry.reply.now answer.entry.source) plan.new) }
 {
     let reply = answer.reply;
     if reply.code < 200 {
-        return Ok(idle(alloc));
+        plan.become_idle(alloc);
+        return Ok(());
     }
-    match slot.pending() {
-        Some(pending) => settle(alloc, bases, slot, next, pair, pending, answer),
-        None => Ok(idle(alloc)),
-    }
+    let Some(pending) = slot.pending() else {
+        plan.become_idle(alloc);
+        return Ok(());
+    };
+    let course = Course {
+        bases,
+        described: slot.described(),
+        next,
+        pair,
+    };
+    settle(alloc, course, slot, pending, answer, plan)
 }
 
 /// The plan for the final reply to the open request.
 fn settle<'a>(
     alloc: Global,
-    bases: &'a Bases,
+    course: Course<'a>,
     slot: &'a Slot,
-    next: u32,
-    pair: Option<u8>,
     pending: Pending<'a>,
     answer: ServerReply<'a>,
-) -> Result<PlannedStep, Memory>
-    requires pair { IfSome pair (λ one. one < PAIRS) }
+    plan: &mut PlannedStep,
+) -> Result<(), Memory>
+    requires pair { IfSome course.pair (λ one. one < PAIRS) }
     requires pending { slot.now.pending ≡ Some (purpose_seen pending) }
     requires last { 200 ≤ answer.reply.now.code }
-    ensures { IfOk result
-        (IsPlan bases.entry.now next pair slot.entry.now (replies answer.entry.reply.now answer.entry.source)) }
+    ensures { OnOk result
+        (IsPlan course.entry.bases.now course.entry.next course.entry.pair slot.entry.now
+        (replies answer.entry.reply.now answer.entry.source) plan.new) }
 {
     let reply = answer.reply;
     let told = session_told(reply);
@@ -64,7 +74,7 @@ fn settle<'a>(
     let outlook = after_reply(slot, pending, reply.code, id);
     let hand = reply_hand(
         alloc,
-        bases,
+        course.bases,
         slot,
         pending,
         answer,
@@ -72,7 +82,12 @@ fn settle<'a>(
         timeout,
     )?;
     let change = Change::Settles(reply.code, made(alloc, slot, id)?);
-    onward(alloc, bases, next, pair, &outlook, change, hand)
+    plan.become_still(alloc, change, hand, Up::Nothing);
+    let after = Course {
+        described: outlook.described,
+        ..course
+    };
+    onward(alloc, after, &outlook, plan)
 }
 
 /// The session that the server made, where it made one, with copies of what is kept of it.

@@ -1,5 +1,6 @@
 //! Plans for requests of a player.
-ghost use Rattle.std.specs.Prelude.{◌≡◌, ◌<◌, [], ◌∷◌, length, true, None, IfOk, IfSome, OnOk};
+ghost use Rattle.std.specs.Prelude.{◌≡◌, ◌<◌, ℕ, Option, [], ◌∷◌, length, true, None, IsSome, IfOk, IfSome, OnOk};
+ghost use Rattle.rtsp_uri.specs.declared.base.Bases.{Bases};
 ghost use Rattle.channel_map.specs.declared.map.TheConstants.{PAIRS};
 ghost use Rattle.rtsp_head.specs.Shapes.{shape_of};
 ghost use Rattle.client_slot.specs.declared.limits.TheConstants.{MOST_WAITING};
@@ -7,9 +8,10 @@ ghost use Rattle.client_slot.specs.Changes.{due_place};
 ghost use Rattle.client_machine.specs.declared.parts.Change.TheVariants as changes;
 ghost use Rattle.client_machine.specs.Plans.{requests, CanCome, IsPlan};
 
-use crate::onward::{due_up, idle, still};
+use crate::onward::due_up;
 use crate::outlook::Outlook;
 use crate::parts::{Change, PlannedStep, Up};
+use crate::sight::see_sessions;
 use crate::treat::{Course, treat_waiting};
 use client_slot::{MOST_WAITING, Slot, Waiting};
 use gate_bytes::{Memory, Text};
@@ -26,26 +28,55 @@ pub(crate) fn plan_request(
     next: u32,
     pair: Option<u8>,
     item: &Item,
-) -> Result<PlannedStep, Memory>
+    plan: &mut PlannedStep,
+) -> Result<(), Memory>
     requires sound { CanCome (requests (shape_of item.now)) }
     requires pair { IfSome pair (λ one. one < PAIRS) }
-    ensures { IfOk result (IsPlan bases.now next pair slot.now (requests (shape_of item.now))) }
+    ensures { OnOk result (IsPlan bases.now next pair slot.now (requests (shape_of item.now)) plan.new) }
 {
     if !slot.alive() {
-        return Ok(idle(alloc));
+        plan.become_idle(alloc);
+        return Ok(());
     }
     if slot.busy() {
         let change = waits(alloc, slot, item)?;
-        return Ok(still(alloc, change, Text::new(alloc), Up::Nothing));
+        plan.become_still(alloc, change, Text::new(alloc), Up::Nothing);
+        return Ok(());
     }
-    if let Some(up) = due_up(alloc, &Outlook::now(slot), next)? {
-        let change = waits(alloc, slot, item)?;
-        return Ok(still(alloc, change, Text::new(alloc), up));
+    if slot.due_place().is_some() {
+        return plan_due(alloc, slot, next, item, plan);
     }
-    treat_request(alloc, bases, slot, next, pair, item)
+    treat_request(alloc, bases, slot, next, pair, item, plan)
 }
 
-/// A copy of a request waits. Never so many wait as may, so that no memory is wanting for that.
+/// The plan for a request of a connection that has a PLAY due: that one goes up, and the request waits. It is called apart,
+/// since few requests wait.
+#[inline(never)]
+fn plan_due(
+    alloc: Global,
+    slot: &Slot,
+    next: u32,
+    item: &Item,
+    plan: &mut PlannedStep,
+) -> Result<(), Memory>
+    requires sound { CanCome (requests (shape_of item.now)) }
+    requires alive { slot.now.alive ≡ true }
+    requires idle { slot.now.pending ≡ None }
+    requires due { IsSome (due_place slot.now) }
+    ensures { (bases : Bases) (pair : Option ℕ)
+        → OnOk result (IsPlan bases next pair slot.now (requests (shape_of item.now)) plan.new) }
+{
+    let Some(up) = due_up(alloc, &Outlook::now(slot), next)? else {
+        unreachable!();
+    };
+    let change = waits(alloc, slot, item)?;
+    plan.become_still(alloc, change, Text::new(alloc), up);
+    Ok(())
+}
+
+/// A copy of a request waits. Never so many wait as may, so that no memory is wanting for that. It is called apart, since
+/// few requests wait.
+#[inline(never)]
 fn waits(alloc: Global, slot: &Slot, item: &Item) -> Result<Change, Memory>
     ensures waits { IfOk result (λ change. change ≡ changes.Waits (shape_of item.now ∷ [])) }
     ensures room { OnOk result (length slot.now.waiting < MOST_WAITING) }
@@ -68,28 +99,30 @@ fn treat_request<'a>(
     next: u32,
     pair: Option<u8>,
     item: &'a Item,
-) -> Result<PlannedStep, Memory>
+    plan: &mut PlannedStep,
+) -> Result<(), Memory>
     requires sound { CanCome (requests (shape_of item.now)) }
     requires pair { IfSome pair (λ one. one < PAIRS) }
     requires alive { slot.now.alive ≡ true }
     requires idle { slot.now.pending ≡ None }
     requires due { due_place slot.now ≡ None }
-    ensures { IfOk result (IsPlan bases.entry.now next pair slot.entry.now (requests (shape_of item.entry.now))) }
+    ensures { OnOk result
+        (IsPlan bases.entry.now next pair slot.entry.now (requests (shape_of item.entry.now)) plan.new) }
 {
-    let outlook = Outlook::now(slot);
-    let mut sessions = outlook.sessions(&[]);
+    slot.keeps();
     let course = Course {
         bases,
-        described: outlook.described,
+        described: slot.described(),
         next,
         pair,
     };
-    let mut plan = idle(alloc);
-    treat_waiting(alloc, &mut sessions, course, slot, &mut plan)?;
+    plan.become_idle(alloc);
+    let mut sessions = [None, None, None, None];
+    see_sessions(slot, &mut sessions);
+    treat_waiting(alloc, &mut sessions, course, slot, plan)?;
     if plan.up.is_up() {
         plan.change = waits(alloc, slot, item)?;
-        return Ok(plan);
+        return Ok(());
     }
-    plan.then(alloc, &mut sessions, course, item)?;
-    Ok(plan)
+    plan.then(alloc, &mut sessions, course, item)
 }

@@ -1,9 +1,9 @@
 //! What a connection shows to the requests that are treated once an event is heard.
-ghost use Rattle.std.specs.Prelude.{◌≡◌, ◌<◌, true, is_some, map, length, List, Some, None, IfOk, IfSome};
+ghost use Rattle.std.specs.Prelude.{◌≡◌, ◌<◌, [], ◌∷◌, true, is_some, map, length, slice_index_or, slice_set, List, Some, None, IfOk, IfSome};
 ghost use Rattle.std.specs.Option.{option_copied};
 ghost use Rattle.session_one.specs.declared.parts.TheConstants.{MOST_SESSIONS, MOST_TRACKS};
 ghost use Rattle.rtsp_small.specs.Sessions.{is_session_id};
-ghost use Rattle.translate_up.specs.Views.{session_shown};
+ghost use Rattle.translate_up.specs.Views.{session_shown, no_session};
 ghost use Rattle.client_slot.specs.Places.{session_at};
 ghost use Rattle.client_machine.specs.Sights.{sight, sight_of, sight_at, sight_where, with_added, due_seen, has_due_seen, filled_seen, session_in_sight, id_changed, IsTidySight};
 ghost use Rattle.client_machine.specs.Outlooks.{sights_of, streams_changed};
@@ -194,6 +194,61 @@ pub(crate) fn seen(slot: &Slot, place: u8, state: State) -> Showing<'_>
         runs: slot.running(place).is_some(),
         first: slot.first_queued(place),
         queued: slot.queued(place),
+    }
+}
+
+/// The sessions of a connection as a request finds them now, in place of none. Most places are empty, and are left as they are.
+pub(crate) fn see_sessions<'v>(
+    slot: &'v Slot,
+    sessions: &mut [Option<SessionView<'v, 'v>>; MOST_SESSIONS],
+)
+    requires { sessions.old ≡ None ∷ None ∷ None ∷ None ∷ [] }
+    ensures shown { map session_shown sessions.new ≡ map session_in_sight (map sight slot.entry.now.sessions) }
+    ensures four { length sessions.new ≡ MOST_SESSIONS }
+{
+    slot.keeps();
+    see_session(slot, 0, sessions);
+    see_session(slot, 1, sessions);
+    see_session(slot, 2, sessions);
+    see_session(slot, 3, sessions);
+}
+
+/// The session at a place as a request finds it now, in place of none.
+fn see_session<'v>(
+    slot: &'v Slot,
+    place: u8,
+    sessions: &mut [Option<SessionView<'v, 'v>>; MOST_SESSIONS],
+)
+    requires place { place < MOST_SESSIONS }
+    requires none { slice_index_or (map session_shown sessions.old) place no_session ≡ no_session }
+    ensures four { length sessions.old ≡ MOST_SESSIONS → length sessions.new ≡ MOST_SESSIONS }
+    ensures shown { map session_shown sessions.new
+        ≡ slice_set (map session_shown sessions.old) place
+        (session_in_sight (sight (session_at place slot.entry.now.sessions))) }
+{
+    slot.keeps();
+    if let Some(id) = slot.session(place) {
+        sessions[usize::from(place)] = Some(view_now(slot, place, id));
+    }
+}
+
+/// The session at a place, which has this id, as a request finds it now. It is called apart, since most places are empty.
+#[inline(never)]
+fn view_now<'v>(slot: &'v Slot, place: u8, id: &'v [u8]) -> SessionView<'v, 'v>
+    requires place { place < MOST_SESSIONS }
+    requires id { (session_at place slot.now.sessions).id ≡ Some id.now }
+    ensures { session_shown (Some result) ≡ session_in_sight (sight (session_at place slot.entry.now.sessions)) }
+{
+    slot.keeps();
+    let Some(control) = slot.control(place) else {
+        unreachable!();
+    };
+    SessionView {
+        id,
+        state: slot.state(place),
+        tracks: slot.tracks(place),
+        queued: slot.queued(place),
+        control,
     }
 }
 
