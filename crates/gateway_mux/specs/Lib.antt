@@ -1,4 +1,5 @@
 pub mod Acts
+pub mod BlankTurns
 pub mod CoreLaws
 pub mod Enter
 pub mod Free

@@ -1,15 +1,18 @@
 //! What events of players do.
-ghost use Rattle.std.specs.Prelude.{◌≡◌, ◌+◌, false, IsOk, IfOk, Some};
+ghost use Rattle.std.specs.Prelude.{◌≡◌, ◌+◌, ◌≤◌, false, IsOk, IfOk, Some};
 ghost use Rattle.rtsp_head.specs.Shapes.{shape_of};
 ghost use Rattle.rtsp_head.specs.declared.item.ItemKind.TheVariants.{Frame};
 ghost use Rattle.client_slot.specs.Client.{Client};
+ghost use Rattle.up_books.specs.declared.cseq.TheConstants.{LAST_NUMBER};
 ghost use Rattle.client_machine.specs.Plans.{Comes, CanCome, incoming_seen, IsPlan, IsShortPlan};
 ghost use Rattle.gateway_claim.specs.Cores.{IsOwnKey};
 ghost use Rattle.gateway_claim.specs.Happenings.{Happening, takes, happening_of, cause_of};
+ghost use Rattle.gateway_mux.specs.BlankTurns.{blank_plan, blank_turn};
 
 use crate::act::{Act, PlannedClose};
 use crate::connections::Connections;
 use crate::frames::channel_of;
+use crate::settlement::Settlement;
 use crate::turn::PlannedTurn;
 use crate::turn_facts::TurnFacts;
 use client_machine::{CloseWhy, Incoming, PlannedStep, half_for, plan, plan_close};
@@ -26,6 +29,7 @@ impl Connections {
     ghost use Rattle.connection_table.specs.Tables.{IsKeyOf, IsSeatAt};
     ghost use Rattle.gateway_mux.specs.Short.{IsShortAnswer};
     ghost use Rattle.gateway_mux.specs.Turn.{free_once};
+    ghost use Rattle.gateway_mux.specs.BlankTurns.{blank_turn};
 
     /// What an event does. Nothing changes, and all memory for it is taken.
     #[inline(always)]
@@ -218,50 +222,86 @@ impl Connections {
         };
         let next = self.upstream.requests.issued() + 1;
         let pair = self.upstream.free_once(&said.settled);
-        let plan = plan(alloc, &self.bases, seat.slot, next, pair, incoming)?;
-        self.turned(alloc, seat.key, said, plan)
+        let mut turn = blank_turn(alloc, said.conn, seat.key, said.number, next)?;
+        plan(
+            alloc,
+            &self.bases,
+            seat.slot,
+            next,
+            pair,
+            incoming,
+            &mut turn.plan,
+        )?;
+        Ok(self.turned(said, turn))
     }
 
-    /// What the turn of a connection with this plan does, which is kept under this key. Where a request
-    /// is due and no number is left, the connection to the server ends.
+    /// What the turn of a connection does, which is planned but for what it settles. Where a request is due and no number is
+    /// left, the connection to the server ends.
     #[inline(always)]
-    fn turned(
-        &self,
-        alloc: Global,
-        key: usize,
-        said: TurnFacts,
-        plan: PlannedStep,
-    ) -> Result<Act, Memory>
-        requires key { IsKeyOf self.now.seats said.conn key }
+    fn turned(&self, said: TurnFacts, turn: Box<PlannedTurn>) -> Act
+        requires key { IsKeyOf self.now.seats said.conn turn.value.key }
+        requires high { self.now.upstream.requests.issued ≤ LAST_NUMBER }
+        requires turn { turn.value
+            ≡ blank_turn said.conn turn.value.key said.number (self.now.upstream.requests.issued + 1) turn.value.plan }
         ensures act { (h : Happening) (comes : Comes) (client : Client)
             → IsSaid self.now.bases (picture self.now.seats self.now.upstream) h said comes
             → (picture self.now.seats self.now.upstream).clients said.conn ≡ Some client
             → IsPlan self.now.bases (self.now.upstream.requests.issued + 1)
-            (free_once said.settled (picture self.now.seats self.now.upstream).held) client comes plan
-            → IfOk result (IsAct self.now.bases (picture self.now.seats self.now.upstream) h) }
-        ensures short { IsShortAnswer said.answer → IsShortPlan plan → IfOk result IsShortAct }
-        ensures key { IfOk result (IsKeyed self.now.seats) }
+            (free_once said.settled (picture self.now.seats self.now.upstream).held) client comes turn.value.plan
+            → IsAct self.now.bases (picture self.now.seats self.now.upstream) h result }
+        ensures short { IsShortAnswer said.answer → IsShortPlan turn.value.plan → IsShortAct result }
+        ensures key { IsKeyed self.now.seats result }
     {
-        let asks = plan.asks();
-        if asks && self.upstream.requests.next().is_none() {
-            return Ok(Act::Ends(UpCause::CseqSpent));
-        }
+        let mut turn = turn;
         let TurnFacts {
-            conn,
-            number,
             settled,
             answer,
+            ..
         } = said;
-        let turn = PlannedTurn {
-            conn,
-            key,
-            number,
-            next: self.upstream.requests.issued() + 1,
-            settled,
-            plan,
-            asks,
-        };
-        Ok(Act::Turns(answer, Box::new(alloc, turn)?))
+        let asks = turn.plan.asks();
+        if asks && self.upstream.requests.next().is_none() {
+            return Act::Ends(UpCause::CseqSpent);
+        }
+        turn.complete(settled, asks);
+        Act::Turns(answer, turn)
+    }
+}
+
+impl PlannedTurn {
+    ghost use Rattle.std.specs.Prelude.{◌≡◌};
+
+    /// What it settles is known, and whether a request goes up.
+    #[inline(always)]
+    fn complete(&mut self, settled: Option<Settlement>, asks: bool)
+        ensures { self.new ≡ record self.old { settled = settled; asks = asks } }
+    {
+        self.settled = settled;
+        self.asks = asks;
+    }
+}
+
+/// The turn of a connection that is to be planned, in a box: a plan is large, and is written where it stays.
+fn blank_turn(
+    alloc: Global,
+    conn: u32,
+    key: usize,
+    number: u32,
+    next: u32,
+) -> Result<Box<PlannedTurn>, Memory>
+    ensures { IfOk result (λ turn. turn.value ≡ blank_turn conn key number next blank_plan) }
+{
+    let turn = PlannedTurn {
+        conn,
+        key,
+        number,
+        next,
+        settled: None,
+        plan: PlannedStep::blank(alloc),
+        asks: false,
+    };
+    match Box::new(alloc, turn) {
+        Ok(turn) => Ok(turn),
+        Err(_) => Err(Memory),
     }
 }
 
