@@ -94,15 +94,18 @@ impl Trial {
         requires { CanCome (incoming_seen incoming.now) }
     {
         let next = self.number.wrapping_add(1);
+        let pair = Some(free_pair(&self.slot));
+        let mut step = PlannedStep::blank(alloc);
         match plan(
             alloc,
             &self.bases,
             &self.slot,
             next,
-            Some(free_pair(&self.slot)),
+            pair,
             incoming,
+            &mut step,
         ) {
-            Ok(plan) => self.carry_out(plan, answer),
+            Ok(()) => self.carry_out(step, answer),
             Err(_memory) => answer.fail(CaseFault::Memory),
         }
     }
