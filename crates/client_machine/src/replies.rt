@@ -14,7 +14,7 @@ use crate::onward::onward;
 use crate::parts::{Change, PlannedStep, Up};
 use crate::player_reply::{new_id, reply_hand, session_told, timeout_told};
 use crate::treat::Course;
-use client_slot::{MadeSession, Pending, Slot};
+use client_slot::{ClosingRoom, MadeParts, MadeSession, Pending, Slot};
 use gate_bytes::{Memory, Text};
 use rtsp_uri::Bases;
 use std::alloc::Global;
@@ -90,7 +90,7 @@ fn settle<'a>(
     onward(alloc, after, &outlook, plan)
 }
 
-/// The session that the server made, where it made one, with copies of what is kept of it.
+/// The session that the server made, where it made one, with copies of what is kept of it and room for its TEARDOWN.
 fn made(alloc: Global, slot: &Slot, id: Option<&[u8]>) -> Result<Option<MadeSession>, Memory>
     requires { IfSome id (λ one. is_session_id one.now ≡ true) }
     ensures made { IfOk result (λ made. id_made made ≡ option_copied id.entry) }
@@ -100,7 +100,10 @@ fn made(alloc: Global, slot: &Slot, id: Option<&[u8]>) -> Result<Option<MadeSess
         return Ok(None);
     };
     Ok(Some(MadeSession {
-        id: Text::copy(alloc, id)?,
-        described: Text::copied(alloc, slot.described())?,
+        parts: MadeParts {
+            id: Text::copy(alloc, id)?,
+            described: Text::copied(alloc, slot.described())?,
+        },
+        room: ClosingRoom::new(alloc)?,
     }))
 }

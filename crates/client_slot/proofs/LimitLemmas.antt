@@ -22,7 +22,7 @@ use Rattle.client_slot.specs.Places.{session_at, session_where, changed_at, chan
 use Rattle.client_slot.specs.Changes.{due_place, due_place_at, purpose_place, closing_place, closing_place_at}
 use Rattle.client_slot.specs.ClosingRequest.{closing_request, session_closing}
 use Rattle.client_slot.specs.Client.{Client}
-use Rattle.client_slot.specs.Bounds.{IsTidy, AreControlsShort, is_filled, place_asked, IsPlaced, IsPlacedIn, is_asking, is_closing, is_torn, AreRoomy, IsSlot}
+use Rattle.client_slot.specs.Bounds.{IsTidy, AreControlsShort, is_filled, place_asked, IsPlaced, IsPlacedIn, needs_none, AreRoomy, IsSlot}
 use Rattle.client_slot.proofs.TidyLemmas.{tidy_where, unqueued_tidy}
 use Rattle.client_slot.proofs.ControlLemmas.{short_at, changed_short, unqueued_short}
 use Rattle.client_slot.proofs.PlaceLemmas.{changed_length, kept_each, first_changed, first_mapped, at_mapped, mapped_length, place_is}
@@ -70,7 +70,7 @@ placed_kept (Some purpose) place change sessions keeps placed =
 rooms_kept : (client : Client) (rooms : List Bool) (place : ℕ) (change : PlayerSession → PlayerSession) → Keeps change (session_at place client.sessions)
     → AreRoomy client rooms → AreRoomy (record client { sessions = changed_at place change client.sessions }) rooms
 rooms_kept client rooms place change keeps roomy at within =
-    ap (λ (id : Option (List ℕ)). slice_index_or rooms at false || is_torn at client.alive client.pending id) (kept_each (λ session. session.id) place at change client.sessions keeps.id)
+    ap (λ (id : Option (List ℕ)). slice_index_or rooms at false || needs_none at client.pending id) (kept_each (λ session. session.id) place at change client.sessions keeps.id)
     ∙ roomy at within
 
 controls_kept : (place : ℕ) (change : PlayerSession → PlayerSession) (sessions : List PlayerSession) → Keeps change (session_at place sessions) → AreControlsShort sessions → AreControlsShort (changed_at place change sessions)
@@ -119,9 +119,6 @@ pub next_keeps : (session : PlayerSession) → Keeps when_next session
 next_keeps session = record { id = refl; tracks = refl; control = refl }
 
 -- A request of the gateway itself goes up, where none was open.
-released_torn : (place : ℕ) (alive : Bool) (play : Play) (id : Option (List ℕ)) → is_torn place alive (Some (purposes.Released play)) id ≡ is_torn place alive None id
-released_torn place alive play id = refl
-
 pub slot_released : (client : Client) (rooms : List Bool) (play : Play) → client.pending ≡ None → IfSome play.place (λ place. place < MOST_SESSIONS) → is_filled play.place client.sessions ≡ true → length play.uri ≤ LONGEST_URI → IsSlot client rooms
     → IsSlot (record client { pending = Some (purposes.Released play) }) rooms
 slot_released client rooms play idle within filled short slot = record {
@@ -132,7 +129,7 @@ slot_released client rooms play idle within filled short slot = record {
   described = slot.described;
   placed = record { within = within; filled = filled; here = short; apart = tt };
   room = λ place low.
-      ap (λ (pending : Option Purpose). slice_index_or rooms place false || is_torn place client.alive pending (session_at place client.sessions).id) (sym idle)
+      ap (λ (pending : Option Purpose). slice_index_or rooms place false || needs_none place pending (session_at place client.sessions).id) (sym idle)
       ∙ slot.room place low;
 }
 
@@ -169,11 +166,6 @@ unqueued_placed (Some purpose) sessions placed = record {
   apart = placed.apart;
 }
 
-still_roomy : (room alive asking torn : Bool) → (room || (not alive && (asking && torn))) ≡ true → (room || (not false && (asking && torn))) ≡ true
-still_roomy true alive asking torn h = refl
-still_roomy false true asking torn h = cc
-still_roomy false false asking torn h = h
-
 pub slot_closed : (client : Client) (rooms : List Bool) (waiting : List Shape) (sessions : List PlayerSession) → sessions ≡ map when_unqueued client.sessions → IsSlot client rooms
     → IsSlot (record { alive = false; sessions = sessions; described = client.described; pending = client.pending; waiting = waiting }) rooms
 slot_closed client rooms waiting sessions is slot =
@@ -185,8 +177,8 @@ slot_closed client rooms waiting sessions is slot =
       described = slot.described;
       placed = unqueued_placed client.pending client.sessions slot.placed;
       room = λ place low.
-          ap (λ (id : Option (List ℕ)). slice_index_or rooms place false || is_torn place false client.pending id) (at_mapped (λ session. session.id) when_unqueued place client.sessions (λ session. refl))
-          ∙ still_roomy (slice_index_or rooms place false) client.alive (not (is_asking client.pending)) (is_none (session_at place client.sessions).id || is_closing place client.pending) (slot.room place low);
+          ap (λ (id : Option (List ℕ)). slice_index_or rooms place false || needs_none place client.pending id) (at_mapped (λ session. session.id) when_unqueued place client.sessions (λ session. refl))
+          ∙ slot.room place low;
     })
 
 -- The closing TEARDOWN of a place goes up.
@@ -206,16 +198,15 @@ leaving_by client false None place a p e =
 pub leaving_is : (client : Client) (place : ℕ) → closing_place client ≡ Some place → IsLeavingAt client place
 leaving_is client place e = leaving_by client client.alive client.pending place refl refl e
 
-not_torn : (room alive : Bool) (pending : Option Purpose) (id : Option (List ℕ)) (place : ℕ) → pending ≡ None → is_some id ≡ true → (room || is_torn place alive pending id) ≡ true → room ≡ true
-not_torn true alive pending id place none some h = refl
-not_torn false alive pending None place none some h = cc
-not_torn false true pending (Some id) place none some h = cc
-not_torn false false pending (Some id) place none some h =
-    let torn : is_torn place false None (Some id) ≡ true = ap (λ (one : Option Purpose). is_torn place false one (Some id)) (sym none) ∙ h in cc
+room_needed : (room : Bool) (pending : Option Purpose) (id : Option (List ℕ)) (place : ℕ) → pending ≡ None → is_some id ≡ true → (room || needs_none place pending id) ≡ true → room ≡ true
+room_needed true pending id place none some h = refl
+room_needed false pending None place none some h = cc
+room_needed false pending (Some id) place none some h =
+    let went : needs_none place None (Some id) ≡ true = ap (λ (one : Option Purpose). needs_none place one (Some id)) (sym none) ∙ h in cc
 
 pub room_there : (client : Client) (rooms : List Bool) (place : ℕ) → IsLeavingAt client place → IsSlot client rooms → slice_index_or rooms place false ≡ true
 room_there client rooms place leaving slot =
-    not_torn (slice_index_or rooms place false) client.alive client.pending (session_at place client.sessions).id place leaving.idle leaving.filled
+    room_needed (slice_index_or rooms place false) client.pending (session_at place client.sessions).id place leaving.idle leaving.filled
     (slot.room place (subst (λ (n : ℕ). place < n) slot.places leaving.within))
 
 -- A PLAY is due at a place.

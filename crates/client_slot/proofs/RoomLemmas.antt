@@ -1,5 +1,5 @@
 -- The rooms for closing TEARDOWNs.
-use Rattle.std.proofs.Common.{◌≡◌, ◌≢◌, ◌∙◌, ℕ, zero, suc, ◌==◌, ◌<◌, ◌≤◌, Bool, true, false, not, ◌&&◌, ◌||◌, cond, List, [], ◌∷◌, length, Option, Some, None, IfSome, IsSome, refl, sym, ap, subst, arith}
+use Rattle.std.proofs.Common.{◌≡◌, ◌≢◌, ◌∙◌, ℕ, zero, suc, ◌==◌, ◌<◌, ◌≤◌, Bool, true, false, not, ◌&&◌, ◌||◌, cond, List, [], ◌∷◌, length, Option, Some, None, IfSome, IsSome, refl, sym, ap, subst, arith, get_or-set_same, get_or-set_other, length-set}
 use Rattle.std.proofs.lemmas.Bool.{eqb-true, eqb-false, ne_eqb}
 use Rattle.std.specs.Prelude.{slice_set, slice_index_or, is_some, is_none}
 use Rattle.rtsp_small.specs.declared.method.Method.{Method}
@@ -14,24 +14,27 @@ use Rattle.session_one.specs.declared.parts.TheConstants.{MOST_SESSIONS, MOST_TR
 use Rattle.client_slot.specs.declared.limits.TheConstants.{LONGEST_URI}
 use Rattle.client_slot.specs.declared.purpose.Purpose.{Purpose}
 use Rattle.client_slot.specs.declared.purpose.Purpose.TheVariants as purposes
+use Rattle.client_slot.specs.declared.new_session.MadeParts.{MadeParts}
 use Rattle.client_slot.specs.declared.new_session.MadeSession.{MadeSession}
-use Rattle.client_slot.specs.NewSessions.{id_made, described_made}
+use Rattle.client_slot.specs.NewSessions.{id_kept, described_kept, parts_made, id_made}
 use Rattle.client_slot.specs.Session.{PlayerSession, new_session}
 use Rattle.client_slot.specs.Places.{session_at, session_where, empty_place, changed_at, changed_where, filled_place}
 use Rattle.client_slot.specs.declared.session_turn.SessionTurn.{SessionTurn}
-use Rattle.client_slot.specs.SessionTurns.{Brought, moved_turn, granted_turn, released_turn, reply_turn, control_by, brought_by, turned}
+use Rattle.client_slot.specs.declared.session_turn.PartTurn.{PartTurn}
+use Rattle.client_slot.specs.declared.session_turn.PartTurn.TheVariants.{Keeps, Takes, Loses}
+use Rattle.client_slot.specs.SessionTurns.{Brought, part_then, moved_turn, granted_turn, released_turn, reply_turn, control_by, brought_by, turned}
 use Rattle.client_slot.specs.Changes.{purpose_place, settled_place, session_after, sessions_after, described_by, described_after}
 use Rattle.client_slot.specs.Client.{Client}
-use Rattle.client_slot.specs.Bounds.{IsTidyBy, AreTidy, HasShortUri, IsPlaced, IsPlacedIn, IsAskable, is_torn, rooms_left, AreRoomy, IsSlot}
+use Rattle.client_slot.specs.Bounds.{IsTidyBy, AreTidy, HasShortUri, IsPlaced, IsPlacedIn, IsAskable, needs_none, rooms_left, rooms_with, AreRoomy, IsSlot}
 use Rattle.client_slot.proofs.TidyLemmas.{after_tidy, tidy_at}
 use Rattle.client_slot.proofs.ControlLemmas.{controls_after}
 use Rattle.client_slot.proofs.PlaceLemmas.{where_length, kept_each, place_is, changed_here, changed_other, same_changes_where}
 
--- a room that is gone
-pub rooms_set : {R : Type 0} (rooms : List (Option R)) (place : ℕ) (new : Option R) → is_some new ≡ false → rooms_left (slice_set rooms place new) ≡ slice_set (rooms_left rooms) place false
-rooms_set [] place new none = refl
-rooms_set (room ∷ rooms) zero new none = ap (λ first. first ∷ rooms_left rooms) none
-rooms_set (room ∷ rooms) (suc place) new none = ap (λ later. is_some room ∷ later) (rooms_set rooms place new none)
+-- a room that is put in a place, or taken
+pub rooms_set : {R : Type 0} (rooms : List (Option R)) (place : ℕ) (new : Option R) (there : Bool) → is_some new ≡ there → rooms_left (slice_set rooms place new) ≡ slice_set (rooms_left rooms) place there
+rooms_set [] place new there is = refl
+rooms_set (room ∷ rooms) zero new there is = ap (λ first. first ∷ rooms_left rooms) is
+rooms_set (room ∷ rooms) (suc place) new there is = ap (λ later. is_some room ∷ later) (rooms_set rooms place new there is)
 
 -- What was described does not matter to a reply for which the server made no session.
 granted_same : (method : Method) (one other : Option (List ℕ)) (number : ℕ) (uri : List ℕ) (track : Option Track) (state : State) (session : PlayerSession)
@@ -104,107 +107,156 @@ released_id play number code described id session = by (is_success code)
     by true = refl
     by false = refl
 
-asking_room : (room alive : Bool) (asked : Asked) (track : Option Track) (place : ℕ) (id : Option (List ℕ)) → (room || is_torn place alive (Some (purposes.Client asked track)) id) ≡ true → room ≡ true
-asking_room true alive asked track place id h = refl
-asking_room false true asked track place id h = cc
-asking_room false false asked track place id h = cc
-
 room_or : (room later : Bool) → room ≡ true → (room || later) ≡ true
 room_or true later h = refl
 room_or false later h = cc
 
-left_room : (room alive : Bool) (place other : ℕ) (id : Option (List ℕ)) → place ≢ other → (room || is_torn place alive (Some (purposes.Closing other)) id) ≡ true → (room || is_torn place alive None id) ≡ true
-left_room room alive place other id apart h =
-    ap (λ same. room || (not alive && (true && (is_none id || same)))) (sym (ne_eqb other place (λ e. apart (sym e)))) ∙ h
+or_needed : (room : Bool) → (room || true) ≡ true
+or_needed true = refl
+or_needed false = refl
 
-left_here : (room alive : Bool) (place : ℕ) (id : Option (List ℕ)) → (room || is_torn place alive (Some (purposes.Closing place)) id) ≡ true → (room || is_torn place alive None None) ≡ true
-left_here true alive place id h = refl
-left_here false true place id h = cc
-left_here false false place id h = refl
+needs_less : (room one two : Bool) → (one ≡ true → two ≡ true) → (room || (one || false)) ≡ true → (room || (two || false)) ≡ true
+needs_less true one two less h = refl
+needs_less false true two less h = rw (less refl) refl
+needs_less false false two less h = cc
+
+-- without an id that is brought, a session without one gets none
+no_id : (turn : PartTurn) (was : Option (List ℕ)) → is_none was ≡ true → is_none (part_then turn was None) ≡ true
+no_id Keeps was none = none
+no_id Takes was none = refl
+no_id Loses was none = refl
+
+asked_id : (asked : Asked) (track : Option Track) (number code : ℕ) (described id : Option (List ℕ)) → is_some id ≡ false → (session : PlayerSession) → is_none session.id ≡ true
+    → is_none (session_after (purposes.Client asked track) number code described id session).id ≡ true
+asked_id asked track number code described None made session none = no_id (reply_turn (purposes.Client asked track) code false session.state).id session.id none
+asked_id asked track number code described (Some id) made session none = cc
+
+-- as many places
+pub rooms_length : (at : Option ℕ) (made : Bool) (rooms : List Bool) → length (rooms_with at made rooms) ≡ length rooms
+rooms_length None made rooms = refl
+rooms_length (Some q) true rooms = length-set rooms q true
+rooms_length (Some q) false rooms = refl
+
+-- The session at a place changes, which gets a room where the server made it.
+roomy_at : (rooms : List Bool) (q p : ℕ) (made : Bool) (change : PlayerSession → PlayerSession) (sessions : List PlayerSession) → p < length rooms → p < length sessions
+    → (made ≡ false → (session : PlayerSession) → is_none session.id ≡ true → is_none (change session).id ≡ true)
+    → (slice_index_or rooms p false || needs_none p None (session_at p sessions).id) ≡ true
+    → (slice_index_or (rooms_with (Some q) made rooms) p false || needs_none p None (session_at p (changed_at q change sessions)).id) ≡ true
+roomy_at rooms q p made change sessions low within less h = by (p == q) made refl refl
+  where
+    by : (same now : Bool) → (p == q) ≡ same → made ≡ now → (slice_index_or (rooms_with (Some q) now rooms) p false || needs_none p None (session_at p (changed_at q change sessions)).id) ≡ true
+    by true true e m =
+        let here : p ≡ q = eqb-true p q e in
+        room_or (slice_index_or (slice_set rooms q true) p false) (needs_none p None (session_at p (changed_at q change sessions)).id)
+        (ap (λ k. slice_index_or (slice_set rooms k true) p false) (sym here) ∙ get_or-set_same rooms p true false low)
+    by true false e m =
+        let here : p ≡ q = eqb-true p q e in
+        let same : is_none (session_at p (changed_at q change sessions)).id ≡ is_none (change (session_at p sessions)).id =
+        ap (λ k. is_none (session_at p (changed_at k change sessions)).id) (sym here) ∙ ap (λ (session : PlayerSession). is_none session.id) (changed_here p change sessions within) in
+        needs_less (slice_index_or rooms p false) (is_none (session_at p sessions).id) (is_none (session_at p (changed_at q change sessions)).id) (λ none. same ∙ less m (session_at p sessions) none) h
+    by false now e m =
+        ap (λ room. room || needs_none p None (session_at p (changed_at q change sessions)).id) (other now (eqb-false p q e))
+        ∙ ap (λ (session : PlayerSession). slice_index_or rooms p false || needs_none p None session.id) (changed_other q p change sessions (eqb-false p q e))
+        ∙ h
+      where
+        other : (there : Bool) → p ≢ q → slice_index_or (rooms_with (Some q) there rooms) p false ≡ slice_index_or rooms p false
+        other true apart = get_or-set_other rooms q p true false apart
+        other false apart = refl
+
+roomy_where : (rooms : List Bool) (at : Option ℕ) (p : ℕ) (made : Bool) (change : PlayerSession → PlayerSession) (sessions : List PlayerSession) → p < length rooms → p < length sessions
+    → (made ≡ false → (session : PlayerSession) → is_none session.id ≡ true → is_none (change session).id ≡ true)
+    → (slice_index_or rooms p false || needs_none p None (session_at p sessions).id) ≡ true
+    → (slice_index_or (rooms_with at made rooms) p false || needs_none p None (session_at p (changed_where at change sessions)).id) ≡ true
+roomy_where rooms None p made change sessions low within less h = h
+roomy_where rooms (Some q) p made change sessions low within less h = roomy_at rooms q p made change sessions low within less h
+
+-- Its closing TEARDOWN is over.
+left_roomy : (rooms : List Bool) (q p : ℕ) (made : Bool) (change : PlayerSession → PlayerSession) (sessions : List PlayerSession) → p < length rooms → p < length sessions → ((session : PlayerSession) → (change session).id ≡ None)
+    → (slice_index_or rooms p false || needs_none p (Some (purposes.Closing q)) (session_at p sessions).id) ≡ true
+    → (slice_index_or (rooms_with (Some q) made rooms) p false || needs_none p None (session_at p (changed_at q change sessions)).id) ≡ true
+left_roomy rooms q p made change sessions low within gone h = by (p == q) refl
+  where
+    by : (same : Bool) → (p == q) ≡ same → (slice_index_or (rooms_with (Some q) made rooms) p false || needs_none p None (session_at p (changed_at q change sessions)).id) ≡ true
+    by true e =
+        let here : p ≡ q = eqb-true p q e in
+        ap (λ k. slice_index_or (rooms_with (Some q) made rooms) p false || needs_none p None (session_at p (changed_at k change sessions)).id) (sym here)
+        ∙ ap (λ (session : PlayerSession). slice_index_or (rooms_with (Some q) made rooms) p false || needs_none p None session.id) (changed_here p change sessions within)
+        ∙ ap (λ (id : Option (List ℕ)). slice_index_or (rooms_with (Some q) made rooms) p false || needs_none p None id) (gone (session_at p sessions))
+        ∙ or_needed (slice_index_or (rooms_with (Some q) made rooms) p false)
+    by false e =
+        let apart : p ≢ q = eqb-false p q e in
+        roomy_at rooms q p made change sessions low within (λ m session none. ap is_none (gone session))
+        (ap (λ same. slice_index_or rooms p false || (is_none (session_at p sessions).id || same)) (sym (ne_eqb q p (λ k. apart (sym k)))) ∙ h)
 
 -- so for each place
-asked_roomy : (client : Client) (rooms : List Bool) (asked : Asked) (track : Option Track) (sessions : List PlayerSession) → client.pending ≡ Some (purposes.Client asked track) → AreRoomy client rooms
-    → AreRoomy (record client { sessions = sessions; pending = None }) rooms
-asked_roomy client rooms asked track sessions is roomy place low =
-    room_or (slice_index_or rooms place false) (is_torn place client.alive None (session_at place sessions).id)
-    (asking_room (slice_index_or rooms place false) client.alive asked track place (session_at place client.sessions).id
-    (ap (λ (pending : Option Purpose). slice_index_or rooms place false || is_torn place client.alive pending (session_at place client.sessions).id) (sym is) ∙ roomy place low))
-
-id_where : (at : Option ℕ) (change : PlayerSession → PlayerSession) (place : ℕ) (sessions : List PlayerSession) → ((session : PlayerSession) → (change session).id ≡ session.id)
-    → (session_at place (changed_where at change sessions)).id ≡ (session_at place sessions).id
-id_where None change place sessions same = refl
-id_where (Some at) change place sessions same = kept_each (λ session. session.id) at place change sessions (same (session_at at sessions))
-
-played_roomy : (client : Client) (rooms : List Bool) (play : Play) (number code : ℕ) (described new : Option (List ℕ)) → client.pending ≡ Some (purposes.Released play) → AreRoomy client rooms
-    → AreRoomy (record client { sessions = changed_where play.place (session_after (purposes.Released play) number code described new) client.sessions; pending = None }) rooms
-played_roomy client rooms play number code described new is roomy place low =
-    ap (λ (id : Option (List ℕ)). slice_index_or rooms place false || is_torn place client.alive None id)
-    (id_where play.place (session_after (purposes.Released play) number code described new) place client.sessions (released_id play number code described new))
-    ∙ ap (λ (pending : Option Purpose). slice_index_or rooms place false || is_torn place client.alive pending (session_at place client.sessions).id) (sym is)
-    ∙ roomy place low
-
--- a session of which nothing is left
-abbrev left : PlayerSession → PlayerSession
-left session = new_session
-
-left_roomy : (client : Client) (rooms : List Bool) (other : ℕ) → client.pending ≡ Some (purposes.Closing other) → length client.sessions ≡ MOST_SESSIONS → AreRoomy client rooms
-    → AreRoomy (record client { sessions = changed_at other left client.sessions; pending = None }) rooms
-left_roomy client rooms other is four roomy place low = by (place == other) refl
+after_roomy : (client : Client) (rooms : List Bool) (purpose : Purpose) (number code : ℕ) (id : Option (List ℕ)) → client.pending ≡ Some purpose → length client.sessions ≡ MOST_SESSIONS → length rooms ≡ MOST_SESSIONS → AreRoomy client rooms
+    → AreRoomy (record client { sessions = sessions_after purpose number code client.described id client.sessions; pending = None }) (rooms_with (settled_place purpose id client.sessions) (is_some id) rooms)
+after_roomy client rooms purpose number code id is four all roomy place low = by purpose was
   where
-    was : (slice_index_or rooms place false || is_torn place client.alive (Some (purposes.Closing other)) (session_at place client.sessions).id) ≡ true
-    was = ap (λ (pending : Option Purpose). slice_index_or rooms place false || is_torn place client.alive pending (session_at place client.sessions).id) (sym is) ∙ roomy place low
+    was : (slice_index_or rooms place false || needs_none place (Some purpose) (session_at place client.sessions).id) ≡ true
+    was = ap (λ (pending : Option Purpose). slice_index_or rooms place false || needs_none place pending (session_at place client.sessions).id) (sym is) ∙ roomy place low
 
-    by : (same : Bool) → (place == other) ≡ same → (slice_index_or rooms place false || is_torn place client.alive None (session_at place (changed_at other left client.sessions)).id) ≡ true
-    by true e =
-        let here : place ≡ other = eqb-true place other e in
-        ap (λ k. slice_index_or rooms place false || is_torn place client.alive None (session_at place (changed_at k left client.sessions)).id) (sym here)
-        ∙ ap (λ (session : PlayerSession). slice_index_or rooms place false || is_torn place client.alive None session.id) (changed_here place left client.sessions (subst (λ (n : ℕ). place < n) (sym four) low))
-        ∙ left_here (slice_index_or rooms place false) client.alive place (session_at place client.sessions).id
-        (ap (λ k. slice_index_or rooms place false || is_torn place client.alive (Some (purposes.Closing k)) (session_at place client.sessions).id) here ∙ was)
-    by false e =
-        ap (λ (session : PlayerSession). slice_index_or rooms place false || is_torn place client.alive None session.id) (changed_other other place left client.sessions (eqb-false place other e))
-        ∙ left_room (slice_index_or rooms place false) client.alive place other (session_at place client.sessions).id (eqb-false place other e) was
+    room : place < length rooms
+    room = subst (λ (n : ℕ). place < n) (sym all) low
 
-after_roomy : (client : Client) (rooms : List Bool) (purpose : Purpose) (number code : ℕ) (id : Option (List ℕ)) → client.pending ≡ Some purpose → length client.sessions ≡ MOST_SESSIONS → AreRoomy client rooms
-    → AreRoomy (record client { sessions = sessions_after purpose number code client.described id client.sessions; pending = None }) rooms
-after_roomy client rooms (purposes.Client asked track) number code id is four roomy = asked_roomy client rooms asked track _ is roomy
-after_roomy client rooms (purposes.Released play) number code id is four roomy = played_roomy client rooms play number code client.described id is roomy
-after_roomy client rooms (purposes.Closing other) number code id is four roomy = left_roomy client rooms other is four roomy
+    within : place < length client.sessions
+    within = subst (λ (n : ℕ). place < n) (sym four) low
+
+    by : (one : Purpose) → (slice_index_or rooms place false || needs_none place (Some one) (session_at place client.sessions).id) ≡ true
+        → (slice_index_or (rooms_with (settled_place one id client.sessions) (is_some id) rooms) place false || needs_none place None (session_at place (sessions_after one number code client.described id client.sessions)).id) ≡ true
+    by (purposes.Client asked track) h =
+        roomy_where rooms (settled_place (purposes.Client asked track) id client.sessions) place (is_some id) (session_after (purposes.Client asked track) number code client.described id) client.sessions room within
+        (asked_id asked track number code client.described id) h
+    by (purposes.Released play) h =
+        roomy_where rooms play.place place (is_some id) (session_after (purposes.Released play) number code client.described id) client.sessions room within
+        (λ made session none. ap is_none (released_id play number code client.described id session) ∙ none) h
+    by (purposes.Closing other) h =
+        left_roomy rooms other place (is_some id) (session_after (purposes.Closing other) number code client.described id) client.sessions room within (λ session. refl) h
 
 -- A connection whose other request has its final reply.
-pub slot_settled : (client : Client) (rooms : List Bool) (purpose : Purpose) (number code : ℕ) (id : Option (List ℕ)) (sessions : List PlayerSession) (described : Option (List ℕ)) (pending : Option Purpose)
+pub slot_settled : (client : Client) (rooms left : List Bool) (purpose : Purpose) (number code : ℕ) (id : Option (List ℕ)) (sessions : List PlayerSession) (described : Option (List ℕ)) (pending : Option Purpose)
     → client.pending ≡ Some purpose → sessions ≡ sessions_after purpose number code client.described id client.sessions → described ≡ described_after purpose code sessions client.described → pending ≡ None
-    → IsSlot client rooms → IsSlot (record client { sessions = sessions; described = described; pending = pending }) rooms
-slot_settled client rooms purpose number code id sessions described pending is all uri none slot =
+    → left ≡ rooms_with (settled_place purpose id client.sessions) (is_some id) rooms
+    → IsSlot client rooms → IsSlot (record client { sessions = sessions; described = described; pending = pending }) left
+slot_settled client rooms left purpose number code id sessions described pending is all uri none roomed slot =
     let placed : IsPlacedIn client.sessions purpose = subst (λ (one : Option Purpose). IfSome one (IsPlacedIn client.sessions)) is slot.placed in
-    subst (λ (one : Option Purpose). IsSlot (record client { sessions = sessions; described = described; pending = one }) rooms) (sym none)
-    (subst (λ (one : Option (List ℕ)). IsSlot (record client { sessions = sessions; described = one; pending = None }) rooms) (sym uri)
-    (subst (λ (every : List PlayerSession). IsSlot (record client { sessions = every; described = described_after purpose code every client.described; pending = None }) rooms) (sym all) (record {
+    subst (λ (one : Option Purpose). IsSlot (record client { sessions = sessions; described = described; pending = one }) left) (sym none)
+    (subst (λ (one : Option (List ℕ)). IsSlot (record client { sessions = sessions; described = one; pending = None }) left) (sym uri)
+    (subst (λ (every : List PlayerSession). IsSlot (record client { sessions = every; described = described_after purpose code every client.described; pending = None }) left) (sym all)
+    (subst (λ (one : List Bool). IsSlot (record client { sessions = sessions_after purpose number code client.described id client.sessions; described = described_after purpose code (sessions_after purpose number code client.described id client.sessions) client.described; pending = None }) one) (sym roomed) (record {
       places = where_length (settled_place purpose id client.sessions) (session_after purpose number code client.described id) client.sessions ∙ slot.places;
       tidy = after_tidy purpose number code client.described id client.sessions slot.tidy placed.filled;
       controls = controls_after purpose _ number code client.described id client.sessions placed.here slot.described slot.controls;
-      all = slot.all;
+      all = rooms_length (settled_place purpose id client.sessions) (is_some id) rooms ∙ slot.all;
       described = after_short purpose _ code (sessions_after purpose number code client.described id client.sessions) client.described placed.here slot.described;
       placed = tt;
-      room = after_roomy client rooms purpose number code id is slot.places slot.room;
-    })))
+      room = after_roomy client rooms purpose number code id is slot.places slot.all slot.room;
+    }))))
 
 -- a session that was made has an id
-pub made_some : (made : Option MadeSession) → is_some (id_made made) ≡ is_some made
+pub made_has : (made : Option MadeSession) → is_some (id_made made) ≡ is_some made
+made_has None = refl
+made_has (Some one) = refl
+
+pub made_some : (made : Option MadeParts) → is_some (id_kept made) ≡ is_some made
 made_some None = refl
 made_some (Some one) = refl
 
+-- so do its parts
+pub parts_same : (made : Option MadeSession) (parts : Option MadeParts) (is : Bool) → parts ≡ parts_made made → is ≡ is_some parts → is_some (id_made made) ≡ is
+parts_same made parts is same some = made_some (parts_made made) ∙ ap is_some (sym same) ∙ sym some
+
 -- the session after its turn, from the parts of which that is made
-pub turn_is : (purpose seen : Purpose) (made : Option MadeSession) (number code : ℕ) (session new : PlayerSession) (turn : SessionTurn) (brought : Brought) (is_made : Bool) (state : State)
+pub turn_is : (purpose seen : Purpose) (made : Option MadeParts) (number code : ℕ) (session new : PlayerSession) (turn : SessionTurn) (brought : Brought) (is_made : Bool) (state : State)
     → new ≡ turned turn brought session → turn ≡ reply_turn seen code is_made state → seen ≡ purpose → is_made ≡ is_some made → state ≡ session.state
-    → brought ≡ brought_by purpose number (described_made made) (id_made made) → new ≡ session_after purpose number code (described_made made) (id_made made) session
+    → brought ≡ brought_by purpose number (described_kept made) (id_kept made) → new ≡ session_after purpose number code (described_kept made) (id_kept made) session
 turn_is purpose seen made number code session new turn brought is_made state is by same makes at brings =
     is
     ∙ ap (λ one. turned turn one session) brings
-    ∙ ap (λ (one : SessionTurn). turned one (brought_by purpose number (described_made made) (id_made made)) session) by
-    ∙ ap (λ (one : Purpose). turned (reply_turn one code is_made state) (brought_by purpose number (described_made made) (id_made made)) session) same
-    ∙ ap (λ (one : Bool). turned (reply_turn purpose code one state) (brought_by purpose number (described_made made) (id_made made)) session) (makes ∙ sym (made_some made))
-    ∙ ap (λ (one : State). turned (reply_turn purpose code (is_some (id_made made)) one) (brought_by purpose number (described_made made) (id_made made)) session) at
+    ∙ ap (λ (one : SessionTurn). turned one (brought_by purpose number (described_kept made) (id_kept made)) session) by
+    ∙ ap (λ (one : Purpose). turned (reply_turn one code is_made state) (brought_by purpose number (described_kept made) (id_kept made)) session) same
+    ∙ ap (λ (one : Bool). turned (reply_turn purpose code one state) (brought_by purpose number (described_kept made) (id_kept made)) session) (makes ∙ sym (made_some made))
+    ∙ ap (λ (one : State). turned (reply_turn purpose code (is_some (id_kept made)) one) (brought_by purpose number (described_kept made) (id_kept made)) session) at
 
 -- What holds of no place and of that of an open request holds of the place that its reply changes.
 settled_by : (P : Option ℕ → Type 0) (place : Option ℕ) (sets made : Bool) (empty : Option ℕ) → P None → P (option_or place (cond sets empty None)) → P (option_or place (cond (sets && made) empty None))
@@ -284,9 +336,9 @@ asked_placed sessions asked track tidy four askable = record {
         by (Some id) e is = cc
 
 -- A player's request goes up, where none was open.
-pub slot_asked : (client : Client) (rooms : List Bool) (asked : Asked) (track : Option Track) → client.alive ≡ true → IsAskable client.sessions asked track → IsSlot client rooms
+pub slot_asked : (client : Client) (rooms : List Bool) (asked : Asked) (track : Option Track) → client.pending ≡ None → IsAskable client.sessions asked track → IsSlot client rooms
     → IsSlot (record client { pending = Some (purposes.Client asked track) }) rooms
-slot_asked client rooms asked track lives askable slot = record {
+slot_asked client rooms asked track idle askable slot = record {
   places = slot.places;
   tidy = slot.tidy;
   controls = slot.controls;
@@ -294,7 +346,6 @@ slot_asked client rooms asked track lives askable slot = record {
   described = slot.described;
   placed = asked_placed client.sessions asked track slot.tidy slot.places askable;
   room = λ place low.
-      ap (λ b. slice_index_or rooms place false || is_torn place b (Some (purposes.Client asked track)) (session_at place client.sessions).id) lives
-      ∙ sym (ap (λ b. slice_index_or rooms place false || is_torn place b client.pending (session_at place client.sessions).id) lives)
+      ap (λ (pending : Option Purpose). slice_index_or rooms place false || needs_none place pending (session_at place client.sessions).id) (sym idle)
       ∙ slot.room place low;
 }

@@ -1,5 +1,5 @@
 -- What is bounded of a connection, so that no call but the first takes memory (this project's own).
-use Rattle.std.specs.Prelude.{◌≡◌, ◌≢◌, ℕ, ◌≤◌, ◌<◌, ◌==◌, Bool, true, false, ◌&&◌, ◌||◌, not, List, [], ◌∷◌, length, map, slice_index_or, All, Option, Some, None, is_some, is_none, IsSome, IfSome}
+use Rattle.std.specs.Prelude.{◌≡◌, ◌≢◌, ℕ, ◌≤◌, ◌<◌, ◌==◌, Bool, true, false, ◌&&◌, ◌||◌, not, List, [], ◌∷◌, length, map, slice_index_or, slice_set, if◌then◌else◌, All, Option, Some, None, is_some, is_none, IsSome, IfSome}
 use Rattle.rtsp_small.specs.Sessions.{is_session_id}
 use Rattle.client_slot.specs.declared.limits.TheConstants.{LONGEST_URI}
 use Rattle.session_one.specs.declared.parts.TheConstants.{MOST_SESSIONS, MOST_TRACKS}
@@ -83,13 +83,6 @@ pub record IsAskable (sessions : List PlayerSession) (asked : Asked) (track : Op
   pub room : IsSome track → length (session_where asked.place sessions).tracks < MOST_TRACKS
   pub apart : IfSome track (λ one. one.client.rtp ≢ one.client.rtcp)
 
--- whether a player's own request is open, whose success may make a session
-abbrev pub is_asking : Option Purpose → Bool
-is_asking None = false
-is_asking (Some (purposes.Client asked track)) = true
-is_asking (Some (purposes.Released play)) = false
-is_asking (Some (purposes.Closing place)) = false
-
 -- whether the closing TEARDOWN of a place is open
 abbrev pub is_closing : ℕ → Option Purpose → Bool
 is_closing place None = false
@@ -97,18 +90,22 @@ is_closing place (Some (purposes.Client asked track)) = false
 is_closing place (Some (purposes.Released play)) = false
 is_closing place (Some (purposes.Closing other)) = other == place
 
--- whether the closing TEARDOWN of a place went up or never will, by whether the connection is alive, by what the open
--- request is for, and by the session's id
-abbrev pub is_torn : ℕ → Bool → Option Purpose → Option (List ℕ) → Bool
-is_torn place alive pending id = not alive && (not (is_asking pending) && (is_none id || is_closing place pending))
+-- whether the closing TEARDOWN of a place needs no room: there is no session, or it went up
+abbrev pub needs_none : ℕ → Option Purpose → Option (List ℕ) → Bool
+needs_none place pending id = is_none id || is_closing place pending
 
 -- which places have room for a closing TEARDOWN
 abbrev pub rooms_left : {R : Type 0} → List (Option R) → List Bool
 rooms_left rooms = map is_some rooms
 
--- Each place has room for its closing TEARDOWN, where one may go up yet.
+-- so once a place, where one is given, has a room that is there
+abbrev pub rooms_with : Option ℕ → Bool → List Bool → List Bool
+rooms_with None there rooms = rooms
+rooms_with (Some place) there rooms = if there then slice_set rooms place true else rooms
+
+-- Each place has room for the closing TEARDOWN of its session, where that did not go up.
 abbrev pub AreRoomy : Client → List Bool → Type 0
-AreRoomy client rooms = (place : ℕ) → place < MOST_SESSIONS → (slice_index_or rooms place false || is_torn place client.alive client.pending (session_at place client.sessions).id) ≡ true
+AreRoomy client rooms = (place : ℕ) → place < MOST_SESSIONS → (slice_index_or rooms place false || needs_none place client.pending (session_at place client.sessions).id) ≡ true
 
 -- There are four places, and each is tidy; what sessions are about, and what was described, is short enough; the open request
 -- has its place; and there is room.

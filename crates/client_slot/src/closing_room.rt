@@ -9,7 +9,7 @@ use std::alloc::Global;
 
 /// Room for the text of one closing TEARDOWN.
 #[derive(Drop)]
-pub(crate) struct ClosingRoom {
+pub struct ClosingRoom {
     bytes: Vec<u8>,
     ghost empty: { bytes.items ≡ [] },
     ghost room: { CLOSING_ROOM ≤ vec_capacity bytes },
@@ -28,7 +28,7 @@ impl ClosingRoom {
 
     /// The text of a TEARDOWN of what a URI stands for, with this number and this session. It takes
     /// no memory.
-    pub fn write(self, uri: &[u8], number: u32, id: &[u8]) -> Text
+    pub(crate) fn write(self, uri: &[u8], number: u32, id: &[u8]) -> Text
         requires uri { length uri.now ≤ LONGEST_URI }
         requires id { length id.now ≤ LONGEST_SESSION_ID }
         ensures text { result ≡ request_text number (teardown_request uri.now id.now) }

@@ -4,11 +4,11 @@ ghost use Rattle.client_slot.specs.declared.limits.TheConstants.{LONGEST_URI};
 ghost use Rattle.client_slot.specs.declared.purpose.Purpose.TheVariants as purposes;
 ghost use Rattle.session_one.specs.declared.parts.TheConstants.{MOST_SESSIONS};
 ghost use Rattle.client_slot.specs.Bounds.{IsPlaced, IsPlacedIn};
-ghost use Rattle.client_slot.specs.NewSessions.{id_made, described_made};
+ghost use Rattle.client_slot.specs.NewSessions.{id_kept, described_kept};
 ghost use Rattle.client_slot.specs.Places.{changed_where, session_where};
 ghost use Rattle.client_slot.specs.Changes.{session_after, sessions_after, described_after};
 
-use crate::new_session::MadeSession;
+use crate::new_session::MadeParts;
 use crate::purpose::Purpose;
 use crate::session::Session;
 use crate::session_turn::SessionTurn;
@@ -25,7 +25,7 @@ pub(crate) struct FinalReply {
     /// Its code.
     pub code: u16,
     /// The session that the server made for the request.
-    pub made: Option<MadeSession>,
+    pub made: Option<MadeParts>,
 }
 
 /// The open request, which was for this, has its final reply.
@@ -37,9 +37,9 @@ pub(crate) fn settle_sessions(
 )
     requires places { length sessions.old.items ≡ MOST_SESSIONS }
     requires placed { IsPlacedIn sessions.old.items purpose }
-    requires made { IsSome reply.made → described_made reply.made ≡ described.old }
+    requires made { IsSome reply.made → described_kept reply.made ≡ described.old }
     ensures sessions { sessions.new.items
-        ≡ sessions_after purpose reply.number reply.code described.old (id_made reply.made)
+        ≡ sessions_after purpose reply.number reply.code described.old (id_kept reply.made)
         sessions.old.items }
     ensures described { described.new ≡ described_after purpose reply.code sessions.new.items described.old }
 {
@@ -66,7 +66,7 @@ fn answered(
         (purposes.Client asked track) }
     ensures sessions { sessions.new.items
         ≡ changed_where place
-        (session_after (purposes.Client asked track) reply.number reply.code (described_made reply.made) (id_made reply.made))
+        (session_after (purposes.Client asked track) reply.number reply.code (described_kept reply.made) (id_kept reply.made))
         sessions.old.items }
     ensures described { described.new
         ≡ described_after (purposes.Client asked track) reply.code sessions.new.items described.old }
@@ -95,7 +95,7 @@ fn turn_at(sessions: &mut Vec<Session>, place: Option<u8>, purpose: Purpose, rep
     requires placed { IsPlaced (length (session_where place sessions.old.items).tracks) purpose }
     ensures { sessions.new.items
         ≡ changed_where place
-        (session_after purpose reply.number reply.code (described_made reply.made) (id_made reply.made))
+        (session_after purpose reply.number reply.code (described_kept reply.made) (id_kept reply.made))
         sessions.old.items }
 {
     if let Some(place) = place {
@@ -107,7 +107,7 @@ fn turn_at(sessions: &mut Vec<Session>, place: Option<u8>, purpose: Purpose, rep
 fn turn_session(session: &mut Session, purpose: Purpose, reply: FinalReply)
     requires { IsPlaced (length session.old.tracks) purpose }
     ensures { session.new
-        ≡ session_after purpose reply.number reply.code (described_made reply.made) (id_made reply.made) session.old }
+        ≡ session_after purpose reply.number reply.code (described_kept reply.made) (id_kept reply.made) session.old }
 {
     let FinalReply { number, code, made } = reply;
     let turn = SessionTurn::of(session.state(), purpose.seen(), code, made.is_some());

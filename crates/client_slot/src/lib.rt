@@ -3,8 +3,8 @@
 //!
 //! Each call makes exactly one named change of that record, as `specs/` has them. Numbers of
 //! requests and of pairs of channels are those of the server's one connection; the definitions do
-//! not depend on that, and hold for any other numbering. All memory is taken by [`Slot::new`] and
-//! [`Waiting::new`].
+//! not depend on that, and hold for any other numbering. All memory is taken by [`Slot::new`], [`Waiting::new`]
+//! and [`ClosingRoom::new`].
 #![tactic(auto)]
 
 mod at_place;
@@ -20,9 +20,10 @@ mod session_turn;
 mod slot;
 mod waiting_request;
 
+pub use closing_room::ClosingRoom;
 pub use law::changes_keep_any_numbering;
 pub use limits::{CLOSING_ROOM, LONGEST_URI, MOST_WAITING};
-pub use new_session::MadeSession;
+pub use new_session::{MadeParts, MadeSession};
 pub use purpose::{Pending, Settled};
 pub use session_turn::{PartTurn, SessionTurn};
 pub use slot::Slot;

@@ -6,13 +6,13 @@ ghost use Rattle.client_slot.specs.declared.limits.TheConstants.{LONGEST_URI};
 ghost use Rattle.client_slot.specs.Bounds.{HasShortUri};
 ghost use Rattle.client_slot.specs.ShortUris.{is_short_where};
 ghost use Rattle.client_slot.specs.Gains.{brought_seen};
-ghost use Rattle.client_slot.specs.NewSessions.{id_made, described_made};
+ghost use Rattle.client_slot.specs.NewSessions.{id_kept, described_kept};
 ghost use Rattle.client_slot.specs.SessionTurns.{brought_by, control_by};
 ghost use Rattle.client_slot.specs.Changes.{purpose_place, settled_place};
 ghost use Rattle.client_slot.specs.Purposes.{settled_as, purpose_seen};
 
 use crate::gain::BroughtParts;
-use crate::new_session::MadeSession;
+use crate::new_session::MadeParts;
 use crate::session::Session;
 use crate::slot::places::empty_place;
 use gate_bytes::Text;
@@ -105,15 +105,15 @@ impl Purpose {
 
     /// What it and its reply bring to its session: the number with which it went up, and the session
     /// that the server made for it.
-    pub fn brings(self, number: u32, made: Option<MadeSession>) -> BroughtParts
+    pub fn brings(self, number: u32, made: Option<MadeParts>) -> BroughtParts
         requires { HasShortUri self }
         ensures brought { brought_seen result
-            ≡ brought_by self number (described_made made) (id_made made) }
+            ≡ brought_by self number (described_kept made) (id_kept made) }
         ensures uri { IfSome result.control (λ uri. length uri ≤ LONGEST_URI) }
         ensures id { IfSome result.id (λ id. is_session_id id ≡ true) }
     {
         let (id, described) = match made {
-            Some(MadeSession { id, described }) => (Some(id), described),
+            Some(MadeParts { id, described }) => (Some(id), described),
             None => (None, None),
         };
         let (control, track) = match self {

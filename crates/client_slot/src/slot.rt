@@ -49,8 +49,8 @@ impl Slot {
     ghost use Rattle.client_slot.specs.Changes.{due_place};
     ghost use Rattle.client_slot.specs.Bounds.{AreTidy, AreControlsShort, IsPlacedIn};
 
-    /// A connection that entered, with room for four sessions, each with eight streams, eight PLAYs and
-    /// a closing TEARDOWN.
+    /// A connection that entered, with room for four sessions, each with eight streams and eight PLAYs. The room for a
+    /// session's closing TEARDOWN comes with the session.
     pub fn new(alloc: Global) -> Result<Slot, Memory>
         ensures { IfOk result (λ slot. slot ≡ new_client) }
     {
@@ -58,7 +58,7 @@ impl Slot {
         let mut rooms = Vec::with_capacity(alloc, MOST_SESSIONS)?;
         for _place in 0..MOST_SESSIONS {
             sessions.push(Session::new(alloc)?)?;
-            rooms.push(Some(ClosingRoom::new(alloc)?))?;
+            rooms.push(None)?;
         }
         Ok(Slot {
             alive: true,

@@ -8,7 +8,9 @@ use crate::items::item_in;
 use crate::print::{push_optional, tell};
 use crate::replies::asked;
 use crate::trial::Trial;
-use client_slot::{LONGEST_URI, MOST_WAITING, MadeSession, Pending, Slot, Waiting};
+use client_slot::{
+    ClosingRoom, LONGEST_URI, MOST_WAITING, MadeParts, MadeSession, Pending, Slot, Waiting,
+};
 use gate_bytes::{Memory, Text};
 use play_queue::MOST_PLAYS;
 use rtsp_range::read_one;
@@ -189,8 +191,11 @@ fn made(alloc: Global, slot: &Slot, word: &[u8]) -> Result<Option<MadeSession>, 
         return Ok(None);
     };
     Ok(Some(MadeSession {
-        id: Text::copy(alloc, session.id)?,
-        described: Text::copied(alloc, slot.described())?,
+        parts: MadeParts {
+            id: Text::copy(alloc, session.id)?,
+            described: Text::copied(alloc, slot.described())?,
+        },
+        room: ClosingRoom::new(alloc)?,
     }))
 }
 

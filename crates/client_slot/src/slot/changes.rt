@@ -1,18 +1,19 @@
 //! What changes a connection.
 ghost use Rattle.std.specs.Prelude.{◌≡◌, ◌≤◌, ◌<◌, true, None, length, false, is_some, slice_get, slice_set, slice_index_or, option_map, IsSome, IfSome};
-ghost use Rattle.client_slot.specs.Bounds.{rooms_left};
+ghost use Rattle.client_slot.specs.Bounds.{rooms_left, rooms_with};
 ghost use Rattle.rtsp_head.specs.Shapes.{shape_of};
 ghost use Rattle.session_two.specs.Ends.{end_counts};
 ghost use Rattle.play_queue.specs.declared.queue.TheConstants.{MOST_PLAYS};
 ghost use Rattle.client_slot.specs.declared.limits.TheConstants.{LONGEST_URI, CLOSING_ROOM, MOST_WAITING};
 ghost use Rattle.session_one.specs.declared.parts.TheConstants.{MOST_TRACKS, MOST_SESSIONS};
+ghost use Rattle.client_slot.specs.NewSessions.{parts_made};
 ghost use Rattle.client_slot.specs.Purposes.{settled_as};
 
 use super::Slot;
 use crate::at_place::{end_at, next_at, queue_at, unqueue_all};
 use crate::closing_room::ClosingRoom;
 use crate::final_reply::{FinalReply, settle_sessions};
-use crate::new_session::MadeSession;
+use crate::new_session::{MadeParts, MadeSession};
 use crate::purpose::{Purpose, Settled};
 use crate::waiting_request::Waiting;
 use gate_bytes::Text;
@@ -96,6 +97,12 @@ impl Slot {
             unreachable!()
         };
         let settled = purpose.settled();
+        let (made, room) = apart(made);
+        put_room(
+            &mut self.rooms,
+            purpose.settled_place(&self.sessions, made.is_some()),
+            room,
+        );
         let reply = FinalReply { number, code, made };
         settle_sessions(&mut self.sessions, &mut self.described, purpose, reply);
         settled
@@ -134,6 +141,30 @@ impl Slot {
         };
         self.pending = Some(Purpose::Closing(place));
         Some(text)
+    }
+}
+
+/// The parts of a session that was made, and its room.
+fn apart(made: Option<MadeSession>) -> (Option<MadeParts>, Option<ClosingRoom>)
+    ensures parts { result.0 ≡ parts_made made }
+    ensures room { is_some result.1 ≡ is_some made }
+{
+    match made {
+        Some(MadeSession { parts, room }) => (Some(parts), Some(room)),
+        None => (None, None),
+    }
+}
+
+/// The room for the closing TEARDOWN of a session that was made is put in its place.
+fn put_room(rooms: &mut Vec<Option<ClosingRoom>>, place: Option<u8>, room: Option<ClosingRoom>)
+    requires { IfSome place (λ place. place < length rooms.old.items) }
+    ensures { rooms_left rooms.new.items
+        ≡ rooms_with place (is_some room) (rooms_left rooms.old.items) }
+{
+    if let Some(place) = place
+        && room.is_some()
+    {
+        rooms[usize::from(place)] = room;
     }
 }
 

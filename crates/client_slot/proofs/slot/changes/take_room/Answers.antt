@@ -7,5 +7,5 @@ use Rattle.client_slot.proofs.slot.changes.take_room.Goals as goal
 
 pub returns-clause-left : goal.returns-clause-left
 returns-clause-left c =
-    rooms_set c.args.rooms.now.items c.from.result c.take.new.self (ap (λ room. is_some room) c.take.ensures.after)
+    rooms_set c.args.rooms.now.items c.from.result c.take.new.self false (ap (λ room. is_some room) c.take.ensures.after)
     ∙ ap (λ place. slice_set (rooms_left c.args.rooms.now.items) place false) c.from.ensures
