@@ -49,7 +49,7 @@ use Rattle.upward_law.proofs.ReadLemmas.{AreWritten, one_written, none_written, 
 use Rattle.upward_law.proofs.SoundLemmas.{IsLoad, IsSoundUp, IsPairAt, IsWhole, sound_where, step_sound}
 
 -- The session of a notify has an id in the grammar, and a refusal has a code that can be told.
-abbrev IsTold : Result HeardNotice ℕ → Type 0
+abbrev pub IsTold : Result HeardNotice ℕ → Type 0
 IsTold (Ok notice) = is_session_id notice.id ≡ true
 IsTold (Err code) = (is_start (Status version_two code (unwrap_or (reason_of code) [])) ≡ true) × ((code == 200) ≡ false)
 
@@ -73,7 +73,7 @@ id_valid : (session : Option SessionParts) → IfSome session (λ one. is_sessio
 id_valid None valid = tt
 id_valid (Some one) valid = valid
 
-notice_told : (holder : List ℕ → Option ℕ) (request : Ask2) → IsTold (notice_of holder request)
+pub notice_told : (holder : List ℕ → Option ℕ) (request : Ask2) → IsTold (notice_of holder request)
 notice_told holder request = by (bytes_eq request.method (codes "PLAY_NOTIFY"))
   where
     valid : IfSome (session_named request) (λ id. is_session_id id ≡ true)
@@ -103,7 +103,7 @@ replied_none : (found : Result Reply2 TwoFault) (request : Ask2) → heard_reply
 replied_none (Ok reply) request e = cc
 replied_none (Err fault) request e = cc
 
-heard_small : (shape : Shape) (kind : ItemKind) (request : Ask2) → heard_at kind shape ≡ requests request → request.cseq < 10 ^ CSEQ_TWO_DIGITS
+pub heard_small : (shape : Shape) (kind : ItemKind) (request : Ask2) → heard_at kind shape ≡ requests request → request.cseq < 10 ^ CSEQ_TWO_DIGITS
 heard_small shape items.Request request e = asked_small shape (ask_of_item shape) request refl e
 heard_small shape items.Response request e = absurd (replied_none (reply_of_item shape) request e)
 heard_small shape items.Frame request e = cc

@@ -1,5 +1,7 @@
 mod EntryLemmas
 mod ItemLemmas
+mod NameLemmas
+mod OnceLemmas
 mod OpenLemmas
 mod OwnLemmas
 mod PlayLemmas

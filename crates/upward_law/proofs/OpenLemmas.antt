@@ -1,10 +1,12 @@
--- A request that the server is handed is the one that its connection has open then, and the books have it so.
+-- A request that the server is handed is the one that its connection has open then, the books have it so, and each of its headers
+-- stands once.
 use Rattle.std.proofs.Common.{◌≡◌, ◌∙◌, ℕ, suc, ◌+◌, ◌<◌, ◌^◌, ◌==◌, ◌&&◌, nat_lt, Bool, true, false, cond, List, [], ◌∷◌, ◌++◌, length, take, Option, Some, None, refl, sym, ap, subst, unwrap_or, arith}
 use Rattle.std.specs.Prelude.{codes, is_some}
 use Rattle.std.specs.Option.{option_and_then}
 use Rattle.std.specs.Str.{bytes_eq}
 use Rattle.std.proofs.lemmas.Bool.{eq-eqb, ltb-true}
 use Rattle.gate_bytes.specs.Ascii.{space}
+use Rattle.rtsp_head.specs.HeadParts as heads
 use Rattle.rtsp_head.specs.Headers.{field_of}
 use Rattle.rtsp_head.specs.Starts.{is_unspaced}
 use Rattle.rtsp_small.specs.Methods.{method_name}
@@ -12,8 +14,9 @@ use Rattle.rtsp_small.specs.declared.cseq.TheConstants.{CSEQ_TWO_DIGITS}
 use Rattle.rtsp_small.specs.declared.method.Method.TheVariants as methods
 use Rattle.rtsp_uri.specs.declared.base.Bases.{Bases}
 use Rattle.head_two.specs.declared.request.Request2.{Request2}
+use Rattle.head_two.specs.Messages.{version_two}
 use Rattle.head_two.specs.Requests.{request_text, Numbered, IsRequest}
-use Rattle.head_two.proofs.ReadLemmas.{request_read}
+use Rattle.head_two.proofs.ReadLemmas.{request_read, request_readable}
 use Rattle.client_slot.specs.declared.purpose.Purpose.{Purpose}
 use Rattle.client_machine.specs.Alone.{Private, effect_alone}
 use Rattle.client_machine.specs.Events.{Effect, Outgoing, asks, carries, PrivateEvent}
@@ -30,8 +33,10 @@ use Rattle.gateway_claim.specs.Turns.{client_alone}
 use Rattle.gateway_claim.proofs.AgreeLemmas.{alone, joined, IsStep, IsTurnStep, step_is, turn_step, effect_absent, effect_present, said_right, books_with, books_next, alone_next, alone_with, event_for, event_present}
 use Rattle.gateway_claim.proofs.CaseLemmas.{own_event, both_none, not_over}
 use Rattle.upward_law.specs.Due.{IsItemTaken}
+use Rattle.upward_law.specs.HeaderNames.{HasEachHeaderOnce}
 use Rattle.upward_law.specs.OpenRequest.{kind_read, IsOpenRequest}
 use Rattle.upward_law.proofs.EntryLemmas.{left_for, who_sound}
+use Rattle.upward_law.proofs.NameLemmas.{message_once, paired_differs}
 use Rattle.upward_law.proofs.PurposeLemmas.{MeantBy, step_for}
 use Rattle.upward_law.proofs.SoundLemmas.{IsSoundUp}
 use Rattle.upward_law.proofs.WordLemmas.{method_unspaced, spaced, method_first}
@@ -108,10 +113,15 @@ books_asked bases T e i text follows standing turns is =
     ∙ ap (λ (who : Option ℕ). books_with (books_of T) e.happening who (effect_of_turn bases T who e.happening).message (has_shut who (e ∷ T))) turns
     ∙ ap (λ (one : Option UpMessage). lends_where (Some i) (kind_of one (free_in (settled_by (books_of T) e.happening)) (has_shut (Some i) (e ∷ T))) (settled_by (books_of T) e.happening)) is
 
--- A request that goes up, by what is open.
+-- A request that goes up is the open one, and each of its headers stands once.
+record IsAskedSo (bases : Bases) (T : List HistoryEntry) (e : HistoryEntry) (text : List ℕ) : Type 0 where
+  opens : IsOpenRequest bases T e text
+  once : HasEachHeaderOnce text
+
+-- By what is open.
 asked_open : (bases : Bases) (T : List HistoryEntry) (e : HistoryEntry) (i : ℕ) (request : Request2) (named : Option ℕ) → IsHistory bases T → Follows bases T e → fault_in (e ∷ T) ≡ None → turn (books_of T) e.happening ≡ Some i
     → (effect_of_turn bases T (Some i) e.happening).message ≡ Some (asks request named)
-    → IsOpenRequest bases T e (request_text ((books_of T).issued + 1) (over_pair named (free_in (settled_by (books_of T) e.happening)) request))
+    → IsAskedSo bases T e (request_text ((books_of T).issued + 1) (over_pair named (free_in (settled_by (books_of T) e.happening)) request))
 asked_open bases T e i request named history follows standing turns is = by (client_alone bases (e ∷ T) i).pending refl meant
   where
     h : Happening
@@ -161,41 +171,50 @@ asked_open bases T e i request named history follows standing turns is = by (cli
         (turn_for bases T e i ((books_of (e ∷ T)).pair_of i) history standing turns (said_right bases T e follows standing))
 
     by : (pending : Option Purpose) → (client_alone bases (e ∷ T) i).pending ≡ pending → MeantBy free ((alone bases T i).count + 1) ((books_of (e ∷ T)).pair_of i) (client_alone bases (e ∷ T) i).sessions (Some (asks request named)) pending
-        → IsOpenRequest bases T e (request_text number up)
+        → IsAskedSo bases T e (request_text number up)
     by None here meant = absurd meant
     by (Some purpose) here meant = record {
-      asked = record { number = number; request = up };
-      read = request_read number up sound;
-      number = sym (ap (λ (books : Books). books.issued) lent);
-      conn = i;
-      turns = turns;
-      opened = ap (λ (books : Books). books.opened number) lent
-          ∙ lent_open settled i (kind_of_text (request_text number up) free shut)
-          ∙ ap (λ (kind : RequestKind). Some (record { conn = i; kind = kind })) (kind_told number up free shut sound);
-      purpose = purpose;
-      is_open = here;
-      says = meant.1 right;
+      opens = record {
+        asked = record { number = number; request = up };
+        read = request_read number up sound;
+        number = sym (ap (λ (books : Books). books.issued) lent);
+        conn = i;
+        turns = turns;
+        opened = ap (λ (books : Books). books.opened number) lent
+            ∙ lent_open settled i (kind_of_text (request_text number up) free shut)
+            ∙ ap (λ (kind : RequestKind). Some (record { conn = i; kind = kind })) (kind_told number up free shut sound);
+        purpose = purpose;
+        is_open = here;
+        says = meant.1 right;
+      };
+      once = message_once (heads.Request up.method up.uri version_two) number up.headers up.body (request_readable number up sound) (paired_differs named free request meant.0);
     }
 
 -- by the message
 message_open : (bases : Bases) (T : List HistoryEntry) (e : HistoryEntry) (i : ℕ) (text : List ℕ) (message : Option Outgoing) → IsHistory bases T → Follows bases T e → fault_in (e ∷ T) ≡ None → turn (books_of T) e.happening ≡ Some i
-    → (effect_of_turn bases T (Some i) e.happening).message ≡ message → message_due (books_of T) (settled_by (books_of T) e.happening) (Some i) message ≡ Some (Request text) → IsOpenRequest bases T e text
+    → (effect_of_turn bases T (Some i) e.happening).message ≡ message → message_due (books_of T) (settled_by (books_of T) e.happening) (Some i) message ≡ Some (Request text) → IsAskedSo bases T e text
 message_open bases T e i text None history follows standing turns is due = cc
 message_open bases T e i text (Some (carries pair half rest)) history follows standing turns is due = cc
 message_open bases T e i text (Some (asks request named)) history follows standing turns is due =
     let same : request_text ((books_of T).issued + 1) (over_pair named (free_in (settled_by (books_of T) e.happening)) request) ≡ text = cc in
-    subst (λ (one : List ℕ). IsOpenRequest bases T e one) same (asked_open bases T e i request named history follows standing turns is)
+    subst (λ (one : List ℕ). IsAskedSo bases T e one) same (asked_open bases T e i request named history follows standing turns is)
 
 -- by whose turn it is, and by whether the connection to the server stands
 who_open : (bases : Bases) (T : List HistoryEntry) (e : HistoryEntry) (text : List ℕ) (who : Option ℕ) → IsHistory bases T → Follows bases T e → fault_in (e ∷ T) ≡ None → turn (books_of T) e.happening ≡ who
-    → message_due (books_of T) (settled_by (books_of T) e.happening) who (effect_of_turn bases T who e.happening).message ≡ Some (Request text) → IsOpenRequest bases T e text
+    → message_due (books_of T) (settled_by (books_of T) e.happening) who (effect_of_turn bases T who e.happening).message ≡ Some (Request text) → IsAskedSo bases T e text
 who_open bases T e text None history follows standing turns due = cc
 who_open bases T e text (Some i) history follows standing turns due = message_open bases T e i text (effect_of_turn bases T (Some i) e.happening).message history follows standing turns refl due
 
 entry_open : (bases : Bases) (T : List HistoryEntry) (e : HistoryEntry) (text : List ℕ) (fault : Option UpCause) → IsHistory bases T → Follows bases T e → fault_in (e ∷ T) ≡ fault
-    → (cond (is_some fault) nothing_up (up_due bases T e.happening)).message ≡ Some (Request text) → IsOpenRequest bases T e text
+    → (cond (is_some fault) nothing_up (up_due bases T e.happening)).message ≡ Some (Request text) → IsAskedSo bases T e text
 entry_open bases T e text (Some cause) history follows is due = cc
 entry_open bases T e text None history follows is due = who_open bases T e text (turn (books_of T) e.happening) history follows is refl due
 
+request_asked : (bases : Bases) (T : List HistoryEntry) (e : HistoryEntry) (text : List ℕ) → IsHistory bases T → Follows bases T e → e.outcome.to_up.message ≡ Some (Request text) → IsAskedSo bases T e text
+request_asked bases T e text history follows due = entry_open bases T e text (fault_in (e ∷ T)) history follows refl (ap (λ (up : ToUp). up.message) (sym follows.spelled) ∙ due)
+
 pub open_request : (bases : Bases) (T : List HistoryEntry) (e : HistoryEntry) (text : List ℕ) → IsHistory bases T → Follows bases T e → e.outcome.to_up.message ≡ Some (Request text) → IsOpenRequest bases T e text
-open_request bases T e text history follows due = entry_open bases T e text (fault_in (e ∷ T)) history follows refl (ap (λ (up : ToUp). up.message) (sym follows.spelled) ∙ due)
+open_request bases T e text history follows due = (request_asked bases T e text history follows due).opens
+
+pub request_once : (bases : Bases) (T : List HistoryEntry) (e : HistoryEntry) (text : List ℕ) → IsHistory bases T → Follows bases T e → e.outcome.to_up.message ≡ Some (Request text) → HasEachHeaderOnce text
+request_once bases T e text history follows due = (request_asked bases T e text history follows due).once

@@ -125,7 +125,7 @@ IsBare (Some (carries pair half rest)) = Unit {0}
 bare_by : (free : Option ℕ) (next : ℕ) (pairs : ℕ → ℕ) (sessions : List PlayerSession) (message : Option Outgoing) (new : Option Purpose) → MeantBy free next pairs sessions message new → IsBare message
 bare_by free next pairs sessions None new is = tt
 bare_by free next pairs sessions (Some (asks request named)) None is = absurd is
-bare_by free next pairs sessions (Some (asks request named)) (Some purpose) is = is.0
+bare_by free next pairs sessions (Some (asks request named)) (Some purpose) is = is.0.0
 bare_by free next pairs sessions (Some (carries pair half rest)) new is = tt
 
 -- What is read, in own numbers.

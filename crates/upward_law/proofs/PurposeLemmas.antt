@@ -8,7 +8,7 @@ use Rattle.gate_bytes.specs.Tokens.{equal_fold}
 use Rattle.rtsp_head.specs.declared.header.Header.{Header}
 use Rattle.rtsp_head.specs.Headers.{field_of}
 use Rattle.rtsp_head.specs.Items.{Shape}
-use Rattle.rtsp_head.specs.Optional.{said_where}
+use Rattle.rtsp_head.specs.Optional.{said_where, Field, field_headers}
 use Rattle.rtsp_head.proofs.FieldLemmas.{field_told, names_hold}
 use Rattle.rtsp_small.specs.Methods.{method_name}
 use Rattle.rtsp_small.specs.declared.method.Method.TheVariants as methods
@@ -50,10 +50,11 @@ use Rattle.client_machine.proofs.WayLemmas.{going_as}
 use Rattle.gateway_claim.proofs.CaseLemmas.{pair_where}
 use Rattle.gateway_claim.proofs.TurnLemmas.{same_where}
 use Rattle.upward_law.specs.OpenRequest.{IsAskOf, IsRequestFor}
+use Rattle.upward_law.proofs.NameLemmas.{AreBare, fields_differ, field_names_differ}
 
--- What goes up has the URI that is kept of it, names its session, and has no channels yet.
+-- What goes up has the URI that is kept of it, names its session, and has no channels yet; and each of its headers stands once.
 abbrev IsAskAt : Option (List ℕ) → Request2 → Asked → Type 0
-IsAskAt id request asked = (request.uri ≡ asked.uri) × (field_of request.headers (codes "Session") ≡ said_where asked.named id) × (list_all is_other request.headers ≡ true)
+IsAskAt id request asked = (request.uri ≡ asked.uri) × (field_of request.headers (codes "Session") ≡ said_where asked.named id) × AreBare request.headers
 
 abbrev AsksAs : Judged → Decision → Type 0
 AsksAs judged (Answer text) = Unit {0}
@@ -68,8 +69,11 @@ up_session judged request said uri range = field_told (codes "Session") (fields_
     first None = refl
     first (Some id) = refl
 
-up_bare : (judged : Judged) (request : Request1) (said : Said) (uri : List ℕ) (range : Option Range) → list_all is_other (request_up judged request said uri range).headers ≡ true
-up_bare judged request said uri range = names_hold is_other (λ name. not (equal_fold name (codes "Transport"))) (λ header other. other) (fields_up judged request said range) refl
+fields_bare : (fields : List Field) → list_all (λ field. not (equal_fold field.name (codes "Transport"))) fields ≡ true → fields_differ fields ≡ true → AreBare (field_headers fields)
+fields_bare fields other differ = (names_hold is_other (λ name. not (equal_fold name (codes "Transport"))) (λ header other. other) fields other, field_names_differ fields differ)
+
+up_bare : (judged : Judged) (request : Request1) (said : Said) (uri : List ℕ) (range : Option Range) → AreBare (request_up judged request said uri range).headers
+up_bare judged request said uri range = fields_bare (fields_up judged request said range) refl refl
 
 play_asks : (state : State) (judged : Judged) (request : Request1) (said : Said) (uri : List ℕ) (range : Option Range) → AsksAs judged (play_in state judged request said uri range)
 play_asks Init judged request said uri range = (refl, (refl, up_session judged request said uri range, up_bare judged request said uri range))
@@ -158,7 +162,7 @@ session_kept pair (header ∷ headers) = by (bytes_eq header.name (codes "Accept
 abbrev IsFor : Option ℕ → ℕ → (ℕ → ℕ) → List PlayerSession → Request2 → Option ℕ → Option Purpose → Type 0
 IsFor free own pairs sessions request named None = ⊥
 IsFor free own pairs sessions request named (Some purpose) =
-    (list_all is_other request.headers ≡ true)
+    AreBare request.headers
     × (((p : ℕ) → free ≡ Some p → (over_pair named free request).method ≡ method_name methods.Setup → pairs own ≡ p) → IsRequestFor pairs sessions purpose (over_pair named free request))
 
 abbrev pub MeantBy : Option ℕ → ℕ → (ℕ → ℕ) → List PlayerSession → Option Outgoing → Option Purpose → Type 0
@@ -203,7 +207,7 @@ going_for : (bases : Bases) (free : Option ℕ) (own : ℕ) (pairs : ℕ → ℕ
 going_for bases free own pairs next client = going_as (λ effect. MeantBy free own pairs effect.client.sessions effect.message effect.client.pending) bases (pair_where free own) next client (record {
   still = tt;
   released = λ place play idle due is. (
-    names_hold is_other (λ name. not (equal_fold name (codes "Transport"))) (λ header other. other) (play_fields_up (session_at place client.sessions).id play) refl,
+    fields_bare (play_fields_up (session_at place client.sessions).id play) refl refl,
     λ right. unpaired free (play_up (session_at place client.sessions).id play)
         ∙ ap (λ (id : Option (List ℕ)). play_up id play) (sym (same_at place client.sessions _ (changed_same place when_next client.sessions (λ session. record { id = refl; tracks = refl }))).id),
   );
@@ -212,7 +216,7 @@ going_for bases free own pairs next client = going_as (λ effect. MeantBy free o
       let left : Client = record client { waiting = done.left } in
       goes_for free own pairs done.going done.hand client (after_plays done.plays left) (treated_in client.waiting (given bases (is_none (pair_where free own)) client)) (plays_steady done.plays left).sessions;
   left = λ place id idle dead filled is. (
-    refl,
+    (refl, refl),
     λ right. ap (option_map (closing_request (session_at place client.sessions).control)) is
         ∙ ap (λ (one : Request2). Some one) (sym (unpaired free (closing_request (session_at place client.sessions).control id))),
   );

@@ -89,7 +89,7 @@ readable code cseq fields first short few sound own = record {
   short = omega arith;
 }
 
-answer_fits : (code cseq : ℕ) (session : Option (List ℕ)) → is_start (Status version_two code (unwrap_or (reason_of code) [])) ≡ true → cseq < 10 ^ CSEQ_TWO_DIGITS → IfSome session (λ id. is_value id ≡ true)
+pub answer_fits : (code cseq : ℕ) (session : Option (List ℕ)) → is_start (Status version_two code (unwrap_or (reason_of code) [])) ≡ true → cseq < 10 ^ CSEQ_TWO_DIGITS → IfSome session (λ id. is_value id ≡ true)
     → IsReadable (Status version_two code (unwrap_or (reason_of code) [])) (Some cseq) (answer_headers code session) []
 answer_fits code cseq session first short value = by (code == 200) session value
   where

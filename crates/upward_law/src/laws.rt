@@ -7,6 +7,7 @@ ghost use Rattle.gateway_claim.specs.declared.event.UpMessage.TheVariants.{Reque
 ghost use Rattle.gateway_claim.specs.Happenings.{HistoryEntry, happening_of};
 ghost use Rattle.gateway_claim.specs.Follows.{IsHistory, Follows};
 ghost use Rattle.gateway_claim.specs.OwnEvents.{own};
+ghost use Rattle.upward_law.specs.HeaderNames.{HasEachHeaderOnce};
 ghost use Rattle.upward_law.specs.ServerStream.{ServerRead, AreRead};
 ghost use Rattle.upward_law.specs.OpenRequest.{IsOpenRequest};
 ghost use Rattle.upward_law.specs.OwnForm.{read_alone, AreReadFor};
@@ -52,6 +53,23 @@ pub fn a_request_that_goes_up_is_the_open_one()
         → Follows bases earlier entry
         → entry.outcome.to_up.message ≡ Some (Request text)
         → IsOpenRequest bases earlier entry text }
+{}
+
+/// Each request that the server is handed, and the answer to its own, is one message in which no two
+/// headers have one name, without ASCII case; the number and the length of the body are among them. So
+/// the server goes by the one CSeq, Session, Range, Scale, Transport or Content-Length that was meant,
+/// whichever of a name it takes, also in a PLAY that waited and in the TEARDOWN of a connection that
+/// closed.
+pub fn each_header_that_goes_up_stands_once()
+    ensures request { (bases : Bases) (earlier : List HistoryEntry) (entry : HistoryEntry) (text : List ℕ)
+        → IsHistory bases earlier
+        → Follows bases earlier entry
+        → entry.outcome.to_up.message ≡ Some (Request text)
+        → HasEachHeaderOnce text }
+    ensures answer { (bases : Bases) (earlier : List HistoryEntry) (entry : HistoryEntry) (text : List ℕ)
+        → Follows bases earlier entry
+        → entry.outcome.to_up.answer ≡ Some text
+        → HasEachHeaderOnce text }
 {}
 
 /// What is read of the bytes that the server is handed in the turns of a connection is, in that
