@@ -3,3 +3,4 @@ pub mod AlikeLemmas
 pub mod BookLemmas
 pub mod LoneLemmas
 pub mod RecordRunLemmas
+pub mod UpRecordLemmas

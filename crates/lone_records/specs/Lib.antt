@@ -1,1 +1,2 @@
 pub mod LoneGateway
+pub mod UpRecords
