@@ -11,3 +11,8 @@ pub mod AddressLemmas
 pub mod OneTextLemmas
 pub mod UpstreamLemmas
 pub mod EnterLemmas
+pub mod FramerCountLemmas
+pub mod HearLemmas
+pub mod ScriptLemmas
+pub mod RequestCountLemmas
+pub mod LimitLemmas

@@ -8,6 +8,7 @@ use Rattle.drill_run.specs.declared.stage.DrillStage.{DrillStage}
 use Rattle.drill_run.specs.CountSteps.{counts_of}
 use Rattle.drill_run.specs.Stages.{IsStage}
 use Rattle.drill_run.specs.Turns.{entered_below, started, begins, goes_on}
+use Rattle.drill_run.proofs.OneDrillLemmas.{turn_turns}
 use Rattle.drill_run.specs.Plays.{Drills, Plays, TurnMade, HasRun, HasPlayedOut}
 use Rattle.run_status.specs.declared.status.Status.{Status}
 use Rattle.run_status.specs.declared.status.Status.TheVariants.{Done, Usage, SourceFault, SinkFault, BadTranscript, TooLong, Memory, Upstream, ListenFault, RecordFault, CrewRefused, AcceptFault, DialFault, NumbersSpent}
@@ -24,24 +25,27 @@ pub new_to : (stands : List HistoryEntry → Type 0) (n : ℕ) → stands (enter
 new_to stands n stood = record { history = entered_below n; stood = stood; never = never_entered n n (omega arith) }
 
 -- one turn more
-pub run_more : (players number : ℕ) (before now : Drills) → HasRun players number before → TurnMade true before now → HasRun players number now
-run_more players number before now run made =
+pub run_more : (least players number : ℕ) (before now : Drills) → HasRun least players number before → TurnMade true before now → HasRun (least + 1) players number now
+run_more least players number before now run made =
     let next = made run.drilled run.stands in
-    record { drilled = next.next; ran = goes_on run.drilled next.next run.ran next.turn; stands = next.stands }
+    let turns = turn_turns run.drilled next.next next.turn in
+    let many = run.many in
+    record { drilled = next.next; ran = goes_on run.drilled next.next run.ran next.turn; many = omega (arith, turns, many); stands = next.stands }
 
 -- no turn is left
-pub run_ended : (players number : ℕ) (before now : Drills) → HasRun players number before → TurnMade false before now → HasPlayedOut players number now
-run_ended players number before now run made =
+pub run_ended : (least players number : ℕ) (before now : Drills) → HasRun least players number before → TurnMade false before now → HasPlayedOut players number now
+run_ended least players number before now run made =
     let ended = made run.drilled run.stands in
     record { drilled = run.drilled; ran = run.ran; ended = ended.0; stands = ended.1 }
 
 -- the beginning
 pub run_begins : {M : Type 0} (stands : M → List HistoryEntry → Type 0) (bases_of : M → Bases) (core : M) (stage : DrillStage) (between : Bases) (players number : ℕ)
     → stands core (entered_below players) → bases_of core ≡ between → IsStage stage (started players number)
-    → HasRun players number (Plays stands bases_of core stage between)
+    → HasRun 0 players number (Plays stands bases_of core stage between)
 run_begins stands bases_of core stage between players number stood based staged = record {
   drilled = started players number;
   ran = begins;
+  many = omega arith;
   stands = record { stood = stood; based = based; staged = staged };
 }
 

@@ -21,7 +21,7 @@ use Rattle.drill_run.specs.declared.turn.Who.TheVariants.{Client, Server}
 use Rattle.drill_run.specs.Steps.{step_after}
 use Rattle.drill_run.specs.Players.{new_player, is_ready_player, is_response_kind, heard_kind, heard_player, player_at, handed_players, stepped_by, stepped_player}
 use Rattle.drill_run.specs.Turns.{Drilled, DrillRun, begins, goes_on, Turn, ready_one, ready_from, server_ready, candidates_among, candidates, chosen, after_draw, after_saying, after_entry, after_entries, fed_answer, fed_message, fed_up}
-use Rattle.drill_run.specs.TurnCounts.{steps_before, steps_taken, requests_heard}
+use Rattle.drill_run.specs.TurnCounts.{steps_before, over_players, steps_taken, requests_heard}
 
 -- A step is one more.
 step_more : (step : PlayerStep) → steps_before (step_after step) ≡ steps_before (Some step) + 1
@@ -50,22 +50,22 @@ pub few_steps : (players : List Player) → steps_taken players ≤ 8 * length p
 few_steps [] = omega arith
 few_steps (player ∷ players) = omega (arith, most_steps player.next, few_steps players)
 
--- nobody took a step yet
-no_steps : (n : ℕ) → steps_taken (replicate n new_player) ≡ 0
-no_steps zero = refl
-no_steps (suc n) = let rest = no_steps n in omega (arith, rest)
+-- Nobody took a step yet: a count that begins with nothing is nothing.
+pub over_none : (count : Option PlayerStep → ℕ) (n : ℕ) → count (Some steps.Options) ≡ 0 → over_players count (replicate n new_player) ≡ 0
+over_none count zero none = refl
+over_none count (suc n) none = let rest = over_none count n none in omega (arith, none, rest)
 
 -- one of the players is another then
-steps_set : (players : List Player) (i : ℕ) (player : Player) → i < length players → steps_taken (slice_set players i player) + steps_before (player_at i players).next ≡ steps_taken players + steps_before player.next
-steps_set [] i player within = absurd (omega (arith, within))
-steps_set (first ∷ players) zero player within = omega arith
-steps_set (first ∷ players) (suc i) player within = let rest = steps_set players i player (omega (arith, within)) in omega (arith, rest)
+pub over_set : (count : Option PlayerStep → ℕ) (players : List Player) (i : ℕ) (player : Player) → i < length players → over_players count (slice_set players i player) + count (player_at i players).next ≡ over_players count players + count player.next
+over_set count [] i player within = absurd (omega (arith, within))
+over_set count (first ∷ players) zero player within = omega arith
+over_set count (first ∷ players) (suc i) player within = let rest = over_set count players i player (omega (arith, within)) in omega (arith, rest)
 
--- one that took as many steps
-steps_kept : (players : List Player) (i : ℕ) (player : Player) → steps_before player.next ≡ steps_before (player_at i players).next → steps_taken (slice_set players i player) ≡ steps_taken players
-steps_kept [] i player same = refl
-steps_kept (first ∷ players) zero player same = ap (λ n. n + steps_taken players) same
-steps_kept (first ∷ players) (suc i) player same = ap (λ n. steps_before first.next + n) (steps_kept players i player same)
+-- one whose step is the same
+over_kept : (count : Option PlayerStep → ℕ) (players : List Player) (i : ℕ) (player : Player) → count player.next ≡ count (player_at i players).next → over_players count (slice_set players i player) ≡ over_players count players
+over_kept count [] i player same = refl
+over_kept count (first ∷ players) zero player same = ap (λ n. n + over_players count players) same
+over_kept count (first ∷ players) (suc i) player same = ap (λ n. count first.next + n) (over_kept count players i player same)
 
 -- What a player hears is no step.
 kind_next : (reply : Bool) (player : Player) (shape : Shape) → (heard_kind reply player shape).next ≡ player.next
@@ -76,10 +76,10 @@ heard_next : (player : Player) (items : List Shape) → (heard_player player ite
 heard_next player [] = refl
 heard_next player (shape ∷ items) = heard_next (heard_kind (is_response_kind shape.kind) player shape) items ∙ kind_next (is_response_kind shape.kind) player shape
 
-handed_steps : (piece : Option ToClient) (players : List Player) → steps_taken (handed_players piece players) ≡ steps_taken players
-handed_steps None players = refl
-handed_steps (Some piece) players =
-    steps_kept players piece.conn (heard_player (player_at piece.conn players) (items_of piece.bytes)) (ap steps_before (heard_next (player_at piece.conn players) (items_of piece.bytes)))
+pub handed_over : (count : Option PlayerStep → ℕ) (piece : Option ToClient) (players : List Player) → over_players count (handed_players piece players) ≡ over_players count players
+handed_over count None players = refl
+handed_over count (Some piece) players =
+    over_kept count players piece.conn (heard_player (player_at piece.conn players) (items_of piece.bytes)) (ap count (heard_next (player_at piece.conn players) (items_of piece.bytes)))
 
 handed_length : (piece : Option ToClient) (players : List Player) → length (handed_players piece players) ≡ length players
 handed_length None players = refl
@@ -123,14 +123,14 @@ hears_up up serving =
     omega (arith, first, second)
 
 -- Every turn is a step of a player, or answers a request.
-record IsCounted (players : ℕ) (drilled : Drilled) : Type 0 where
-  turns : drilled.turns + length drilled.server.waiting ≡ steps_taken drilled.players + requests_heard drilled.server
-  many : length drilled.players ≡ players
+pub record IsCounted (players : ℕ) (drilled : Drilled) : Type 0 where
+  pub turns : drilled.turns + length drilled.server.waiting ≡ steps_taken drilled.players + requests_heard drilled.server
+  pub many : length drilled.players ≡ players
 
 entry_counted : (players : ℕ) (drilled : Drilled) (entry : HistoryEntry) → IsCounted players drilled → IsCounted players (after_entry drilled entry)
 entry_counted players drilled entry is = record {
   turns =
-      let same = handed_steps entry.outcome.to_client drilled.players in
+      let same = handed_over steps_before entry.outcome.to_client drilled.players in
       let hears = hears_up entry.outcome.to_up drilled.server in
       let counted = is.turns in
       omega (arith, same, hears, counted);
@@ -142,7 +142,7 @@ entries_counted players [] drilled is = is
 entries_counted players (e ∷ more) drilled is = entry_counted players (after_entries more drilled) e (entries_counted players more drilled is)
 
 -- Who may take a turn: a player that is ready, where the first of these has a number, or the server that a request waits for.
-abbrev MayTake : ℕ → List Player → List Shape → Who → Type 0
+abbrev pub MayTake : ℕ → List Player → List Shape → Who → Type 0
 MayTake first players waiting (Client i) = (first ≤ i) × (i - first < length players) × (is_ready_player (player_at (i - first) players) ≡ true)
 MayTake first players waiting Server = 0 < length waiting
 
@@ -184,12 +184,12 @@ may_all first (player ∷ players) waiting =
     (sym (append_assoc (ready_one first player) (ready_from (first + 1) players) (server_ready waiting)))
     (may_one first player players waiting (ready_from (first + 1) players ++ server_ready waiting) (is_ready_player player) refl (may_all (first + 1) players waiting))
 
-chosen_may : (drilled : Drilled) (who : Who) → chosen drilled ≡ Some who → MayTake 0 drilled.players drilled.server.waiting who
+pub chosen_may : (drilled : Drilled) (who : Who) → chosen drilled ≡ Some who → MayTake 0 drilled.players drilled.server.waiting who
 chosen_may drilled who drawn =
     may_all 0 drilled.players drilled.server.waiting (drawn_below (next_draw drilled.draw) (length (candidates drilled))) who drawn
 
 -- with no number before
-client_may : (players : List Player) (waiting : List Shape) (i : ℕ) → MayTake 0 players waiting (Client i) → (i < length players) × (is_ready_player (player_at i players) ≡ true)
+pub client_may : (players : List Player) (waiting : List Shape) (i : ℕ) → MayTake 0 players waiting (Client i) → (i < length players) × (is_ready_player (player_at i players) ≡ true)
 client_may players waiting i may =
     let same : i - 0 ≡ i = omega arith in
     subst (λ n. (n < length players) × (is_ready_player (player_at n players) ≡ true)) same (may.1, may.2)
@@ -205,7 +205,7 @@ said_counted players drilled (Client i) may is = record {
   turns =
       let player = player_at i drilled.players in
       let ready = client_may drilled.players drilled.server.waiting i may in
-      let set = steps_set drilled.players i (stepped_player player) ready.0 in
+      let set = over_set steps_before drilled.players i (stepped_player player) ready.0 in
       let more = stepped_more player player.next refl ready.1 in
       let counted = is.turns in
       omega (arith, set, more, counted);
@@ -225,8 +225,8 @@ turn_counted players drilled next turn is =
     subst (IsCounted players) (sym turn.after)
     (entries_counted players turn.more (after_saying turn.who (after_draw drilled)) (said_counted players drilled turn.who (chosen_may drilled turn.who turn.drawn) is))
 
-run_counted : (players number : ℕ) (drilled : Drilled) → DrillRun players number drilled → IsCounted players drilled
-run_counted players number drilled begins = record { turns = sym (ap (λ n. n + 0) (no_steps players)); many = length-replicate players new_player }
+pub run_counted : (players number : ℕ) (drilled : Drilled) → DrillRun players number drilled → IsCounted players drilled
+run_counted players number drilled begins = record { turns = sym (ap (λ n. n + 0) (over_none steps_before players refl)); many = length-replicate players new_player }
 run_counted players number drilled (goes_on before next ran turn) = turn_counted players before next turn (run_counted players number before ran)
 
 pub turns_counted : (players number : ℕ) (drilled : Drilled) → DrillRun players number drilled → drilled.turns + length drilled.server.waiting ≡ steps_taken drilled.players + requests_heard drilled.server

@@ -1,11 +1,12 @@
 -- A core that a drill plays on (this project's own).
-use Rattle.std.specs.Prelude.{◌≡◌, ℕ, Bool, true, false, List, [], ◌++◌, map}
+use Rattle.std.specs.Prelude.{◌≡◌, ℕ, ◌+◌, ◌*◌, ◌≤◌, Bool, true, false, List, [], ◌++◌, map}
 use Rattle.rtsp_head.specs.Items.{Shape}
 use Rattle.rtsp_uri.specs.declared.base.Bases.{Bases}
 use Rattle.gateway_claim.specs.Happenings.{Happening, takes, hears, HistoryEntry, happened}
 use Rattle.drill_run.specs.declared.stage.DrillStage.{DrillStage}
 use Rattle.drill_run.specs.declared.turn.Who.{Who}
 use Rattle.drill_run.specs.declared.turn.Who.TheVariants.{Client, Server}
+use Rattle.drill_run.specs.declared.whole_drill.TheConstants.{MOST_PLAYER_TURNS}
 use Rattle.drill_run.specs.Stages.{IsStage}
 use Rattle.drill_run.specs.Turns.{Drilled, candidates, after_saying, after_entries, turn_told, Turn, DrillRun}
 
@@ -53,10 +54,11 @@ abbrev pub TurnMade : Bool → Drills → Drills → Type 0
 TurnMade true before now = (drilled : Drilled) → before drilled → NextTurn now drilled
 TurnMade false before now = (drilled : Drilled) → before drilled → (candidates drilled ≡ []) × now drilled
 
--- a part of a drill was played
-pub record HasRun (players number : ℕ) (now : Drills) : Type 0 where
+-- a part of a drill was played, of at least so many turns
+pub record HasRun (least players number : ℕ) (now : Drills) : Type 0 where
   pub drilled : Drilled
   pub ran : DrillRun players number drilled
+  pub many : least ≤ drilled.turns
   pub stands : now drilled
 
 -- all of it
@@ -65,6 +67,11 @@ pub record HasPlayedOut (players number : ℕ) (now : Drills) : Type 0 where
   pub ran : DrillRun players number drilled
   pub ended : candidates drilled ≡ []
   pub stands : now drilled
+
+-- A drill was played out; or it had more turns than the most for each player, and was left.
+abbrev pub HasRunOn : Bool → ℕ → ℕ → Drills → Type 0
+HasRunOn true players number now = HasPlayedOut players number now
+HasRunOn false players number now = HasRun (MOST_PLAYER_TURNS * players + 1) players number now
 
 -- the first of these items were taken, and the others are left
 pub record DrivesFirst (before now : Drills) (who : Who) (items left : List Shape) : Type 0 where

@@ -18,10 +18,30 @@ steps_before (Some Teardown) = 6
 steps_before (Some End) = 7
 steps_before None = 8
 
+-- how many requests come before a step; seven before the end
+abbrev pub requests_before : Option PlayerStep → ℕ
+requests_before (Some Options) = 0
+requests_before (Some Describe) = 1
+requests_before (Some SetupFirst) = 2
+requests_before (Some SetupSecond) = 3
+requests_before (Some Play) = 4
+requests_before (Some Frame) = 6
+requests_before (Some Teardown) = 6
+requests_before (Some End) = 7
+requests_before None = 7
+
+-- the sum of a count over these players, each by its next step
+abbrev pub over_players : (Option PlayerStep → ℕ) → List Player → ℕ
+over_players count [] = 0
+over_players count (player ∷ players) = count player.next + over_players count players
+
 -- how many steps these players took, in all
 abbrev pub steps_taken : List Player → ℕ
-steps_taken [] = 0
-steps_taken (player ∷ players) = steps_before player.next + steps_taken players
+steps_taken players = over_players steps_before players
+
+-- how many requests these players sent, in all
+abbrev pub requests_sent : List Player → ℕ
+requests_sent players = over_players requests_before players
 
 -- how many requests came to the server
 abbrev pub requests_heard : Serving → ℕ

@@ -1,12 +1,17 @@
 //! Laws over the definitions of a drill. Each holds by its contract alone: no call is made.
-ghost use Rattle.std.specs.Prelude.{◌≡◌, ◌+◌, ◌*◌, ◌≤◌, ℕ, Option, List, [], length};
+ghost use Rattle.std.specs.Prelude.{◌≡◌, ◌+◌, ◌*◌, ◌^◌, ◌≤◌, ◌<◌, ℕ, false, Option, List, [], length};
 ghost use Rattle.gate_outside.specs.Causes.{Rose};
 ghost use Rattle.rtsp_uri.specs.declared.base.Bases.{Bases};
 ghost use Rattle.session_one.specs.declared.parts.TheConstants.{MOST_SESSIONS};
 ghost use Rattle.gateway_claim.specs.Cores.{IsCoreHistory};
+ghost use Rattle.gateway_mux.specs.declared.mux.Mux.{Mux};
+ghost use Rattle.gateway_mux.specs.Stands.{Stands, bases_of};
 ghost use Rattle.run_status.specs.declared.status.Status.{Status};
 ghost use Rattle.run_status.specs.declared.status.Status.TheVariants.{Done, SinkFault};
-ghost use Rattle.drill_run.specs.Reports.{TellsDrill, DrillSays, EndsDrill, IsDrilledHistory};
+ghost use Rattle.drill_run.specs.declared.stage.DrillStage.{DrillStage};
+ghost use Rattle.drill_run.specs.declared.whole_drill.TheConstants.{MOST_PLAYER_TURNS};
+ghost use Rattle.drill_run.specs.Plays.{Plays, HasRunOn};
+ghost use Rattle.drill_run.specs.Reports.{TellsDrill, DrillSays, EndsDrill, IsDrilledHistory, drilled_front, drilled_up};
 ghost use Rattle.drill_run.specs.Turns.{Drilled, DrillRun, candidates};
 ghost use Rattle.drill_run.specs.CountSteps.{counts_of};
 ghost use Rattle.drill_run.specs.TurnCounts.{steps_taken, requests_heard};
@@ -68,4 +73,36 @@ pub fn the_server_is_asked_little_more_than_players_ask()
     ensures { (players number : ℕ) (drilled : Drilled) → DrillRun players number drilled
         → IsDrilledHistory drilled.history
         → (counts_of drilled.history).upstream ≤ (counts_of drilled.history).requests + MOST_SESSIONS * players }
+{}
+
+/// A player of a drill asks seven times at most, whatever core it plays on. This is a count that the
+/// drill prints.
+pub fn a_player_asks_at_most_seven_times()
+    ensures { (players number : ℕ) (drilled : Drilled) → players < 2 ^ 32
+        → DrillRun players number drilled
+        → (counts_of drilled.history).requests ≤ 7 * players }
+{}
+
+/// The server of a drill is asked no more than goes up of the multiplexer, as the drill counts it.
+pub fn the_server_hears_no_more_than_goes_up()
+    ensures { (players number : ℕ) (drilled : Drilled) → DrillRun players number drilled
+        → IsDrilledHistory drilled.history
+        → requests_heard drilled.server ≤ (counts_of drilled.history).upstream }
+{}
+
+/// A drill of the multiplexer has at most 19 turns for each of its players: eight steps, and answers to
+/// seven requests and to the TEARDOWNs of four sessions. So [`crate::drill`] never meets its limit of
+/// turns: what is so of a drill that was left there, of whatever core, is not so of a multiplexer
+/// between the drill's addresses.
+pub fn no_drill_meets_the_limit_of_turns()
+    ensures turns { (players number : ℕ) (drilled : Drilled) → players < 2 ^ 32
+        → DrillRun players number drilled
+        → IsDrilledHistory drilled.history
+        → drilled.turns ≤ MOST_PLAYER_TURNS * players }
+    ensures limit { (players number : ℕ) (mux : Mux) (stage : DrillStage) (between : Bases)
+        → players < 2 ^ 32
+        → between.front.text ≡ drilled_front
+        → between.up.text ≡ drilled_up
+        → HasRunOn false players number (Plays Stands bases_of mux stage between)
+        → ⊥ }
 {}

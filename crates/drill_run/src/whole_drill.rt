@@ -1,11 +1,11 @@
 //! A whole drill.
-ghost use Rattle.std.specs.Prelude.{◌≡◌, ℕ, ◌≤◌, ◌<◌, [], IfOk, OnOk};
+ghost use Rattle.std.specs.Prelude.{◌≡◌, ℕ, ◌+◌, ◌*◌, ◌≤◌, ◌<◌, [], IfOk, OnOk};
 ghost use Rattle.gate_outside.specs.Causes.{Rose};
 ghost use Rattle.rtsp_uri.specs.declared.base.Bases.{Bases};
 ghost use Rattle.gateway_claim.specs.Cores.{IsCoreHistory};
 ghost use Rattle.run_status.specs.declared.status.Status.TheVariants.{SinkFault};
 ghost use Rattle.drill_run.specs.Turns.{entered_below};
-ghost use Rattle.drill_run.specs.Plays.{Plays, HasRun, HasPlayedOut};
+ghost use Rattle.drill_run.specs.Plays.{Plays, HasRun, HasRunOn};
 ghost use Rattle.drill_run.specs.Reports.{TellsDrill, DrillSays};
 
 use crate::drill_core::Drill;
@@ -17,9 +17,10 @@ use gateway_claim::Core;
 use run_status::Status;
 use std::alloc::Global;
 
-/// The most turns of a drill. A player of this gateway needs 14, its own and the server's, so that 64 of them need 896;
-/// a drill that had so many turns as these would end for want of memory.
-pub const MOST_TURNS: u32 = 1_000_000;
+/// The most turns of a drill for each of its players: eight steps, and the server's answers to seven requests and to the
+/// TEARDOWNs of four sessions. No drill of the multiplexer has more; one of another core, which asks more, would end for
+/// want of memory.
+pub const MOST_PLAYER_TURNS: u64 = 19;
 
 /// So many connections enter, by rising number.
 fn enter_all<M: Core>(alloc: Global, core: &mut M, count: u32) -> Result<(), Memory>
@@ -33,19 +34,26 @@ fn enter_all<M: Core>(alloc: Global, core: &mut M, count: u32) -> Result<(), Mem
     Ok(())
 }
 
-/// Turn after turn, until nobody can have one.
-fn run_turns<M: Core>(alloc: Global, drill: &mut Drill<M>) -> Result<(), Memory>
-    ensures { OnOk result
-        ((players number : ℕ) (between : Bases)
-        → HasRun players number (Plays M.stands M.bases drill.old.core drill.old.stage between)
-        → HasPlayedOut players number (Plays M.stands M.bases drill.new.core drill.new.stage between)) }
+/// One turn more than a drill of so many players may have.
+fn turn_limit(players: u32) -> u64
+    ensures { result ≡ MOST_PLAYER_TURNS * players + 1 }
 {
-    for _ in 0..MOST_TURNS {
+    MOST_PLAYER_TURNS * u64::from(players) + 1
+}
+
+/// Turn after turn, until nobody can have one: `true`; or until there were too many.
+fn run_turns<M: Core>(alloc: Global, drill: &mut Drill<M>, players: u32) -> Result<bool, Memory>
+    ensures { IfOk result (λ over.
+        (number : ℕ) (between : Bases)
+        → HasRun 0 players number (Plays M.stands M.bases drill.old.core drill.old.stage between)
+        → HasRunOn over players number (Plays M.stands M.bases drill.new.core drill.new.stage between)) }
+{
+    for _turn in 0..turn_limit(players) {
         if !drill.turn(alloc)? {
-            return Ok(());
+            return Ok(true);
         }
     }
-    Err(Memory)
+    Ok(false)
 }
 
 /// The text of a whole drill with so many players, from this number.
@@ -57,7 +65,9 @@ fn told_drill<M: Core>(alloc: Global, core: M, players: u32, number: u64) -> Res
     enter_all(alloc, &mut core, players)?;
     let stage = DrillStage::new(alloc, players, number)?;
     let mut drill = Drill { core, stage };
-    run_turns(alloc, &mut drill)?;
+    if !run_turns(alloc, &mut drill, players)? {
+        return Err(Memory);
+    }
     Ok(drill_lines(alloc, players, &drill.stage.counts, drill.stage.turns)?)
 }
 

@@ -1,4 +1,4 @@
-mod EntryLemmas
+pub mod EntryLemmas
 mod ItemLemmas
 mod NameLemmas
 mod OnceLemmas
