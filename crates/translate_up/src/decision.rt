@@ -1,9 +1,9 @@
 //! The decision on a request: what it may be, and how it is come to.
-ghost use Rattle.std.specs.Prelude.{◌≡◌, codes, IfOk};
+ghost use Rattle.std.specs.Prelude.{◌≡◌, List, codes, false, IfOk};
+ghost use Rattle.session_one.specs.declared.parts.Track.{Track};
 ghost use Rattle.rtsp_head.specs.Shapes.{shape_of};
-ghost use Rattle.translate_up.specs.Views.{given_of, judged_by};
-ghost use Rattle.translate_up.specs.Fields.{field};
-ghost use Rattle.translate_up.specs.SeenFields.{said_seen};
+ghost use Rattle.translate_up.specs.Views.{given_of, judged_by, tracks_shown};
+ghost use Rattle.translate_up.specs.Fields.{field, said_of};
 ghost use Rattle.translate_up.specs.Decisions.{decide, decide_request, is_for_gateway};
 
 use crate::accept::serve;
@@ -70,11 +70,26 @@ fn decide_request<'a>(
         decision
         ≡ decide_request (judged_by (given_of view.now) (field request.now (codes "Session"))) request.now) }
 {
-    let said = SaidFields::read(view.sessions, request);
-    let subject = Subject::named(view, said.session);
-    if is_for_gateway(request.method, &said) {
+    if is_for_gateway(request) {
         return Ok(Decision::Answer(options_text(alloc, request.cseq)?));
     }
+    decide_for_server(alloc, view, request)
+}
+
+/// What becomes of a request that is not for the gateway itself.
+#[inline(never)]
+fn decide_for_server<'a>(
+    alloc: Global,
+    view: &View<'a, '_>,
+    request: &Request1<'a>,
+) -> Result<Decision<'a>, Memory>
+    requires { is_for_gateway request.now.method (said_of (tracks_shown view.now.sessions.now) request.now) ≡ false }
+    ensures { IfOk result (λ decision.
+        decision
+        ≡ decide_request (judged_by (given_of view.now) (field request.now (codes "Session"))) request.now) }
+{
+    let said = SaidFields::read(view.sessions, request);
+    let subject = Subject::named(view, said.session);
     let uri = uri_up(alloc, &subject, &request.uri)?;
     match check_rules(&subject, request.method, &said, uri.as_bytes()) {
         Ok(admission) => serve(alloc, &subject, request, &said, uri, admission),
@@ -83,8 +98,8 @@ fn decide_request<'a>(
 }
 
 /// Whether a request is for the gateway itself: OPTIONS without a session.
-fn is_for_gateway(method: Method, said: &SaidFields<'_>) -> bool
-    ensures { result ≡ is_for_gateway method (said_seen said.now) }
+fn is_for_gateway(request: &Request1<'_>) -> bool
+    ensures { (tracks : List Track) → result ≡ is_for_gateway request.now.method (said_of tracks request.now) }
 {
-    matches!(method, Method::Options) && !said.is_named()
+    matches!(request.method, Method::Options) && request.head.field(b"Session").is_none()
 }

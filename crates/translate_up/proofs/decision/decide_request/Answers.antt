@@ -1,58 +1,18 @@
-use Rattle.std.proofs.Common.{◌≡◌, [], Some, sym, ◌∙◌, ap}
-use Rattle.std.proofs.lemmas.Result.{IfOk-weaker}
+use Rattle.std.proofs.Common.{sym, ◌∙◌, ap}
 use Rattle.head_one.specs.ClientRequests.{ClientRequest}
-use Rattle.translate_up.specs.SeenFields.{said_seen}
 use Rattle.std.specs.Prelude.{codes}
-use Rattle.translate_up.specs.Fields.{field, Said, said_of}
-use Rattle.translate_up.specs.Subjects.{judged_seen}
-use Rattle.translate_up.specs.Views.{given_of, Judged, judged_by}
-use Rattle.translate_up.specs.Answers.{own_answer, options_text}
-use Rattle.translate_up.specs.Upward.{uri_up}
-use Rattle.translate_up.specs.Rules.{rules_checked}
-use Rattle.translate_up.specs.Decisions.{is_for_gateway, decide_request}
+use Rattle.translate_up.specs.Fields.{field}
+use Rattle.translate_up.specs.Views.{given_of, judged_by, tracks_shown}
+use Rattle.translate_up.specs.Answers.{options_text}
 use Rattle.translate_up.specs.declared.decision.Decision.TheVariants.{Answer}
 use Rattle.translate_up.proofs.GatewayLemmas.{own_answered}
-use Rattle.translate_up.proofs.ServeLemmas.{served_decides, refused_decides}
 use Rattle.translate_up.proofs.decision.decide_request.Goals as goal
-
-pub returns-in-Ok : goal.returns-in-Ok
-returns-in-Ok c =
-    let judged = judged_seen c.named-subject.result in
-    let request = c.args.request.now in
-    let same : judged ≡ judged_by (given_of c.args.view.now) (field request (codes "Session")) =
-    c.named-subject.ensures ∙ ap (λ (said : Said). judged_by (given_of c.args.view.now) said.session) c.read-said.ensures.said in
-    let is_said : said_seen c.read-said.result ≡ said_of judged.all request = c.read-said.ensures.said ∙ ap (λ (one : Judged). said_of one.all request) (sym same) in
-    let uri : c.in_ok-uri.uri ≡ uri_up judged request.uri = c.in_ok-uri.ensures ∙ ap (λ (r : ClientRequest). uri_up judged r.uri) c.request.view_is in
-    let method : c.request.inside.method ≡ request.method = ap (λ (r : ClientRequest). r.method) c.request.view_is in
-    IfOk-weaker c.serve.result _ _
-    (λ decision serves. served_decides judged request (said_seen c.read-said.result) c.in_ok-uri.uri c.in-Ok.admission decision is_said uri
-    (c.in-Ok.ensures.checked ∙ ap (λ m. rules_checked judged m (said_seen c.read-said.result) c.as_bytes.result.now) method ∙ ap (λ u. rules_checked judged request.method (said_seen c.read-said.result) u) c.as_bytes.ensures)
-    (ap (λ m. is_for_gateway m (said_seen c.read-said.result)) (sym method) ∙ sym c.is_for_gateway.ensures ∙ c.if-is_for_gateway.false) serves ∙ ap (λ one. decide_request one request) same)
-    c.serve.ensures
-
-pub returns : goal.returns
-returns c =
-    let judged = judged_seen c.named-subject.result in
-    let request = c.args.request.now in
-    let same : judged ≡ judged_by (given_of c.args.view.now) (field request (codes "Session")) =
-    c.named-subject.ensures ∙ ap (λ (said : Said). judged_by (given_of c.args.view.now) said.session) c.read-said.ensures.said in
-    let is_said : said_seen c.read-said.result ≡ said_of judged.all request = c.read-said.ensures.said ∙ ap (λ (one : Judged). said_of one.all request) (sym same) in
-    let uri : c.in_ok-uri.uri ≡ uri_up judged request.uri = c.in_ok-uri.ensures ∙ ap (λ (r : ClientRequest). uri_up judged r.uri) c.request.view_is in
-    let method : c.request.inside.method ≡ request.method = ap (λ (r : ClientRequest). r.method) c.request.view_is in
-    ap Answer (c.in_ok-answer-in-Err.ensures ∙ ap (λ (r : ClientRequest). own_answer c.in-Err.code (Some r.cseq) []) c.request.view_is)
-    ∙ refused_decides judged request (said_seen c.read-said.result) c.in_ok-uri.uri c.in-Err.code is_said uri
-    (c.in-Err.ensures.checked ∙ ap (λ m. rules_checked judged m (said_seen c.read-said.result) c.as_bytes.result.now) method ∙ ap (λ u. rules_checked judged request.method (said_seen c.read-said.result) u) c.as_bytes.ensures)
-    ∙ ap (λ one. decide_request one request) same
 
 pub returns-then-is_for_gateway : goal.returns-then-is_for_gateway
 returns-then-is_for_gateway c =
-    let judged = judged_seen c.named-subject.result in
-    let request = c.args.request.now in
-    let same : judged ≡ judged_by (given_of c.args.view.now) (field request (codes "Session")) =
-    c.named-subject.ensures ∙ ap (λ (said : Said). judged_by (given_of c.args.view.now) said.session) c.read-said.ensures.said in
-    let is_said : said_seen c.read-said.result ≡ said_of judged.all request = c.read-said.ensures.said ∙ ap (λ (one : Judged). said_of one.all request) (sym same) in
-    let method : c.request.inside.method ≡ request.method = ap (λ (r : ClientRequest). r.method) c.request.view_is in
-    let said = ap (is_for_gateway request.method) (sym is_said) ∙ ap (λ m. is_for_gateway m (said_seen c.read-said.result)) (sym method) in
+    let judged = judged_by (given_of c.args.view.now) (field c.args.request.now (codes "Session")) in
     ap Answer (c.in_ok-options_text.ensures ∙ ap (λ (r : ClientRequest). options_text r.cseq) c.request.view_is)
-    ∙ sym (own_answered judged request (said ∙ sym c.is_for_gateway.ensures ∙ c.if-is_for_gateway.true))
-    ∙ ap (λ one. decide_request one request) same
+    ∙ sym (own_answered judged c.args.request.now (sym (c.is_for_gateway.ensures judged.all) ∙ c.if-is_for_gateway.true))
+
+pub decide_for_server-requires : goal.decide_for_server-requires
+decide_for_server-requires c = sym (c.is_for_gateway.ensures (tracks_shown c.args.view.now.sessions.now)) ∙ c.if-is_for_gateway.false
