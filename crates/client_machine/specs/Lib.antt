@@ -1,6 +1,7 @@
 pub mod Outlooks
 pub mod Alone
 pub mod AskCounts
+pub mod BlankPlans
 pub mod OpenRequests
 pub mod Bounds
 pub mod Events

@@ -10,7 +10,9 @@ use crate::why::CloseWhy;
 use client_slot::Slot;
 use gate_bytes::Text;
 use session_one::Play;
+use std::alloc::Global;
 use std::collections::LinkedList;
+use std::mem;
 
 impl PlannedStep {
     /// Whether a request goes up.
@@ -23,27 +25,21 @@ impl PlannedStep {
     }
 
     /// Carries the plan out, by the number of the open request and that of the next one. It takes no
-    /// memory, and can't be refused.
-    pub fn commit(self, slot: &mut Slot, number: u32, next: u32) -> Done
-        requires { IsReady slot.old self }
+    /// memory, and can't be refused. What is handed out is taken from the plan where it stands, and what that says then is of
+    /// no use.
+    pub fn commit(&mut self, alloc: Global, slot: &mut Slot, number: u32, next: u32) -> Done
+        requires { IsReady slot.old self.old }
         ensures does { (bases : Bases) (pair : Option ℕ) (comes : Comes)
-            → IsPlan bases next pair slot.old comes self
+            → IsPlan bases next pair slot.old comes self.old
             → Does next pair slot.new result (effect_by bases number pair slot.old comes) }
-        ensures short { IsShortPlan self → IsShortDone result }
+        ensures short { IsShortPlan self.old → IsShortDone result }
     {
-        let PlannedStep {
-            change,
-            treated,
-            plays,
-            hand,
-            up,
-        } = self;
-        let close = change.make(slot, number);
-        take_out(slot, treated);
-        queue_all(slot, plays);
-        let request = up.rise(slot, next);
+        let close = self.change.take().make(slot, number);
+        take_out(slot, self.treated);
+        queue_all(slot, &mut self.plays);
+        let request = self.up.take().rise(slot, next);
         Done {
-            hand,
+            hand: mem::replace(&mut self.hand, Text::new(alloc)),
             request,
             close,
         }
@@ -51,6 +47,17 @@ impl PlannedStep {
 }
 
 impl Change {
+    ghost use Rattle.std.specs.Prelude.{◌≡◌};
+    ghost use Rattle.client_machine.specs.declared.parts.Change.TheVariants as changes;
+
+    /// Nothing is left in its place.
+    fn take(&mut self) -> Change
+        ensures taken { result ≡ self.old }
+        ensures left { self.new ≡ changes.Nothing }
+    {
+        mem::replace(self, Change::Nothing)
+    }
+
     /// Changes the connection, whose open request has this number: why it was closed, where it was.
     fn make(self, slot: &mut Slot, number: u32) -> Option<CloseWhy>
         requires { IsReadyChange slot.old self }
@@ -82,6 +89,17 @@ impl Change {
 }
 
 impl Up {
+    ghost use Rattle.std.specs.Prelude.{◌≡◌};
+    ghost use Rattle.client_machine.specs.declared.parts.Up.TheVariants as ups;
+
+    /// Nothing is left in its place.
+    fn take(&mut self) -> Up
+        ensures taken { result ≡ self.old }
+        ensures left { self.new ≡ ups.Nothing }
+    {
+        mem::replace(self, Up::Nothing)
+    }
+
     /// Whether it is a request.
     pub(crate) fn is_up(&self) -> bool
         ensures { result ≡ is_up self.now }
@@ -121,12 +139,11 @@ fn take_out(slot: &mut Slot, count: usize)
 }
 
 /// PLAYs wait, in their order.
-fn queue_all(slot: &mut Slot, plays: LinkedList<Play>)
-    requires { ArePlaced slot.old.sessions plays }
-    ensures { slot.new ≡ after_plays plays slot.old }
+fn queue_all(slot: &mut Slot, plays: &mut LinkedList<Play>)
+    requires { ArePlaced slot.old.sessions plays.old }
+    ensures { slot.new ≡ after_plays plays.old slot.old }
 {
-    let mut left = plays;
-    while let Some(play) = left.pop_front() {
+    while let Some(play) = plays.pop_front() {
         slot.queue(play);
     }
 }

@@ -5,7 +5,7 @@ ghost use Rattle.rtsp_small.specs.declared.notify.NotifyReason.TheVariants.{EndO
 ghost use Rattle.client_machine.specs.Plans.{notes, shuts, IsPlan, IsShortPlan};
 
 use crate::after::after_end;
-use crate::onward::{due_up, idle, leave, still};
+use crate::onward::{due_up, leave, still};
 use crate::outlook::Outlook;
 use crate::parts::{Change, PlannedStep, Up};
 use crate::why::CloseWhy;
@@ -32,7 +32,7 @@ pub(crate) fn plan_notice(
     match reason {
         NotifyReason::EndOfStream => plan_end(alloc, slot, next, id, names, plan),
         NotifyReason::MediaProperties | NotifyReason::ScaleChange => {
-            plan.become_idle(alloc);
+            plan.become_blank(alloc);
             Ok(())
         }
     }
@@ -75,7 +75,7 @@ pub fn plan_close(alloc: Global, slot: &Slot, why: CloseWhy) -> PlannedStep
     ensures short { IsShortPlan result }
 {
     if !slot.alive() {
-        return idle(alloc);
+        return PlannedStep::blank(alloc);
     }
     let change = Change::Closes(why);
     if slot.busy() {

@@ -4,8 +4,6 @@ ghost use Rattle.std.specs.Option.{option_copied};
 ghost use Rattle.channel_map.specs.declared.map.TheConstants.{PAIRS};
 ghost use Rattle.head_two.specs.Requests.{request_text};
 ghost use Rattle.translate_up.specs.QueuedPlay.{play_up};
-ghost use Rattle.client_machine.specs.declared.parts.Change.TheVariants as changes;
-ghost use Rattle.client_machine.specs.declared.parts.Up.TheVariants as ups;
 ghost use Rattle.client_machine.specs.Step.{track_of};
 ghost use Rattle.client_machine.specs.UpTexts.{text_up};
 ghost use Rattle.translate_up.specs.Views.{Given};
@@ -112,25 +110,15 @@ pub(crate) fn still(alloc: Global, change: Change, hand: Text, up: Up) -> Planne
     }
 }
 
-/// The plan by which nothing is done.
-pub(crate) fn idle(alloc: Global) -> PlannedStep
-    ensures { result
-        ≡ record { change = changes.Nothing; treated = 0; plays = []; hand = []; up = ups.Nothing } }
-{
-    still(alloc, Change::Nothing, Text::new(alloc), Up::Nothing)
-}
-
 impl PlannedStep {
-    ghost use Rattle.std.specs.Prelude.{◌≡◌, []};
-    ghost use Rattle.client_machine.specs.declared.parts.Change.TheVariants as changes;
-    ghost use Rattle.client_machine.specs.declared.parts.Up.TheVariants as ups;
+    ghost use Rattle.std.specs.Prelude.{◌≡◌, [], true};
+    ghost use Rattle.client_machine.specs.BlankPlans.{blank_plan};
 
     /// A plan by which nothing is done. It takes no memory, and [`plan`](crate::plan) writes over it.
     pub fn blank(alloc: Global) -> PlannedStep
-        ensures { result
-            ≡ record { change = changes.Nothing; treated = 0; plays = []; hand = []; up = ups.Nothing } }
+        ensures { result ≡ blank_plan }
     {
-        idle(alloc)
+        still(alloc, Change::Nothing, Text::new(alloc), Up::Nothing)
     }
 
     /// It becomes the plan by which nothing goes up but this, and no request that waits is treated.
@@ -141,12 +129,24 @@ impl PlannedStep {
         *self = still(alloc, change, hand, up);
     }
 
-    /// It becomes the plan by which nothing is done.
-    pub(crate) fn become_idle(&mut self, alloc: Global)
-        ensures { self.new
-            ≡ record { change = changes.Nothing; treated = 0; plays = []; hand = []; up = ups.Nothing } }
+    /// It becomes the plan by which nothing is done. A plan is large, and most are so already.
+    pub(crate) fn become_blank(&mut self, alloc: Global)
+        ensures { self.new ≡ blank_plan }
     {
-        *self = idle(alloc);
+        if !self.is_blank() {
+            *self = PlannedStep::blank(alloc);
+        }
+    }
+
+    /// Whether nothing is done by it.
+    fn is_blank(&self) -> bool
+        ensures { result ≡ true → self.now ≡ blank_plan }
+    {
+        matches!(self.change, Change::Nothing)
+            && self.treated == 0
+            && self.plays.is_empty()
+            && self.hand.is_empty()
+            && !self.up.is_up()
     }
 }
 

@@ -35,11 +35,11 @@ pub(crate) fn plan_reply(
 {
     let reply = answer.reply;
     if reply.code < 200 {
-        plan.become_idle(alloc);
+        plan.become_blank(alloc);
         return Ok(());
     }
     let Some(pending) = slot.pending() else {
-        plan.become_idle(alloc);
+        plan.become_blank(alloc);
         return Ok(());
     };
     let course = Course {

@@ -35,7 +35,7 @@ pub(crate) fn plan_request(
     ensures { OnOk result (IsPlan bases.now next pair slot.now (requests (shape_of item.now)) plan.new) }
 {
     if !slot.alive() {
-        plan.become_idle(alloc);
+        plan.become_blank(alloc);
         return Ok(());
     }
     if slot.busy() {
@@ -116,7 +116,7 @@ fn treat_request<'a>(
         next,
         pair,
     };
-    plan.become_idle(alloc);
+    plan.become_blank(alloc);
     let mut sessions = [None, None, None, None];
     see_sessions(slot, &mut sessions);
     treat_waiting(alloc, &mut sessions, course, slot, plan)?;

@@ -146,29 +146,30 @@ impl ConnectionTable {
     }
 
     /// Carries out a plan for a connection, which is kept under this key, by the numbers of its open
-    /// request and of the next one.
+    /// request and of the next one. What the plan says then is of no use.
     #[inline(always)]
     pub fn commit(
         &mut self,
+        alloc: Global,
         conn: u32,
         key: usize,
-        plan: PlannedStep,
+        plan: &mut PlannedStep,
         number: u32,
         next: u32,
     ) -> Option<Done>
         requires key { IsKeyOf self.old conn key }
-        requires ready { IfSome (client_at self.old conn) (λ client. IsReady client plan) }
+        requires ready { IfSome (client_at self.old conn) (λ client. IsReady client plan.old) }
         ensures others { (i : ℕ) → conn ≢ i → client_at self.new i ≡ client_at self.old i }
         ensures key { IsKeyOf self.new conn key }
         ensures none { client_at self.old conn ≡ None → (result ≡ None) }
         ensures here { IsSome (client_at self.old conn)
             → IfSome result (λ done.
-            IsCarriedAt (client_at self.old conn) (client_at self.new conn) plan number next done) }
+            IsCarriedAt (client_at self.old conn) (client_at self.new conn) plan.old number next done) }
         ensures some { IsSome (client_at self.old conn) → IsSome result }
-        ensures short { IsShortPlan plan → IfSome result IsShortDone }
+        ensures short { IsShortPlan plan.old → IfSome result IsShortDone }
         ensures ready { is_ready self.new ≡ is_ready self.old }
     {
-        commit_at(&mut self.slots, key, plan, number, next)
+        commit_at(alloc, &mut self.slots, key, plan, number, next)
     }
 }
 
@@ -190,23 +191,24 @@ fn empty_at(slots: &mut Slab<Slot>, key: usize)
 
 /// Carries out a plan for the connection at a key.
 fn commit_at(
+    alloc: Global,
     slots: &mut Slab<Slot>,
     key: usize,
-    plan: PlannedStep,
+    plan: &mut PlannedStep,
     number: u32,
     next: u32,
 ) -> Option<Done>
-    requires { IfSome (slab_get slots.old key) (λ client. IsReady client plan) }
+    requires { IfSome (slab_get slots.old key) (λ client. IsReady client plan.old) }
     ensures here { IsSome (slab_get slots.old key)
         → IfSome result (λ done.
-        IsCarriedAt (slab_get slots.old key) (slab_get slots.new key) plan number next done) }
+        IsCarriedAt (slab_get slots.old key) (slab_get slots.new key) plan.old number next done) }
     ensures some { IsSome (slab_get slots.old key) → IsSome result }
     ensures none { slab_get slots.old key ≡ None → (result ≡ None) }
-    ensures short { IsShortPlan plan → IfSome result IsShortDone }
+    ensures short { IsShortPlan plan.old → IfSome result IsShortDone }
     ensures others { (other : ℕ) → other ≢ key → slab_get slots.new other ≡ slab_get slots.old other }
     ensures held { (other : ℕ) → is_some (slab_get slots.old other) ≡ true
         → is_some (slab_get slots.new other) ≡ true }
 {
     let slot = slots.get_mut(key)?;
-    Some(plan.commit(slot, number, next))
+    Some(plan.commit(alloc, slot, number, next))
 }

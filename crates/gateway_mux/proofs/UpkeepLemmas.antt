@@ -24,7 +24,8 @@ use Rattle.gateway_mux.specs.Enter.{IsNewIn, IsEntered, IsAsBefore}
 use Rattle.gateway_mux.specs.WrongGrants.{IsLowPurpose}
 use Rattle.gateway_mux.specs.Moves.{handed_by}
 use Rattle.gateway_mux.specs.Pictures.{Picture, IsPictureOf, IsKept}
-use Rattle.gateway_mux.specs.Settlements.{CanSettle, held_by, held_settled, torn_of, binds, unbinds}
+use Rattle.gateway_claim.specs.Books.{Final}
+use Rattle.gateway_mux.specs.Settlements.{CanSettle, AreSettled, held_by, held_settled, torn_of, binds, unbinds}
 use Rattle.gateway_mux.specs.Turn.{free_once, asks_pair, one_if}
 use Rattle.gateway_mux.specs.Upstream.{taken_by, reserved_by, held_lent}
 use Rattle.gateway_mux.proofs.ActLemmas.{turn_committed}
@@ -162,3 +163,10 @@ settles_now bases one answer it requests sessions its merely =
     by : IsKept bases one requests sessions → (settled : Option Settlement) → it.settled ≡ settled → IfSome settled (CanSettle one.asker one.held one.holder sessions it.conn (torn_of settled (Some its.is_planned.client)))
     by keeps None e = tt
     by keeps (Some settled) e = can_settle bases one keeps.history its.happening answer it requests sessions settled keeps.is_of keeps.room its.is_planned e
+
+-- The place of the session that ends is one of the four.
+pub settled_within : (final : Option Final) (client : Client) (settled : Option Settlement) → AreSettled final client settled → IfSome settled (λ one. IfSome one.torn (λ place. place < MOST_SESSIONS))
+settled_within None client None settles = tt
+settled_within None client (Some settled) settles = absurd settles
+settled_within (Some final) client None settles = tt
+settled_within (Some final) client (Some settled) settles = settles.within

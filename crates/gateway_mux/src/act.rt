@@ -4,7 +4,6 @@ use crate::turn::PlannedTurn;
 use client_machine::CloseWhy;
 use gate_bytes::Text;
 use gateway_claim::UpCause;
-use std::alloc::Global;
 
 /// Where a frame of the server goes.
 #[derive(Clone, Copy)]
@@ -18,8 +17,6 @@ pub(crate) struct FramePath {
 /// The close of a connection.
 #[derive(Clone, Copy)]
 pub(crate) struct PlannedClose {
-    /// Where its plan is made.
-    pub alloc: Global,
     /// The connection.
     pub conn: u32,
     /// The key under which it is kept.

@@ -12,6 +12,7 @@ use crate::turn::{PlannedTurn, commit_turn};
 use client_machine::plan_close;
 use gate_bytes::Text;
 use gateway_claim::{Event, Outcome};
+use std::alloc::Global;
 
 impl Connections {
     ghost use Rattle.gateway_mux.specs.Acts.{IsAct, IsPlannedTurn, IsTurnOfSome, IsPlannedClose, IsCloseOfSome, IsShortAct, IsKeyed};
@@ -22,7 +23,7 @@ impl Connections {
 
     /// Carries out what an event does. It takes no memory, and can't be refused.
     #[inline(always)]
-    pub fn commit(&mut self, event: Event, act: Act) -> Outcome
+    pub fn commit(&mut self, alloc: Global, event: Event, act: Act) -> Outcome
         requires act { IsAct self.old.bases (picture self.old.seats self.old.upstream) (happening_of event)
             act }
         requires key { IsKeyed self.old.seats act }
@@ -42,10 +43,10 @@ impl Connections {
                 _ => unreachable!(),
             },
             Act::Answers(answer) => answering(Some(answer)),
-            Act::Turns(answer, turn) => self.turn(answer, Box::into_inner(turn)),
+            Act::Turns(answer, mut turn) => self.turn(alloc, answer, &mut turn),
             Act::Closes(close) => {
-                let turn = self.closing(close);
-                self.turn(None, turn)
+                let mut turn = self.closing(alloc, close);
+                self.turn(alloc, None, &mut turn)
             }
             Act::Ends(cause) => ending(cause),
         }
@@ -76,18 +77,18 @@ impl Connections {
     /// Carries out the turn of a connection, after this answer to the server. Once it is over it is
     /// forgotten.
     #[inline(always)]
-    fn turn(&mut self, answer: Option<Text>, turn: PlannedTurn) -> Outcome
-        requires turn { IsTurnOfSome self.old.bases (picture self.old.seats self.old.upstream) answer turn }
-        requires key { IsKeyOf self.old.seats turn.conn turn.key }
+    fn turn(&mut self, alloc: Global, answer: Option<Text>, turn: &mut PlannedTurn) -> Outcome
+        requires turn { IsTurnOfSome self.old.bases (picture self.old.seats self.old.upstream) answer turn.old }
+        requires key { IsKeyOf self.old.seats turn.old.conn turn.old.key }
         ensures commits { (h : Happening)
-            → IsPlannedTurn self.old.bases (picture self.old.seats self.old.upstream) h answer turn
+            → IsPlannedTurn self.old.bases (picture self.old.seats self.old.upstream) h answer turn.old
             → IsCommitted self.old.bases (picture self.old.seats self.old.upstream)
             (picture self.new.seats self.new.upstream) h result }
-        ensures short { IsShortAnswer answer → IsShortPlan turn.plan → IsShort result }
+        ensures short { IsShortAnswer answer → IsShortPlan turn.old.plan → IsShort result }
         ensures bases { self.new.bases ≡ self.old.bases }
     {
         let (conn, key) = (turn.conn, turn.key);
-        match commit_turn(&mut self.seats, &mut self.upstream, turn) {
+        match commit_turn(alloc, &mut self.seats, &mut self.upstream, turn) {
             Some(done) => {
                 self.seats.forget(conn, key);
                 handed(conn, answer, done)
@@ -98,7 +99,7 @@ impl Connections {
 
     /// The turn of a connection that closes. It takes no memory.
     #[inline(never)]
-    fn closing(&self, close: PlannedClose) -> PlannedTurn
+    fn closing(&self, alloc: Global, close: PlannedClose) -> PlannedTurn
         requires key { IsKeyOf self.now.seats close.conn close.key }
         requires close { IsCloseOfSome self.now.bases (picture self.now.seats self.now.upstream) close }
         ensures turn { (h : Happening)
@@ -110,7 +111,7 @@ impl Connections {
         let Some(slot) = self.seats.at(close.key) else {
             unreachable!();
         };
-        let plan = plan_close(close.alloc, slot, close.why);
+        let plan = plan_close(alloc, slot, close.why);
         let asks = plan.asks();
         PlannedTurn {
             conn: close.conn,

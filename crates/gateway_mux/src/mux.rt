@@ -16,6 +16,7 @@ use std::alloc::Global;
 /// else looks into it.
 #[derive(Drop)]
 pub struct Plan {
+    alloc: Global,
     act: Act,
 }
 
@@ -93,9 +94,8 @@ impl Mux {
         ensures plan { IfOk result (IsPlanFor self.now event.now) }
         ensures free { needs_memory event.now ≡ false → IsOk result }
     {
-        Ok(Plan {
-            act: self.act(alloc, event)?,
-        })
+        let act = self.act(alloc, event)?;
+        Ok(Plan { alloc, act })
     }
 
     /// What an event will do, also after the end of the connection to the server.
@@ -119,10 +119,13 @@ impl Mux {
         ensures free { needs_memory event.now ≡ false → IsOk result }
     {
         if self.ended.is_some() {
-            return Ok(Plan { act: Act::Nothing });
+            return Ok(Plan {
+                alloc,
+                act: Act::Nothing,
+            });
         }
         let act = self.connections.plan_at(alloc, event, key)?;
-        Ok(Plan { act })
+        Ok(Plan { alloc, act })
     }
 
     /// Carries out the plan for an event: what it hands out is the next entry of the history. It takes
@@ -135,12 +138,12 @@ impl Mux {
         ensures short { IsShort result }
         ensures bases { bases_of self.new ≡ bases_of self.old }
     {
-        self.carry_out(event, plan.act)
+        self.carry_out(plan.alloc, event, plan.act)
     }
 
     /// Carries out what an event does.
     #[inline(always)]
-    fn carry_out(&mut self, event: Event, act: Act) -> Outcome
+    fn carry_out(&mut self, alloc: Global, event: Event, act: Act) -> Outcome
         requires { IsActFor self.old.ended self.old event act }
         ensures stands { (T : List HistoryEntry) → Stands self.old T
             → Stands self.new (entry_of event result ∷ T) }
@@ -151,7 +154,7 @@ impl Mux {
             return nothing();
         }
         let is_frame = is_frame(&event);
-        let outcome = self.connections.commit(event, act);
+        let outcome = self.connections.commit(alloc, event, act);
         self.ended = outcome.fault;
         if is_frame && outcome.to_client.is_none() && outcome.to_up.message.is_none() {
             self.dropped = self.dropped.saturating_add(1);
@@ -192,7 +195,7 @@ impl Mux {
             return Ok(self.pass(event));
         }
         match self.act(alloc, &event) {
-            Ok(act) => Ok(self.carry_out(event, act)),
+            Ok(act) => Ok(self.carry_out(alloc, event, act)),
             Err(memory) => Err((event, memory)),
         }
     }

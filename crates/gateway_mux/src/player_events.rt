@@ -7,7 +7,8 @@ ghost use Rattle.up_books.specs.declared.cseq.TheConstants.{LAST_NUMBER};
 ghost use Rattle.client_machine.specs.Plans.{Comes, CanCome, incoming_seen, IsPlan, IsShortPlan};
 ghost use Rattle.gateway_claim.specs.Cores.{IsOwnKey};
 ghost use Rattle.gateway_claim.specs.Happenings.{Happening, takes, happening_of, cause_of};
-ghost use Rattle.gateway_mux.specs.BlankTurns.{blank_plan, blank_turn};
+ghost use Rattle.client_machine.specs.BlankPlans.{blank_plan};
+ghost use Rattle.gateway_mux.specs.BlankTurns.{blank_turn};
 
 use crate::act::{Act, PlannedClose};
 use crate::connections::Connections;
@@ -191,7 +192,6 @@ impl Connections {
             return Act::Ends(UpCause::CseqSpent);
         }
         Act::Closes(PlannedClose {
-            alloc,
             conn,
             key: seat.key,
             why,

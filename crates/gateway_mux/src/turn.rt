@@ -18,6 +18,7 @@ use crate::upstream::UpstreamBooks;
 use client_machine::{Done, PlannedStep};
 use client_slot::{Pending, Slot};
 use connection_table::ConnectionTable;
+use std::alloc::Global;
 
 /// What is planned for a connection: what the server's reply settles, and what the connection does.
 #[derive(Drop)]
@@ -38,68 +39,64 @@ pub struct PlannedTurn {
     pub asks: bool,
 }
 
-/// Carries out what is planned for a connection. It takes no memory, and can't be refused.
+/// Carries out what is planned for a connection. It takes no memory, and can't be refused. What the planned turn says then
+/// is of no use.
 #[inline(always)]
 pub(crate) fn commit_turn(
+    alloc: Global,
     seats: &mut ConnectionTable,
     upstream: &mut UpstreamBooks,
-    turn: PlannedTurn,
+    turn: &mut PlannedTurn,
 ) -> Option<Done>
-    requires key { IsKeyOf seats.old turn.conn turn.key }
-    requires ready { IfSome (client_at seats.old turn.conn) (λ client. IsReady client turn.plan) }
-    requires settles { IfSome turn.settled
+    requires key { IsKeyOf seats.old turn.old.conn turn.old.key }
+    requires ready { IfSome (client_at seats.old turn.old.conn) (λ client. IsReady client turn.old.plan) }
+    requires settles { IfSome turn.old.settled
         (CanSettle (λ n. asker_of upstream.old.requests n) (λ p. held_at p upstream.old.channels)
-        (λ id. holder_of upstream.old.sessions id) upstream.old.sessions.spare turn.conn
-        (torn_of turn.settled (client_at seats.old turn.conn))) }
-    requires within { IfSome turn.settled (λ settled. IfSome settled.torn (λ place. place < MOST_SESSIONS)) }
-    requires room { turn.asks ≡ true → turn.settled ≡ None → 0 < upstream.old.requests.spare }
-    requires left { turn.asks ≡ true → IsSome (next_number upstream.old.requests.issued) }
-    ensures done { IsSome (client_at seats.old turn.conn)
+        (λ id. holder_of upstream.old.sessions id) upstream.old.sessions.spare turn.old.conn
+        (torn_of turn.old.settled (client_at seats.old turn.old.conn))) }
+    requires within { IfSome turn.old.settled (λ settled. IfSome settled.torn (λ place. place < MOST_SESSIONS)) }
+    requires room { turn.old.asks ≡ true → turn.old.settled ≡ None → 0 < upstream.old.requests.spare }
+    requires left { turn.old.asks ≡ true → IsSome (next_number upstream.old.requests.issued) }
+    ensures done { IsSome (client_at seats.old turn.old.conn)
         → IfSome result (λ done.
-        IsCarriedAt (client_at seats.old turn.conn) (client_at seats.new turn.conn) turn.plan turn.number
-        turn.next done) }
-    ensures some { IsSome (client_at seats.old turn.conn) → IsSome result }
-    ensures short { IsShortPlan turn.plan → IfSome result IsShortDone }
-    ensures key { IsKeyOf seats.new turn.conn turn.key }
+        IsCarriedAt (client_at seats.old turn.old.conn) (client_at seats.new turn.old.conn) turn.old.plan turn.old.number
+        turn.old.next done) }
+    ensures some { IsSome (client_at seats.old turn.old.conn) → IsSome result }
+    ensures short { IsShortPlan turn.old.plan → IfSome result IsShortDone }
+    ensures key { IsKeyOf seats.new turn.old.conn turn.old.key }
     ensures ready { is_ready seats.new ≡ is_ready seats.old }
-    ensures others { (i : ℕ) → turn.conn ≢ i → client_at seats.new i ≡ client_at seats.old i }
+    ensures others { (i : ℕ) → turn.old.conn ≢ i → client_at seats.new i ≡ client_at seats.old i }
     ensures issued { IsSome result
-        → upstream.new.requests.issued ≡ issued_then turn.asks upstream.old.requests.issued }
+        → upstream.new.requests.issued ≡ issued_then turn.old.asks upstream.old.requests.issued }
     ensures room { IsSome result
-        → upstream.new.requests.spare + one_if turn.asks
-        ≡ upstream.old.requests.spare + one_if (is_some turn.settled) }
+        → upstream.new.requests.spare + one_if turn.old.asks
+        ≡ upstream.old.requests.spare + one_if (is_some turn.old.settled) }
     ensures spare { IsSome result
-        → upstream.new.sessions.spare + one_if (binds turn.settled)
+        → upstream.new.sessions.spare + one_if (binds turn.old.settled)
         ≡ upstream.old.sessions.spare
-        + one_if (unbinds turn.settled (torn_of turn.settled (client_at seats.old turn.conn))) }
+        + one_if (unbinds turn.old.settled (torn_of turn.old.settled (client_at seats.old turn.old.conn))) }
     ensures asked { IsSome result
         → (n : ℕ)
         → asker_of upstream.new.requests n
-        ≡ asker_lent turn.asks turn.conn (upstream.old.requests.issued + 1) n
-        (asker_settled turn.settled n (asker_of upstream.old.requests n)) }
+        ≡ asker_lent turn.old.asks turn.old.conn (upstream.old.requests.issued + 1) n
+        (asker_settled turn.old.settled n (asker_of upstream.old.requests n)) }
     ensures held { IsSome result
         → (p : ℕ)
         → held_at p upstream.new.channels
-        ≡ held_lent turn.asks (asks_pair (client_at seats.new turn.conn)) turn.conn
-        (free_once turn.settled (λ q. held_at q upstream.old.channels)) p
-        (held_settled turn.settled p (held_at p upstream.old.channels)) }
+        ≡ held_lent turn.old.asks (asks_pair (client_at seats.new turn.old.conn)) turn.old.conn
+        (free_once turn.old.settled (λ q. held_at q upstream.old.channels)) p
+        (held_settled turn.old.settled p (held_at p upstream.old.channels)) }
     ensures holder { IsSome result
         → (id : List ℕ)
         → holder_of upstream.new.sessions id
-        ≡ holder_settled turn.settled (torn_of turn.settled (client_at seats.old turn.conn)) turn.conn id (holder_of upstream.old.sessions id) }
+        ≡ holder_settled turn.old.settled (torn_of turn.old.settled (client_at seats.old turn.old.conn)) turn.old.conn id (holder_of upstream.old.sessions id) }
 {
-    let PlannedTurn {
-        conn,
-        key,
-        number,
-        next,
-        settled,
-        plan,
-        asks,
-    } = turn;
+    let (conn, key, asks) = (turn.conn, turn.key, turn.asks);
+    let (number, next) = (turn.number, turn.next);
     let slot = seats.at(key)?;
-    upstream.settle_where(conn, torn_id(slot, &settled), settled);
-    let done = seats.commit(conn, key, plan, number, next)?;
+    let torn = torn_id(slot, &turn.settled);
+    upstream.settle_where(conn, torn, &mut turn.settled);
+    let done = seats.commit(alloc, conn, key, &mut turn.plan, number, next)?;
     if asks {
         upstream.issue(conn, is_for_a_pair(seats, conn, key));
     }

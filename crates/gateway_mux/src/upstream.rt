@@ -67,25 +67,29 @@ impl UpstreamBooks {
         settle_sessions(&mut self.sessions, conn, settled.bound, torn);
     }
 
-    /// Settles what the final reply to a request of a connection settles, where one came.
+    /// Settles what the final reply to a request of a connection settles, where one came: that is taken. It is large, and most
+    /// events settle nothing.
     #[inline(always)]
-    pub fn settle_where(&mut self, conn: u32, torn: Option<&[u8]>, settled: Option<Settlement>)
-        requires { IfSome settled
+    pub fn settle_where(&mut self, conn: u32, torn: Option<&[u8]>, settled: &mut Option<Settlement>)
+        requires { IfSome settled.old
             (CanSettle (λ n. asker_of self.old.requests n) (λ p. held_at p self.old.channels)
             (λ id. holder_of self.old.sessions id) self.old.sessions.spare conn (option_copied torn)) }
         ensures issued { self.new.requests.issued ≡ self.old.requests.issued }
         ensures open { (n : ℕ)
-            → asker_of self.new.requests n ≡ asker_settled settled n (asker_of self.old.requests n) }
+            → asker_of self.new.requests n ≡ asker_settled settled.old n (asker_of self.old.requests n) }
         ensures room { self.new.requests.spare
-            ≡ (if is_some settled then self.old.requests.spare + 1 else self.old.requests.spare) }
-        ensures spare { self.new.sessions.spare + one_if (binds settled)
-            ≡ self.old.sessions.spare + one_if (unbinds settled (option_copied torn.entry)) }
+            ≡ (if is_some settled.old then self.old.requests.spare + 1 else self.old.requests.spare) }
+        ensures spare { self.new.sessions.spare + one_if (binds settled.old)
+            ≡ self.old.sessions.spare + one_if (unbinds settled.old (option_copied torn.entry)) }
         ensures held { (p : ℕ)
-            → held_at p self.new.channels ≡ held_settled settled p (held_at p self.old.channels) }
+            → held_at p self.new.channels ≡ held_settled settled.old p (held_at p self.old.channels) }
         ensures holder { (id : List ℕ)
-            → holder_of self.new.sessions id ≡ holder_settled settled (option_copied torn.entry) conn id (holder_of self.old.sessions id) }
+            → holder_of self.new.sessions id ≡ holder_settled settled.old (option_copied torn.entry) conn id (holder_of self.old.sessions id) }
     {
-        if let Some(settled) = settled {
+        if settled.is_none() {
+            return;
+        }
+        if let Some(settled) = settled.take() {
             self.settle(conn, torn, settled);
         }
     }

@@ -54,7 +54,7 @@ impl Trial {
     /// The player's connection ends.
     fn close(&mut self, alloc: Global, answer: &mut CaseAnswer) {
         let plan = plan_close(alloc, &self.slot, CloseWhy::Ended);
-        self.carry_out(plan, answer);
+        self.carry_out(alloc, plan, answer);
     }
 
     /// The player asks the request that a text means.
@@ -105,19 +105,20 @@ impl Trial {
             incoming,
             &mut step,
         ) {
-            Ok(()) => self.carry_out(step, answer),
+            Ok(()) => self.carry_out(alloc, step, answer),
             Err(_memory) => answer.fail(CaseFault::Memory),
         }
     }
 
     /// Carries a plan out, and counts the request that goes up.
-    fn carry_out(&mut self, plan: PlannedStep, answer: &mut CaseAnswer)
+    fn carry_out(&mut self, alloc: Global, plan: PlannedStep, answer: &mut CaseAnswer)
         requires { IsReady self.old.slot plan }
     {
         let open = self.number;
         let next = open.wrapping_add(1);
         let asks = plan.asks();
-        let done = plan.commit(&mut self.slot, open, next);
+        let mut plan = plan;
+        let done = plan.commit(alloc, &mut self.slot, open, next);
         if asks {
             self.number = next;
         }

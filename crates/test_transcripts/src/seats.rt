@@ -37,8 +37,9 @@ impl Trial {
     /// Closes a connection, and forgets it. What that did is there where it was kept.
     fn close_seat(&mut self, alloc: Global, conn: u32) -> Option<Done> {
         let seat = self.seats.seat(conn)?;
-        let (key, plan) = (seat.key, plan_close(alloc, seat.slot, CloseWhy::Ended));
-        let done = self.seats.commit(conn, key, plan, 1, 2);
+        let key = seat.key;
+        let mut plan = plan_close(alloc, seat.slot, CloseWhy::Ended);
+        let done = self.seats.commit(alloc, conn, key, &mut plan, 1, 2);
         self.seats.forget(conn, key);
         done
     }

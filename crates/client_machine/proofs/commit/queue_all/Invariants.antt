@@ -4,7 +4,7 @@ use Rattle.client_machine.specs.Plans.{ArePlaced}
 use Rattle.client_machine.proofs.commit.queue_all.Given as goal
 
 abbrev pub invariant-loop-play : goal.invariant-loop-play
-invariant-loop-play l = (after_plays l.left l.slot ≡ after_plays l.initial.left l.initial.slot) × ArePlaced l.slot.sessions l.left
+invariant-loop-play l = (after_plays l.plays l.slot ≡ after_plays l.initial.plays l.initial.slot) × ArePlaced l.slot.sessions l.plays
 
 abbrev pub decreases-loop-play : goal.decreases-loop-play
-decreases-loop-play l = length l.left
+decreases-loop-play l = length l.plays
