@@ -7,9 +7,8 @@ ghost use Rattle.client_machine.specs.Plans.{Comes, effect_by, changed, shut_by,
 
 use crate::parts::{Change, Done, PlannedStep, Up};
 use crate::why::CloseWhy;
-use client_slot::Slot;
+use client_slot::{Slot, WaitingPlay};
 use gate_bytes::Text;
-use session_one::Play;
 use std::alloc::Global;
 use std::collections::LinkedList;
 use std::mem;
@@ -139,7 +138,7 @@ fn take_out(slot: &mut Slot, count: usize)
 }
 
 /// PLAYs wait, in their order.
-fn queue_all(slot: &mut Slot, plays: &mut LinkedList<Play>)
+fn queue_all(slot: &mut Slot, plays: &mut LinkedList<WaitingPlay>)
     requires { ArePlaced slot.old.sessions plays.old }
     ensures { slot.new ≡ after_plays plays.old slot.old }
 {

@@ -1,9 +1,9 @@
 //! The parts of a plan, and what is handed out once it is carried out.
 
 use crate::why::CloseWhy;
-use client_slot::{MadeSession, Waiting};
+use client_slot::{MadeSession, Waiting, WaitingPlay};
 use gate_bytes::Text;
-use session_one::{Asked, Play, Track};
+use session_one::{Asked, Track};
 use session_two::Names;
 use std::collections::LinkedList;
 
@@ -41,7 +41,7 @@ pub(crate) enum Up {
 pub struct PlannedStep {
     pub(crate) change: Change,
     pub(crate) treated: usize,
-    pub(crate) plays: LinkedList<Play>,
+    pub(crate) plays: LinkedList<WaitingPlay>,
     pub(crate) hand: Text,
     pub(crate) up: Up,
 }

@@ -15,7 +15,7 @@ ghost use Rattle.client_machine.specs.Onward.{IsFinished, IsTreatedBy};
 
 use crate::onward::ask;
 use crate::parts::PlannedStep;
-use client_slot::Slot;
+use client_slot::{Slot, WaitingPlay};
 use gate_bytes::{Memory, Text};
 use rtsp_head::Item;
 use rtsp_uri::Bases;
@@ -81,7 +81,7 @@ impl PlannedStep {
     {
         match decision {
             Decision::Answer(text) => self.answered(text),
-            Decision::Queue(play, text) => self.put(play, text),
+            Decision::Queue(play, text) => self.put(alloc, play, text),
             Decision::Forward(request, asked) => {
                 self.up = ask(alloc, course, request, asked, None)?;
                 Ok(())
@@ -105,11 +105,11 @@ impl PlannedStep {
     }
 
     /// A PLAY waits, and is answered.
-    fn put(&mut self, play: Play, text: Text) -> Result<(), Memory>
+    fn put(&mut self, alloc: Global, play: Play, text: Text) -> Result<(), Memory>
         ensures { OnOk result
             (self.new ≡ record self.old { hand = self.old.hand ++ text; plays = self.old.plays ++ play ∷ [] }) }
     {
-        self.plays.push_back(play)?;
+        self.plays.push_back(WaitingPlay::new(alloc, play)?)?;
         self.answered(text)
     }
 }

@@ -1,8 +1,8 @@
 -- The places of a connection's sessions.
-use Rattle.std.proofs.Common.{◌≡◌, ◌≢◌, ◌∙◌, ℕ, zero, suc, ◌+◌, ◌<◌, ◌≤◌, ◌==◌, Bool, true, false, cond, List, [], ◌∷◌, length, drop, map, Option, Some, None, IfSome, refl, sym, ap, subst, add-one, drop-cons, arith}
-use Rattle.std.specs.Prelude.{slice_index_or, slice_set, is_some}
+use Rattle.std.proofs.Common.{◌≡◌, ◌≢◌, ◌∙◌, ℕ, zero, suc, ◌+◌, ◌<◌, Bool, true, false, cond, List, [], ◌∷◌, length, drop, map, Option, Some, None, refl, sym, ap, subst, add-one, drop-cons, arith}
+use Rattle.std.specs.Prelude.{slice_index_or, slice_set}
 use Rattle.client_slot.specs.Session.{PlayerSession, new_session}
-use Rattle.client_slot.specs.Places.{session_at, session_where, changed_at, changed_where, first_place}
+use Rattle.client_slot.specs.Places.{session_at, changed_at, changed_where, first_place}
 
 -- a session that is replaced by what it changes to
 pub set_changed : (place : ℕ) (change : PlayerSession → PlayerSession) (sessions : List PlayerSession) → place < length sessions

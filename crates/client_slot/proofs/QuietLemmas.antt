@@ -1,5 +1,5 @@
 -- A reply to DESCRIBE leaves a session as it is.
-use Rattle.std.proofs.Common.{◌≡◌, ◌∙◌, ℕ, Bool, true, false, cond, List, Option, refl, sym, ap, subst}
+use Rattle.std.proofs.Common.{◌≡◌, ◌∙◌, ℕ, Bool, true, false, cond, List, Option, refl, ap}
 use Rattle.std.specs.Prelude.{is_some}
 use Rattle.rtsp_small.specs.declared.method.Method.{Method}
 use Rattle.rtsp_small.specs.declared.method.Method.TheVariants as methods
@@ -10,7 +10,7 @@ use Rattle.session_one.specs.declared.parts.Track.{Track}
 use Rattle.session_one.specs.Table.{is_success, state_after}
 use Rattle.client_slot.specs.declared.purpose.Purpose.TheVariants as purposes
 use Rattle.client_slot.specs.Session.{PlayerSession}
-use Rattle.client_slot.specs.SessionTurns.{Brought, moved_turn, granted_turn, brought_by, turned}
+use Rattle.client_slot.specs.SessionTurns.{moved_turn, granted_turn, brought_by, turned}
 use Rattle.client_slot.specs.Changes.{session_after}
 
 state_same : (state : State) (success : Bool) → cond success state state ≡ state

@@ -1,6 +1,6 @@
 -- Each change is the same under every numbering.
-use Rattle.std.proofs.Common.{◌≡◌, ◌∙◌, ℕ, zero, suc, ◌+◌, ◌==◌, Bool, true, false, not, ◌&&◌, cond, List, [], ◌∷◌, ◌++◌, map, Option, Some, None, option_map, length, if◌then◌else◌, refl, sym, ap, subst}
-use Rattle.std.specs.Prelude.{is_some, is_none, slice_get, slice_index_or}
+use Rattle.std.proofs.Common.{◌≡◌, ◌∙◌, ℕ, zero, suc, ◌+◌, ◌==◌, Bool, true, false, not, ◌&&◌, cond, List, [], ◌∷◌, ◌++◌, map, Option, Some, None, option_map, length, if◌then◌else◌, refl, sym, ap}
+use Rattle.std.specs.Prelude.{is_some, is_none, slice_get}
 use Rattle.std.specs.Option.{option_or, option_and_then, option_to_list}
 use Rattle.rtsp_small.specs.declared.method.Method.{Method}
 use Rattle.rtsp_small.specs.declared.method.Method.TheVariants as methods
@@ -13,15 +13,15 @@ use Rattle.session_two.specs.declared.names.Names.TheVariants.{Unsaid, This}
 use Rattle.session_two.specs.Ends.{end_counts}
 use Rattle.client_slot.specs.declared.purpose.Purpose.{Purpose}
 use Rattle.client_slot.specs.declared.purpose.Purpose.TheVariants as purposes
-use Rattle.client_slot.specs.Session.{PlayerSession, new_session}
-use Rattle.client_slot.specs.Places.{session_at, session_where, changed_at, changed_where, first_place, has_due, queued_at, empty_place, filled_place}
+use Rattle.client_slot.specs.Session.{PlayerSession}
+use Rattle.client_slot.specs.Places.{session_at, session_where, changed_at, changed_where, first_place, has_due, queued_at, filled_place}
 use Rattle.client_slot.specs.SessionChanges.{when_ended, when_next, when_queued, when_unqueued}
 use Rattle.client_slot.specs.declared.session_turn.PartTurn.{PartTurn}
 use Rattle.client_slot.specs.declared.session_turn.PartTurn.TheVariants.{Keeps, Takes, Loses}
 use Rattle.client_slot.specs.declared.session_turn.SessionTurn.{SessionTurn}
 use Rattle.client_slot.specs.SessionTurns.{Brought, reply_turn, brought_by, tracks_then, part_then, turned}
 use Rattle.client_slot.specs.Client.{Client}
-use Rattle.client_slot.specs.Changes.{after_release, after_queueing, after_reply, settle_with, after_note, after_close, after_closing, due_place_at, due_place, due_play, release_with, release_at, settled_place, session_after, sessions_after, described_by, described_after, closing_place_at, closing_place, close_at}
+use Rattle.client_slot.specs.Changes.{after_release, after_queueing, after_reply, settle_with, after_note, after_close, after_closing, due_place_at, due_place, release_with, release_at, settled_place, session_after, sessions_after, described_by, described_after, closing_place_at, closing_place, close_at}
 use Rattle.client_slot.specs.ClosingRequest.{session_closing, closing_text}
 use Rattle.client_slot.specs.Renumber.{track_under, purpose_under, session_under, client_under, names_under, AreToldApart}
 

@@ -1,5 +1,5 @@
 -- The rooms for closing TEARDOWNs.
-use Rattle.std.proofs.Common.{◌≡◌, ◌≢◌, ◌∙◌, ℕ, zero, suc, ◌==◌, ◌<◌, ◌≤◌, Bool, true, false, not, ◌&&◌, ◌||◌, cond, List, [], ◌∷◌, length, Option, Some, None, IfSome, IsSome, refl, sym, ap, subst, arith, get_or-set_same, get_or-set_other, length-set}
+use Rattle.std.proofs.Common.{◌≡◌, ◌≢◌, ◌∙◌, ℕ, zero, suc, ◌==◌, ◌<◌, ◌≤◌, Bool, true, false, ◌&&◌, ◌||◌, cond, List, [], ◌∷◌, length, Option, Some, None, IfSome, IsSome, refl, sym, ap, subst, arith, get_or-set_same, get_or-set_other, length-set}
 use Rattle.std.proofs.lemmas.Bool.{eqb-true, eqb-false, ne_eqb}
 use Rattle.std.specs.Prelude.{slice_set, slice_index_or, is_some, is_none}
 use Rattle.rtsp_small.specs.declared.method.Method.{Method}
@@ -17,7 +17,7 @@ use Rattle.client_slot.specs.declared.purpose.Purpose.TheVariants as purposes
 use Rattle.client_slot.specs.declared.new_session.MadeParts.{MadeParts}
 use Rattle.client_slot.specs.declared.new_session.MadeSession.{MadeSession}
 use Rattle.client_slot.specs.NewSessions.{id_kept, described_kept, parts_made, id_made}
-use Rattle.client_slot.specs.Session.{PlayerSession, new_session}
+use Rattle.client_slot.specs.Session.{PlayerSession}
 use Rattle.client_slot.specs.Places.{session_at, session_where, empty_place, changed_at, changed_where, filled_place}
 use Rattle.client_slot.specs.declared.session_turn.SessionTurn.{SessionTurn}
 use Rattle.client_slot.specs.declared.session_turn.PartTurn.{PartTurn}
@@ -28,7 +28,7 @@ use Rattle.client_slot.specs.Client.{Client}
 use Rattle.client_slot.specs.Bounds.{IsTidyBy, AreTidy, HasShortUri, IsPlaced, IsPlacedIn, IsAskable, needs_none, rooms_left, rooms_with, AreRoomy, IsSlot}
 use Rattle.client_slot.proofs.TidyLemmas.{after_tidy, tidy_at}
 use Rattle.client_slot.proofs.ControlLemmas.{controls_after}
-use Rattle.client_slot.proofs.PlaceLemmas.{where_length, kept_each, place_is, changed_here, changed_other, same_changes_where}
+use Rattle.client_slot.proofs.PlaceLemmas.{where_length, place_is, changed_here, changed_other, same_changes_where}
 
 -- a room that is put in a place, or taken
 pub rooms_set : {R : Type 0} (rooms : List (Option R)) (place : ℕ) (new : Option R) (there : Bool) → is_some new ≡ there → rooms_left (slice_set rooms place new) ≡ slice_set (rooms_left rooms) place there

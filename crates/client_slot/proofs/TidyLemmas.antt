@@ -1,12 +1,11 @@
 -- A place has a session with its id and what it is about, or is empty.
-use Rattle.std.proofs.Common.{◌≡◌, ◌∙◌, ℕ, zero, suc, ◌==◌, Bool, true, false, ◌&&◌, ◌||◌, cond, List, [], ◌∷◌, length, drop, map, Option, Some, None, IsSome, refl, sym, ap, subst}
-use Rattle.std.specs.Prelude.{is_some, is_none}
+use Rattle.std.proofs.Common.{◌≡◌, ◌∙◌, ℕ, zero, suc, ◌==◌, Bool, true, false, ◌&&◌, ◌||◌, cond, List, [], ◌∷◌, length, map, Option, Some, None, IsSome, refl, sym, ap, subst}
+use Rattle.std.specs.Prelude.{is_some}
 use Rattle.std.specs.Option.{option_or, option_map}
-use Rattle.std.proofs.lemmas.Bool.{and_parts}
 use Rattle.rtsp_small.specs.declared.method.Method.{Method}
 use Rattle.rtsp_small.specs.declared.method.Method.TheVariants as methods
 use Rattle.session_one.specs.declared.table.State.{State}
-use Rattle.session_one.specs.declared.table.State.TheVariants.{Init, Ready, Playing}
+use Rattle.session_one.specs.declared.table.State.TheVariants.{Ready}
 use Rattle.session_one.specs.declared.parts.Asked.{Asked}
 use Rattle.session_one.specs.declared.parts.Play.{Play}
 use Rattle.session_one.specs.declared.parts.Track.{Track}
@@ -16,10 +15,10 @@ use Rattle.session_two.specs.Ends.{end_counts}
 use Rattle.client_slot.specs.declared.purpose.Purpose.{Purpose}
 use Rattle.client_slot.specs.declared.purpose.Purpose.TheVariants as purposes
 use Rattle.client_slot.specs.Session.{PlayerSession, new_session}
-use Rattle.client_slot.specs.Places.{session_at, session_where, changed_at, changed_where, empty_place}
+use Rattle.client_slot.specs.Places.{session_at, changed_at, changed_where, empty_place}
 use Rattle.client_slot.specs.SessionChanges.{when_ended, when_next, when_queued, when_unqueued}
 use Rattle.client_slot.specs.declared.session_turn.PartTurn.{PartTurn}
-use Rattle.client_slot.specs.declared.session_turn.PartTurn.TheVariants.{Keeps, Takes, Loses}
+use Rattle.client_slot.specs.declared.session_turn.PartTurn.TheVariants.{Keeps}
 use Rattle.client_slot.specs.declared.session_turn.SessionTurn.{SessionTurn}
 use Rattle.client_slot.specs.SessionTurns.{Brought, moved_turn, granted_turn, released_turn, control_by, brought_by, part_then, turned}
 use Rattle.client_slot.specs.Changes.{settled_place, session_after, sessions_after}

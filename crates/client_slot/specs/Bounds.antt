@@ -1,5 +1,5 @@
 -- What is bounded of a connection, so that no call but the first takes memory (this project's own).
-use Rattle.std.specs.Prelude.{◌≡◌, ◌≢◌, ℕ, ◌≤◌, ◌<◌, ◌==◌, Bool, true, false, ◌&&◌, ◌||◌, not, List, [], ◌∷◌, length, map, slice_index_or, slice_set, if◌then◌else◌, All, Option, Some, None, is_some, is_none, IsSome, IfSome}
+use Rattle.std.specs.Prelude.{◌≡◌, ◌≢◌, ℕ, ◌≤◌, ◌<◌, ◌==◌, Bool, true, false, ◌||◌, List, [], ◌∷◌, length, map, slice_index_or, slice_set, if◌then◌else◌, All, Option, Some, None, is_some, is_none, IsSome, IfSome}
 use Rattle.rtsp_small.specs.Sessions.{is_session_id}
 use Rattle.client_slot.specs.declared.limits.TheConstants.{LONGEST_URI}
 use Rattle.session_one.specs.declared.parts.TheConstants.{MOST_SESSIONS, MOST_TRACKS}

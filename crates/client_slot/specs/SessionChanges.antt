@@ -1,5 +1,5 @@
 -- What changes a session between replies, one change a definition.
-use Rattle.std.specs.Prelude.{ℕ, List, [], ◌∷◌, ◌++◌, drop, None, length, ◌==◌, if◌then◌else◌}
+use Rattle.std.specs.Prelude.{[], ◌∷◌, ◌++◌, drop, None, length, ◌==◌, if◌then◌else◌}
 use Rattle.session_one.specs.declared.table.State.TheVariants.{Ready}
 use Rattle.session_one.specs.declared.parts.Play.{Play}
 use Rattle.session_two.specs.declared.names.Names.{Names}

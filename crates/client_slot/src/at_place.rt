@@ -8,18 +8,19 @@ ghost use Rattle.client_slot.specs.Places.{session_at, changed_at, changed_where
 ghost use Rattle.client_slot.specs.SessionChanges.{when_queued, when_next, when_ended, when_unqueued};
 
 use crate::session::Session;
+use crate::waiting_play::WaitingPlay;
 use session_one::{MOST_SESSIONS, Play};
 use session_two::Names;
 
 /// A PLAY waits, in its session.
-pub(crate) fn queue_at(sessions: &mut Vec<Session>, play: Play)
+pub(crate) fn queue_at(sessions: &mut Vec<Session>, play: WaitingPlay)
     requires places { length sessions.old.items ≡ MOST_SESSIONS }
     requires uri { length play.uri ≤ LONGEST_URI }
     requires room { IfSome play.place (λ place.
         (place < MOST_SESSIONS) × (length (session_at place sessions.old.items).queue < MOST_PLAYS)) }
     ensures { sessions.new.items ≡ changed_where play.place (when_queued play) sessions.old.items }
 {
-    if let Some(place) = play.place {
+    if let Some(place) = play.play().place {
         sessions[usize::from(place)].queue(play);
     }
 }

@@ -19,7 +19,7 @@ impl ClosingRoom {
     ghost use Rattle.head_two.specs.Requests.{request_text};
     ghost use Rattle.client_slot.specs.Teardown.{teardown_request};
 
-    /// Takes the memory.
+    /// Takes the memory: [`CLOSING_ROOM`] bytes. Where that is wanting, the answer is [`Memory`].
     pub fn new(alloc: Global) -> Result<ClosingRoom, Memory> {
         Ok(ClosingRoom {
             bytes: Vec::with_capacity(alloc, CLOSING_ROOM)?,

@@ -3,8 +3,8 @@
 //!
 //! Each call makes exactly one named change of that record, as `specs/` has them. Numbers of
 //! requests and of pairs of channels are those of the server's one connection; the definitions do
-//! not depend on that, and hold for any other numbering. All memory is taken by [`Slot::new`], [`Waiting::new`]
-//! and [`ClosingRoom::new`].
+//! not depend on that, and hold for any other numbering. All memory is taken by [`Slot::new`], [`Waiting::new`],
+//! [`WaitingPlay::new`] and [`ClosingRoom::new`].
 #![tactic(auto)]
 
 mod at_place;
@@ -18,6 +18,7 @@ mod purpose;
 mod session;
 mod session_turn;
 mod slot;
+mod waiting_play;
 mod waiting_request;
 
 pub use closing_room::ClosingRoom;
@@ -27,4 +28,5 @@ pub use new_session::{MadeParts, MadeSession};
 pub use purpose::{Pending, Settled};
 pub use session_turn::{PartTurn, SessionTurn};
 pub use slot::Slot;
+pub use waiting_play::WaitingPlay;
 pub use waiting_request::Waiting;

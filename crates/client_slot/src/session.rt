@@ -8,6 +8,7 @@ ghost use Rattle.client_slot.specs.declared.limits.TheConstants.{LONGEST_URI, CL
 mod changes;
 
 use crate::closing_room::ClosingRoom;
+use crate::waiting_play::WaitingPlay;
 use gate_bytes::{Memory, Text};
 use play_queue::PlayQueue;
 use session_one::{MOST_TRACKS, Play, State, Track};
@@ -23,7 +24,7 @@ pub(crate) struct Session {
     control: Option<Text>,
     tracks: Vec<Track>,
     running: Running,
-    queue: PlayQueue<Play>,
+    queue: PlayQueue<WaitingPlay>,
 }
 
 impl Model for Session {
@@ -157,6 +158,9 @@ impl Session {
     pub fn first_queued(&self) -> Option<&Play>
         ensures { option_map (λ play. play.now) result ≡ slice_get self.now.queue 0 }
     {
-        self.queue.first()
+        match self.queue.first() {
+            Some(waiting) => Some(waiting.play()),
+            None => None,
+        }
     }
 }

@@ -111,13 +111,12 @@ impl Trial {
     }
 
     /// Carries a plan out, and counts the request that goes up.
-    fn carry_out(&mut self, alloc: Global, plan: PlannedStep, answer: &mut CaseAnswer)
+    fn carry_out(&mut self, alloc: Global, mut plan: PlannedStep, answer: &mut CaseAnswer)
         requires { IsReady self.old.slot plan }
     {
         let open = self.number;
         let next = open.wrapping_add(1);
         let asks = plan.asks();
-        let mut plan = plan;
         let done = plan.commit(alloc, &mut self.slot, open, next);
         if asks {
             self.number = next;

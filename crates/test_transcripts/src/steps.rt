@@ -10,6 +10,7 @@ use crate::replies::asked;
 use crate::trial::Trial;
 use client_slot::{
     ClosingRoom, LONGEST_URI, MOST_WAITING, MadeParts, MadeSession, Pending, Slot, Waiting,
+    WaitingPlay,
 };
 use gate_bytes::{Memory, Text};
 use play_queue::MOST_PLAYS;
@@ -210,15 +211,18 @@ fn queue(alloc: Global, slot: &mut Slot, place: u8, uri: &[u8], answer: &mut Cas
         return answer.fail(CaseFault::Memory);
     };
     let has_room = slot.session(place).is_some() && slot.queued(place) < MOST_PLAYS;
-    if uri.len() <= LONGEST_URI && has_room {
-        slot.queue(Play {
-            uri,
-            range,
-            scale: None,
-            place: Some(place),
-        });
-    } else {
-        answer.unreadable();
+    if uri.len() > LONGEST_URI || !has_room {
+        return answer.unreadable();
+    }
+    let play = Play {
+        uri,
+        range,
+        scale: None,
+        place: Some(place),
+    };
+    match WaitingPlay::new(alloc, play) {
+        Ok(waiting) => slot.queue(waiting),
+        Err(_) => answer.fail(CaseFault::Memory),
     }
 }
 

@@ -10,6 +10,7 @@ ghost use Rattle.client_slot.specs.SessionTurns.{part_then};
 use super::Session;
 use crate::gain::BroughtParts;
 use crate::session_turn::{PartTurn, SessionTurn};
+use crate::waiting_play::WaitingPlay;
 use gate_bytes::Text;
 use session_one::{Play, State, Track};
 use session_two::Names;
@@ -82,7 +83,7 @@ impl Session {
     }
 
     /// A PLAY waits.
-    pub fn queue(&mut self, play: Play)
+    pub fn queue(&mut self, play: WaitingPlay)
         requires uri { length play.uri ≤ LONGEST_URI }
         requires room { length self.old.queue < MOST_PLAYS }
         ensures { self.new ≡ when_queued play self.old }
@@ -96,7 +97,10 @@ impl Session {
         ensures uri { IfSome result (λ play. length play.uri ≤ LONGEST_URI) }
         ensures rest { self.new ≡ when_next self.old }
     {
-        self.queue.next()
+        match self.queue.next() {
+            Some(waiting) => Some(waiting.into_play()),
+            None => None,
+        }
     }
 
     /// No PLAY waits any longer.

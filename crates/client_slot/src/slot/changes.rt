@@ -15,6 +15,7 @@ use crate::closing_room::ClosingRoom;
 use crate::final_reply::{FinalReply, settle_sessions};
 use crate::new_session::{MadeParts, MadeSession};
 use crate::purpose::{Purpose, Settled};
+use crate::waiting_play::WaitingPlay;
 use crate::waiting_request::Waiting;
 use gate_bytes::Text;
 use rtsp_head::Item;
@@ -58,7 +59,7 @@ impl Slot {
     }
 
     /// A PLAY of the player waits, for its session.
-    pub fn queue(&mut self, play: Play)
+    pub fn queue(&mut self, play: WaitingPlay)
         requires uri { length play.uri ≤ LONGEST_URI }
         requires session { is_filled play.place self.old.sessions ≡ true }
         requires room { IfSome play.place (λ place.

@@ -1,5 +1,5 @@
 -- The session at the place is changed.
-use Rattle.std.proofs.Common.{◌∙◌, rules, refl, sym, ap, Some}
+use Rattle.std.proofs.Common.{rules}
 use Rattle.client_slot.specs.SessionChanges.{when_next}
 use Rattle.client_slot.proofs.PlaceLemmas.{set_back}
 use Rattle.client_slot.proofs.at_place.next_at.Goals as goal

@@ -1,5 +1,5 @@
 -- One session more has no PLAY that waits.
-use Rattle.std.proofs.Common.{◌∙◌, rules, refl, sym, ap}
+use Rattle.std.proofs.Common.{◌∙◌, rules, refl, ap}
 use Rattle.client_slot.specs.SessionChanges.{when_unqueued}
 use Rattle.client_slot.proofs.PlaceLemmas.{set_back, front_changed, front_next, front_all}
 use Rattle.client_slot.proofs.at_place.unqueue_all.Goals as goal

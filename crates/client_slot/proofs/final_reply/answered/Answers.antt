@@ -1,5 +1,5 @@
 -- A reply to DESCRIBE leaves the sessions.
-use Rattle.std.proofs.Common.{◌≡◌, ◌∙◌, refl, sym, ap}
+use Rattle.std.proofs.Common.{sym}
 use Rattle.client_slot.specs.NewSessions.{id_kept, described_kept}
 use Rattle.client_slot.proofs.PlaceLemmas.{nothing_changed_where}
 use Rattle.client_slot.proofs.QuietLemmas.{described_same}

@@ -1,5 +1,5 @@
 -- What was described matters to a session that the server made alone.
-use Rattle.std.proofs.Common.{◌≡◌, ◌∙◌, rules, refl, sym, ap, subst, Some, List, Option, ℕ, length}
+use Rattle.std.proofs.Common.{◌∙◌, rules, sym, ap, subst, List, length}
 use Rattle.client_slot.specs.declared.purpose.Purpose.{Purpose}
 use Rattle.client_slot.specs.declared.purpose.Purpose.TheVariants as purposes
 use Rattle.client_slot.specs.Bounds.{IsPlaced}

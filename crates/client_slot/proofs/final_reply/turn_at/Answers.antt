@@ -1,5 +1,5 @@
 -- The session at the place is changed.
-use Rattle.std.proofs.Common.{◌∙◌, rules, refl, sym, ap, Some}
+use Rattle.std.proofs.Common.{rules}
 use Rattle.client_slot.specs.NewSessions.{id_kept, described_kept}
 use Rattle.client_slot.specs.Changes.{session_after}
 use Rattle.client_slot.proofs.PlaceLemmas.{set_where}

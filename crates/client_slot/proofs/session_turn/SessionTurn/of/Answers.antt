@@ -1,5 +1,5 @@
 -- The success of a player's request.
-use Rattle.std.proofs.Common.{◌≡◌, ◌∙◌, Bool, true, cond, refl, sym, ap}
+use Rattle.std.proofs.Common.{◌∙◌, Bool, cond, sym, ap}
 use Rattle.session_one.specs.declared.table.State.{State}
 use Rattle.session_one.specs.Table.{state_after}
 use Rattle.client_slot.specs.declared.purpose.Pending.{Pending}

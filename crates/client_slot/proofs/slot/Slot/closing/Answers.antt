@@ -1,5 +1,5 @@
 -- A session that is left has its room.
-use Rattle.std.proofs.Common.{◌≡◌, ◌∙◌, rules, true, false, refl, sym, ap}
+use Rattle.std.proofs.Common.{◌≡◌, ◌∙◌, true, false, sym, ap}
 use Rattle.std.specs.Prelude.{is_some}
 use Rattle.rtsp_head.specs.Shapes.{shapes}
 use Rattle.client_slot.specs.Session.{PlayerSession}

@@ -1,5 +1,5 @@
 -- A session that is there has what it is about.
-use Rattle.std.proofs.Common.{◌≡◌, ◌∙◌, rules, refl, sym, ap, subst, List, ℕ, Option}
+use Rattle.std.proofs.Common.{◌∙◌, rules, ap}
 use Rattle.std.specs.Prelude.{is_some}
 use Rattle.client_slot.specs.Client.{Client}
 use Rattle.client_slot.specs.Session.{PlayerSession}

@@ -1,12 +1,12 @@
 -- The session keeps its id and its streams.
-use Rattle.std.proofs.Common.{◌≡◌, ◌∙◌, ℕ, Option, rules, refl, sym, ap, Some}
+use Rattle.std.proofs.Common.{◌∙◌, ℕ, Option, sym, ap}
 use Rattle.rtsp_head.specs.Shapes.{shapes}
 use Rattle.client_slot.specs.Client.{Client}
 use Rattle.client_slot.specs.Places.{session_at, session_where}
-use Rattle.client_slot.specs.SessionChanges.{when_ended, when_queued, when_next}
+use Rattle.client_slot.specs.SessionChanges.{when_queued}
 use Rattle.client_slot.specs.Bounds.{is_filled, rooms_left}
 use Rattle.client_slot.proofs.TidyLemmas.{queued_tidy, tidy_at}
-use Rattle.client_slot.proofs.LimitLemmas.{slot_changed, slot_released, ended_keeps, queued_keeps, next_keeps}
+use Rattle.client_slot.proofs.LimitLemmas.{slot_changed, queued_keeps}
 use Rattle.client_slot.proofs.slot.Slot.queue.Goals as goal
 
 pub invariant_of-self : goal.invariant_of-self

@@ -1,5 +1,5 @@
 -- A PLAY that is due waits; it goes up for its session.
-use Rattle.std.proofs.Common.{◌≡◌, ◌∙◌, List, rules, refl, sym, ap, Some, None, subst}
+use Rattle.std.proofs.Common.{◌∙◌, List, rules, sym, ap, Some}
 use Rattle.rtsp_head.specs.Shapes.{shapes}
 use Rattle.client_slot.specs.Client.{Client}
 use Rattle.client_slot.specs.Session.{PlayerSession}
@@ -8,7 +8,7 @@ use Rattle.client_slot.specs.SessionChanges.{when_next}
 use Rattle.client_slot.specs.Changes.{due_place}
 use Rattle.client_slot.specs.Bounds.{is_filled, rooms_left}
 use Rattle.client_slot.proofs.TidyLemmas.{tidy_at, next_tidy, due_filled}
-use Rattle.client_slot.proofs.LimitLemmas.{filled_kept, due_queue, slot_changed, slot_released, next_keeps, IsDueAt, due_is, due_waits}
+use Rattle.client_slot.proofs.LimitLemmas.{filled_kept, due_queue, slot_changed, slot_released, next_keeps, due_is, due_waits}
 use Rattle.client_slot.proofs.slot.Slot.release.Goals as goal
 
 pub unreachable-requires : goal.unreachable-requires

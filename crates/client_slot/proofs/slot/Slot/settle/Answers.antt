@@ -1,5 +1,5 @@
 -- The reply leaves what is bounded.
-use Rattle.std.proofs.Common.{◌≡◌, ◌∙◌, ◌<◌, Bool, Option, IfSome, List, ℕ, rules, refl, sym, ap, subst, length, Some}
+use Rattle.std.proofs.Common.{◌∙◌, ◌<◌, Bool, Option, IfSome, List, ℕ, sym, ap, subst}
 use Rattle.std.specs.Prelude.{is_some}
 use Rattle.std.proofs.lemmas.List.{length-map}
 use Rattle.rtsp_head.specs.Shapes.{shapes}

@@ -1,5 +1,5 @@
 -- The place of an open request is one of the four.
-use Rattle.std.proofs.Common.{◌≡◌, ◌∙◌, rules, refl, sym, ap, subst, List}
+use Rattle.std.proofs.Common.{◌∙◌, rules, ap, List}
 use Rattle.client_slot.specs.Session.{PlayerSession}
 use Rattle.client_slot.specs.Changes.{settled_place}
 use Rattle.client_slot.proofs.RoomLemmas.{settled_within, some_id, is_some_id, open_placed}

@@ -1,5 +1,5 @@
 -- The room of the place is gone.
-use Rattle.std.proofs.Common.{◌≡◌, ◌∙◌, rules, refl, sym, ap, false}
+use Rattle.std.proofs.Common.{◌∙◌, ap, false}
 use Rattle.std.specs.Prelude.{is_some, slice_set}
 use Rattle.client_slot.specs.Bounds.{rooms_left}
 use Rattle.client_slot.proofs.RoomLemmas.{rooms_set}

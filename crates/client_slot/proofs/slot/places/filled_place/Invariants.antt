@@ -1,6 +1,6 @@
 -- No session before this place passes.
 use Rattle.std.proofs.Common.{◌≡◌, drop}
-use Rattle.std.specs.Prelude.{is_some, is_none}
+use Rattle.std.specs.Prelude.{is_some}
 use Rattle.client_slot.specs.Places.{first_place}
 use Rattle.client_slot.proofs.slot.places.filled_place.Given as goal
 

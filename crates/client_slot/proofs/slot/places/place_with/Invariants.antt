@@ -1,6 +1,5 @@
 -- No session before this place passes.
 use Rattle.std.proofs.Common.{◌≡◌, drop}
-use Rattle.std.specs.Prelude.{is_some, is_none}
 use Rattle.client_slot.specs.Places.{is_session, first_place}
 use Rattle.client_slot.proofs.slot.places.place_with.Given as goal
 
