@@ -31,6 +31,7 @@ use Rattle.gateway_claim.specs.Books.{free_in}
 use Rattle.gateway_claim.specs.Follows.{spent}
 use Rattle.gateway_claim.specs.Turns.{number_heard}
 use Rattle.gateway_mux.specs.declared.turn_facts.TurnFacts.{TurnFacts}
+use Rattle.gateway_mux.specs.declared.turn.PlannedTurn.{PlannedTurn}
 use Rattle.gateway_mux.specs.Acts.{IsPlannedTurn, IsSaid, IsClosing, IsBadKind, IsAct, answers_alone}
 use Rattle.gateway_mux.specs.Moves.{wrong_in, step_in, IsIdleAt, IsIdleTurn, IsIdle, IsEndAt}
 use Rattle.gateway_mux.specs.Pictures.{Picture, books_in, IsKept}
@@ -227,6 +228,19 @@ turned_act bases one a b h it comes client plan goes key next keeps is_next said
   plan = subst (λ (n : ℕ). IsPlan bases n (free_once it.settled one.held) client comes plan) (sym is_next) planned;
   asks = is;
 }
+
+-- The turn of a connection whose request is planned.
+pub request_turn : (bases : Bases) (one : Picture) (a b conn key number : ℕ) (pair : Option ℕ) (shape : Shape) (client : Client) (plan : PlannedStep) (goes : Bool) (it : PlannedTurn) → ∥ IsKept bases one a b ∥₁ → shape.kind ≡ kinds.Request → one.clients conn ≡ Some client → number ≡ one.issued → pair ≡ free_once None one.held
+    → IsPlan bases (number + 1) pair client (requests shape) plan → ((next : ℕ) (free : Option ℕ) → IsPlan bases next free client (requests shape) plan → goes ≡ is_some (effect_by bases 0 free client (requests shape)).message)
+    → one.issued ≤ LAST_NUMBER → (goes ≡ true → IsSome (next_number one.issued)) → it ≡ record { conn = conn; key = key; number = 0; next = number + 1; settled = None; plan = plan; asks = goes }
+    → IsPlannedTurn bases one (takes conn shape) None it
+request_turn bases one a b conn key number pair shape client plan goes it keeps kind here issued free planned is low left whole =
+    let now : IsPlan bases (one.issued + 1) (free_once None one.held) client (requests shape) plan =
+    subst (λ (n : ℕ). IsPlan bases (n + 1) (free_once None one.held) client (requests shape) plan) issued
+    (subst (λ (lowest : Option ℕ). IsPlan bases (number + 1) lowest client (requests shape) plan) free planned) in
+    subst (λ (turn : PlannedTurn). IsPlannedTurn bases one (takes conn shape) None turn) (sym whole)
+    (turned_act bases one a b (takes conn shape) (record { conn = conn; number = 0; settled = None; answer = None }) (requests shape) client plan goes key (number + 1) keeps (ap (λ n. n + 1) issued)
+    (request_said bases one conn shape kind) here now (is (one.issued + 1) (free_once None one.held) now) low left)
 
 pub half_none : (result : Option StreamHalf) (half : Option Half) → option_map half_of result ≡ half → result ≡ None → half ≡ None
 half_none result half is none = sym is ∙ ap (option_map half_of) none

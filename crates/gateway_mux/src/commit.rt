@@ -1,7 +1,9 @@
 //! Carrying out what an event does.
-ghost use Rattle.std.specs.Prelude.{◌≡◌, true, None};
+ghost use Rattle.std.specs.Prelude.{◌≡◌, true, None, IfOk, OnErr};
+ghost use Rattle.rtsp_head.specs.Shapes.{shape_of};
+ghost use Rattle.rtsp_head.specs.declared.item.ItemKind.TheVariants.{Request};
 ghost use Rattle.client_machine.specs.Plans.{IsShortPlan};
-ghost use Rattle.gateway_claim.specs.Happenings.{Happening, happening_of};
+ghost use Rattle.gateway_claim.specs.Happenings.{Happening, happening_of, takes};
 ghost use Rattle.gateway_claim.specs.Tells.{is_frame_item};
 
 use crate::act::{Act, PlannedClose};
@@ -9,9 +11,10 @@ use crate::connections::Connections;
 use crate::frames::on_channel;
 use crate::outcome::{answering, ending, falling, handed, nothing, rising};
 use crate::turn::{PlannedTurn, commit_turn};
-use client_machine::plan_close;
-use gate_bytes::Text;
-use gateway_claim::{Event, Outcome};
+use client_machine::{Incoming, plan, plan_close};
+use gate_bytes::{Memory, Text};
+use gateway_claim::{Event, Outcome, UpCause};
+use rtsp_head::Item;
 use std::alloc::Global;
 
 impl Connections {
@@ -52,6 +55,43 @@ impl Connections {
         }
     }
 
+    /// Takes a request of a player: its turn is planned, and carried out where it was planned. Where memory is wanting,
+    /// nothing changes.
+    #[inline(always)]
+    pub fn take_request(&mut self, alloc: Global, conn: u32, item: &Item) -> Result<Outcome, Memory>
+        requires { item.now.kind ≡ Request }
+        ensures commits { IfOk result
+            (IsCommitted self.old.bases (picture self.old.seats self.old.upstream)
+            (picture self.new.seats self.new.upstream) (takes conn (shape_of item.now))) }
+        ensures short { IfOk result IsShort }
+        ensures err { OnErr result
+            ((self.new.seats ≡ self.old.seats) × (self.new.upstream ≡ self.old.upstream)) }
+        ensures bases { self.new.bases ≡ self.old.bases }
+    {
+        let Some(seat) = self.seats.seat(conn) else {
+            return Ok(nothing());
+        };
+        let next = self.upstream.requests.issued() + 1;
+        let pair = self.upstream.free_once(&None);
+        let mut turn = PlannedTurn::blank(alloc, conn, seat.key, 0, next);
+        let incoming = Incoming::Request(item);
+        plan(
+            alloc,
+            &self.bases,
+            seat.slot,
+            next,
+            pair,
+            &incoming,
+            &mut turn.plan,
+        )?;
+        let asks = turn.plan.asks();
+        if self.upstream.lacks_number(asks) {
+            return Ok(ending(UpCause::CseqSpent));
+        }
+        turn.complete(None, asks);
+        Ok(self.turn(alloc, None, &mut turn))
+    }
+
     /// Hands on a frame, or drops it. That changes no connection and takes no memory, so a frame needs no plan.
     #[inline(always)]
     pub fn pass(&self, event: Event) -> Outcome
@@ -75,8 +115,8 @@ impl Connections {
     }
 
     /// Carries out the turn of a connection, after this answer to the server. Once it is over it is
-    /// forgotten.
-    #[inline(always)]
+    /// forgotten. It is called apart, since it stands on three ways.
+    #[inline(never)]
     fn turn(&mut self, alloc: Global, answer: Option<Text>, turn: &mut PlannedTurn) -> Outcome
         requires turn { IsTurnOfSome self.old.bases (picture self.old.seats self.old.upstream) answer turn.old }
         requires key { IsKeyOf self.old.seats turn.old.conn turn.old.key }

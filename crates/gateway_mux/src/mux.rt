@@ -1,7 +1,9 @@
 //! The multiplexer.
 ghost use Rattle.std.specs.Prelude.{◌≡◌, true, false, is_some, IfOk, OnOk, IsOk, IsSome, IfErr, OnErr, [], List, ◌∷◌, ℕ, None};
 ghost use Rattle.gateway_claim.specs.Cores.{IsOwnKey, TellsStanding, GivesKey, ever_entered};
-ghost use Rattle.gateway_claim.specs.Happenings.{HistoryEntry, entry_of, entering, standing, is_alive, fault_in, happening_of};
+ghost use Rattle.rtsp_head.specs.Shapes.{shape_of};
+ghost use Rattle.rtsp_head.specs.declared.item.ItemKind.TheVariants.{Request};
+ghost use Rattle.gateway_claim.specs.Happenings.{HistoryEntry, entry_of, entering, standing, is_alive, fault_in, happening_of, takes};
 ghost use Rattle.gateway_claim.specs.Tells.{dropped_frames, IsFirstAlive, is_busy, requests_waiting, is_frame_item};
 
 use crate::act::Act;
@@ -9,7 +11,7 @@ use crate::connections::Connections;
 use crate::outcome::nothing;
 use gate_bytes::Memory;
 use gateway_claim::{Bases, ConnectionKey, Event, Outcome, Standing, UpCause};
-use rtsp_head::ItemKind;
+use rtsp_head::{Item, ItemKind};
 use std::alloc::Global;
 
 /// What an event will do, as [`Mux::plan`] found it. All memory for it is taken, and [`Mux::commit`] carries it out; nobody
@@ -179,6 +181,24 @@ impl Mux {
         outcome
     }
 
+    /// Takes a request of a client, while the connection to the server stands. It is planned and carried out where it
+    /// stands: no plan of it is kept, so none takes memory. After `Memory` nothing changed.
+    #[inline(always)]
+    fn take_request(&mut self, alloc: Global, conn: u32, item: &Item) -> Result<Outcome, Memory>
+        requires open { is_some self.old.ended ≡ false }
+        requires request { item.now.kind ≡ Request }
+        ensures stands { IfOk result (λ outcome.
+            (T : List HistoryEntry) → Stands self.old T
+            → Stands self.new (record { happening = takes conn (shape_of item.now); outcome = outcome } ∷ T)) }
+        ensures short { IfOk result (λ outcome. IsShort outcome) }
+        ensures err { OnErr result ((T : List HistoryEntry) → Stands self.old T → Stands self.new T) }
+        ensures bases { bases_of self.new ≡ bases_of self.old }
+    {
+        let outcome = self.connections.take_request(alloc, conn, item)?;
+        self.ended = outcome.fault;
+        Ok(outcome)
+    }
+
     /// Takes an event: what it hands out is the next entry of the history. After `Memory` nothing was
     /// handed out, and the event is given back. Only a request of a client or a message of the server
     /// may need memory.
@@ -193,6 +213,15 @@ impl Mux {
     {
         if self.ended.is_none() && is_frame(&event) {
             return Ok(self.pass(event));
+        }
+        if let Event::Client(conn, item) = &event
+            && self.ended.is_none()
+            && item.kind == ItemKind::Request
+        {
+            return match self.take_request(alloc, *conn, item) {
+                Ok(outcome) => Ok(outcome),
+                Err(memory) => Err((event, memory)),
+            };
         }
         match self.act(alloc, &event) {
             Ok(act) => Ok(self.carry_out(alloc, event, act)),

@@ -13,10 +13,9 @@ ghost use Rattle.gateway_mux.specs.BlankTurns.{blank_turn};
 use crate::act::{Act, PlannedClose};
 use crate::connections::Connections;
 use crate::frames::channel_of;
-use crate::settlement::Settlement;
 use crate::turn::PlannedTurn;
 use crate::turn_facts::TurnFacts;
-use client_machine::{CloseWhy, Incoming, PlannedStep, half_for, plan, plan_close};
+use client_machine::{CloseWhy, Incoming, half_for, plan, plan_close};
 use connection_table::KeyedSlot;
 use gate_bytes::Memory;
 use gateway_claim::{ConnectionKey, Event, UpCause, UpWhy};
@@ -188,7 +187,7 @@ impl Connections {
         ensures key { IsKeyed self.now.seats result }
     {
         let asks = plan_close(alloc, seat.slot, why).asks();
-        if asks && self.upstream.requests.next().is_none() {
+        if self.upstream.lacks_number(asks) {
             return Act::Ends(UpCause::CseqSpent);
         }
         Act::Closes(PlannedClose {
@@ -259,24 +258,11 @@ impl Connections {
             ..
         } = said;
         let asks = turn.plan.asks();
-        if asks && self.upstream.requests.next().is_none() {
+        if self.upstream.lacks_number(asks) {
             return Act::Ends(UpCause::CseqSpent);
         }
         turn.complete(settled, asks);
         Act::Turns(answer, turn)
-    }
-}
-
-impl PlannedTurn {
-    ghost use Rattle.std.specs.Prelude.{◌≡◌};
-
-    /// What it settles is known, and whether a request goes up.
-    #[inline(always)]
-    fn complete(&mut self, settled: Option<Settlement>, asks: bool)
-        ensures { self.new ≡ record self.old { settled = settled; asks = asks } }
-    {
-        self.settled = settled;
-        self.asks = asks;
     }
 }
 
@@ -290,16 +276,7 @@ fn blank_turn(
 ) -> Result<Box<PlannedTurn>, Memory>
     ensures { IfOk result (λ turn. turn.value ≡ blank_turn conn key number next blank_plan) }
 {
-    let turn = PlannedTurn {
-        conn,
-        key,
-        number,
-        next,
-        settled: None,
-        plan: PlannedStep::blank(alloc),
-        asks: false,
-    };
-    match Box::new(alloc, turn) {
+    match Box::new(alloc, PlannedTurn::blank(alloc, conn, key, number, next)) {
         Ok(turn) => Ok(turn),
         Err(_) => Err(Memory),
     }

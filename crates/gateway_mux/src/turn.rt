@@ -39,6 +39,37 @@ pub struct PlannedTurn {
     pub asks: bool,
 }
 
+impl PlannedTurn {
+    ghost use Rattle.std.specs.Prelude.{◌≡◌};
+    ghost use Rattle.client_machine.specs.BlankPlans.{blank_plan};
+    ghost use Rattle.gateway_mux.specs.BlankTurns.{blank_turn};
+
+    /// The turn of a connection that is to be planned. It takes no memory.
+    #[inline(always)]
+    pub fn blank(alloc: Global, conn: u32, key: usize, number: u32, next: u32) -> PlannedTurn
+        ensures { result ≡ blank_turn conn key number next blank_plan }
+    {
+        PlannedTurn {
+            conn,
+            key,
+            number,
+            next,
+            settled: None,
+            plan: PlannedStep::blank(alloc),
+            asks: false,
+        }
+    }
+
+    /// What it settles is known, and whether a request goes up.
+    #[inline(always)]
+    pub fn complete(&mut self, settled: Option<Settlement>, asks: bool)
+        ensures { self.new ≡ record self.old { settled = settled; asks = asks } }
+    {
+        self.settled = settled;
+        self.asks = asks;
+    }
+}
+
 /// Carries out what is planned for a connection. It takes no memory, and can't be refused. What the planned turn says then
 /// is of no use.
 #[inline(always)]

@@ -1,5 +1,5 @@
 //! The one connection to the server.
-ghost use Rattle.std.specs.Prelude.{◌≡◌, ◌==◌, ◌+◌, ◌<◌, ◌≤◌, ℕ, List, None, Some, is_some, is_none, true, IsSome, IfSome, if◌then◌else◌};
+ghost use Rattle.std.specs.Prelude.{◌≡◌, ◌==◌, ◌+◌, ◌<◌, ◌≤◌, ℕ, List, None, Some, is_some, is_none, true, false, IsSome, IfSome, if◌then◌else◌};
 ghost use Rattle.std.specs.Option.{option_copied};
 ghost use Rattle.channel_map.specs.declared.map.TheConstants.{PAIRS};
 ghost use Rattle.channel_map.specs.Pairs.{held_at, is_free, lowest_free};
@@ -40,6 +40,18 @@ impl UpstreamBooks {
             sessions: SessionBook::new(alloc),
             channels: ChannelMap::new(),
         }
+    }
+
+    /// Whether a request is due for which no number is left.
+    #[inline(always)]
+    pub fn lacks_number(&self, is_due: bool) -> bool
+        ensures lacking { result ≡ true → (is_due ≡ true) × (next_number self.now.requests.issued ≡ None) }
+        ensures left { result ≡ false → is_due ≡ true → IsSome (next_number self.now.requests.issued) }
+    {
+        if !is_due {
+            return false;
+        }
+        self.requests.next().is_none()
     }
 
     /// Settles what the final reply to a request of a connection settles. This is the session that ends.
