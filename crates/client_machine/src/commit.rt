@@ -24,8 +24,7 @@ impl PlannedStep {
     }
 
     /// Carries the plan out, by the number of the open request and that of the next one. It takes no
-    /// memory, and can't be refused. What is handed out is taken from the plan where it stands, and what that says then is of
-    /// no use.
+    /// memory, and can't be refused. What is handed out is moved out of the plan, which is not to be used again.
     pub fn commit(&mut self, alloc: Global, slot: &mut Slot, number: u32, next: u32) -> Done
         requires { IsReady slot.old self.old }
         ensures does { (bases : Bases) (pair : Option ℕ) (comes : Comes)

@@ -49,7 +49,7 @@ pub(crate) fn plan_request(
     treat_request(alloc, bases, slot, next, pair, item, plan)
 }
 
-/// The plan for a request of a connection that has a PLAY due: that one goes up, and the request waits. It is called apart,
+/// The plan for a request of a connection that has a PLAY due: that one goes up, and the request waits. It is not inlined,
 /// since few requests wait.
 #[inline(never)]
 fn plan_due(
@@ -74,7 +74,7 @@ fn plan_due(
     Ok(())
 }
 
-/// A copy of a request waits. Never so many wait as may, so that no memory is wanting for that. It is called apart, since
+/// A copy of a request waits. Never so many wait as may, so that no memory is wanting for that. It is not inlined, since
 /// few requests wait.
 #[inline(never)]
 fn waits(alloc: Global, slot: &Slot, item: &Item) -> Result<Change, Memory>

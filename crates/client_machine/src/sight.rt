@@ -232,7 +232,7 @@ fn see_session<'v>(
     }
 }
 
-/// The session at a place, which has this id, as a request finds it now. It is called apart, since most places are empty.
+/// The session at a place, which has this id, as a request finds it now. It is not inlined, since most places are empty.
 #[inline(never)]
 fn view_now<'v>(slot: &'v Slot, place: u8, id: &'v [u8]) -> SessionView<'v, 'v>
     requires place { place < MOST_SESSIONS }

@@ -16,7 +16,7 @@ use session_two::Running;
 use std::alloc::Global;
 use std::marker::Model;
 
-/// A session, with room for all that it may hold. Contracts see it as the definitions do.
+/// A session, with room for its streams and for pointers to its PLAYs that wait. Contracts see it as the definitions do.
 #[derive(Drop)]
 pub(crate) struct Session {
     state: State,
@@ -46,7 +46,7 @@ impl Session {
     ghost use Rattle.client_slot.specs.ClosingRequest.{session_closing};
     ghost use Rattle.client_slot.specs.Places.{is_session, has_due};
 
-    /// Nothing is set up, and room is made for all that may be.
+    /// Nothing is set up, and room is made for all streams and for pointers to all PLAYs that may wait.
     pub fn new(alloc: Global) -> Result<Session, Memory>
         ensures { IfOk result (λ session. session ≡ new_session) }
     {

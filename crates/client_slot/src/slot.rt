@@ -49,8 +49,8 @@ impl Slot {
     ghost use Rattle.client_slot.specs.Changes.{due_place};
     ghost use Rattle.client_slot.specs.Bounds.{AreTidy, AreControlsShort, IsPlacedIn};
 
-    /// A connection that entered, with room for four sessions, each with eight streams and eight PLAYs. The room for a
-    /// session's closing TEARDOWN comes with the session.
+    /// A connection that entered, with room for four sessions, each with eight streams and pointers to eight PLAYs. The room
+    /// for a session's closing TEARDOWN comes with the session. Where memory is wanting, the answer is [`Memory`].
     pub fn new(alloc: Global) -> Result<Slot, Memory>
         ensures { IfOk result (λ slot. slot ≡ new_client) }
     {

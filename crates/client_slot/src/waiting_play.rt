@@ -21,7 +21,7 @@ impl Model for WaitingPlay {
 }
 
 impl WaitingPlay {
-    /// A PLAY with its memory.
+    /// A PLAY with its memory. Where that is wanting, the PLAY is lost, and the answer is [`Memory`].
     pub fn new(alloc: Global, play: Play) -> Result<WaitingPlay, Memory>
         ensures { IfOk result (λ waiting. waiting ≡ play) }
     {

@@ -52,7 +52,7 @@ impl Directory {
         }
     }
 
-    /// Makes place for one number more.
+    /// Makes place for one number more. Where memory is wanting, the numbers stay, and the answer is [`Memory`].
     pub fn reserve(&mut self) -> Result<(), Memory>
         ensures keys { (i : ℕ) → key_of self.new i ≡ key_of self.old i }
         ensures place { OnOk result (HasPlace self.new) }

@@ -98,7 +98,7 @@ impl ConnectionTable {
         self.spare.is_some()
     }
 
-    /// Takes the memory for one connection more.
+    /// Takes the memory for one connection more. Where it is wanting, the connections stay, and the answer is [`Memory`].
     pub fn prepare(&mut self, alloc: Global) -> Result<(), Memory>
         ensures clients { (i : ℕ) → client_at self.new i ≡ client_at self.old i }
         ensures ready { OnOk result (is_ready self.new ≡ true) }
@@ -146,7 +146,7 @@ impl ConnectionTable {
     }
 
     /// Carries out a plan for a connection, which is kept under this key, by the numbers of its open
-    /// request and of the next one. What the plan says then is of no use.
+    /// request and of the next one. What it hands out is moved out of the plan, which is not to be used again.
     #[inline(always)]
     pub fn commit(
         &mut self,

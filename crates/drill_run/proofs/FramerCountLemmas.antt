@@ -1,6 +1,6 @@
 -- Of a stream that can be read, a framer gives no more requests than are read: it has limits on heads and bodies, and stops
 -- at what passes them.
-use Rattle.std.proofs.Common.{◌≡◌, ℕ, ◌+◌, ◌*◌, ◌≤◌, nat_lt, nat_le, ◌==◌, ◌&&◌, not, Bool, true, false, cond, List, [], ◌∷◌, ◌++◌, length, take, drop, take-append-drop, drop-drop, Option, Some, None, Result, Ok, Err, refl, sym, ap, ◌∙◌, subst, arith}
+use Rattle.std.proofs.Common.{◌≡◌, ℕ, ◌+◌, ◌*◌, ◌≤◌, nat_lt, nat_le, ◌==◌, ◌&&◌, not, Bool, true, false, cond, List, [], ◌∷◌, length, take, drop, take-append-drop, drop-drop, Option, Some, None, Result, Ok, Err, refl, sym, ap, ◌∙◌, subst, arith}
 use Rattle.std.specs.Prelude.{codes}
 use Rattle.std.specs.List.{list_all}
 use Rattle.std.specs.Option.{option_map, option_and_then}
@@ -31,7 +31,7 @@ use Rattle.rtsp_head.specs.Spellings.{begins_frame}
 use Rattle.rtsp_frame.proofs.CutLemmas.{cut_step}
 use Rattle.rtsp_frame.proofs.HeadLemmas.{head_from_more}
 use Rattle.head_two.specs.Requests.{Numbered, server_request}
-use Rattle.upward_law.specs.ServerStream.{ServerRead, reads_answer, reads_request, reads_frame, ReadFront, message_item, message_front, load_front, frame_front, server_front, AreRead}
+use Rattle.upward_law.specs.ServerStream.{ServerRead, reads_answer, reads_request, reads_frame, ReadFront, message_item, message_front, load_front, frame_front, AreRead}
 use Rattle.drill_server.specs.ServerSteps.{is_request_kind, requests_among}
 use Rattle.drill_run.specs.CountSteps.{count_if}
 

@@ -14,7 +14,7 @@ use Rattle.gateway_claim.specs.declared.event.UpMessage.{UpMessage}
 use Rattle.gateway_claim.specs.declared.event.UpMessage.TheVariants.{Request, Frame}
 use Rattle.gateway_claim.specs.Books.{Books}
 use Rattle.gateway_claim.specs.ServerItems.{Heard, replies, requests, frames, faults, heard}
-use Rattle.gateway_claim.specs.Happenings.{Happening, enters, takes, ends, lags, hears, up_ends, HistoryEntry, happened, fault_in, entering, nothing_up}
+use Rattle.gateway_claim.specs.Happenings.{Happening, enters, takes, ends, lags, hears, up_ends, HistoryEntry, happened, fault_in, nothing_up}
 use Rattle.gateway_claim.specs.OwnEvents.{turn, settled_by, books_of}
 use Rattle.gateway_claim.specs.Follows.{effect, message_due, up_due, IsHistory}
 use Rattle.upward_law.specs.ServerStream.{ServerRead}
@@ -27,7 +27,7 @@ use Rattle.drill_run.specs.CountSteps.{requests_up, counts_of}
 use Rattle.drill_run.specs.Players.{player_at, player_said}
 use Rattle.drill_run.specs.Steps.{end_told}
 use Rattle.drill_run.specs.TurnCounts.{requests_heard}
-use Rattle.drill_run.specs.Turns.{Drilled, DrillRun, begins, goes_on, Turn, entered_below, after_draw, after_saying, after_entry, after_entries, turn_told, fed_answer, fed_message, fed_up}
+use Rattle.drill_run.specs.Turns.{Drilled, DrillRun, begins, goes_on, entered_below, after_draw, after_saying, after_entries, turn_told, fed_answer, fed_message, fed_up}
 use Rattle.drill_run.proofs.OneDrillLemmas.{turn_history}
 use Rattle.drill_run.proofs.FramerCountLemmas.{asked_among, requests_framed, framed_read}
 

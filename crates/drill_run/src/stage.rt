@@ -196,7 +196,7 @@ impl DrillStage {
         say_next(alloc, &mut self.players, conn)
     }
 
-    /// The server answers its oldest request.
+    /// The server answers its oldest request: an empty text where none waits.
     pub fn answer(&mut self, alloc: Global) -> Result<Text, Memory>
         ensures said { IfOk result (λ text.
             (drilled : Drilled) → IsStage self.old drilled → text ≡ (next_answer drilled.server).text) }

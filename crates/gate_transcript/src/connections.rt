@@ -49,7 +49,7 @@ impl EnteredNumbers {
         }
     }
 
-    /// Whether it is among those that stand in no table. It is called apart, since few do.
+    /// Whether it is among those that stand in no table. It is not inlined, since few do.
     #[inline(never)]
     fn is_high(&self, conn: u32) -> bool
         ensures { result ≡ contains nat_eq self.now.numbers conn }

@@ -26,7 +26,7 @@ pub use entry::{
     READ_FAULT_REASON, SLOW_BYTE, UP_END_BYTE, UPSTREAM_BYTE, UpWhy, WRITE_FAULT_REASON,
     end_reason_in,
 };
-pub use entry_text::{write_entry, written_entries_are_read};
+pub use entry_text::{a_transcript_is_read_by_its_grammar, write_entry, written_entries_are_read};
 pub use fault::{BadEntry, BadEntryKind, EntryFault, ReadFault};
 pub use head::{HEAD_LENGTH, LONGEST_BODY};
 pub use memory::MemoryRecorder;

@@ -115,7 +115,7 @@ impl Connections {
     }
 
     /// Carries out the turn of a connection, after this answer to the server. Once it is over it is
-    /// forgotten. It is called apart, since it stands on three ways.
+    /// forgotten. It is not inlined, since it has three callers.
     #[inline(never)]
     fn turn(&mut self, alloc: Global, answer: Option<Text>, turn: &mut PlannedTurn) -> Outcome
         requires turn { IsTurnOfSome self.old.bases (picture self.old.seats self.old.upstream) answer turn.old }

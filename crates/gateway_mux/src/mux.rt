@@ -36,7 +36,7 @@ impl Mux {
     ghost use Rattle.gateway_mux.specs.Short.{IsShort};
     ghost use Rattle.gateway_mux.specs.Stands.{Stands, IsFresh, IsPlanFor, HasKey, bases_of, end_of, is_prepared, IsActFor};
 
-    /// A gateway with these addresses, to which nothing happened.
+    /// A gateway with these addresses, to which nothing happened. Where memory is wanting, the answer is [`Memory`].
     pub fn new(alloc: Global, bases: Bases) -> Result<Mux, Memory>
         ensures stands { IfOk result (λ mux. Stands mux []) }
         ensures bases { IfOk result (λ mux. bases_of mux ≡ bases) }

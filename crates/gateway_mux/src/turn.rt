@@ -70,8 +70,8 @@ impl PlannedTurn {
     }
 }
 
-/// Carries out what is planned for a connection. It takes no memory, and can't be refused. What the planned turn says then
-/// is of no use.
+/// Carries out what is planned for a connection. It takes no memory, and can't be refused. What is handed out is moved out
+/// of the planned turn, which is not to be used again.
 #[inline(always)]
 pub(crate) fn commit_turn(
     alloc: Global,

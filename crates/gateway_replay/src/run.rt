@@ -49,7 +49,7 @@ fn take_piece<M: Core, K: Sink>(
     take_items(alloc, framer, watched, sink, speaker, piece)
 }
 
-/// The same for any piece. It is called apart, so that a piece in which no line ends costs nothing of it.
+/// The same for any piece. It is not inlined, so that a piece in which no line ends costs nothing of it.
 #[inline(never)]
 fn take_items<M: Core, K: Sink>(
     alloc: Global,

@@ -6,8 +6,7 @@ pub const MOST_CONNECTIONS: usize = 4_294_967_295;
 /// How many items of one client wait until they are taken.
 pub const INWARD_CAPACITY: usize = 16;
 
-/// How many items of the server wait until they are taken: more than one read of it mostly has, so that they are taken while
-/// the next ones are read.
+/// How many items of the server wait until they are taken: more than its reader puts in one round.
 pub const SERVER_INWARD_CAPACITY: usize = 256;
 
 /// How many parcels wait for one client's writer.

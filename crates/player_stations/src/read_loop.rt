@@ -230,8 +230,8 @@ fn wait_for_reply<O: Outlet + Drop, M: Core, R: Recorder, W: Wait + Clock>(
     }
 }
 
-/// Has what is in line taken, under one lock, and wakes whoever may wait for what came of it. Where an item was taken and none
-/// is left, that is told as more, so that it is seen that the player said something.
+/// Has what is in line taken, under one lock, and wakes whoever may wait for what came of it. Where the last item was
+/// taken the answer is [`LineLeft::More`] too, so that the caller knows that the player said something.
 fn take_some<M: Core, R: Recorder, W: Wait>(common: &Common<'_, M, R, W>, seat: &Seat) -> LineLeft {
     let mut hub = common.hub.lock(common.rt);
     let first = take_one(common, &mut hub, seat);

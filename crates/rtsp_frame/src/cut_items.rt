@@ -89,7 +89,7 @@ fn feed_fresh<L: Ledger>(
 }
 
 /// The same where the front of an item was held whose last byte is in the piece: the bytes that it lacks join it alone,
-/// and the items behind it are cut straight from the piece. It is called apart, so that heads cost nothing of it.
+/// and the items behind it are cut straight from the piece. It is not inlined, so that heads cost nothing of it.
 #[inline(never)]
 fn feed_end<L: Ledger>(
     alloc: Global,
@@ -314,7 +314,7 @@ fn cut_on<L: Ledger>(
     }
 }
 
-/// The first item of a stream. It is called apart, so that a piece in which no item ends costs nothing of it.
+/// The first item of a stream. It is not inlined, so that a piece in which no item ends costs nothing of it.
 #[inline(never)]
 fn copy_item(
     alloc: Global,

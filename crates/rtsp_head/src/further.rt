@@ -120,7 +120,7 @@ fn named_header<'a>(line: &'a [u8], len: usize, value: &'a [u8]) -> FurtherLine<
     }
 }
 
-/// The header that a line is, by its first colon. It is called apart, where a line begins with no name and no colon, to
+/// The header that a line is, by its first colon. It is not inlined: a line comes here that begins with no name and no colon, to
 /// tell the faults.
 #[inline(never)]
 fn header_line(line: &[u8]) -> Result<FurtherLine<'_>, HeadFault>

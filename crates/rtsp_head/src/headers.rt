@@ -137,7 +137,7 @@ impl<'a> Headers<'a> {
         self.items.pop()
     }
 
-    /// Trims the value of the last header, if there is one. It is called apart, since few values go on over lines.
+    /// Trims the value of the last header, if there is one. It is not inlined, since few values go on over lines.
     #[inline(never)]
     pub(crate) fn close_last(&mut self, alloc: Global) -> Result<(), Memory>
         ensures { OnOk result (self.new ≡ headers_in (apart self.old)) }

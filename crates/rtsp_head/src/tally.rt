@@ -52,7 +52,7 @@ fn names_length(name: &[u8]) -> bool
     name.len() == LENGTH_NAME.len() && is_length_name(name)
 }
 
-/// The same of a name that is as long. It is called apart, so that other headers cost nothing of it.
+/// The same of a name that is as long. It is not inlined, so that other headers cost nothing of it.
 #[inline(never)]
 fn is_length_name(name: &[u8]) -> bool
     ensures { result ≡ equal_fold name.now (codes "Content-Length") }
@@ -60,7 +60,7 @@ fn is_length_name(name: &[u8]) -> bool
     eq_fold(name, LENGTH_NAME)
 }
 
-/// What two headers of this name say: the first of them counts. It is called apart, since few heads have it.
+/// What two headers of this name say: the first of them counts. It is not inlined, since few heads have it.
 #[inline(never)]
 fn first_part(found: Option<LengthPart>, part: LengthPart) -> Option<LengthPart>
     ensures { result ≡ option_or found (Some part) }

@@ -95,8 +95,8 @@ impl<W: Write> Sink for WriteSink<W> {
 }
 
 /// Does what these words ask for over a reader, a writer and a world, and flushes the writer at the end. A flush that fails
-/// makes it [`Status::SinkFault`]. Words that are refused are told so, or the want of memory or the flush is; and a command other
-/// than `serve` leaves the world alone.
+/// makes it [`Status::SinkFault`]. Words that are refused end with [`Status::Usage`], unless memory is
+/// wanting or the flush fails; and a command other than `serve` leaves the world alone.
 #[tactic(auto, using(crate::proofs::UsageLemmas::flushed_usage, crate::proofs::UsageLemmas::memory_usage))]
 pub fn run_between<R: Read, W: Write, O: World, T: Threads + Wait + Clock + Sync>(
     rt: &T,

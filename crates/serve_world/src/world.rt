@@ -65,7 +65,7 @@ pub trait World {
         ensures recorded { recorded self.new ≡ recorded self.old }
         ensures left { links_left self.new ≡ links_left self.old };
 
-    /// Takes a door back, and counts its faults and its ends. From then on it is told how many links it had still to give.
+    /// Takes a door back, and counts its faults and its ends. From then on the world tells how many links it had still to give.
     fn close_door(&mut self, door: Self::Door)
         ensures counts { tally self.new
             ≡ after_door (Self.Door.faults door) (Self.Door.ends door) (tally self.old) }

@@ -241,7 +241,7 @@ pub fn connect_within<R: Net<Stream = TcpStream>>(
     Err(last)
 }
 
-/// A stream to this address, which is the first of so many that are ahead, where they were begun then.
+/// A stream to this address, the first of so many that are left to try; the first try began at `begun`.
 fn connect_to<R: Net<Stream = TcpStream>>(
     rt: &R,
     clock: &HostRuntime,

@@ -40,7 +40,7 @@ const HELD_MILLIS: u64 = 1;
 const PAUSE_MICROS: u64 = 250;
 
 /// How many pauses more than it took parcels a player may have until its port was empty again: some 40 ms with
-/// what a sleep takes more.
+/// what a sleep takes more, and up to 100 ms with what writers take to tell that they are stuck.
 const MOST_PAUSES: u32 = 120;
 
 /// How many pauses there are for one player at one time at most, whatever its writer does: some second.

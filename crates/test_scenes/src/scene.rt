@@ -140,7 +140,7 @@ pub struct Scene {
     pub stations: u8,
     /// Whether what was recorded is replayed.
     pub is_replayed: bool,
-    /// Whether it is told of the run only how it ended.
+    /// Whether only the run's end is printed.
     pub is_brief: bool,
     /// How its world behaves.
     pub setting: SceneSetting,

@@ -43,7 +43,7 @@ pub fn rehearse_all<R: Threads + Wait + Clock + Sync>(
 struct Telling {
     /// Whether what was recorded is replayed.
     is_replayed: bool,
-    /// Whether it is told of the run only how it ended.
+    /// Whether only the run's end is printed.
     is_brief: bool,
 }
 

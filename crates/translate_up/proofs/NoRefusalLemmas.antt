@@ -16,7 +16,7 @@ use Rattle.translate_up.specs.declared.rule.Admission.{Admission}
 use Rattle.translate_up.specs.declared.rule.Admission.TheVariants.{SetUp, Played, Other}
 use Rattle.translate_up.specs.Ids.{id_of, are_same}
 use Rattle.translate_up.specs.Views.{Given, Judged, judged_by}
-use Rattle.translate_up.specs.Fields.{field, Said, said_of, is_setup, is_named, is_track}
+use Rattle.translate_up.specs.Fields.{field, Said, said_of, is_setup, is_track}
 use Rattle.translate_up.specs.Rules.{names_no_session, is_out_of_turn, session_rules, admission, unless_code, rules_checked}
 use Rattle.translate_up.specs.Upward.{uri_up}
 use Rattle.translate_up.specs.Answers.{options_text}

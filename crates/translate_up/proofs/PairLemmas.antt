@@ -1,6 +1,6 @@
 -- What becomes of a request does not depend on the numbers of the pairs of channels.
 use Rattle.std.proofs.Common.{◌≡◌, ◌∙◌, ℕ, suc, zero, ◌+◌, nat_le, Bool, cond, ◌&&◌, ◌||◌, not, if◌then◌else◌, List, [], ◌∷◌, map, length, Option, Some, None, Result, Ok, Err, refl, ap}
-use Rattle.std.specs.Prelude.{is_some, codes, option_map}
+use Rattle.std.specs.Prelude.{codes, option_map}
 use Rattle.std.specs.Str.{bytes_eq}
 use Rattle.rtsp_small.specs.declared.method.Method.{Method}
 use Rattle.rtsp_range.specs.declared.range.Range.{Range}

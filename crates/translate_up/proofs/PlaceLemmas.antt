@@ -1,6 +1,6 @@
 -- What no rule refuses has its place: a SETUP comes where a session has room for one stream more, with channels that no
 -- stream of it has, and a PLAY waits where there is room for one more.
-use Rattle.std.proofs.Common.{◌≡◌, ◌∙◌, ℕ, ◌≤◌, ◌<◌, Bool, true, false, cond, ◌&&◌, ◌||◌, List, [], ◌∷◌, length, Option, Some, None, Result, Ok, Err, refl, sym, ap, subst, arith}
+use Rattle.std.proofs.Common.{◌≡◌, ◌∙◌, ℕ, ◌≤◌, ◌<◌, Bool, true, false, cond, ◌&&◌, ◌||◌, List, [], ◌∷◌, length, Option, Some, None, Result, Ok, Err, refl, sym, ap, subst}
 use Rattle.std.specs.Prelude.{nat_le, is_some, codes}
 use Rattle.std.proofs.lemmas.Bool.{leb-false}
 use Rattle.rtsp_head.specs.Items.{Shape}

@@ -3,7 +3,7 @@ use Rattle.std.proofs.Common.{◌≡◌, ◌∙◌, ℕ, ◌&&◌, ◌||◌, not
 use Rattle.std.specs.Prelude.{is_some, codes}
 use Rattle.std.specs.Option.{option_or}
 use Rattle.rtsp_head.specs.Headers.{field_of}
-use Rattle.rtsp_head.specs.Optional.{said_where, told_value}
+use Rattle.rtsp_head.specs.Optional.{said_where}
 use Rattle.rtsp_head.specs.Items.{Shape}
 use Rattle.rtsp_head.proofs.FieldLemmas.{field_told}
 use Rattle.rtsp_small.specs.declared.method.Method.{Method}
@@ -20,13 +20,12 @@ use Rattle.translate_up.specs.declared.decision.Decision.{Decision}
 use Rattle.translate_up.specs.declared.decision.Decision.TheVariants.{Answer, Forward, Queue, Setup as sets}
 use Rattle.translate_up.specs.declared.rule.Admission.{Admission}
 use Rattle.translate_up.specs.declared.rule.Admission.TheVariants.{SetUp, Played, Other}
-use Rattle.translate_up.specs.Ids.{id_of, are_same}
 use Rattle.translate_up.specs.Views.{Given, Judged, session_or_none, judged_by, place_named}
 use Rattle.translate_up.specs.Fields.{field, Said, said_of, is_named}
 use Rattle.translate_up.specs.Upward.{uri_up, session_said, fields_up, request_up}
 use Rattle.translate_up.specs.Rules.{names_no_session, sets_up_again, is_out_of_turn, names_one_of_many, has_no_channels, has_bad_range, finds_none_free, finds_no_place, session_rules, admission, rules_checked}
 use Rattle.translate_up.specs.Answers.{options_text}
-use Rattle.translate_up.specs.Decisions.{play_on, play_in, serve, is_for_gateway, by_rules, decide_request, decide_read, judged_read, judged_of, decide}
+use Rattle.translate_up.specs.Decisions.{play_on, play_in, serve, is_for_gateway, by_rules, decide_read, judged_read, judged_of, decide}
 use Rattle.translate_up.proofs.RuleLemmas.{unrefused}
 use Rattle.translate_up.proofs.PlaceLemmas.{IsAdmitted, admitted_as, checked_as}
 

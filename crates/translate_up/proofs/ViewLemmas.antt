@@ -7,7 +7,7 @@ use Rattle.session_one.specs.declared.parts.Track.{Track}
 use Rattle.translate_up.specs.declared.view.SessionView.{SessionView}
 use Rattle.translate_up.specs.Ids.{are_same}
 use Rattle.translate_up.specs.Channels.{share, is_taken}
-use Rattle.translate_up.specs.Views.{no_session, session_shown, all_tracks, tracks_shown, place_from, has_empty}
+use Rattle.translate_up.specs.Views.{no_session, session_shown, tracks_shown, place_from, has_empty}
 
 or_assoc : (a b c : Bool) → (a || (b || c)) ≡ ((a || b) || c)
 or_assoc true b c = refl

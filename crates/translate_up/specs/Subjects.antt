@@ -1,5 +1,4 @@
 -- The session that a request is for, without where it lies in memory.
-use Rattle.std.specs.Prelude.{Option}
 use Rattle.std.specs.Option.{option_copied}
 use Rattle.translate_up.specs.declared.subject.Subject.{Subject}
 use Rattle.translate_up.specs.Views.{given_of, has_empty, all_tracks, Judged}

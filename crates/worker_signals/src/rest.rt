@@ -1,9 +1,9 @@
-//! What is met by no right run.
+//! A state that no correct run reaches.
 
 use client_ports::Bell;
 use std::sync::Wait;
 
-/// Waits for ever: where no true answer can be given, which no right run meets, none is.
+/// Waits for ever, in a state that no correct run reaches and where every answer would be false.
 pub fn rest_for_ever<W: Wait, T>(rt: &W) -> T
     ensures { ⊥ }
 {

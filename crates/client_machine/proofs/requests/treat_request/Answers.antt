@@ -1,5 +1,5 @@
 -- A request that comes waits behind one that goes up, or is treated with those that waited.
-use Rattle.std.proofs.Common.{◌∙◌, map, refl, sym, ap}
+use Rattle.std.proofs.Common.{◌∙◌, map, refl, sym}
 use Rattle.std.proofs.lemmas.Result.{on_ok_weaker}
 use Rattle.std.specs.Prelude.{is_none}
 use Rattle.std.specs.Option.{option_copied}

@@ -6,12 +6,11 @@ use Rattle.std.specs.Prelude.{codes}
 use Rattle.translate_up.specs.Fields.{field, Said, said_of}
 use Rattle.translate_up.specs.Subjects.{judged_seen}
 use Rattle.translate_up.specs.Views.{given_of, Judged, judged_by}
-use Rattle.translate_up.specs.Answers.{own_answer, options_text}
+use Rattle.translate_up.specs.Answers.{own_answer}
 use Rattle.translate_up.specs.Upward.{uri_up}
 use Rattle.translate_up.specs.Rules.{rules_checked}
 use Rattle.translate_up.specs.Decisions.{is_for_gateway, decide_request}
 use Rattle.translate_up.specs.declared.decision.Decision.TheVariants.{Answer}
-use Rattle.translate_up.proofs.GatewayLemmas.{own_answered}
 use Rattle.translate_up.proofs.ServeLemmas.{served_decides, refused_decides}
 use Rattle.translate_up.proofs.decision.decide_for_server.Goals as goal
 
