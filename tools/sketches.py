@@ -153,5 +153,5 @@ def draw_queues():
             picture.path("M%d %dH%d" % (start, y + step, end), "", True)
             picture.text((start + end) / 2, y + step - 8, said, "small")
     picture.text(40, 465, "A full inward port holds its reader back, and so its socket. A full outward port closes that connection as too slow, or ends the server's.", "left quiet")
-    picture.text(40, 483, "Readers and writers are threads. Where the server sends much at once, one more takes from its inward port while its reader reads on.", "left quiet")
+    picture.text(40, 483, "Readers and writers are threads. The server's reader also takes from its inward port, and writes to players whose writers rest.", "left quiet")
     return picture

@@ -19,7 +19,7 @@ STRAYS, STRAY_CHANNEL, STRAY_SECONDS, MOST_WOKEN = 200, 254, 0.5, 16
 VISITS, VISITS_SECONDS = 100, 4
 BREAKS, BREAKS_SECONDS = 30, 2
 # More frames than the thread that read them takes itself, and how long behind them a reply comes at most. One that is late was
-# taken at its reader's next look, a tenth of a second after it came: one in twenty, where nobody wakes the thread that takes.
+# taken at its reader's next look, a tenth of a second after it came: one in twenty, where nobody wakes the thread that writes.
 BURSTS, BURST_COUNT, MOST_BEHIND = 2_000, 187, 0.0004
 BEHIND_SECONDS, LATE_REPLY_SECONDS, MOST_LATE = 2, 0.095, 20
 # What no socket holds whose player takes nothing, and how long its writer may take to find that out.
