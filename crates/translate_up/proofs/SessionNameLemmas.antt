@@ -1,7 +1,7 @@
 -- What is decided on a request names the session that the request is for, and a SETUP that names none finds an empty place.
-use Rattle.std.proofs.Common.{◌≡◌, ◌∙◌, ℕ, ◌&&◌, ◌||◌, not, Bool, true, false, cond, List, [], ◌∷◌, Option, Some, None, Result, Ok, Err, refl, sym, ap, subst}
-use Rattle.std.specs.Prelude.{is_some, codes}
-use Rattle.std.specs.Option.{option_or}
+use Rattle.std.proofs.Common.{◌≡◌, ◌∙◌, ℕ, ◌&&◌, ◌||◌, not, Bool, true, false, cond, List, [], ◌∷◌, Option, Some, None, Result, Ok, Err, refl, sym, ap, subst, arith}
+use Rattle.std.specs.Prelude.{is_some, codes, slice_index_or}
+use Rattle.std.specs.Option.{option_or, option_and_then}
 use Rattle.rtsp_head.specs.Headers.{field_of}
 use Rattle.rtsp_head.specs.Optional.{said_where}
 use Rattle.rtsp_head.specs.Items.{Shape}
@@ -20,7 +20,9 @@ use Rattle.translate_up.specs.declared.decision.Decision.{Decision}
 use Rattle.translate_up.specs.declared.decision.Decision.TheVariants.{Answer, Forward, Queue, Setup as sets}
 use Rattle.translate_up.specs.declared.rule.Admission.{Admission}
 use Rattle.translate_up.specs.declared.rule.Admission.TheVariants.{SetUp, Played, Other}
-use Rattle.translate_up.specs.Views.{Given, Judged, session_or_none, judged_by, place_named}
+use Rattle.translate_up.specs.Ids.{id_of, are_same}
+use Rattle.translate_up.specs.Subjects.{IsNamedSession}
+use Rattle.translate_up.specs.Views.{Given, Judged, no_session, session_or_none, judged_at, judged_by, place_with_id, place_named}
 use Rattle.translate_up.specs.Fields.{field, Said, said_of, is_named}
 use Rattle.translate_up.specs.Upward.{uri_up, session_said, fields_up, request_up}
 use Rattle.translate_up.specs.Rules.{names_no_session, sets_up_again, is_out_of_turn, names_one_of_many, has_no_channels, has_bad_range, finds_none_free, finds_no_place, session_rules, admission, rules_checked}
@@ -28,6 +30,7 @@ use Rattle.translate_up.specs.Answers.{options_text}
 use Rattle.translate_up.specs.Decisions.{play_on, play_in, serve, is_for_gateway, by_rules, decide_read, judged_read, judged_of, decide}
 use Rattle.translate_up.proofs.RuleLemmas.{unrefused}
 use Rattle.translate_up.proofs.PlaceLemmas.{IsAdmitted, admitted_as, checked_as}
+use Rattle.translate_up.proofs.SessionPlaceLemmas.{same_some, found_is}
 
 -- A request names the session that it is judged by, or there is none.
 pub record IsKnown (judged : Judged) (said : Said) : Type 0 where
@@ -107,6 +110,24 @@ rules_name judged request said uri (Ok admitted) e known =
 by_place : (given : Given) (value : Option (List ℕ)) (place : Option ℕ) → place_named value given.sessions ≡ place → place ≡ None → (judged_by given value).session ≡ None
 by_place given value None e none = ap (λ at. (session_or_none at given.sessions).id) e
 by_place given value (Some place) e none = cc
+
+-- by the place of the session with an id the judged session has that id
+judged_same : (given : Given) (id : List ℕ) (place : Option ℕ) → place_with_id id given.sessions ≡ place → are_same (judged_at given place).session (Some id) ≡ is_some (judged_at given place).session
+judged_same given id None e = refl
+judged_same given id (Some place) e =
+    let found = found_is id 0 place given.sessions e in
+    let at : found.at ≡ place = omega (arith, found.is) in
+    let same : are_same (judged_at given (Some place)).session (Some id) ≡ true = subst (λ k. are_same (slice_index_or given.sessions k no_session).id (Some id) ≡ true) at found.same in
+    same ∙ sym (same_some _ (Some id) same)
+
+-- a request is judged by the session that it names
+pub judged_named : (given : Given) (value : Option (List ℕ)) → IsNamedSession (judged_by given value).session value
+judged_named given None = tt
+judged_named given (Some value) = by (id_of value) refl
+  where
+    by : (id : Option (List ℕ)) → id_of value ≡ id → are_same (judged_by given (Some value)).session (id_of value) ≡ is_some (judged_by given (Some value)).session
+    by None e = subst (λ one. are_same (judged_at given (option_and_then (λ id. place_with_id id given.sessions) one)).session one ≡ is_some (judged_at given (option_and_then (λ id. place_with_id id given.sessions) one)).session) (sym e) refl
+    by (Some id) e = subst (λ one. are_same (judged_at given (option_and_then (λ id. place_with_id id given.sessions) one)).session one ≡ is_some (judged_at given (option_and_then (λ id. place_with_id id given.sessions) one)).session) (sym e) (judged_same given id (place_with_id id given.sessions) refl)
 
 read_known : (given : Given) (value : Option (List ℕ)) (said : Said) → said.session ≡ value → IsKnown (judged_by given value) said
 read_known given value said is = record {

@@ -66,25 +66,25 @@ read_for judged (Ok request) =
     (unless_sound (first_code (session_rules judged request.method said uri)) (admission request.method said) (admission_sound request.method said (said_sound judged.all request)))
 read_for judged (Err refusal) = tt
 
--- The place of a session with an id is one, and has a session.
-record IsFound (from place : ℕ) (sessions : List SeenSession) : Type 0 where
-  at : ℕ
-  is : place ≡ from + at
-  within : at < length sessions
-  filled : is_some (slice_index_or sessions at no_session).id ≡ true
+-- The place of a session with an id is one, and has that session.
+pub record IsFound (id : List ℕ) (from place : ℕ) (sessions : List SeenSession) : Type 0 where
+  pub at : ℕ
+  pub is : place ≡ from + at
+  pub within : at < length sessions
+  pub same : are_same (slice_index_or sessions at no_session).id (Some id) ≡ true
 
-same_some : (one : Option (List ℕ)) (other : Option (List ℕ)) → are_same one other ≡ true → is_some one ≡ true
+pub same_some : (one : Option (List ℕ)) (other : Option (List ℕ)) → are_same one other ≡ true → is_some one ≡ true
 same_some None other e = cc
 same_some (Some id) other e = refl
 
 found_by : (id : List ℕ) (from place : ℕ) (one : SeenSession) (more : List SeenSession) (same : Bool) → are_same one.id (Some id) ≡ same
-    → (place_from id (from + 1) more ≡ Some place → IsFound (from + 1) place more) → cond same (Some from) (place_from id (from + 1) more) ≡ Some place → IsFound from place (one ∷ more)
-found_by id from place one more true is later h = let same : from ≡ place = cc in record { at = 0; is = omega (arith, same); within = omega arith; filled = same_some one.id (Some id) is }
+    → (place_from id (from + 1) more ≡ Some place → IsFound id (from + 1) place more) → cond same (Some from) (place_from id (from + 1) more) ≡ Some place → IsFound id from place (one ∷ more)
+found_by id from place one more true is later h = let same : from ≡ place = cc in record { at = 0; is = omega (arith, same); within = omega arith; same = is }
 found_by id from place one more false is later h =
     let found = later h in
-    record { at = suc found.at; is = omega (arith, found.is); within = omega (arith, found.within); filled = found.filled }
+    record { at = suc found.at; is = omega (arith, found.is); within = omega (arith, found.within); same = found.same }
 
-found_is : (id : List ℕ) (from place : ℕ) (sessions : List SeenSession) → place_from id from sessions ≡ Some place → IsFound from place sessions
+pub found_is : (id : List ℕ) (from place : ℕ) (sessions : List SeenSession) → place_from id from sessions ≡ Some place → IsFound id from place sessions
 found_is id from place [] e = cc
 found_is id from place (one ∷ more) e = found_by id from place one more (are_same one.id (Some id)) refl (found_is id (from + 1) place more) e
 
@@ -93,7 +93,7 @@ found_named sessions None id e = tt
 found_named sessions (Some place) id e =
     let found = found_is id 0 place sessions e in
     let same : found.at ≡ place = omega (arith, found.is) in
-    (subst (λ (k : ℕ). k < length sessions) same found.within, subst (λ (k : ℕ). is_some (slice_index_or sessions k no_session).id ≡ true) same found.filled)
+    (subst (λ (k : ℕ). k < length sessions) same found.within, subst (λ (k : ℕ). is_some (slice_index_or sessions k no_session).id ≡ true) same (same_some _ (Some id) found.same))
 
 id_named : (sessions : List SeenSession) (id : Option (List ℕ)) → NamesSession (option_and_then (λ one. place_with_id one sessions) id) sessions
 id_named sessions None = tt

@@ -5,7 +5,6 @@ ghost use Rattle.translate_up.specs.SeenFields.{said_seen, HasWritableRange};
 ghost use Rattle.translate_up.specs.Views.{tracks_shown};
 ghost use Rattle.translate_up.specs.Subjects.{judged_seen};
 ghost use Rattle.translate_up.specs.Fields.{said_of, is_describe, is_setup, is_play, is_named, needs_session, brings_body_up, is_track, scale_of};
-ghost use Rattle.translate_up.specs.Ids.{id_of, are_same};
 ghost use Rattle.translate_up.specs.Upward.{session_said};
 ghost use Rattle.rtsp_range.specs.Writable.{can_be_written};
 ghost use Rattle.rtsp_range.specs.Meaning.{One, meaning};
@@ -19,7 +18,7 @@ use crate::view::SessionView;
 use head_one::Request1;
 use rtsp_head::said_where;
 use rtsp_range::{Range, RangeFault, read_one};
-use rtsp_small::{Method, is_scale, read_session};
+use rtsp_small::{Method, is_scale};
 use rtsp_transport::Pair;
 use session_one::Track;
 
@@ -82,16 +81,6 @@ pub(crate) fn session_said<'s>(
     ensures { option_copied result ≡ session_said (judged_seen subject.now) (said_seen said.now) }
 {
     said_where(said.is_named(), subject.session)
-}
-
-/// Whether the id in a Session field is that of a session.
-pub(crate) fn is_of_session(session: Option<&[u8]>, value: &[u8]) -> bool
-    ensures { result ≡ are_same (option_copied session.entry) (id_of value.now) }
-{
-    match (session, read_session(value)) {
-        (Some(session), Some(named)) => session == named.id,
-        _ => false,
-    }
 }
 
 /// Whether a method is DESCRIBE.

@@ -2,12 +2,12 @@
 ghost use Rattle.std.specs.Prelude.{◌≡◌, true, IfOk, IfErr};
 ghost use Rattle.std.specs.Option.{option_copied};
 ghost use Rattle.rtsp_status.specs.Reasons.{has_reason};
-ghost use Rattle.translate_up.specs.Subjects.{judged_seen};
+ghost use Rattle.translate_up.specs.Subjects.{judged_seen, IsNamedSession};
 ghost use Rattle.translate_up.specs.SeenFields.{said_seen, HasWritableRange, AdmitsWritable};
 ghost use Rattle.translate_up.specs.Rules.{rules_checked, names_no_session, sets_up_again, is_out_of_turn, names_one_of_many, must_wait, finds_no_place};
 ghost use Rattle.translate_up.specs.Admissions.{channels_and_range};
 
-use crate::field::{SaidFields, is_of_session, is_play, is_setup, is_track, needs_session};
+use crate::field::{SaidFields, is_play, is_setup, is_track, needs_session};
 use crate::subject::Subject;
 use play_queue::MOST_PLAYS;
 use rtsp_range::Range;
@@ -34,7 +34,8 @@ pub(crate) fn check_rules(
     said: &SaidFields<'_>,
     uri: &[u8],
 ) -> Result<Admission, u16>
-    requires { HasWritableRange said.now }
+    requires writable { HasWritableRange said.now }
+    requires named { IsNamedSession (judged_seen subject.now).session (said_seen said.now).session }
     ensures checked { result ≡ rules_checked (judged_seen subject.now) method (said_seen said.now) uri.now }
     ensures reason { IfErr result (λ code. has_reason code ≡ true) }
     ensures range { IfOk result AdmitsWritable }
@@ -80,12 +81,14 @@ fn admit(method: Method, said: &SaidFields<'_>) -> Result<Admission, u16>
     }
 }
 
-/// Whether a Session field names no session of the player's, or is missing where there must be one.
+/// Whether a Session field names no session of the player's, or is missing where there must be one. The session is that which
+/// the field names.
 fn names_no_session(method: Method, session: Option<&[u8]>, field: Option<&[u8]>) -> bool
+    requires { IsNamedSession (option_copied session) (option_copied field) }
     ensures { result ≡ names_no_session method (option_copied session.entry) (option_copied field.entry) }
 {
     match field {
-        Some(value) => !is_of_session(session, value),
+        Some(_) => session.is_none(),
         None => needs_session(method),
     }
 }

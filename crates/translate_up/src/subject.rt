@@ -5,7 +5,7 @@ ghost use Rattle.std.specs.Option.{option_copied};
 ghost use Rattle.translate_up.specs.Views.{given_of, session_shown, session_or_none, place_with_id, place_named, judged_at, judged_by};
 ghost use Rattle.translate_up.specs.Ids.{are_same};
 ghost use Rattle.session_one.specs.declared.parts.TheConstants.{MOST_SESSIONS};
-ghost use Rattle.translate_up.specs.Subjects.{judged_seen};
+ghost use Rattle.translate_up.specs.Subjects.{judged_seen, IsNamedSession};
 
 use crate::view::{SessionView, View};
 use rtsp_small::read_session;
@@ -34,7 +34,8 @@ pub(crate) struct Subject<'v, 's, 'a> {
 impl<'v, 's, 'a> Subject<'v, 's, 'a> {
     /// The session that a Session field names, where there is one.
     pub(crate) fn named(view: &'v View<'s, 'a>, field: Option<&[u8]>) -> Subject<'v, 's, 'a>
-        ensures { judged_seen result ≡ judged_by (given_of view.entry.now) (option_copied field.entry) }
+        ensures judged { judged_seen result ≡ judged_by (given_of view.entry.now) (option_copied field.entry) }
+        ensures named { IsNamedSession (judged_seen result).session (option_copied field.entry) }
     {
         match place_named(view, field) {
             Some(place) => Subject::at(view, Some(place), session_at(view.sessions, place)),

@@ -19,7 +19,7 @@ returns-in-Ok c =
     let judged = judged_seen c.named-subject.result in
     let request = c.args.request.now in
     let same : judged ≡ judged_by (given_of c.args.view.now) (field request (codes "Session")) =
-    c.named-subject.ensures ∙ ap (λ (said : Said). judged_by (given_of c.args.view.now) said.session) c.read-said.ensures.said in
+    c.named-subject.ensures.judged ∙ ap (λ (said : Said). judged_by (given_of c.args.view.now) said.session) c.read-said.ensures.said in
     let is_said : said_seen c.read-said.result ≡ said_of judged.all request = c.read-said.ensures.said ∙ ap (λ (one : Judged). said_of one.all request) (sym same) in
     let uri : c.in_ok-uri.uri ≡ uri_up judged request.uri = c.in_ok-uri.ensures ∙ ap (λ (r : ClientRequest). uri_up judged r.uri) c.request.view_is in
     let method : c.request.inside.method ≡ request.method = ap (λ (r : ClientRequest). r.method) c.request.view_is in
@@ -34,7 +34,7 @@ returns c =
     let judged = judged_seen c.named-subject.result in
     let request = c.args.request.now in
     let same : judged ≡ judged_by (given_of c.args.view.now) (field request (codes "Session")) =
-    c.named-subject.ensures ∙ ap (λ (said : Said). judged_by (given_of c.args.view.now) said.session) c.read-said.ensures.said in
+    c.named-subject.ensures.judged ∙ ap (λ (said : Said). judged_by (given_of c.args.view.now) said.session) c.read-said.ensures.said in
     let is_said : said_seen c.read-said.result ≡ said_of judged.all request = c.read-said.ensures.said ∙ ap (λ (one : Judged). said_of one.all request) (sym same) in
     let uri : c.in_ok-uri.uri ≡ uri_up judged request.uri = c.in_ok-uri.ensures ∙ ap (λ (r : ClientRequest). uri_up judged r.uri) c.request.view_is in
     let method : c.request.inside.method ≡ request.method = ap (λ (r : ClientRequest). r.method) c.request.view_is in
