@@ -1,19 +1,20 @@
 -- The books and the record of each connection alone agree, entry by entry.
 use Rattle.std.proofs.Common.{◌≡◌, ◌≢◌, ◌∙◌, ℕ, ◌+◌, nat_lt, not, Bool, true, false, List, Option, Some, None, IfSome, inl, inr, refl, sym, ap, subst, arith, ◌==◌, ◌&&◌, cond, [], ◌∷◌, ◌++◌, IsSome, ◌⊎◌}
-use Rattle.std.proofs.lemmas.Bool.{ltb-true, eq-eqb, eqb-true}
+use Rattle.std.proofs.lemmas.Bool.{cases_eq, ltb-true, eq-eqb, eqb-true}
 use Rattle.gateway_claim.proofs.FitLemmas.{IsFitClient, hear_fit, alone_fit}
 use Rattle.gateway_claim.proofs.TurnLemmas.{TellsBy, going_tells, joined_still, HasGone, none_more, going_gone}
 use Rattle.std.specs.Option.{option_map, option_to_list}
 use Rattle.rtsp_uri.specs.declared.base.Bases.{Bases}
 use Rattle.translate_down.specs.Replies.{told_by}
-use Rattle.client_slot.specs.Client.{Client, new_client}
+use Rattle.client_slot.specs.declared.purpose.Purpose.{Purpose}
+use Rattle.client_slot.specs.Client.{Client}
 use Rattle.client_machine.specs.Alone.{Private, private_after, is_up_end, asked_in, effect_alone, is_live, is_empty_list}
 use Rattle.client_machine.specs.Bounds.{AreSessionsBelow}
 use Rattle.client_machine.specs.Events.{Effect, PrivateEvent, answer, Outgoing}
 use Rattle.client_machine.specs.Step.{NextPart, Hearing, hear, going_on, heard_step, step}
 use Rattle.client_machine.proofs.BelowLemmas.{IsMute, hear_mute, IsNumbered, hear_numbered, alone_numbered}
 use Rattle.client_machine.proofs.HoldLemmas.{hear_still, going_steady}
-use Rattle.gateway_claim.specs.Books.{RequestKind, kind_of, Books, Final, final_of, settles, free_in, Opened, new_books}
+use Rattle.gateway_claim.specs.Books.{RequestKind, kind_of, Books, Final, final_of, settles, free_in}
 use Rattle.gateway_claim.specs.Happenings.{Happening, HistoryEntry, entered, shut, fault_in}
 use Rattle.client_machine.specs.UpTexts.{source_said}
 use Rattle.gateway_claim.specs.OwnEvents.{turn, final_in, lends_where, books_of, own, is_turn, settled_by, has_shut}
@@ -21,9 +22,8 @@ use Rattle.gateway_claim.specs.Follows.{private_in, said_breach, kind_breach, se
 use Rattle.gateway_claim.specs.BooksAndSlots.{IsJoined, AreSound}
 use Rattle.gateway_claim.proofs.AnswerLemmas.{IsAnswered, answered}
 use Rattle.gateway_claim.proofs.CaseLemmas.{IsCase, turn_case, alone_steps, pair_where, IsMarked, step_marked, own_event, nobody_settles, both_none, not_over, own_absent, own_quiet}
-use Rattle.gateway_claim.proofs.LendLemmas.{other_lent}
+use Rattle.gateway_claim.proofs.LendLemmas.{other_lent, sound_settled, sound_lent}
 use Rattle.gateway_claim.proofs.OtherLemmas.{IsFinal, other_settled, differs}
-use Rattle.gateway_claim.proofs.SoundLemmas.{sound_settled, sound_lent, sound_new}
 use Rattle.client_machine.proofs.KeepLemmas.{live_unclosed}
 use Rattle.gateway_claim.proofs.NextLemmas.{same_number}
 
@@ -61,9 +61,6 @@ settled_other books i j (Some final) client count is sound ne joined = other_set
 -- and so are those after what went up
 pub lent_sound : (books : Books) (i count more : ℕ) (after : Client) (kind : Option RequestKind) → HasGone books i after count kind more → AreSound books → AreSound (lends_where (Some i) kind books)
 lent_sound books i count more after kind gone sound = grind (arith, sound_lent)
-
-pub lent_own : (books : Books) (i count more : ℕ) (after : Client) (kind : Option RequestKind) → HasGone books i after count kind more → IsJoined (lends_where (Some i) kind books) i after (count + more)
-lent_own books i count more after kind gone = grind arith
 
 pub lent_other : (books : Books) (i j count more : ℕ) (after : Client) (kind : Option RequestKind) (client : Client) (own_count : ℕ) → HasGone books i after count kind more → AreSound books → j ≢ i → IsJoined books j client own_count
     → IsJoined (lends_where (Some i) kind books) j client own_count
@@ -150,38 +147,30 @@ pub alone_next : (bases : Bases) (T : List HistoryEntry) (e : HistoryEntry) (j :
 alone_next bases T e j standing = ap (private_after bases) (own_quiet bases T e j (both_none (fault_in T) e.outcome.fault standing).1)
 
 -- Joined after what happened, by whose turn it is.
+abbrev IsJoinedWith : Bases → List HistoryEntry → Happening → Option ℕ → Option Outgoing → Bool → ℕ → Type 0
+IsJoinedWith bases T h who message shut j =
+    IsJoined (books_with (books_of T) h who message shut) j (alone_with bases (own bases j T) (event_for bases T h who j)).client (alone_with bases (own bases j T) (event_for bases T h who j)).count
+
 abbrev AreJoinedWith : Bases → List HistoryEntry → Happening → Option ℕ → Option Outgoing → Bool → Type 0
-AreJoinedWith bases T h who message shut =
-    AreSound (books_with (books_of T) h who message shut)
-    × ((j : ℕ) → IsJoined (books_with (books_of T) h who message shut) j (alone_with bases (own bases j T) (event_for bases T h who j)).client (alone_with bases (own bases j T) (event_for bases T h who j)).count)
+AreJoinedWith bases T h who message shut = AreSound (books_with (books_of T) h who message shut) × ((j : ℕ) → IsJoinedWith bases T h who message shut j)
 
 no_event : (bases : Bases) (events : List PrivateEvent) (en : Bool) (event : Option PrivateEvent) → event ≡ None → alone_with bases events (cond en event None) ≡ private_after bases events
 no_event bases events en event e = grind arith
 
--- nothing changes for a connection without an event
-quiet_joined : (bases : Bases) (books : Books) (j : ℕ) (events : List PrivateEvent) (en : Bool) (event : Option PrivateEvent) → event ≡ None → IsJoined books j (private_after bases events).client (private_after bases events).count
-    → IsJoined books j (alone_with bases events (cond en event None)).client (alone_with bases events (cond en event None)).count
-quiet_joined bases books j events en event e joined = subst (λ (p : Private). IsJoined books j p.client p.count) (sym (no_event bases events en event e)) joined
-
--- It is nobody's turn.
-nobody_joined : (bases : Bases) (T : List HistoryEntry) (h : Happening) (message : Option Outgoing) (shut : Bool) → AreJoined bases T → final_in (books_of T) h ≡ None → AreJoinedWith bases T h None message shut
-nobody_joined bases T h message shut joined none =
-    let same : settled_by (books_of T) h ≡ books_of T = ap (λ final. settles final (books_of T)) none in (
-      subst (λ (b : Books). AreSound b) (sym same) joined.0,
-      λ j. subst (λ (b : Books). IsJoined b j (alone_with bases (own bases j T) (event_for bases T h None j)).client (alone_with bases (own bases j T) (event_for bases T h None j)).count) (sym same)
-          (quiet_joined bases (books_of T) j (own bases j T) (entered j T) None refl (joined.1 j)),
-    )
+-- Nothing comes of it: the books and each connection stay as they are.
+still_joined : (bases : Bases) (T : List HistoryEntry) (h : Happening) (who : Option ℕ) (message : Option Outgoing) (shut : Bool) → AreJoined bases T → books_with (books_of T) h who message shut ≡ books_of T
+    → ((j : ℕ) → alone_with bases (own bases j T) (event_for bases T h who j) ≡ alone bases T j) → AreJoinedWith bases T h who message shut
+still_joined bases T h who message shut joined same quiet = (
+  subst (λ (b : Books). AreSound b) (sym same) joined.0,
+  λ j. subst (λ (b : Books). IsJoined b j (alone_with bases (own bases j T) (event_for bases T h who j)).client (alone_with bases (own bases j T) (event_for bases T h who j)).count) (sym same)
+      (subst (λ (p : Private). IsJoined (books_of T) j p.client p.count) (sym (quiet j)) (joined.1 j)),
+)
 
 -- It is the turn of a connection, and nothing comes of it.
 idle_joined : (bases : Bases) (T : List HistoryEntry) (h : Happening) (i : ℕ) (message : Option Outgoing) (shut : Bool) → AreJoined bases T → final_in (books_of T) h ≡ None → message ≡ None → ((j : ℕ) → alone_with bases (own bases j T) (event_for bases T h (Some i) j) ≡ alone bases T j)
     → AreJoinedWith bases T h (Some i) message shut
 idle_joined bases T h i message shut joined none silent quiet =
-    let same : books_with (books_of T) h (Some i) message shut ≡ books_of T =
-    ap (λ (m : Option Outgoing). books_with (books_of T) h (Some i) m shut) silent ∙ ap (λ final. settles final (books_of T)) none in (
-      subst (λ (b : Books). AreSound b) (sym same) joined.0,
-      λ j. subst (λ (b : Books). IsJoined b j (alone_with bases (own bases j T) (event_for bases T h (Some i) j)).client (alone_with bases (own bases j T) (event_for bases T h (Some i) j)).count) (sym same)
-          (subst (λ (p : Private). IsJoined (books_of T) j p.client p.count) (sym (quiet j)) (joined.1 j)),
-    )
+    still_joined bases T h (Some i) message shut joined (ap (λ (m : Option Outgoing). books_with (books_of T) h (Some i) m shut) silent ∙ ap (λ final. settles final (books_of T)) none) quiet
 
 pub other_quiet : (bases : Bases) (T : List HistoryEntry) (h : Happening) (i j : ℕ) → j ≢ i → alone_with bases (own bases j T) (event_for bases T h (Some i) j) ≡ alone bases T j
 other_quiet bases T h i j ne = no_event bases (own bases j T) (entered j T) (cond (i == j) (own_event bases T j h) None) (ap (λ t. cond {A = Option PrivateEvent} t (own_event bases T j h) None) (differs i j (λ same. ne (sym same))))
@@ -189,27 +178,17 @@ other_quiet bases T h i j ne = no_event bases (own bases j T) (entered j T) (con
 absent_final : (bases : Bases) (T : List HistoryEntry) (h : Happening) (i : ℕ) → AreJoined bases T → turn (books_of T) h ≡ Some i → entered i T ≡ false → final_in (books_of T) h ≡ None
 absent_final bases T h i joined turns absent = by (turn_case (books_of T) i (alone bases T i).client.waiting h turns)
   where
-    none_open : (g : ℕ) (opened : Opened) → (books_of T).opened g ≡ Some opened → opened.conn ≡ i → ⊥
-    none_open g opened here conn =
-        let some : IsSome (alone bases T i).client.pending = ((joined.1 i).last g opened here conn).1 in
-        let none : (alone bases T i).client.pending ≡ None = ap (λ (events : List PrivateEvent). (private_after bases events).client.pending) (own_absent bases T i absent) in
-        not_some (alone bases T i).client.pending none some
-      where
-        not_some : {A : Type 0} (o : Option A) → o ≡ None → IsSome o → ⊥
-        not_some None e h = cc
-        not_some (Some x) e h = cc
+    idle : (alone bases T i).client.pending ≡ None
+    idle = ap (λ (events : List PrivateEvent). (private_after bases events).client.pending) (own_absent bases T i absent)
 
     by : IsCase (books_of T) i (alone bases T i).client.waiting (own_event bases T i h) (final_in (books_of T) h) h (free_in (settled_by (books_of T) h)) → final_in (books_of T) h ≡ None
     by (inl (none, no_final)) = no_final
     by (inr (inl (one, is, plain, up, no_final, mark))) = no_final
-    by (inr (inr (reply, opened, full, is_open, conn, is, is_final, mark, breaches))) = absurd (none_open reply.cseq opened is_open conn)
-
--- whether it is entered and has an event, when it is its turn
-turn_quiet : (bases : Bases) (T : List HistoryEntry) (h : Happening) (i : ℕ) (en : Bool) (event : Option PrivateEvent) → (en ≡ false) ⊎ (event ≡ None) → alone_with bases (own bases i T) (cond en (cond (i == i) event None) None) ≡ alone bases T i
-turn_quiet bases T h i en event h6 = grind arith
+    by (inr (inr (reply, opened, full, is_open, conn, is, is_final, mark, breaches))) =
+        let some : IsSome {T = Purpose} None = subst (λ (pending : Option Purpose). IsSome pending) idle ((joined.1 i).last reply.cseq opened is_open conn).1 in cc
 
 all_quiet : (bases : Bases) (T : List HistoryEntry) (h : Happening) (i : ℕ) → (entered i T ≡ false) ⊎ (own_event bases T i h ≡ None) → (j : ℕ) → alone_with bases (own bases j T) (event_for bases T h (Some i) j) ≡ alone bases T j
-all_quiet bases T h i quiet j = grind (arith, alone, eqb-true, turn_quiet, own_event, other_quiet, eq-eqb)
+all_quiet bases T h i quiet j = grind (arith, alone, eqb-true, own_event, other_quiet, eq-eqb)
 
 -- what the machine does at the turn of a connection
 pub effect_absent : (bases : Bases) (T : List HistoryEntry) (h : Happening) (i : ℕ) → entered i T ≡ false → (effect_of_turn bases T (Some i) h).message ≡ None
@@ -221,6 +200,12 @@ effect_present bases T h i event en is = grind arith
 pub event_present : (bases : Bases) (T : List HistoryEntry) (h : Happening) (i : ℕ) (event : PrivateEvent) → entered i T ≡ true → own_event bases T i h ≡ Some event → event_for bases T h (Some i) i ≡ Some event
 event_present bases T h i event en is = grind (arith, own_event, same_number)
 
+-- what goes up at an effect of the connection whose turn it is
+abbrev HasGoneBy : List HistoryEntry → Happening → ℕ → ℕ → Effect → Bool → Type 0
+HasGoneBy T h i count made shut =
+    HasGone (settled_by (books_of T) h) i made.client count
+    (kind_of (option_map (message_up (books_of T) (settled_by (books_of T) h) i) made.message) (free_in (settled_by (books_of T) h)) shut) (asked_in made.message)
+
 -- It is the turn of a connection, which makes a step.
 step_joined : (bases : Bases) (T : List HistoryEntry) (h : Happening) (i : ℕ) (event : PrivateEvent) (shut : Bool) → AreJoined bases T → fault_in T ≡ None → entered i T ≡ true → own_event bases T i h ≡ Some event
     → IsStep bases (books_of T) (final_in (books_of T) h) i (alone bases T i) event → shut ≡ not (effect_alone bases (alone bases T i) event).client.alive
@@ -228,43 +213,22 @@ step_joined : (bases : Bases) (T : List HistoryEntry) (h : Happening) (i : ℕ) 
     → AreJoinedWith bases T h (Some i) (effect_alone bases (alone bases T i) event).message shut
 step_joined bases T h i event shut joined standing en is made closed left =
     let is_shared : effect_alone bases (alone bases T i) event ≡ shared_step bases (settled_by (books_of T) h) (alone bases T i) event = step_is bases (books_of T) (final_in (books_of T) h) i (alone bases T i) event (not_over bases T standing i) made in
-    let gone : HasGone (settled_by (books_of T) h) i (effect_alone bases (alone bases T i) event).client (alone bases T i).count
-    (kind_of (option_map (message_up (books_of T) (settled_by (books_of T) h) i) (effect_alone bases (alone bases T i) event).message) (free_in (settled_by (books_of T) h)) shut) (asked_in (effect_alone bases (alone bases T i) event).message) =
-    subst (λ (done : Effect). HasGone (settled_by (books_of T) h) i done.client (alone bases T i).count
-    (kind_of (option_map (message_up (books_of T) (settled_by (books_of T) h) i) done.message) (free_in (settled_by (books_of T) h)) shut) (asked_in done.message)) (sym is_shared)
+    let gone : HasGoneBy T h i (alone bases T i).count (effect_alone bases (alone bases T i) event) shut =
+    subst (λ (done : Effect). HasGoneBy T h i (alone bases T i).count done shut) (sym is_shared)
     (step_gone bases (books_of T) (final_in (books_of T) h) i (alone bases T i) event shut (alone_numbered bases (own bases i T)) made (closed ∙ ap (λ (done : Effect). not done.client.alive) is_shared)
     (alone_fit bases (own bases i T)) (ap (λ (done : Effect). spent (books_of T).issued done.message) (sym is_shared) ∙ left)) in
-    let kind : Option RequestKind = kind_of (option_map (message_up (books_of T) (settled_by (books_of T) h) i) (effect_alone bases (alone bases T i) event).message) (free_in (settled_by (books_of T) h)) shut in
-    let settled_is_sound : AreSound (settled_by (books_of T) h) = settled_sound (books_of T) i (final_in (books_of T) h) made.is_final joined.0 in (
-      lent_sound (settled_by (books_of T) h) i (alone bases T i).count (asked_in (effect_alone bases (alone bases T i) event).message) (effect_alone bases (alone bases T i) event).client kind gone settled_is_sound,
-      λ j. by j (i == j) refl gone settled_is_sound,
-    )
+    let sound : AreSound (settled_by (books_of T) h) = settled_sound (books_of T) i (final_in (books_of T) h) made.is_final joined.0 in
+    (lent_sound (settled_by (books_of T) h) i (alone bases T i).count _ _ _ gone sound, λ j. by j (cases_eq j i) gone sound)
   where
-    Gone : Type 0
-    Gone = HasGone (settled_by (books_of T) h) i (effect_alone bases (alone bases T i) event).client (alone bases T i).count
-        (kind_of (option_map (message_up (books_of T) (settled_by (books_of T) h) i) (effect_alone bases (alone bases T i) event).message) (free_in (settled_by (books_of T) h)) shut) (asked_in (effect_alone bases (alone bases T i) event).message)
-
-    true_is_false : true ≡ false → ⊥
-    true_is_false e = cc
-
-    by : (j : ℕ) (t : Bool) → (i == j) ≡ t
-        → HasGone (settled_by (books_of T) h) i (effect_alone bases (alone bases T i) event).client (alone bases T i).count
-        (kind_of (option_map (message_up (books_of T) (settled_by (books_of T) h) i) (effect_alone bases (alone bases T i) event).message) (free_in (settled_by (books_of T) h)) shut) (asked_in (effect_alone bases (alone bases T i) event).message)
-        → AreSound (settled_by (books_of T) h)
-        → IsJoined (books_with (books_of T) h (Some i) (effect_alone bases (alone bases T i) event).message shut) j (alone_with bases (own bases j T) (event_for bases T h (Some i) j)).client (alone_with bases (own bases j T) (event_for bases T h (Some i) j)).count
-    by j true e gone sound =
-        subst (λ (k : ℕ). IsJoined (books_with (books_of T) h (Some i) (effect_alone bases (alone bases T i) event).message shut) k (alone_with bases (own bases k T) (event_for bases T h (Some i) k)).client (alone_with bases (own bases k T) (event_for bases T h (Some i) k)).count)
-        (eqb-true i j e)
+    by : (j : ℕ) → (j ≡ i) ⊎ (j ≢ i) → HasGoneBy T h i (alone bases T i).count (effect_alone bases (alone bases T i) event) shut → AreSound (settled_by (books_of T) h)
+        → IsJoinedWith bases T h (Some i) (effect_alone bases (alone bases T i) event).message shut j
+    by j (inl same) gone sound =
+        subst (λ (k : ℕ). IsJoinedWith bases T h (Some i) (effect_alone bases (alone bases T i) event).message shut k) (sym same)
         (subst (λ (one : Option PrivateEvent). IsJoined (books_with (books_of T) h (Some i) (effect_alone bases (alone bases T i) event).message shut) i (alone_with bases (own bases i T) one).client (alone_with bases (own bases i T) one).count)
-        (sym (event_present bases T h i event en is))
-        (lent_own (settled_by (books_of T) h) i (alone bases T i).count (asked_in (effect_alone bases (alone bases T i) event).message) (effect_alone bases (alone bases T i) event).client
-        (kind_of (option_map (message_up (books_of T) (settled_by (books_of T) h) i) (effect_alone bases (alone bases T i) event).message) (free_in (settled_by (books_of T) h)) shut) gone))
-    by j false e gone sound =
-        let ne : j ≢ i = λ same. true_is_false (sym (eq-eqb i j (sym same)) ∙ e) in
+        (sym (event_present bases T h i event en is)) (grind arith))
+    by j (inr ne) gone sound =
         subst (λ (p : Private). IsJoined (books_with (books_of T) h (Some i) (effect_alone bases (alone bases T i) event).message shut) j p.client p.count) (sym (other_quiet bases T h i j ne))
-        (lent_other (settled_by (books_of T) h) i j (alone bases T i).count (asked_in (effect_alone bases (alone bases T i) event).message) (effect_alone bases (alone bases T i) event).client
-        (kind_of (option_map (message_up (books_of T) (settled_by (books_of T) h) i) (effect_alone bases (alone bases T i) event).message) (free_in (settled_by (books_of T) h)) shut)
-        (alone bases T j).client (alone bases T j).count gone sound ne (settled_other (books_of T) i j (final_in (books_of T) h) (alone bases T j).client (alone bases T j).count made.is_final joined.0 ne (joined.1 j)))
+        (lent_other (settled_by (books_of T) h) i j (alone bases T i).count _ _ _ _ _ gone sound ne (settled_other (books_of T) i j (final_in (books_of T) h) (alone bases T j).client (alone bases T j).count made.is_final joined.0 ne (joined.1 j)))
 
 -- Whether the connection whose turn it was has shut is told by its record.
 pub shut_next : (bases : Bases) (T : List HistoryEntry) (e : HistoryEntry) (i : ℕ) (event : PrivateEvent) → IsHistory bases (e ∷ T) → fault_in (e ∷ T) ≡ None → entered i T ≡ true → turn (books_of T) e.happening ≡ Some i → own_event bases T i e.happening ≡ Some event
@@ -281,21 +245,21 @@ turned : (bases : Bases) (T : List HistoryEntry) (e : HistoryEntry) (i : ℕ) (e
 turned bases T e i false event history standing joined turns en is right left =
     idle_joined bases T e.happening i (effect_of_turn bases T (Some i) e.happening).message (has_shut (Some i) (e ∷ T)) joined (absent_final bases T e.happening i joined turns en) (effect_absent bases T e.happening i en) (all_quiet bases T e.happening i (inl en))
 turned bases T e i true None history standing joined turns en is right left =
-    let made : IsTurnStep bases (books_of T) i (alone bases T i) (own_event bases T i e.happening) (final_in (books_of T) e.happening) = turn_step bases T i e.happening (joined.1 i) en turns right in
-    let none : final_in (books_of T) e.happening ≡ None = subst (λ (one : Option PrivateEvent). IsTurnStep bases (books_of T) i (alone bases T i) one (final_in (books_of T) e.happening)) is made in
-    idle_joined bases T e.happening i (effect_of_turn bases T (Some i) e.happening).message (has_shut (Some i) (e ∷ T)) joined none
+    idle_joined bases T e.happening i (effect_of_turn bases T (Some i) e.happening).message (has_shut (Some i) (e ∷ T)) joined
+    (subst (λ (one : Option PrivateEvent). IsTurnStep bases (books_of T) i (alone bases T i) one (final_in (books_of T) e.happening)) is (turn_step bases T i e.happening (joined.1 i) en turns right))
     (ap (λ (done : Effect). done.message) (effect_present bases T e.happening i None en is)) (all_quiet bases T e.happening i (inr is))
 turned bases T e i true (Some event) history standing joined turns en is right left =
-    let made : IsTurnStep bases (books_of T) i (alone bases T i) (own_event bases T i e.happening) (final_in (books_of T) e.happening) = turn_step bases T i e.happening (joined.1 i) en turns right in
-    let step : IsStep bases (books_of T) (final_in (books_of T) e.happening) i (alone bases T i) event = subst (λ (one : Option PrivateEvent). IsTurnStep bases (books_of T) i (alone bases T i) one (final_in (books_of T) e.happening)) is made in
-    subst (λ (done : Effect). AreJoinedWith bases T e.happening (Some i) done.message (has_shut (Some i) (e ∷ T))) (sym (effect_present bases T e.happening i (Some event) en is))
-    (step_joined bases T e.happening i event (has_shut (Some i) (e ∷ T)) joined (both_none (fault_in T) e.outcome.fault standing).0 en is step (shut_next bases T e i event history standing en turns is)
-    (ap (λ (done : Effect). spent (books_of T).issued done.message) (sym (effect_present bases T e.happening i (Some event) en is)) ∙ left))
+    let made = effect_present bases T e.happening i (Some event) en is in
+    subst (λ (done : Effect). AreJoinedWith bases T e.happening (Some i) done.message (has_shut (Some i) (e ∷ T))) (sym made)
+    (step_joined bases T e.happening i event (has_shut (Some i) (e ∷ T)) joined (both_none (fault_in T) e.outcome.fault standing).0 en is
+    (subst (λ (one : Option PrivateEvent). IsTurnStep bases (books_of T) i (alone bases T i) one (final_in (books_of T) e.happening)) is (turn_step bases T i e.happening (joined.1 i) en turns right))
+    (shut_next bases T e i event history standing en turns is) (ap (λ (done : Effect). spent (books_of T).issued done.message) (sym made) ∙ left))
 
 joined_by : (bases : Bases) (T : List HistoryEntry) (e : HistoryEntry) (who : Option ℕ) → IsHistory bases (e ∷ T) → fault_in (e ∷ T) ≡ None → AreJoined bases T → turn (books_of T) e.happening ≡ who → said_breach bases T e.happening ≡ None
     → spent (books_of T).issued (effect_of_turn bases T who e.happening).message ≡ None
     → AreJoinedWith bases T e.happening who (effect_of_turn bases T who e.happening).message (has_shut who (e ∷ T))
-joined_by bases T e None history standing joined turns right left = nobody_joined bases T e.happening (effect_of_turn bases T None e.happening).message (has_shut None (e ∷ T)) joined (nobody_settles (books_of T) e.happening turns)
+joined_by bases T e None history standing joined turns right left =
+    still_joined bases T e.happening None (effect_of_turn bases T None e.happening).message (has_shut None (e ∷ T)) joined (ap (λ final. settles final (books_of T)) (nobody_settles (books_of T) e.happening turns)) (λ j. no_event bases (own bases j T) (entered j T) None refl)
 joined_by bases T e (Some i) history standing joined turns right left = turned bases T e i (entered i T) (own_event bases T i e.happening) history standing joined turns refl refl right left
 
 -- Nothing is wrong with what was said, and a number is left, where nothing ended the connection to the server.
@@ -315,9 +279,6 @@ joined_next bases T e history standing joined =
           (subst (λ (b : Books). IsJoined b j (alone_with bases (own bases j T) (event_for bases T e.happening (turn (books_of T) e.happening) j)).client (alone_with bases (own bases j T) (event_for bases T e.happening (turn (books_of T) e.happening) j)).count) (sym books) (next.1 j)),
     )
 
-joined_new : (i : ℕ) → IsJoined new_books i new_client 0
-joined_new i = grind arith
-
 pub joined : (bases : Bases) (T : List HistoryEntry) → IsHistory bases T → fault_in T ≡ None → AreJoined bases T
-joined bases [] history standing = (sound_new, joined_new)
+joined bases [] history standing = ((grind arith), λ i. grind arith)
 joined bases (e ∷ T) history standing = joined_next bases T e history standing (joined bases T history.0 (both_none (fault_in T) e.outcome.fault standing).0)

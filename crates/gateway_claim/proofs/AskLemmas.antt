@@ -1,6 +1,7 @@
 -- What the server is asked for a connection is what it asks alone, and a history of one connection has nothing else.
 use Rattle.std.proofs.Common.{◌≡◌, ◌∙◌, ℕ, Bool, true, false, ◌==◌, ◌&&◌, ◌||◌, List, [], ◌∷◌, ◌++◌, map, Option, refl, ap, subst, arith, ◌+◌, ◌≤◌, cond, Some, None, sym, inl, inr}
 use Rattle.std.specs.Prelude.{is_none, is_some}
+use Rattle.std.proofs.lemmas.List.{map-append}
 use Rattle.std.proofs.lemmas.Bool.{or_parts, eq-eqb, eqb-true, cases_Bool}
 use Rattle.rtsp_uri.specs.declared.base.Bases.{Bases}
 use Rattle.client_machine.specs.declared.why.CloseWhy.{CloseWhy}
@@ -9,24 +10,21 @@ use Rattle.gateway_claim.specs.declared.event.Closed.{Closed}
 use Rattle.gateway_claim.specs.declared.event.Closed.TheVariants.{One}
 use Rattle.gateway_claim.specs.declared.event.UpCause.{UpCause}
 use Rattle.gateway_claim.specs.Happenings.{HistoryEntry, fault_in, enters_here, entered, closes_of, shut, is_alive, entering, Happening, nothing_up, pieces_to, sent}
-use Rattle.gateway_claim.specs.Cores.{IsCoreHistory, ever_entered, stays_alive, IsOrderlyAfter, IsOrderly, HandsToLiving}
+use Rattle.gateway_claim.specs.Cores.{IsCoreHistory, ever_entered, stays_alive, IsOrderly, HandsToLiving}
 use Rattle.std.specs.Option.{option_map, option_or, option_to_list}
 use Rattle.rtsp_small.specs.declared.method.Method.TheVariants as methods
 use Rattle.rtsp_small.specs.Methods.{method_name}
-use Rattle.client_slot.specs.declared.purpose.Purpose.{Purpose}
 use Rattle.client_slot.specs.Client.{Client}
 use Rattle.client_slot.specs.Places.{tracks_of}
-use Rattle.client_machine.specs.OpenRequests.{AsksBy}
 use Rattle.client_machine.specs.Bounds.{ArePairsBelow}
-use Rattle.client_machine.specs.Events.{Outgoing, asks, carries, Effect, PrivateEvent, up_end}
-use Rattle.client_machine.specs.Step.{NextPart, rests, releases, goes_on, going_on, step}
+use Rattle.client_machine.specs.Events.{Outgoing, asks, carries, Effect, PrivateEvent}
+use Rattle.client_machine.specs.Step.{NextPart, rests, releases, goes_on, going_on}
 use Rattle.client_machine.proofs.AskLemmas.{going_asks}
 use Rattle.client_machine.proofs.BelowLemmas.{IsMute, hear_mute, alone_below, tracks_below}
 use Rattle.client_machine.proofs.WayLemmas.{alone_as}
-use Rattle.client_machine.proofs.KeepLemmas.{IsOver}
 use Rattle.gateway_claim.specs.declared.event.ToUp.{ToUp}
 use Rattle.gateway_claim.specs.declared.event.UpMessage.{UpMessage}
-use Rattle.gateway_claim.specs.OnePlayer.{OwnMessage, asked_alone, asked_for, asked_up, spelled_for, spelled_up, IsOnlyPlayer, all_handed, all_asked, piece_for, HasAll}
+use Rattle.gateway_claim.specs.OnePlayer.{asked_for, asked_up, spelled_for, spelled_up, IsOnlyPlayer, all_handed, all_asked, piece_for, HasAll}
 use Rattle.gateway_claim.specs.Books.{RequestKind, kind_of, Books, Final, settles, free_in}
 use Rattle.gateway_claim.specs.OwnEvents.{turn, is_turn, final_in, settled_by, lends_where, has_shut, books_after, books_of, own}
 use Rattle.gateway_claim.specs.Follows.{said_breach, effect_of_turn, message_up, message_due, up_due, IsHistory}
@@ -55,21 +53,15 @@ pub one_core_history : (follows : Following) → FollowsOnce follows → (bases 
 one_core_history follows once bases [] [] s t same = refl
 one_core_history follows once bases [] (e ∷ T) s t same = cc
 one_core_history follows once bases (d ∷ S) [] s t same = cc
-one_core_history follows once bases (d ∷ S) (e ∷ T) s t same =
-    let before : S ≡ T = one_core_history follows once bases S T s.0 t.0 (cc) in
-    let now : d ≡ e = once bases T d e (subst (λ (l : List HistoryEntry). follows bases l d) before s.1) t.1 (cc) in
-    ap (λ (l : List HistoryEntry). d ∷ l) before ∙ ap (λ (x : HistoryEntry). x ∷ T) now
+one_core_history follows once bases (d ∷ S) (e ∷ T) s t same = let before : S ≡ T = one_core_history follows once bases S T s.0 t.0 cc in grind arith
 
 -- Who is alive after an event: who was, but for those that it closed.
 pub alive_after : (i : ℕ) (T : List HistoryEntry) (e : HistoryEntry) → enters_here i e.happening ≡ false → is_alive i (e ∷ T) ≡ stays_alive i e.outcome.closed (is_alive i T)
 alive_after i T e stranger = grind arith
 
 -- What an entry closes was alive.
-entry_after : (T : List HistoryEntry) (e : HistoryEntry) (i : ℕ) (why : CloseWhy) (ended : Option UpCause) → e.outcome.closed ≡ One i why → IsOrderlyAfter ended T e → is_alive i T ≡ true
-entry_after T e i why ended is orderly = grind arith
-
 pub entry_closed : (T : List HistoryEntry) (e : HistoryEntry) (i : ℕ) (why : CloseWhy) → e.outcome.closed ≡ One i why → IsOrderly T e → is_alive i T ≡ true
-entry_closed T e i why is orderly = entry_after T e i why (fault_in T) is orderly
+entry_closed T e i why is orderly = grind arith
 
 -- A connection that took no part was not closed.
 unclosed_by : (T : List HistoryEntry) (e : HistoryEntry) (i : ℕ) (one : Closed) → entered i T ≡ false → IsOrderly T e → e.outcome.closed ≡ one → closes_of i (entered i T && is_empty_list (shut i T)) one ≡ []
@@ -82,14 +74,11 @@ unentered_open follows orderly bases (e ∷ T) i history absent =
     ap (λ (l : List CloseWhy). l ++ shut i T) (unclosed_by T e i e.outcome.closed before (orderly bases T e history.0 history.1) refl)
     ∙ unentered_open follows orderly bases T i history.0 before
 
-neither : (here standing en : Bool) → here ≡ false → en ≡ false → ((here && standing) || en) ≡ false
-neither here standing en e f = grind arith
-
 pub never_part : (T : List HistoryEntry) (i : ℕ) → ever_entered i T ≡ false → entered i T ≡ false
 never_part [] i never = refl
 never_part (e ∷ T) i never =
     let parts = or_parts (enters_here i e.happening) (ever_entered i T) never in
-    neither (enters_here i e.happening) (is_none (fault_in T)) (entered i T) parts.0 (never_part T i parts.1)
+    grind (arith, parts.0, (never_part T i parts.1))
 
 -- Who is alive after an entering: who was, and the connection that entered, where the connection to the server stands.
 pub alive_entering : (i conn : ℕ) (T : List HistoryEntry) → shut conn T ≡ [] → is_alive i (entering conn ∷ T) ≡ ((conn == i && is_none (fault_in T)) || is_alive i T)
@@ -110,57 +99,29 @@ abbrev numbered_for : Books → ℕ → ℕ → Outgoing → UpMessage
 numbered_for books i number message = spelled_for books i (record { number = number; message = message })
 
 -- What one event sends up stands before what earlier ones did.
-spelled_more : (books : Books) (i n : ℕ) (message : Option Outgoing) (earlier : List OwnMessage)
-    → map (spelled_for books i) (option_to_list (option_map (λ (one : Outgoing). let own : OwnMessage = record { number = n; message = one } in own) message) ++ earlier) ≡ option_to_list (option_map (numbered_for books i n) message) ++ map (spelled_for books i) earlier
-spelled_more books i n None earlier = refl
-spelled_more books i n (Some message) earlier = refl
-
 event_spelled : (bases : Bases) (books : Books) (i : ℕ) (event : PrivateEvent) (events : List PrivateEvent)
     → spelled_up books i bases (event ∷ events)
     ≡ option_to_list (option_map (numbered_for books i ((private_after bases events).count + 1)) (effect_alone bases (private_after bases events) event).message) ++ spelled_up books i bases events
-event_spelled bases books i event events = spelled_more books i ((private_after bases events).count + 1) (effect_alone bases (private_after bases events) event).message (asked_alone bases events)
-
-message_alike : (one other : Books) (i n : ℕ) (message : Option Outgoing) → AreAlike one other i (n + asked_in message) → CarriesBelow n message
-    → option_map (numbered_for one i (n + 1)) message ≡ option_map (numbered_for other i (n + 1)) message
-message_alike one other i n message alike below = grind arith
+event_spelled bases books i event events = grind arith
 
 events_alike : (bases : Bases) (one other : Books) (i : ℕ) (events : List PrivateEvent) → AreAlike one other i (private_after bases events).count → spelled_up one i bases events ≡ spelled_up other i bases events
 events_alike bases one other i [] alike = refl
 events_alike bases one other i (event ∷ events) alike =
-    event_spelled bases one i event events
-    ∙ ap (λ message. option_to_list message ++ spelled_up one i bases events)
-    (message_alike one other i (private_after bases events).count (effect_alone bases (private_after bases events) event).message alike
-    (alone_carries bases (private_after bases events) event (tracks_below (private_after bases events).count (private_after bases events).client.sessions (alone_below bases events).sessions)))
-    ∙ ap (λ more. option_to_list (option_map (numbered_for other i ((private_after bases events).count + 1)) (effect_alone bases (private_after bases events) event).message) ++ more)
-    (events_alike bases one other i events (fewer_alike one other i (private_after bases events).count (asked_in (effect_alone bases (private_after bases events) event).message) alike))
-    ∙ sym (event_spelled bases other i event events)
-
--- After the end of the connection to the server, and at it, nothing goes up.
-spelled_end : (bases : Bases) (books : Books) (i : ℕ) (events : List PrivateEvent) (en : Bool) → spelled_up books i bases (cond en (up_end ∷ []) [] ++ events) ≡ spelled_up books i bases events
-spelled_end bases books i events en = grind arith
-
-spelled_quiet : (bases : Bases) (books : Books) (i : ℕ) (events : List PrivateEvent) (en : Bool) (event : Option PrivateEvent) → (en ≡ true → IsOver bases events)
-    → spelled_up books i bases (option_to_list (cond en event None) ++ events) ≡ spelled_up books i bases events
-spelled_quiet bases books i events en event over = grind arith
+    let more = events_alike bases one other i events (fewer_alike one other i (private_after bases events).count (asked_in (effect_alone bases (private_after bases events) event).message) alike) in
+    grind (arith, event_spelled, alone_carries, tracks_below, alone_below, numbered_for, fewer_alike)
 
 -- A request that names a pair is a SETUP, and a pair is free.
 abbrev IsNamed : Option ℕ → Option Outgoing → Type 0
 IsNamed free (Some (asks request (Some mine))) = (p : ℕ) × (free ≡ Some p) × (request.method ≡ method_name methods.Setup)
 IsNamed free message = Unit {0}
 
-going_named : (free : Option ℕ) (next : ℕ) (old : Option Purpose) (message : Option Outgoing) (new : Option Purpose) → AsksBy (pair_where free next) old message new → IsNamed free message
-going_named free next old message new h = grind arith
-
 first_named : (after : NextPart) (first : Option Outgoing) (bases : Bases) (free : Option ℕ) (next : ℕ) (client : Client) → IsMute after first → IsNamed free (option_or first (going_on bases (pair_where free next) after client).message)
 first_named after None bases free next client mute =
-    going_named free next client.pending (going_on bases (pair_where free next) after client).message (going_on bases (pair_where free next) after client).client.pending (going_asks bases (pair_where free next) after client)
+    grind (arith, (going_asks bases (pair_where free next) after client))
 first_named rests (Some (asks request named)) bases free next client mute = absurd mute
 first_named releases (Some (asks request named)) bases free next client mute = absurd mute
 first_named goes_on (Some (asks request named)) bases free next client mute = absurd mute
 first_named after (Some (carries pair half rest)) bases free next client mute = tt
-
-step_named : (bases : Bases) (number : ℕ) (free : Option ℕ) (next : ℕ) (client : Client) (event : PrivateEvent) → IsNamed free (step bases number (pair_where free next) client event).message
-step_named bases number free next client event = grind (arith, first_named, hear_mute)
 
 -- The message that goes up is spelled in the number and the pair that it is given.
 message_asked : (books : Books) (final : Option Final) (i n : ℕ) (shut : Bool) (message : Option Outgoing) → n ≡ books.counts i → IsNamed (free_in (settles final books)) message
@@ -171,9 +132,6 @@ message_asked books final i n shut message counted named = grind arith
 -- What was given stays as it is.
 own_alike : (books : Books) (final : Option Final) (i n : ℕ) (kind : Option RequestKind) → n ≡ books.counts i → AreAlike books (lends_where (Some i) kind (settles final books)) i n
 own_alike books final i n kind counted = grind arith
-
-other_alike : (books : Books) (final : Option Final) (i j n : ℕ) (kind : Option RequestKind) → (j == i) ≡ false → AreAlike books (lends_where (Some i) kind (settles final books)) j n
-other_alike books final i j n kind e = grind arith
 
 -- What is to be shown of an entry, by whose turn it is and the message that goes up.
 abbrev pub IsSpelled : Bases → List HistoryEntry → ℕ → Type 0
@@ -219,7 +177,7 @@ turn_spelled bases T h i shut history standing before turns said = by (entered i
         let after : Books = books_with (books_of T) h (Some i) message shut in
         let named : IsNamed (free_in (settled_by (books_of T) h)) message =
         subst (λ (done : Effect). IsNamed (free_in (settled_by (books_of T) h)) done.message) (sym (step_is bases (books_of T) (final_in (books_of T) h) i (alone bases T i) event (not_over bases T standing i) made))
-        (step_named bases (alone bases T i).count (free_in (settled_by (books_of T) h)) ((alone bases T i).count + 1) (alone bases T i).client event) in
+        (grind (arith, first_named, hear_mute)) in
         let kind : Option RequestKind = kind_of (option_map (message_up (books_of T) (settled_by (books_of T) h) i) message) (free_in (settled_by (books_of T) h)) shut in
         subst (λ (done : Effect). IsSpelledWith bases T h i (Some i) done.message shut) (sym (effect_present bases T h i (Some event) en is))
         (ap (λ t. cond t (option_to_list (option_map (message_up (books_of T) (settled_by (books_of T) h) i) message)) [] ++ asked_up i T) (same_number i)
@@ -243,29 +201,18 @@ who_spelled bases T e i (Some j) history standing before turns = by (j == i) ref
         (turn_spelled bases T e.happening i (has_shut (Some i) (e ∷ T)) history.0 (both_none (fault_in T) e.outcome.fault standing).0 before (turns ∙ ap (λ k. Some k) conn) (said_right bases T e history.1 standing))
     by false same =
         let message : Option Outgoing = (effect_of_turn bases T (Some j) e.happening).message in
-        let apart : (i == j) ≡ false = differs i j (λ one. true_is_false (sym (eq-eqb j i (sym one)) ∙ same)) in
+        let apart : (i == j) ≡ false = differs i j (λ one. let never : true ≡ false = sym (eq-eqb j i (sym one)) ∙ same in cc) in
         kept bases T i (cond (j == i) (option_to_list (option_map (message_up (books_of T) (settled_by (books_of T) e.happening) j) message)) []) (books_with (books_of T) e.happening (Some j) message (has_shut (Some j) (e ∷ T))) (event_for bases T e.happening (Some j) i) (ap (λ t. cond t (option_to_list (option_map (message_up (books_of T) (settled_by (books_of T) e.happening) j) message)) []) same)
         (either_none (entered i T) (cond (j == i) (own_event bases T i e.happening) None) (ap (λ t. cond {A = Option PrivateEvent} t (own_event bases T i e.happening) None) same))
-        (other_alike (books_of T) (final_in (books_of T) e.happening) j i (alone bases T i).count (kind_of (option_map (message_up (books_of T) (settled_by (books_of T) e.happening) j) message) (free_in (settled_by (books_of T) e.happening)) (has_shut (Some j) (e ∷ T))) apart) before
-      where
-        true_is_false : true ≡ false → ⊥
-        true_is_false e = cc
-
--- while it stands
-standing_next : (bases : Bases) (T : List HistoryEntry) (e : HistoryEntry) (i : ℕ) → IsHistory bases (e ∷ T) → fault_in (e ∷ T) ≡ None → IsSpelled bases T i → IsSpelled bases (e ∷ T) i
-standing_next bases T e i history standing before = grind (arith, both_none, who_spelled, event_for, books_next, own_quiet)
+        (grind arith) before
 
 -- and from its end on, when nothing goes up and the books stay as they are
 over_next : (bases : Bases) (T : List HistoryEntry) (e : HistoryEntry) (i : ℕ) (cause : UpCause) (now : Option UpCause) → IsHistory bases (e ∷ T) → fault_in (e ∷ T) ≡ Some cause → e.outcome.fault ≡ now
     → spelled_up (books_of T) i bases (own bases i (e ∷ T)) ≡ spelled_up (books_of T) i bases (own bases i T)
-over_next bases T e i cause (Some other) history ended now = ap (spelled_up (books_of T) i bases) (own_ended bases T e i other now) ∙ spelled_end bases (books_of T) i (own bases i T) (entered i T)
+over_next bases T e i cause (Some other) history ended now = ap (spelled_up (books_of T) i bases) (own_ended bases T e i other now) ∙ (grind arith)
 over_next bases T e i cause None history ended now =
     ap (spelled_up (books_of T) i bases) (own_quiet bases T e i now)
-    ∙ spelled_quiet bases (books_of T) i (own bases i T) (entered i T) (cond (is_turn i (turn (books_of T) e.happening)) (own_event bases T i e.happening) None)
-    (faults_over bases T history.0 cause (first_of (fault_in T) (sym (ap (option_or (fault_in T)) now) ∙ ended)) i)
-  where
-    first_of : (fault : Option UpCause) → option_or fault None ≡ Some cause → fault ≡ Some cause
-    first_of fault e = grind arith
+    ∙ (grind (arith, (faults_over bases T history.0 cause (grind arith) i)))
 
 ended_next : (bases : Bases) (T : List HistoryEntry) (e : HistoryEntry) (i : ℕ) (cause : UpCause) → IsHistory bases (e ∷ T) → fault_in (e ∷ T) ≡ Some cause → IsSpelled bases T i → IsSpelled bases (e ∷ T) i
 ended_next bases T e i cause history ended before =
@@ -283,7 +230,7 @@ asked bases [] i history = refl
 asked bases (e ∷ T) i history = by (fault_in (e ∷ T)) refl (asked bases T i history.0)
   where
     by : (fault : Option UpCause) → fault_in (e ∷ T) ≡ fault → IsSpelled bases T i → IsSpelled bases (e ∷ T) i
-    by None standing before = standing_next bases T e i history standing before
+    by None standing before = grind (arith, both_none, who_spelled, event_for, books_next, own_quiet)
     by (Some cause) ended before = ended_next bases T e i cause history ended before
 
 -- the older entries have the one player too
@@ -295,17 +242,7 @@ pub part_is_only : (i : ℕ) (T : List HistoryEntry) (j : ℕ) → IsOnlyPlayer 
 part_is_only i T j only part = grind (arith, cases_Bool, eqb-true, eq-eqb, never_part)
 
 pub alive_is_only : (i : ℕ) (T : List HistoryEntry) (j : ℕ) → IsOnlyPlayer i T → is_alive j T ≡ true → j ≡ i
-alive_is_only i T j only alive = part_is_only i T j only (was (entered j T) (is_empty_list (shut j T)) alive)
-  where
-    was : (en unshut : Bool) → (en && unshut) ≡ true → en ≡ true
-    was en unshut is = grind arith
-
--- an orderly entry hands bytes to a connection that is alive
-entry_hands : (T : List HistoryEntry) (e : HistoryEntry) (before now : Option UpCause) → fault_in T ≡ before → e.outcome.fault ≡ now → IsOrderlyAfter before T e → HandsToLiving T e.outcome.to_client
-entry_hands T e before now over done is = grind arith
-
-hands : (T : List HistoryEntry) (e : HistoryEntry) → IsOrderly T e → HandsToLiving T e.outcome.to_client
-hands T e is = entry_hands T e (fault_in T) e.outcome.fault refl refl is
+alive_is_only i T j only alive = part_is_only i T j only (grind arith)
 
 -- so it hands the bytes to that player
 piece_is_its : (i : ℕ) (T : List HistoryEntry) (piece : Option ToClient) → IsOnlyPlayer i T → HandsToLiving T piece → option_to_list piece ≡ map (piece_for i) (pieces_to i piece)
@@ -315,18 +252,13 @@ piece_is_its i T (Some piece) only living =
     let here = eq-eqb piece.conn i same in
     rw here (ap (λ (n : ℕ). piece_for n piece.bytes ∷ []) same)
 
--- map over two lists
-map_both : {A B : Type 0} (f : A → B) (xs ys : List A) → map f (xs ++ ys) ≡ map f xs ++ map f ys
-map_both f [] ys = refl
-map_both f (x ∷ xs) ys = ap (λ l. f x ∷ l) (map_both f xs ys)
-
 handed_all : (bases : Bases) (T : List HistoryEntry) (i : ℕ) → IsHistory bases T → IsOnlyPlayer i T → all_handed T ≡ map (piece_for i) (sent i T)
 handed_all bases [] i history only = refl
 handed_all bases (e ∷ T) i history only =
     let before = only_before i T e only in
-    ap (λ l. l ++ all_handed T) (piece_is_its i T e.outcome.to_client before (hands T e (follows_orderly bases T e history.0 history.1)))
+    ap (λ l. l ++ all_handed T) (piece_is_its i T e.outcome.to_client before (grind (arith, (follows_orderly bases T e history.0 history.1))))
     ∙ ap (λ l. map (piece_for i) (pieces_to i e.outcome.to_client) ++ l) (handed_all bases T i history.0 before)
-    ∙ sym (map_both (piece_for i) (pieces_to i e.outcome.to_client) (sent i T))
+    ∙ sym (map-append (piece_for i) (pieces_to i e.outcome.to_client) (sent i T))
 
 -- A message goes up in the turn of a connection that takes part.
 absent_asks : (books settled : Books) (bases : Bases) (T : List HistoryEntry) (happening : Happening) (j : ℕ) → entered j T ≡ false → message_due books settled (Some j) (effect_of_turn bases T (Some j) happening).message ≡ None
@@ -338,21 +270,14 @@ turn_message bases T i happening books settled None only = refl
 turn_message bases T i happening books settled (Some j) only =
     elim (cases_Bool (entered j T)) [
       | inl part ↦ (let same : (j == i) ≡ true = eq-eqb j i (part_is_only i T j only part) in rw same refl)
-      | inr absent ↦ (let none = absent_asks books settled bases T happening j absent in rw none (empty_both (j == i)))
+      | inr absent ↦ (let none = absent_asks books settled bases T happening j absent in rw none (grind arith))
     ]
-  where
-    empty_both : (here : Bool) → ◌≡◌ {A = List UpMessage} [] (cond here [] [])
-    empty_both here = grind arith
-
-up_message : (bases : Bases) (T : List HistoryEntry) (e : HistoryEntry) (i : ℕ) (over : Bool) (up : ToUp) → IsOnlyPlayer i T → up ≡ cond over nothing_up (up_due bases T e.happening)
-    → option_to_list up.message ≡ asked_for i (turn (books_of T) e.happening) up
-up_message bases T e i over up only is = grind (arith, turn_message)
 
 asked_all : (bases : Bases) (T : List HistoryEntry) (i : ℕ) → IsHistory bases T → IsOnlyPlayer i T → all_asked T ≡ asked_up i T
 asked_all bases [] i history only = refl
 asked_all bases (e ∷ T) i history only =
     let before = only_before i T e only in
-    ap (λ l. l ++ all_asked T) (up_message bases T e i (is_some (fault_in (e ∷ T))) e.outcome.to_up before history.1.spelled)
+    ap (λ l. l ++ all_asked T) (grind (arith, turn_message, history.1.spelled))
     ∙ ap (λ l. asked_for i (turn (books_of T) e.happening) e.outcome.to_up ++ l) (asked_all bases T i history.0 before)
 
 pub one_player : (bases : Bases) (T : List HistoryEntry) (i : ℕ) → IsHistory bases T → IsOnlyPlayer i T → HasAll bases i T

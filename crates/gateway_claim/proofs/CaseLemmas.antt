@@ -6,10 +6,10 @@ use Rattle.rtsp_head.specs.Items.{Shape}
 use Rattle.rtsp_uri.specs.declared.base.Bases.{Bases}
 use Rattle.translate_up.specs.Setups.{is_setup_item}
 use Rattle.client_slot.specs.Client.{Client}
-use Rattle.client_machine.specs.Alone.{pair_unless, pair_alone, private_after, Private, is_up_end, effect_alone}
+use Rattle.client_machine.specs.Alone.{pair_alone, private_after, Private, is_up_end, effect_alone}
 use Rattle.client_machine.specs.Events.{PrivateEvent, arrive, answer, up_end, note, media}
 use Rattle.client_machine.specs.OpenRequests.{has_setup}
-use Rattle.client_machine.specs.Step.{hear, step}
+use Rattle.client_machine.specs.Step.{step}
 use Rattle.client_machine.proofs.FullLemmas.{step_unmarked}
 use Rattle.client_machine.proofs.KeepLemmas.{IsOver}
 use Rattle.gateway_claim.specs.declared.event.UpCause.{UpCause}
@@ -36,25 +36,6 @@ none_without : (shapes : List Shape) (shape : Shape) → has_setup (shapes ++ sh
 none_without [] shape none = refl
 none_without (first ∷ more) shape none = either_false (is_setup_item first) (has_setup (more ++ shape ∷ [])) (has_setup more) (none_without more shape) none
 
--- no SETUP waits once an event was heard that brings none
-hear_waits : (bases : Bases) (count : ℕ) (client : Client) (event : PrivateEvent) → has_setup client.waiting ≡ false → ((shape : Shape) (full : Bool) → event ≡ arrive shape full → has_setup (client.waiting ++ shape ∷ []) ≡ false)
-    → has_setup (hear bases count client event).effect.client.waiting ≡ false
-hear_waits bases count client event none more = grind arith
-
--- with a mark that tells whether none is free and a SETUP waits
-marked : (bases : Bases) (count next : ℕ) (free : Option ℕ) (setup : Bool) (client : Client) (event : PrivateEvent) → (setup ≡ false → has_setup (hear bases count client event).effect.client.waiting ≡ false)
-    → step bases count (pair_unless (is_none free && setup) next) client event ≡ step bases count (pair_where free next) client event
-marked bases count next free setup client event waits = grind (arith, step_unmarked)
-
--- an event that has no mark
-abbrev IsUnmarked : PrivateEvent → Type 0
-IsUnmarked (arrive shape full) = ⊥
-IsUnmarked (answer told ssrc full) = ⊥
-IsUnmarked event = Unit {0}
-
-unmarked : (bases : Bases) (count next : ℕ) (free : Option ℕ) (client : Client) (event : PrivateEvent) → IsUnmarked event → step bases count (Some next) client event ≡ step bases count (pair_where free next) client event
-unmarked bases count next free client event none = grind arith
-
 -- The mark of an event as a history has it.
 abbrev pub IsMarked : Option ℕ → List Shape → PrivateEvent → Type 0
 IsMarked free waiting (arrive shape full) = full ≡ (is_none free && has_setup (waiting ++ shape ∷ []))
@@ -63,7 +44,7 @@ IsMarked free waiting event = Unit {0}
 
 pub step_marked : (bases : Bases) (count next : ℕ) (free : Option ℕ) (client : Client) (event : PrivateEvent) → IsMarked free client.waiting event
     → step bases count (pair_alone event next) client event ≡ step bases count (pair_where free next) client event
-step_marked bases count next free client event mark = grind (arith, marked, hear_waits, none_without, unmarked)
+step_marked bases count next free client event mark = grind (arith, step_unmarked, none_without)
 
 -- what happens to connection i at an entry without a fault
 abbrev pub own_event : Bases → List HistoryEntry → ℕ → Happening → Option PrivateEvent
@@ -75,9 +56,6 @@ pub heard_event_as : (P : Option PrivateEvent → Type 0) (books settled : Books
     → ((pair half : ℕ) (rest : List ℕ) → P (Some (media pair half rest))) → P (heard_event books settled i waiting said)
 heard_event_as P books settled i waiting said none answers notes frame = grind arith
 
-own_one : (en here : Bool) (event : Option PrivateEvent) → cond en (cond here (option_to_list event) []) [] ≡ option_to_list (cond en (cond here event None) None)
-own_one en here event = grind arith
-
 pub own_quiet : (bases : Bases) (T : List HistoryEntry) (e : HistoryEntry) (i : ℕ) → e.outcome.fault ≡ None →
     own bases i (e ∷ T) ≡ option_to_list (cond (entered i T) (cond (is_turn i (turn (books_of T) e.happening)) (own_event bases T i e.happening) None) None) ++ own bases i T
 own_quiet bases T e i quiet = grind arith
@@ -85,10 +63,6 @@ own_quiet bases T e i quiet = grind arith
 -- at an entry with one
 pub own_ended : (bases : Bases) (T : List HistoryEntry) (e : HistoryEntry) (i : ℕ) (cause : UpCause) → e.outcome.fault ≡ Some cause → own bases i (e ∷ T) ≡ cond (entered i T) (up_end ∷ []) [] ++ own bases i T
 own_ended bases T e i cause now = grind arith
-
--- an entering does not end the connection to the server
-either_none : (b : Bool) → cond {A = Option UpCause} b None None ≡ None
-either_none b = grind arith
 
 -- after that end there is no other one
 pub quiet_after : (bases : Bases) (T : List HistoryEntry) (h : Happening) (cause : UpCause) → fault_in T ≡ Some cause → breach bases T h ≡ None
@@ -98,18 +72,10 @@ quiet_after bases T h cause before = ap (λ (was : Option UpCause). cond (is_som
 pub breach_standing : (bases : Bases) (T : List HistoryEntry) (h : Happening) → fault_in T ≡ None → breach bases T h ≡ option_or (said_breach bases T h) (spent (books_of T).issued (effect bases T h).message)
 breach_standing bases T h standing = ap (λ (was : Option UpCause). cond (is_some was) None (option_or (said_breach bases T h) (spent (books_of T).issued (effect bases T h).message))) standing
 
-ended_before : (bases : Bases) (T : List HistoryEntry) (e : HistoryEntry) (i : ℕ) (cause : UpCause) → Follows bases T e → fault_in T ≡ Some cause → (entered i T ≡ true → IsOver bases (own bases i T)) →
-    entered i (e ∷ T) ≡ true → IsOver bases (own bases i (e ∷ T))
-ended_before bases T e i cause f before over en = grind arith
-
-ended_here : (bases : Bases) (T : List HistoryEntry) (e : HistoryEntry) (i : ℕ) (cause : UpCause) (was : Bool) → Follows bases T e → e.outcome.fault ≡ Some cause → entered i T ≡ was →
-    entered i (e ∷ T) ≡ true → IsOver bases (own bases i (e ∷ T))
-ended_here bases T e i cause was f now h8 en = grind arith
-
 ended_by : (bases : Bases) (T : List HistoryEntry) (e : HistoryEntry) (i : ℕ) (cause : UpCause) (before : Option UpCause) → Follows bases T e → fault_in (e ∷ T) ≡ Some cause → fault_in T ≡ before →
     ((earlier : UpCause) → fault_in T ≡ Some earlier → entered i T ≡ true → IsOver bases (own bases i T)) → entered i (e ∷ T) ≡ true → IsOver bases (own bases i (e ∷ T))
-ended_by bases T e i cause (Some earlier) f ended b over en = ended_before bases T e i earlier f b (over earlier b) en
-ended_by bases T e i cause None f ended b over en = ended_here bases T e i cause (entered i T) f (sym (ap (λ was. option_or was e.outcome.fault) b) ∙ ended) refl en
+ended_by bases T e i cause (Some earlier) f ended b over en = grind (arith, (over earlier b))
+ended_by bases T e i cause None f ended b over en = grind (arith, (sym (ap (λ was. option_or was e.outcome.fault) b) ∙ ended))
 
 -- In a history that ended, every connection that took part is over.
 pub faults_over : (bases : Bases) (T : List HistoryEntry) → IsHistory bases T → (cause : UpCause) → fault_in T ≡ Some cause → (i : ℕ) → entered i T ≡ true → IsOver bases (own bases i T)
@@ -140,14 +106,9 @@ plain_case books i waiting one happening free plain up mark = inr (inl (one, ref
 notice_case : (books : Books) (i : ℕ) (waiting : List Shape) (notice : Result HeardNotice ℕ) (happening : Happening) (free : Option ℕ) → IsCase books i waiting (notice_event books i notice) None happening free
 notice_case books i waiting notice happening free = grind arith
 
-reply_case : (books : Books) (i : ℕ) (waiting : List Shape) (reply : Reply2) (shape : Shape) (opened : Option Opened) → heard shape ≡ replies reply → books.opened reply.cseq ≡ opened → option_map (λ (one : Opened). one.conn) opened ≡ Some i
-    → IsCase books i waiting (Some (answer (told_by reply) (source_said reply) (is_full (settles (final_of reply (books.opened reply.cseq)) books) waiting))) (final_of reply (books.opened reply.cseq)) (hears shape)
-    (free_in (settles (final_of reply (books.opened reply.cseq)) books))
-reply_case books i waiting reply shape opened says here turns = grind arith
-
 heard_case : (books : Books) (i : ℕ) (waiting : List Shape) (shape : Shape) (said : Heard) → heard shape ≡ said → heard_turn books said ≡ Some i
     → IsCase books i waiting (heard_event books (settles (heard_final books said) books) i waiting said) (heard_final books said) (hears shape) (free_in (settles (heard_final books said) books))
-heard_case books i waiting shape (replies reply) says turns = reply_case books i waiting reply shape (books.opened reply.cseq) says refl turns
+heard_case books i waiting shape (replies reply) says turns = grind arith
 heard_case books i waiting shape (requests request) says turns = notice_case books i waiting (notice_of books.holder request) (hears shape) (free_in (settles None books))
 heard_case books i waiting shape (frames channel rest) says turns = plain_case books i waiting _ (hears shape) (free_in (settles None books)) tt refl tt
 heard_case books i waiting shape (faults fault) says turns = cc
@@ -171,9 +132,6 @@ not_end books settled i waiting happening = grind arith
 one_not_over : (bases : Bases) (event : Option PrivateEvent) (events : List PrivateEvent) → IsNotEnd event → (private_after bases events).over ≡ false → (private_after bases (option_to_list event ++ events)).over ≡ false
 one_not_over bases event events h3 over = grind arith
 
-maybe_not_end : (en here : Bool) (event : Option PrivateEvent) → IsNotEnd event → IsNotEnd (cond en (cond here event None) None)
-maybe_not_end en here event h = grind arith
-
 pub both_none : (a b : Option UpCause) → option_or a b ≡ None → (a ≡ None) × (b ≡ None)
 both_none a b e = grind arith
 
@@ -183,17 +141,14 @@ not_over bases (e ∷ T) standing i =
     let quiet = both_none (fault_in T) e.outcome.fault standing in
     ap (λ (events : List PrivateEvent). (private_after bases events).over) (own_quiet bases T e i quiet.1)
     ∙ one_not_over bases (cond (entered i T) (cond (is_turn i (turn (books_of T) e.happening)) (own_event bases T i e.happening) None) None) (own bases i T)
-    (maybe_not_end (entered i T) (is_turn i (turn (books_of T) e.happening)) (own_event bases T i e.happening) (not_end (books_of T) (settled_by (books_of T) e.happening) i (private_after bases (own bases i T)).client.waiting e.happening))
+    (grind (arith, (not_end (books_of T) (settled_by (books_of T) e.happening) i (private_after bases (own bases i T)).client.waiting e.happening)))
     (not_over bases T quiet.0 i)
 
 -- Before it entered a connection has no events.
-either_absent : (here en : Bool) → (here || en) ≡ false → en ≡ false
-either_absent here en e = grind arith
-
 pub own_absent : (bases : Bases) (T : List HistoryEntry) (i : ℕ) → entered i T ≡ false → own bases i T ≡ []
 own_absent bases [] i absent = refl
 own_absent bases (e ∷ T) i absent =
-    let before : entered i T ≡ false = either_absent _ (entered i T) absent in
+    let before : entered i T ≡ false = grind arith in
     ap (λ en. cond en (own_here (books_of T) i (private_after bases (own bases i T)).client.waiting e.outcome.fault e.happening) [] ++ own bases i T) before ∙ own_absent bases T i before
 
 -- While the server's connection stands, a connection alone makes a step.

@@ -1,6 +1,6 @@
 -- What is kept of a connection alone can be written: the ids of its sessions are in the grammar, and its URIs fit into a request
 -- line.
-use Rattle.std.proofs.Common.{◌≡◌, ℕ, zero, suc, ◌+◌, ◌^◌, Bool, true, false, cond, List, [], ◌∷◌, map, length, drop, Option, None, Some, IfSome, refl, sym, subst, slice_get, arith}
+use Rattle.std.proofs.Common.{◌≡◌, ℕ, zero, suc, ◌+◌, ◌^◌, Bool, true, false, cond, List, [], ◌∷◌, map, length, Option, None, Some, IfSome, refl, subst, slice_get, arith}
 use Rattle.std.specs.Prelude.{is_none, is_some}
 use Rattle.std.proofs.lemmas.Bool.{ltb-true}
 use Rattle.rtsp_head.specs.Items.{Shape}
@@ -17,16 +17,16 @@ use Rattle.translate_down.specs.Replies.{Told}
 use Rattle.client_slot.specs.declared.purpose.Purpose.{Purpose}
 use Rattle.client_slot.specs.declared.purpose.Purpose.TheVariants as purposes
 use Rattle.client_slot.specs.declared.session_turn.SessionTurn.{SessionTurn}
-use Rattle.client_slot.specs.Session.{PlayerSession, new_session}
+use Rattle.client_slot.specs.Session.{PlayerSession}
 use Rattle.client_slot.specs.SessionChanges.{when_next, when_queued}
 use Rattle.client_slot.specs.SessionTurns.{Brought, brought_by, reply_turn, turned}
 use Rattle.client_slot.specs.Places.{session_at}
-use Rattle.client_slot.specs.Changes.{after_queueing, settled_place, session_after, sessions_after, described_after, settle_with}
+use Rattle.client_slot.specs.Changes.{after_queueing, settled_place, session_after, settle_with}
 use Rattle.client_slot.specs.Client.{Client}
 use Rattle.client_machine.specs.Alone.{pair_alone, private_after}
 use Rattle.client_machine.specs.Events.{PrivateEvent}
 use Rattle.client_machine.specs.Treatment.{session_found, given, queued_more, one_queued, fits_memory, decision_on, Going, Treated, treated_first, treated}
-use Rattle.client_machine.specs.Step.{after_plays, goes_at, NextPart, new_id, hear, going_on}
+use Rattle.client_machine.specs.Step.{after_plays, NextPart, new_id, hear, going_on}
 use Rattle.client_machine.proofs.SeenReplyLemmas.{base_known}
 use Rattle.client_machine.proofs.WayLemmas.{hear_as, going_as, alone_as}
 use Rattle.client_machine.proofs.EachLemmas.{changed_each, where_each, mapped_each, both_so}
@@ -68,25 +68,13 @@ fit_at (suc place) (one ∷ more) fit = fit_at place more fit.1
 turned_fit : (turn : SessionTurn) (brought : Brought) (session : PlayerSession) → IsValid brought.id → IsTarget brought.control → IsFitOne session → IsFitOne (turned turn brought session)
 turned_fit turn brought session id control fit = grind arith
 
-brought_fit : (purpose : Purpose) (number : ℕ) (described id : Option (List ℕ)) → IsFitPurpose (Some purpose) → IsTarget described → IsTarget (brought_by purpose number described id).control
-brought_fit purpose number described id target fit = grind arith
-
-brought_id : (purpose : Purpose) (number : ℕ) (described id : Option (List ℕ)) → (brought_by purpose number described id).id ≡ id
-brought_id purpose number described id = grind arith
-
-after_fit : (purpose : Purpose) (code : ℕ) (sessions : List PlayerSession) (described : Option (List ℕ)) → IsFitPurpose (Some purpose) → IsTarget described → IsTarget (described_after purpose code sessions described)
-after_fit purpose code sessions described target fit = grind arith
-
-new_fit : (purpose : Purpose) (told : Told) → IsValid (new_id purpose told)
-new_fit purpose told = grind arith
-
 settled_fit : (purpose : Purpose) (number : ℕ) (told : Told) (client : Client) → IsFitPurpose (Some purpose) → IsFitClient client → IsFitClient (settle_with (Some purpose) number told.code (new_id purpose told) client)
 settled_fit purpose number told client target fit = record {
   sessions = where_each IsFitOne (settled_place purpose (new_id purpose told) client.sessions) (session_after purpose number told.code client.described (new_id purpose told)) client.sessions
       (λ session one. turned_fit (reply_turn purpose told.code (is_some (new_id purpose told)) session.state) (brought_by purpose number client.described (new_id purpose told)) session
-      (subst IsValid (sym (brought_id purpose number client.described (new_id purpose told))) (new_fit purpose told)) (brought_fit purpose number client.described (new_id purpose told) target fit.described) one)
+      (grind arith) (grind (arith, fit.described)) one)
       fit.sessions;
-  described = after_fit purpose told.code (sessions_after purpose number told.code client.described (new_id purpose told) client.sessions) client.described target fit.described;
+  described = grind (arith, fit.described);
   pending = tt;
 }
 
@@ -139,12 +127,6 @@ plays_fit (play ∷ plays) client targets fit = plays_fit plays (after_queueing 
   pending = fit.pending;
 })
 
-goes_fit : (one : Option Going) (pair : Option ℕ) (text : List ℕ) (client : Client) → IsTargetGoing one → IsFitClient client → IsFitClient (goes_at one pair text client).client
-goes_fit one pair text client target fit = grind arith
-
-rest_fit : (queue : List Play) → AreTargets queue → AreTargets (drop 1 queue)
-rest_fit queue fit = grind arith
-
 first_target : (queue : List Play) (play : Play) → AreTargets queue → slice_get queue 0 ≡ Some play → is_target play.uri ≡ true
 first_target [] play fit e = cc
 first_target (first ∷ queue) play fit e = let same : first ≡ play = cc in subst (λ (one : Play). is_target one.uri ≡ true) same fit.0
@@ -153,23 +135,19 @@ going_fit : (bases : Bases) (pair : Option ℕ) (next : NextPart) (client : Clie
 going_fit bases pair next client fit = going_as (λ effect. IsFitClient effect.client) bases pair next client (record {
   still = fit;
   released = λ place play idle due is. record {
-    sessions = changed_each IsFitOne place when_next client.sessions (λ session one. record { id = one.id; control = one.control; queue = rest_fit session.queue one.queue }) fit.sessions;
+    sessions = changed_each IsFitOne place when_next client.sessions (λ session one. record { id = one.id; control = one.control; queue = grind (arith, one.queue) }) fit.sessions;
     described = fit.described;
     pending = first_target (session_at place client.sessions).queue play (fit_at place client.sessions fit.sessions).queue is;
   };
   treats = λ idle alive.
       let all = treated client.waiting (given bases (is_none pair) client) in
       let targets = treated_fit client.waiting (given bases (is_none pair) client) (given_fit bases (is_none pair) client fit) in
-      goes_fit all.going pair all.hand (after_plays all.plays (record client { waiting = all.left })) targets.1
-      (plays_fit all.plays (record client { waiting = all.left }) targets.0 (record { sessions = fit.sessions; described = fit.described; pending = fit.pending }));
+      grind (arith, targets.1, (plays_fit all.plays (record client { waiting = all.left }) targets.0 (record { sessions = fit.sessions; described = fit.described; pending = fit.pending })));
   left = λ place id idle dead filled is. record { sessions = fit.sessions; described = fit.described; pending = tt };
 })
 
 pub alone_fit : (bases : Bases) (events : List PrivateEvent) → IsFitClient (private_after bases events).client
-alone_fit bases [] = record { sessions = (none, (none, (none, (none, tt)))); described = tt; pending = tt }
-  where
-    none : IsFitOne new_session
-    none = record { id = tt; control = tt; queue = tt }
+alone_fit bases [] = grind arith
 alone_fit bases (event ∷ events) =
     let p = private_after bases events in
     let fit = alone_fit bases events in

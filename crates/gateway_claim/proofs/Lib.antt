@@ -2,7 +2,6 @@ pub mod LendLemmas
 pub mod OtherLemmas
 pub mod SettleLemmas
 pub mod AnswerLemmas
-pub mod SoundLemmas
 pub mod NextLemmas
 pub mod AskLemmas
 pub mod CaseLemmas
@@ -12,7 +11,6 @@ pub mod AgreeLemmas
 pub mod StepLemmas
 pub mod OrderLemmas
 pub mod ApartLemmas
-pub mod FrameLemmas
 pub mod TurnLawLemmas
 pub mod TidyLemmas
 pub mod WaitLemmas

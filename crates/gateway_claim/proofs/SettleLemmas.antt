@@ -1,21 +1,17 @@
 -- What a final reply settles for the connection that asked.
-use Rattle.std.proofs.Common.{◌≡◌, ◌≢◌, ℕ, zero, suc, ◌==◌, ◌<◌, Bool, true, false, cond, List, [], ◌∷◌, ◌++◌, length, Option, None, Some, ◌⊎◌, inl, inr, refl, sym, ◌∙◌, ap, subst, arith}
+use Rattle.std.proofs.Common.{IsSome, ◌≡◌, ◌≢◌, ℕ, zero, suc, ◌<◌, Bool, true, false, cond, List, [], ◌∷◌, ◌++◌, length, Option, None, Some, ◌⊎◌, inl, inr, refl, sym, ◌∙◌, ap, subst, arith}
 use Rattle.std.specs.Str.{bytes_eq}
-use Rattle.std.proofs.lemmas.Bool.{eq-eqb, eqb-true, eqb-false}
+use Rattle.std.proofs.lemmas.Bool.{cases_eq, eqb-true}
 use Rattle.std.proofs.lemmas.Slice.Eq.{bytes_eq-Decides}
 use Rattle.session_one.specs.declared.parts.Track.{Track}
 use Rattle.client_slot.specs.declared.purpose.Purpose.{Purpose}
-use Rattle.client_slot.specs.Session.{PlayerSession}
+use Rattle.client_slot.specs.Session.{PlayerSession, new_session}
 use Rattle.client_slot.specs.Places.{session_at, changed_at}
 use Rattle.client_slot.specs.Client.{Client}
-use Rattle.client_slot.proofs.PlaceLemmas.{changed_here, changed_other}
-use Rattle.gateway_claim.specs.Books.{RequestKind, sets_up, HeldPair, Books, pair_asked, is_pair, Final, torn_by, bound_by, is_id, settles}
+use Rattle.gateway_claim.specs.Books.{sets_up, teardown_kind, HeldPair, Books, pair_asked, is_pair, Final, torn_by, bound_by, is_id, settles}
 use Rattle.gateway_claim.specs.BooksAndSlots.{IsHeldFor, AreHeld, IsHolding, HasPair, IsStreamPair, IsOpenFor, IsOnlyOpen, IsJoined}
-use Rattle.gateway_claim.proofs.OtherLemmas.{IsHeldKind, held_stays, WasHeld, was_held, holder_stays, holder_was}
+use Rattle.gateway_claim.proofs.OtherLemmas.{IsHeldKind, WasHeld, was_held}
 use Rattle.client_machine.proofs.EachLemmas.{both_so}
-
-false_is_true : false ≡ true → ⊥
-false_is_true e = cc
 
 pub same_id : (one id : List ℕ) → bytes_eq id one ≡ true → id ≡ one
 same_id one id e = (bytes_eq-Decides id one).0 e
@@ -29,18 +25,31 @@ filled_within place id [] e = cc
 filled_within zero id (one ∷ more) e = omega arith
 filled_within (suc place) id (one ∷ more) e = omega (arith, filled_within place id more e)
 
--- What is so of a session that changed, and of each other one, is so of each then.
-pub each_changed : (P : ℕ → PlayerSession → Type 0) (k : ℕ) (change : PlayerSession → PlayerSession) (sessions : List PlayerSession) → k < length sessions → P k (change (session_at k sessions))
-    → ((place : ℕ) → place ≢ k → P place (session_at place sessions)) → (place : ℕ) → P place (session_at place (changed_at k change sessions))
-each_changed P k change sessions within here others place = grind (arith, eqb-true, changed_here, changed_other, eqb-false)
+-- A place once its session is changed, where there is one.
+pub changed_or_new : (k : ℕ) (change : PlayerSession → PlayerSession) (sessions : List PlayerSession) → (session_at k (changed_at k change sessions) ≡ change (session_at k sessions)) ⊎ (session_at k (changed_at k change sessions) ≡ new_session)
+changed_or_new k change [] = inr refl
+changed_or_new zero change (one ∷ more) = inl refl
+changed_or_new (suc k) change (one ∷ more) = changed_or_new k change more
 
 -- The places have the same sessions and streams.
 abbrev pub AreAlike : List PlayerSession → List PlayerSession → Type 0
 AreAlike sessions others = (place : ℕ) → ((session_at place others).id ≡ (session_at place sessions).id) × ((session_at place others).tracks ≡ (session_at place sessions).tracks)
 
--- No other request of the connection was open.
-none_open : (books : Books) (i number : ℕ) (final : Final) (pending : Option Purpose) → final.number ≡ number → IsOnlyOpen books i number pending → IsOnlyOpen (settles (Some final) books) i number None
-none_open books i number final pending same last = grind arith
+-- So what the books say of a connection they say of one that has these, and the same open request.
+pub alike_joined : (books : Books) (i count : ℕ) (client after : Client) → AreAlike client.sessions after.sessions → after.pending ≡ client.pending → IsOpenFor books i (books.number_of i count) after.sessions after.pending
+    → IsJoined books i client count → IsJoined books i after count
+alike_joined books i count client after alike same is_open joined = record {
+  counted = joined.counted;
+  tracks = λ place. let here = alike place in let was = joined.tracks place in grind arith;
+  granted = λ p id here.
+      let was : IsStreamPair (books.pair_of i) client.sessions id p = joined.granted p id here in
+      record { place = was.place; named = (alike was.place).0 ∙ was.named; has = subst (λ (tracks : List Track). HasPair (books.pair_of i) p tracks) (sym (alike was.place).1) was.has };
+  pending = is_open;
+  last = λ g opened here conn. let was = joined.last g opened here conn in (was.0, subst (λ (one : Option Purpose). IsSome one) (sym same) was.1);
+  holds = λ place id here. joined.holds place id (sym (alike place).0 ∙ here);
+  session = λ id here. let (place, is) = joined.session id here in (place, (alike place).0 ∙ is);
+  once = λ a b id at_a at_b. joined.once a b id (sym (alike a).0 ∙ at_a) (sym (alike b).0 ∙ at_b);
+}
 
 -- A final reply to what is open.
 pub record IsOwnFinal (books : Books) (i number : ℕ) (final : Final) : Type 0 where
@@ -52,107 +61,14 @@ pub record IsOwnFinal (books : Books) (i number : ℕ) (final : Final) : Type 0 
 tracks_stay : (books : Books) (i : ℕ) (final : Final) (id : List ℕ) (tracks : List Track) → IsHeldKind books final.conn final.kind → is_id (torn_by final.kind final.success) id ≡ false
     → AreHeld books i (Some id) tracks → AreHeld (settles (Some final) books) i (Some id) tracks
 tracks_stay books i final id [] held left h = tt
-tracks_stay books i final id (track ∷ tracks) held left h =
-    ((held_stays books final (books.pair_of i track.pair) (record { conn = i; session = Some id }) held h.0.0 (λ same. let none : Some id ≡ None = ap (λ (one : HeldPair). one.session) same in cc) left, h.0.1), tracks_stay books i final id tracks held left h.1)
+tracks_stay books i final id (track ∷ tracks) held left h = grind (arith, tracks_stay books i final id tracks held left h.1)
 
 holding_stays : (books : Books) (i : ℕ) (final : Final) (session : Option (List ℕ)) (tracks : List Track) → IsHeldKind books final.conn final.kind
     → ((id : List ℕ) → session ≡ Some id → is_id (torn_by final.kind final.success) id ≡ false) → IsHolding books i session tracks → IsHolding (settles (Some final) books) i session tracks
 holding_stays books i final session tracks held left h = grind (arith, tracks_stay)
 
--- a pair that is granted is granted for the session that is bound
-pub granted_bound : (kind : RequestKind) (success : Bool) (said : Option (List ℕ)) (p : ℕ) → is_pair (pair_asked kind) p ≡ true → success ≡ true → bound_by kind success said ≡ said
-granted_bound kind success said p asks e = grind arith
-
--- Where nothing is bound, what is held for a session was held for it, and does not end.
-kept_pair : (books : Books) (i : ℕ) (final : Final) (p : ℕ) (id : List ℕ) → bound_by final.kind final.success final.id ≡ None → (settles (Some final) books).held p ≡ Some (record { conn = i; session = Some id })
-    → (books.held p ≡ Some (record { conn = i; session = Some id })) × (is_id (torn_by final.kind final.success) id ≡ false)
-kept_pair books i final p id none here = grind arith
-
--- Where nothing is bound, who has a session had it, and it does not end.
-kept_holder : (books : Books) (i : ℕ) (final : Final) (id : List ℕ) → bound_by final.kind final.success final.id ≡ None → (settles (Some final) books).holder id ≡ Some i
-    → (is_id (torn_by final.kind final.success) id ≡ false) × (books.holder id ≡ Some i)
-kept_holder books i final id none here = grind arith
-
 unbound : (final : Final) (id : List ℕ) → bound_by final.kind final.success final.id ≡ None → is_id (bound_by final.kind final.success final.id) id ≡ false
 unbound final id none = ap (λ (one : Option (List ℕ)). is_id one id) none
-
--- A reply that binds and ends nothing, after which each place has what it had.
-pub alike_settled : (books : Books) (i count : ℕ) (client after : Client) (final : Final) → IsOwnFinal books i (books.number_of i count) final → IsJoined books i client count
-    → bound_by final.kind final.success final.id ≡ None → torn_by final.kind final.success ≡ None → AreAlike client.sessions after.sessions → after.pending ≡ None → IsJoined (settles (Some final) books) i after count
-alike_settled books i count client after final own joined none left alike idle = record {
-  counted = joined.counted;
-  tracks = λ place.
-      subst (λ (session : Option (List ℕ)). IsHolding (settles (Some final) books) i session (session_at place after.sessions).tracks) (sym (alike place).0)
-      (subst (λ (tracks : List Track). IsHolding (settles (Some final) books) i (session_at place client.sessions).id tracks) (sym (alike place).1)
-      (holding_stays books i final (session_at place client.sessions).id (session_at place client.sessions).tracks own.held (λ id e. untorn id) (joined.tracks place)));
-  granted = λ p id here.
-      let was : IsStreamPair (books.pair_of i) client.sessions id p = joined.granted p id (kept_pair books i final p id none here).0 in
-      record { place = was.place; named = (alike was.place).0 ∙ was.named; has = subst (λ (tracks : List Track). HasPair (books.pair_of i) p tracks) (sym (alike was.place).1) was.has };
-  pending = subst (λ (pending : Option Purpose). IsOpenFor (settles (Some final) books) i (books.number_of i count) after.sessions pending) (sym idle) tt;
-  last = subst (λ (pending : Option Purpose). IsOnlyOpen (settles (Some final) books) i (books.number_of i count) pending) (sym idle) (none_open books i (books.number_of i count) final client.pending own.number_is joined.last);
-  holds = λ place id here. holder_stays books final id (unbound final id none) (untorn id) ∙ joined.holds place id (sym (alike place).0 ∙ here);
-  session = λ id here. let (place, is) = joined.session id (kept_holder books i final id none here).1 in (place, (alike place).0 ∙ is);
-  once = λ a b id at_a at_b. joined.once a b id (sym (alike a).0 ∙ at_a) (sym (alike b).0 ∙ at_b);
-}
-  where
-    untorn : (id : List ℕ) → is_id (torn_by final.kind final.success) id ≡ false
-    untorn id = ap (λ (one : Option (List ℕ)). is_id one id) left
-
--- A session at a place with an id, and the same at another one, are not there.
-other_id : (books : Books) (i count : ℕ) (client : Client) (k place : ℕ) (torn id : List ℕ) → IsJoined books i client count → (session_at k client.sessions).id ≡ Some torn → (session_at place client.sessions).id ≡ Some id → place ≢ k → bytes_eq id torn ≡ false
-other_id books i count client k place torn id joined at_k here apart = by (bytes_eq id torn) refl
-  where
-    by : (t : Bool) → bytes_eq id torn ≡ t → t ≡ false
-    by false e = refl
-    by true e = absurd (apart (joined.once place k id here (at_k ∙ ap (λ one. Some one) (sym (same_id torn id e)))))
-
--- A reply that ends the session at a place, which is empty then.
-pub torn_settled : (books : Books) (i count k : ℕ) (client after : Client) (change : PlayerSession → PlayerSession) (torn : List ℕ) (final : Final) → IsOwnFinal books i (books.number_of i count) final → IsJoined books i client count
-    → bound_by final.kind final.success final.id ≡ None → torn_by final.kind final.success ≡ Some torn → (session_at k client.sessions).id ≡ Some torn
-    → after.sessions ≡ changed_at k change client.sessions → (change (session_at k client.sessions)).id ≡ None → (change (session_at k client.sessions)).tracks ≡ [] → after.pending ≡ None
-    → IsJoined (settles (Some final) books) i after count
-torn_settled books i count k client after change torn final own joined none ends at_k is no_id no_tracks idle = record {
-  counted = joined.counted;
-  tracks = subst (λ (sessions : List PlayerSession). (place : ℕ) → IsHolding (settles (Some final) books) i (session_at place sessions).id (session_at place sessions).tracks) (sym is)
-      (each_changed (λ place session. IsHolding (settles (Some final) books) i session.id session.tracks) k change client.sessions within
-      (subst (λ (session : Option (List ℕ)). IsHolding (settles (Some final) books) i session (change (session_at k client.sessions)).tracks) (sym no_id) no_tracks)
-      (λ place apart. holding_stays books i final (session_at place client.sessions).id (session_at place client.sessions).tracks own.held (λ id e. untorn place id e apart) (joined.tracks place)));
-  granted = λ p id here.
-      let kept = kept_pair books i final p id none here in
-      let was : IsStreamPair (books.pair_of i) client.sessions id p = joined.granted p id kept.0 in
-      let apart : was.place ≢ k = not_torn was.place id was.named kept.1 in
-      record {
-        place = was.place;
-        named = at_other was.place apart (λ session. session.id) ∙ was.named;
-        has = subst (λ (tracks : List Track). HasPair (books.pair_of i) p tracks) (sym (at_other was.place apart (λ session. session.tracks))) was.has;
-      };
-  pending = subst (λ (pending : Option Purpose). IsOpenFor (settles (Some final) books) i (books.number_of i count) after.sessions pending) (sym idle) tt;
-  last = subst (λ (pending : Option Purpose). IsOnlyOpen (settles (Some final) books) i (books.number_of i count) pending) (sym idle) (none_open books i (books.number_of i count) final client.pending own.number_is joined.last);
-  holds = λ place id here.
-      let apart : place ≢ k = filled_apart place id here in
-      let was : (session_at place client.sessions).id ≡ Some id = sym (at_other place apart (λ session. session.id)) ∙ here in
-      holder_stays books final id (unbound final id none) (untorn place id was apart) ∙ joined.holds place id was;
-  session = λ id here.
-      let kept = kept_holder books i final id none here in
-      let (place, named) = joined.session id kept.1 in
-      (place, at_other place (not_torn place id named kept.0) (λ session. session.id) ∙ named);
-  once = λ a b id at_a at_b. joined.once a b id (sym (at_other a (filled_apart a id at_a) (λ session. session.id)) ∙ at_a) (sym (at_other b (filled_apart b id at_b) (λ session. session.id)) ∙ at_b);
-}
-  where
-    within : k < length client.sessions
-    within = filled_within k torn client.sessions at_k
-
-    untorn : (place : ℕ) (id : List ℕ) → (session_at place client.sessions).id ≡ Some id → place ≢ k → is_id (torn_by final.kind final.success) id ≡ false
-    untorn place id here apart = ap (λ (one : Option (List ℕ)). is_id one id) ends ∙ other_id books i count client k place torn id joined at_k here apart
-
-    not_torn : (place : ℕ) (id : List ℕ) → (session_at place client.sessions).id ≡ Some id → is_id (torn_by final.kind final.success) id ≡ false → place ≢ k
-    not_torn place id named left same = grind (arith, false_is_true, is_own_id)
-
-    at_other : {A : Type 0} (place : ℕ) → place ≢ k → (part : PlayerSession → A) → part (session_at place after.sessions) ≡ part (session_at place client.sessions)
-    at_other place apart part = ap (λ sessions. part (session_at place sessions)) is ∙ ap part (changed_other k place change client.sessions apart)
-
-    filled_apart : (place : ℕ) (id : List ℕ) → (session_at place after.sessions).id ≡ Some id → place ≢ k
-    filled_apart place id here same = grind (arith, changed_here, within)
 
 -- One stream more.
 had_pair : (pairs : ℕ → ℕ) (p : ℕ) (tracks : List Track) (track : Track) → HasPair pairs p tracks → HasPair pairs p (tracks ++ track ∷ [])
@@ -169,125 +85,114 @@ abbrev pub IsSessionSet : Books → Option (List ℕ) → List ℕ → Type 0
 IsSessionSet books None id = books.holder id ≡ None
 IsSessionSet books (Some session) id = session ≡ id
 
-held_before : (books : Books) (i : ℕ) (session : Option (List ℕ)) (id : List ℕ) (tracks : List Track) → IsSessionSet books session id → IsHolding books i session tracks → AreHeld books i (Some id) tracks
-held_before books i session id tracks set h = grind arith
+-- A session has its id and its streams as before.
+abbrev pub IsAlike : PlayerSession → PlayerSession → Type 0
+IsAlike one other = (other.id ≡ one.id) × (other.tracks ≡ one.tracks)
 
--- The success of a SETUP, for the session at a place, which has one stream more then.
-pub granted_settled : (books : Books) (i count k : ℕ) (client after : Client) (change : PlayerSession → PlayerSession) (track : Track) (id : List ℕ) (final : Final) → IsOwnFinal books i (books.number_of i count) final → IsJoined books i client count
-    → IsHeldFor books i None track.pair → final.kind ≡ sets_up (books.pair_of i track.pair) → final.success ≡ true → final.id ≡ Some id → IsSessionSet books (session_at k client.sessions).id id → k < length client.sessions
-    → after.sessions ≡ changed_at k change client.sessions → (change (session_at k client.sessions)).id ≡ Some id → (change (session_at k client.sessions)).tracks ≡ (session_at k client.sessions).tracks ++ track ∷ [] → after.pending ≡ None
-    → IsJoined (settles (Some final) books) i after count
-granted_settled books i count k client after change track id final own joined setup kind success said set within is new_id new_tracks idle = record {
+-- what is held for a session of the connection, once the final reply has come
+abbrev HoldsThen : Books → ℕ → Final → ℕ → List ℕ → Type 0
+HoldsThen books i final p id = (settles (Some final) books).held p ≡ Some (record { conn = i; session = Some id })
+
+-- What a final reply makes of the session at the place that its request was for, and of the books, so that they agree again:
+-- what they have of it is what it has then, or what they had and it does not lose.
+pub record IsSettledAt (books : Books) (i : ℕ) (final : Final) (was now : PlayerSession) : Type 0 where
+  holding : IsHolding (settles (Some final) books) i now.id now.tracks
+  granted : (p : ℕ) (id : List ℕ) → HoldsThen books i final p id
+      → (books.held p ≡ Some (record { conn = i; session = Some id })) ⊎ ((now.id ≡ Some id) × HasPair (books.pair_of i) p now.tracks)
+  kept : (p : ℕ) (id : List ℕ) → was.id ≡ Some id → HoldsThen books i final p id → HasPair (books.pair_of i) p was.tracks
+      → (now.id ≡ Some id) × HasPair (books.pair_of i) p now.tracks
+  holds : (id : List ℕ) → now.id ≡ Some id → (settles (Some final) books).holder id ≡ Some i
+  bound : (id : List ℕ) → (settles (Some final) books).holder id ≡ Some i → (books.holder id ≡ Some i) ⊎ (now.id ≡ Some id)
+  stays : (id : List ℕ) → was.id ≡ Some id → (settles (Some final) books).holder id ≡ Some i → now.id ≡ Some id
+  new : (id : List ℕ) → now.id ≡ Some id → (was.id ≡ Some id) ⊎ (books.holder id ≡ None)
+  torn : (id : List ℕ) → is_id (torn_by final.kind final.success) id ≡ true → was.id ≡ Some id
+
+-- So the connection is joined then, where each other place is as before.
+pub place_settled : (books : Books) (i count k : ℕ) (client after : Client) (final : Final) → IsOwnFinal books i (books.number_of i count) final → IsJoined books i client count
+    → ((place : ℕ) → place ≢ k → IsAlike (session_at place client.sessions) (session_at place after.sessions)) → IsSettledAt books i final (session_at k client.sessions) (session_at k after.sessions)
+    → after.pending ≡ None → IsJoined (settles (Some final) books) i after count
+place_settled books i count k client after final own joined alike here idle = record {
   counted = joined.counted;
-  tracks = subst (λ (sessions : List PlayerSession). (place : ℕ) → IsHolding (settles (Some final) books) i (session_at place sessions).id (session_at place sessions).tracks) (sym is)
-      (each_changed (λ place session. IsHolding (settles (Some final) books) i session.id session.tracks) k change client.sessions within
-      (subst (λ (session : Option (List ℕ)). IsHolding (settles (Some final) books) i session (change (session_at k client.sessions)).tracks) (sym new_id)
-      (subst (λ (tracks : List Track). AreHeld (settles (Some final) books) i (Some id) tracks) (sym new_tracks)
-      (both_so (λ one. IsHeldFor (settles (Some final) books) i (Some id) one.pair) (session_at k client.sessions).tracks (track ∷ [])
-      (tracks_stay books i final id (session_at k client.sessions).tracks own.held (untorn id) (held_before books i (session_at k client.sessions).id id (session_at k client.sessions).tracks set (joined.tracks k)))
-      ((granted_now, setup.1), tt))))
-      (λ place apart. holding_stays books i final (session_at place client.sessions).id (session_at place client.sessions).tracks own.held (λ one e. untorn one) (joined.tracks place)));
-  granted = λ p one here. granted_by p one (was_held books final p (record { conn = i; session = Some one }) here);
+  tracks = λ place. tracks_at place (cases_eq place k);
+  granted = λ p id held. granted_by p id held (here.granted p id held);
   pending = subst (λ (pending : Option Purpose). IsOpenFor (settles (Some final) books) i (books.number_of i count) after.sessions pending) (sym idle) tt;
-  last = subst (λ (pending : Option Purpose). IsOnlyOpen (settles (Some final) books) i (books.number_of i count) pending) (sym idle) (none_open books i (books.number_of i count) final client.pending own.number_is joined.last);
-  holds = λ place one here. holds_by place one here (place == k) refl;
-  session = λ one here. session_by one (holder_was books final one i here);
-  once = λ a b one at_a at_b. once_by a b one at_a at_b (a == k) (b == k) refl refl;
+  last = subst (λ (pending : Option Purpose). IsOnlyOpen (settles (Some final) books) i (books.number_of i count) pending) (sym idle) (grind (arith, own.number_is, joined.last));
+  holds = λ place id is. grind (arith, cases_eq place k, untorn, joined.holds place id);
+  session = λ id is. session_by id (here.bound id is) is;
+  once = λ a b id at_a at_b. grind (arith, cases_eq a k, cases_eq b k, other_place a id, other_place b id, alike a, alike b, joined.once a b id);
 }
   where
-    bound : bound_by final.kind final.success final.id ≡ Some id
-    bound = ap (λ k. bound_by k final.success final.id) kind ∙ ap (λ t. bound_by (sets_up (books.pair_of i track.pair)) t final.id) success ∙ said
+    untorn : (place : ℕ) (id : List ℕ) → place ≢ k → (session_at place client.sessions).id ≡ Some id → is_id (torn_by final.kind final.success) id ≡ false
+    untorn place id apart is = grind (arith, here.torn id, joined.once place k id)
 
-    untorn : (one : List ℕ) → is_id (torn_by final.kind final.success) one ≡ false
-    untorn one = ap (λ k. is_id (torn_by k final.success) one) kind
+    tracks_at : (place : ℕ) → (place ≡ k) ⊎ (place ≢ k) → IsHolding (settles (Some final) books) i (session_at place after.sessions).id (session_at place after.sessions).tracks
+    tracks_at place (inl same) = subst (λ (at : ℕ). IsHolding (settles (Some final) books) i (session_at at after.sessions).id (session_at at after.sessions).tracks) (sym same) here.holding
+    tracks_at place (inr apart) =
+        let stay = holding_stays books i final (session_at place client.sessions).id (session_at place client.sessions).tracks own.held (λ id is. untorn place id apart is) (joined.tracks place) in
+        grind (arith, alike place apart)
 
-    at_k : {A : Type 0} (part : PlayerSession → A) → part (session_at k after.sessions) ≡ part (change (session_at k client.sessions))
-    at_k part = ap (λ sessions. part (session_at k sessions)) is ∙ ap part (changed_here k change client.sessions within)
+    stays_at : (place : ℕ) (id : List ℕ) → (session_at place client.sessions).id ≡ Some id → (settles (Some final) books).holder id ≡ Some i → (place ≡ k) ⊎ (place ≢ k) → (at : ℕ) × ((session_at at after.sessions).id ≡ Some id)
+    stays_at place id there is (inl same) = (k, here.stays id (ap (λ at. (session_at at client.sessions).id) (sym same) ∙ there) is)
+    stays_at place id there is (inr apart) = (place, (alike place apart).0 ∙ there)
 
-    at_other : {A : Type 0} (place : ℕ) → place ≢ k → (part : PlayerSession → A) → part (session_at place after.sessions) ≡ part (session_at place client.sessions)
-    at_other place apart part = ap (λ sessions. part (session_at place sessions)) is ∙ ap part (changed_other k place change client.sessions apart)
+    session_by : (id : List ℕ) → (books.holder id ≡ Some i) ⊎ ((session_at k after.sessions).id ≡ Some id) → (settles (Some final) books).holder id ≡ Some i → (place : ℕ) × ((session_at place after.sessions).id ≡ Some id)
+    session_by id (inr now) is = (k, now)
+    session_by id (inl was) is = let (place, there) = joined.session id was in stays_at place id there is (cases_eq place k)
 
-    id_at_k : (session_at k after.sessions).id ≡ Some id
-    id_at_k = at_k (λ session. session.id) ∙ new_id
+    other_place : (place : ℕ) (id : List ℕ) → place ≢ k → (session_at place after.sessions).id ≡ Some id → (session_at k after.sessions).id ≡ Some id → ⊥
+    other_place place id apart is now = let was = alike place apart in grind (arith, here.new id now, joined.once place k id, joined.holds place id)
 
-    tracks_at_k : (session_at k after.sessions).tracks ≡ (session_at k client.sessions).tracks ++ track ∷ []
-    tracks_at_k = at_k (λ session. session.tracks) ∙ new_tracks
+    moved : (p place : ℕ) (id : List ℕ) → HoldsThen books i final p id → (session_at place client.sessions).id ≡ Some id → HasPair (books.pair_of i) p (session_at place client.sessions).tracks
+        → (place ≡ k) ⊎ (place ≢ k) → IsStreamPair (books.pair_of i) after.sessions id p
+    moved p place id held is has (inl same) =
+        let now = here.kept p id (ap (λ at. (session_at at client.sessions).id) (sym same) ∙ is) held (subst (λ (at : ℕ). HasPair (books.pair_of i) p (session_at at client.sessions).tracks) same has) in
+        record { place = k; named = now.0; has = now.1 }
+    moved p place id held is has (inr apart) =
+        record { place = place; named = (alike place apart).0 ∙ is; has = subst (λ (tracks : List Track). HasPair (books.pair_of i) p tracks) (sym (alike place apart).1) has }
 
-    granted_now : (settles (Some final) books).held (books.pair_of i track.pair) ≡ Some (record { conn = i; session = Some id })
-    granted_now = grind (arith, eq-eqb)
+    granted_by : (p : ℕ) (id : List ℕ) → HoldsThen books i final p id → (books.held p ≡ Some (record { conn = i; session = Some id })) ⊎ (((session_at k after.sessions).id ≡ Some id) × HasPair (books.pair_of i) p (session_at k after.sessions).tracks)
+        → IsStreamPair (books.pair_of i) after.sessions id p
+    granted_by p id held (inl was) = let stream : IsStreamPair (books.pair_of i) client.sessions id p = joined.granted p id was in moved p stream.place id held stream.named stream.has (cases_eq stream.place k)
+    granted_by p id held (inr now) = record { place = k; named = now.0; has = now.1 }
 
-    -- who was there with an id that k has is there
-    was_id : (one : List ℕ) (session : Option (List ℕ)) → IsSessionSet books session id → session ≡ Some one → id ≡ one
-    was_id one session same e = grind arith
+-- A reply that binds and ends nothing leaves the session at its place as it was.
+pub at_alike : (books : Books) (i count k : ℕ) (client : Client) (final : Final) (now : PlayerSession) → IsOwnFinal books i (books.number_of i count) final → IsJoined books i client count
+    → bound_by final.kind final.success final.id ≡ None → torn_by final.kind final.success ≡ None → IsAlike (session_at k client.sessions) now → IsSettledAt books i final (session_at k client.sessions) now
+at_alike books i count k client final now own joined none left alike = grind (arith, holding_stays)
 
-    moved : (one : List ℕ) (p place : ℕ) → (session_at place client.sessions).id ≡ Some one → HasPair (books.pair_of i) p (session_at place client.sessions).tracks → (t : Bool) → (place == k) ≡ t → IsStreamPair (books.pair_of i) after.sessions one p
-    moved one p place named has false e = record { place = place; named = at_other place (eqb-false place k e) (λ session. session.id) ∙ named; has = subst (λ (tracks : List Track). HasPair (books.pair_of i) p tracks) (sym (at_other place (eqb-false place k e) (λ session. session.tracks))) has }
-    moved one p place named has true e =
-        let same : place ≡ k = eqb-true place k e in
-        let here : (session_at k client.sessions).id ≡ Some one = ap (λ at. (session_at at client.sessions).id) (sym same) ∙ named in
-        record {
-          place = k;
-          named = id_at_k ∙ ap (λ one. Some one) (was_id one (session_at k client.sessions).id set here);
-          has = subst (λ (tracks : List Track). HasPair (books.pair_of i) p tracks) (sym tracks_at_k) (had_pair (books.pair_of i) p (session_at k client.sessions).tracks track (subst (λ (at : ℕ). HasPair (books.pair_of i) p (session_at at client.sessions).tracks) same has));
-        }
+-- A reply that ends the session there, where there is one, leaves nothing.
+pub at_gone : (books : Books) (i count k : ℕ) (client : Client) (shut : Bool) (final : Final) (now : PlayerSession) → IsOwnFinal books i (books.number_of i count) final → IsJoined books i client count
+    → final.kind ≡ teardown_kind shut (session_at k client.sessions).id → cond shut true final.success ≡ true → now.id ≡ None → now.tracks ≡ [] → IsSettledAt books i final (session_at k client.sessions) now
+at_gone books i count k client shut final now own joined kind ends no_id no_tracks = grind (arith, unbound, is_own_id, bytes_eq-Decides)
 
-    granted_by : (p : ℕ) (one : List ℕ) → WasHeld books final p (record { conn = i; session = Some one }) → IsStreamPair (books.pair_of i) after.sessions one p
-    granted_by p one was = cases was.session
+-- The success of a SETUP brings one stream, to the session that it named or a new one.
+pub at_granted : (books : Books) (i count k : ℕ) (client : Client) (track : Track) (id : List ℕ) (final : Final) (now : PlayerSession) → IsOwnFinal books i (books.number_of i count) final → IsJoined books i client count
+    → IsHeldFor books i None track.pair → final.kind ≡ sets_up (books.pair_of i track.pair) → final.success ≡ true → final.id ≡ Some id → IsSessionSet books (session_at k client.sessions).id id
+    → now.id ≡ Some id → now.tracks ≡ (session_at k client.sessions).tracks ++ track ∷ [] → IsSettledAt books i final (session_at k client.sessions) now
+at_granted books i count k client track id final now own joined setup kind success said set new_id new_tracks = record {
+  holding =
+      subst (λ (session : Option (List ℕ)). IsHolding (settles (Some final) books) i session now.tracks) (sym new_id)
+      (subst (λ (tracks : List Track). AreHeld (settles (Some final) books) i (Some id) tracks) (sym new_tracks)
+      (both_so (λ one. IsHeldFor (settles (Some final) books) i (Some id) one.pair) (session_at k client.sessions).tracks (track ∷ [])
+      (tracks_stay books i final id (session_at k client.sessions).tracks own.held (grind arith) (grind (arith, (joined.tracks k))))
+      ((grind arith, setup.1), tt)));
+  granted = λ p one here. granted_by p one (was_held books final p (record { conn = i; session = Some one }) here);
+  kept = λ p one is here has. grind (arith, had_pair);
+  holds = λ one is. grind (arith, is_own_id);
+  bound = λ one here. grind (arith, bytes_eq-Decides);
+  stays = λ one is here. grind arith;
+  new = λ one is. grind arith;
+  torn = λ one torn. grind arith;
+}
+  where
+    granted_by : (p : ℕ) (one : List ℕ) → WasHeld books final p (record { conn = i; session = Some one })
+        → (books.held p ≡ Some (record { conn = i; session = Some one })) ⊎ ((now.id ≡ Some one) × HasPair (books.pair_of i) p now.tracks)
+    granted_by p one was = by was.session
       where
-        cases : ((is_pair (pair_asked final.kind) p ≡ true) × (final.success ≡ true) × (Some one ≡ final.id)) ⊎ ((was.before ≡ record { conn = i; session = Some one }) × (is_id (torn_by final.kind final.success) one ≡ false))
-            → IsStreamPair (books.pair_of i) after.sessions one p
-        cases (inl granted) =
+        by : ((is_pair (pair_asked final.kind) p ≡ true) × (final.success ≡ true) × (Some one ≡ final.id)) ⊎ ((was.before ≡ record { conn = i; session = Some one }) × (is_id (torn_by final.kind final.success) one ≡ false))
+            → (books.held p ≡ Some (record { conn = i; session = Some one })) ⊎ ((now.id ≡ Some one) × HasPair (books.pair_of i) p now.tracks)
+        by (inl granted) =
             let pair : books.pair_of i track.pair ≡ p = eqb-true (books.pair_of i track.pair) p (sym (ap (λ k. is_pair (pair_asked k) p) kind) ∙ granted.0) in
-            let some : Some id ≡ Some one = sym said ∙ sym granted.2 in
-            record {
-              place = k;
-              named = id_at_k ∙ some;
-              has = subst (λ (tracks : List Track). HasPair (books.pair_of i) p tracks) (sym tracks_at_k) (subst (λ (q : ℕ). HasPair (books.pair_of i) q ((session_at k client.sessions).tracks ++ track ∷ [])) pair (last_pair (books.pair_of i) (session_at k client.sessions).tracks track));
-            }
-        cases (inr same) =
-            let stream : IsStreamPair (books.pair_of i) client.sessions one p = joined.granted p one (was.was ∙ ap (λ (held : HeldPair). Some held) same.0) in
-            moved one p stream.place stream.named stream.has (stream.place == k) refl
-
-    holder_now : (one : List ℕ) → books.holder one ≡ Some i → (settles (Some final) books).holder one ≡ Some i
-    holder_now one was = by (is_id (bound_by final.kind final.success final.id) one)
-      where
-        by : (t : Bool) → cond t (Some final.conn) (cond (is_id (torn_by final.kind final.success) one) None (books.holder one)) ≡ Some i
-        by true = ap (λ n. Some n) own.conn
-        by false = ap (λ t. cond {A = Option ℕ} t None (books.holder one)) (untorn one) ∙ was
-
-    holder_set : (settles (Some final) books).holder id ≡ Some i
-    holder_set = grind (arith, bound, is_own_id)
-
-    holds_by : (place : ℕ) (one : List ℕ) → (session_at place after.sessions).id ≡ Some one → (t : Bool) → (place == k) ≡ t → (settles (Some final) books).holder one ≡ Some i
-    holds_by place one here false e = holder_now one (joined.holds place one (sym (at_other place (eqb-false place k e) (λ session. session.id)) ∙ here))
-    holds_by place one here true e =
-        let some : Some id ≡ Some one = sym id_at_k ∙ ap (λ at. (session_at at after.sessions).id) (sym (eqb-true place k e)) ∙ here in
-        let same : id ≡ one = cc in
-        ap (settles (Some final) books).holder (sym same) ∙ holder_set
-
-    session_at_place : (one : List ℕ) (place : ℕ) → (session_at place client.sessions).id ≡ Some one → (t : Bool) → (place == k) ≡ t → (at : ℕ) × ((session_at at after.sessions).id ≡ Some one)
-    session_at_place one place named false e = (place, at_other place (eqb-false place k e) (λ session. session.id) ∙ named)
-    session_at_place one place named true e =
-        (k, id_at_k ∙ ap (λ one. Some one) (was_id one (session_at k client.sessions).id set (ap (λ at. (session_at at client.sessions).id) (sym (eqb-true place k e)) ∙ named)))
-
-    session_by : (one : List ℕ) → ((is_id (bound_by final.kind final.success final.id) one ≡ true) × (final.conn ≡ i)) ⊎ ((is_id (torn_by final.kind final.success) one ≡ false) × (books.holder one ≡ Some i)) → (place : ℕ) × ((session_at place after.sessions).id ≡ Some one)
-    session_by one (inl is_bound) = (k, id_at_k ∙ ap (λ one. Some one) (sym (same_id id one (sym (ap (λ (some : Option (List ℕ)). is_id some one) bound) ∙ is_bound.0))))
-    session_by one (inr was) = let (place, named) = joined.session one was.1 in session_at_place one place named (place == k) refl
-
-    -- the id of the new session stands at no other place
-    not_elsewhere : (place : ℕ) (session : Option (List ℕ)) → (session_at k client.sessions).id ≡ session → IsSessionSet books session id → place ≢ k → (session_at place client.sessions).id ≡ Some id → ⊥
-    not_elsewhere place None e free apart here = let some : None ≡ Some i = sym free ∙ joined.holds place id here in cc
-    not_elsewhere place (Some session) e same apart here = apart (joined.once place k id here (e ∙ ap (λ one. Some one) same))
-
-    alone : (place : ℕ) (one : List ℕ) → place ≢ k → id ≡ one → (session_at place after.sessions).id ≡ Some one → ⊥
-    alone place one apart same here =
-        not_elsewhere place (session_at k client.sessions).id refl set apart (sym (at_other place apart (λ session. session.id)) ∙ here ∙ ap (λ one. Some one) (sym same))
-
-    id_here : (place : ℕ) (one : List ℕ) → (place == k) ≡ true → (session_at place after.sessions).id ≡ Some one → id ≡ one
-    id_here place one e here = let some : Some id ≡ Some one = sym id_at_k ∙ ap (λ at. (session_at at after.sessions).id) (sym (eqb-true place k e)) ∙ here in cc
-
-    once_by : (a b : ℕ) (one : List ℕ) → (session_at a after.sessions).id ≡ Some one → (session_at b after.sessions).id ≡ Some one → (t u : Bool) → (a == k) ≡ t → (b == k) ≡ u → a ≡ b
-    once_by a b one at_a at_b true true e f = eqb-true a k e ∙ sym (eqb-true b k f)
-    once_by a b one at_a at_b true false e f = absurd (alone b one (eqb-false b k f) (id_here a one e at_a) at_b)
-    once_by a b one at_a at_b false true e f = absurd (alone a one (eqb-false a k e) (id_here b one f at_b) at_a)
-    once_by a b one at_a at_b false false e f = joined.once a b one (sym (at_other a (eqb-false a k e) (λ session. session.id)) ∙ at_a) (sym (at_other b (eqb-false b k f) (λ session. session.id)) ∙ at_b)
+            let last = last_pair (books.pair_of i) (session_at k client.sessions).tracks track in
+            inr (grind (arith, granted.2), subst (λ (tracks : List Track). HasPair (books.pair_of i) p tracks) (sym new_tracks) (subst (λ (q : ℕ). HasPair (books.pair_of i) q ((session_at k client.sessions).tracks ++ track ∷ [])) pair last))
+        by (inr same) = inl (was.was ∙ ap (λ (held : HeldPair). Some held) same.0)

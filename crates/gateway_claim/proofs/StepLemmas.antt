@@ -1,21 +1,20 @@
 -- A step in the numbers and on the channels of all players is that of the connection's own, renumbered; what the books have of
 -- a connection is so too once its request went up.
-use Rattle.std.proofs.Common.{◌≡◌, ◌∙◌, ℕ, zero, suc, ◌+◌, ◌≤◌, ◌==◌, false, cond, List, [], ◌∷◌, Option, Some, None, refl, ap, arith, sym, subst, Bool}
-use Rattle.std.proofs.lemmas.Bool.{eq-eqb}
+use Rattle.std.proofs.Common.{◌≡◌, ◌∙◌, ℕ, suc, ◌+◌, ◌≤◌, ◌==◌, false, cond, List, [], ◌∷◌, Option, Some, None, refl, ap, arith, sym, subst, Bool}
 use Rattle.session_one.specs.declared.parts.Track.{Track}
 use Rattle.session_two.specs.declared.names.Names.{Names}
 use Rattle.session_two.specs.declared.names.Names.TheVariants.{Unsaid, This}
-use Rattle.client_slot.specs.Renumber.{names_under, AreToldApart, client_under, purpose_under}
+use Rattle.client_slot.specs.Renumber.{names_under, AreToldApart, client_under}
 use Rattle.client_slot.specs.Session.{PlayerSession}
-use Rattle.client_slot.specs.Places.{session_at, session_where, tracks_of, place_with}
-use Rattle.client_machine.specs.Bounds.{IsNumberBelow, ArePairsBelow, AreSessionsBelow, IsBelow, IsOpened as WasOpened, IsPurposeBelow}
+use Rattle.client_slot.specs.Places.{session_at, tracks_of}
+use Rattle.client_machine.specs.Bounds.{IsNumberBelow, ArePairsBelow, AreSessionsBelow, IsBelow, IsOpened as WasOpened}
 use Rattle.client_machine.specs.Events.{PrivateEvent, arrive, answer, note, media, end, slow, up_end}
 use Rattle.client_machine.specs.Renumber.{AreTracksApart, effect_under, event_under, IsToldApart}
 use Rattle.client_machine.proofs.BelowLemmas.{Agree, under_agree, under_agree_each}
 use Rattle.gateway_claim.specs.Books.{HeldPair, Books, RequestKind, plain, is_setup_text, is_teardown_text, setup_kind, teardown_kind, kind_of_text, id_in_text, pair_asked, lends}
 use Rattle.gateway_claim.specs.OwnEvents.{own_name, heard_turn, turn, settled_by, heard_event, event_by, event_of}
-use Rattle.gateway_claim.specs.BooksAndSlots.{IsHeldFor, AreHeld, IsHolding, AreSound, IsJoined}
-use Rattle.gateway_claim.proofs.LendLemmas.{below_differs}
+use Rattle.gateway_claim.specs.BooksAndSlots.{AreHeld, IsHolding, AreSound, IsJoined}
+use Rattle.gateway_claim.proofs.LendLemmas.{below_differs, below_at}
 use Rattle.client_machine.proofs.EachLemmas.{both_so}
 use Rattle.std.specs.Option.{option_map}
 use Rattle.rtsp_uri.specs.declared.base.Bases.{Bases}
@@ -27,7 +26,6 @@ use Rattle.gateway_claim.proofs.CaseLemmas.{pair_where}
 use Rattle.rtsp_head.specs.Items.{Shape}
 use Rattle.gateway_claim.specs.ServerItems.{Heard}
 use Rattle.gateway_claim.specs.Happenings.{Happening}
-use Rattle.client_slot.specs.declared.purpose.Purpose.{Purpose}
 
 -- A numbering with one more: the next own number stands for this one.
 abbrev pub with_next : ℕ → ℕ → (ℕ → ℕ) → ℕ → ℕ
@@ -36,9 +34,6 @@ with_next next one numbers k = cond (k == next) one (numbers k)
 -- and 0, which no request has, for another one
 abbrev pub with_none : ℕ → (ℕ → ℕ) → ℕ → ℕ
 with_none other numbers k = cond (k == 0) other (numbers k)
-
-pub next_is : (next one : ℕ) (numbers : ℕ → ℕ) → with_next next one numbers next ≡ one
-next_is next one numbers = ap (λ t. cond t one (numbers next)) (eq-eqb next next refl)
 
 pub next_agrees : (n one : ℕ) (numbers : ℕ → ℕ) → Agree n (with_next (n + 1) one numbers) numbers
 next_agrees n one numbers k low high = ap (λ t. cond t one (numbers k)) (below_differs k n high)
@@ -70,15 +65,10 @@ pub names_apart : (books : Books) (i count : ℕ) (running : Option ℕ) (names 
 names_apart books i count running names sound counted below = grind arith
 
 -- A pair on which a frame comes is told apart from those of the other streams.
-track_apart : (books : Books) (i count free p : ℕ) (held : HeldPair) (session : Option (List ℕ)) (track : Track) → AreSound books → count ≡ books.counts i → books.held p ≡ Some held → held.conn ≡ i → IsHeldFor books i session track.pair → 1 ≤ track.pair → track.pair ≤ count
-    → pairs_at books i (count + 1) free (books.own_pair p) ≡ p → (pairs_at books i (count + 1) free track.pair == pairs_at books i (count + 1) free (books.own_pair p)) ≡ (track.pair == books.own_pair p)
-track_apart books i count free p held session track sound counted here conn has low high same = grind arith
-
 tracks_apart : (books : Books) (i count free p : ℕ) (held : HeldPair) (session : Option (List ℕ)) (tracks : List Track) → AreSound books → count ≡ books.counts i → books.held p ≡ Some held → held.conn ≡ i → AreHeld books i session tracks → ArePairsBelow count tracks
     → pairs_at books i (count + 1) free (books.own_pair p) ≡ p → AreTracksApart (pairs_at books i (count + 1) free) (books.own_pair p) tracks
 tracks_apart books i count free p held session [] sound counted here conn has below same = tt
-tracks_apart books i count free p held session (track ∷ tracks) sound counted here conn has below same =
-    (track_apart books i count free p held session track sound counted here conn has.0 below.0.0 below.0.1 same, tracks_apart books i count free p held session tracks sound counted here conn has.1 below.1 same)
+tracks_apart books i count free p held session (track ∷ tracks) sound counted here conn has below same = grind (arith, tracks_apart books i count free p held session tracks sound counted here conn has.1 below.1 same)
 
 holding_apart : (books : Books) (i count free p : ℕ) (held : HeldPair) (session : Option (List ℕ)) (tracks : List Track) → AreSound books → count ≡ books.counts i → books.held p ≡ Some held → held.conn ≡ i → IsHolding books i session tracks → ArePairsBelow count tracks
     → pairs_at books i (count + 1) free (books.own_pair p) ≡ p → AreTracksApart (pairs_at books i (count + 1) free) (books.own_pair p) tracks
@@ -92,16 +82,6 @@ sessions_apart books i count free p held (one ∷ more) sound counted here conn 
     both_so (λ track. (pairs_at books i (count + 1) free track.pair == pairs_at books i (count + 1) free (books.own_pair p)) ≡ (track.pair == books.own_pair p)) one.tracks (tracks_of more)
     (holding_apart books i count free p held one.id one.tracks sound counted here conn (has 0) below.0.tracks same)
     (sessions_apart books i count free p held more sound counted here conn (λ place. has (suc place)) below.1 same)
-
--- the PLAY that runs at a place
-pub running_at : (n : ℕ) (place : Option ℕ) (sessions : List PlayerSession) → AreSessionsBelow n sessions → IsNumberBelow n (session_where place sessions).running
-running_at n None sessions below = tt
-running_at n (Some place) sessions below = by place sessions below
-  where
-    by : (place : ℕ) (sessions : List PlayerSession) → AreSessionsBelow n sessions → IsNumberBelow n (session_at place sessions).running
-    by place [] below = tt
-    by zero (one ∷ more) below = below.0.running
-    by (suc place) (one ∷ more) below = by place more below.1
 
 -- the pair on which it comes is the connection's own
 pub own_back : (books : Books) (i count free p : ℕ) (held : HeldPair) → AreSound books → count ≡ books.counts i → books.held p ≡ Some held → held.conn ≡ i → pairs_at books i (count + 1) free (books.own_pair p) ≡ p
@@ -140,9 +120,6 @@ abbrev pub IsOpenNumber : ℕ → ℕ → PrivateEvent → Type 0
 IsOpenNumber number own (answer told ssrc full) = number ≡ own
 IsOpenNumber number own event = Unit {0}
 
-number_free : (bases : Bases) (number own : ℕ) (pair : Option ℕ) (client : Client) (raw : PrivateEvent) → IsOpenNumber number own raw → step bases number pair client raw ≡ step bases own pair client raw
-number_free bases number own pair client raw e = grind arith
-
 -- the raw event is the connection's own under the numbering, but for the mark
 raw_same : (bases : Bases) (books : Books) (i count own : ℕ) (free : Option ℕ) (pair : Option ℕ) (client : Client) (event raw : PrivateEvent) → AreSound books → count ≡ books.counts i → IsRaw books i event raw
     → step bases own pair client (event_under (numbers_at books i (count + 1) (other_of raw)) (pairs_at books i (count + 1) (free_or free)) event) ≡ step bases own pair client raw
@@ -165,10 +142,7 @@ raw_apart : (books : Books) (i count : ℕ) (free : Option ℕ) (client : Client
     → IsToldApart (numbers_at books i (count + 1) (other_of raw)) (pairs_at books i (count + 1) (free_or free)) client event
 raw_apart books i count free client (arrive shape full) raw sound joined below is = tt
 raw_apart books i count free client (answer told ssrc full) raw sound joined below is = tt
-raw_apart books i count free client (note id reason names) raw sound joined below (named, is, same) =
-    subst (λ (one : PrivateEvent). IsToldApart (numbers_at books i (count + 1) (other_of one)) (pairs_at books i (count + 1) (free_or free)) client (note id reason names)) (sym is)
-    (subst (λ (one : Names). IsToldApart (numbers_at books i (count + 1) (other_in named)) (pairs_at books i (count + 1) (free_or free)) client (note id reason one)) (sym same)
-    (names_apart books i count (session_where (place_with id client.sessions) client.sessions).running named sound joined.counted (running_at count (place_with id client.sessions) client.sessions below.sessions)))
+raw_apart books i count free client (note id reason names) raw sound joined below is = grind (arith, names_apart, below_at, below.sessions)
 raw_apart books i count free client (media pair half rest) raw sound joined below (p, held, is, same, here, conn) =
     subst (λ (one : ℕ). IsToldApart (numbers_at books i (count + 1) (other_of raw)) (pairs_at books i (count + 1) (free_or free)) client (media one half rest)) (sym same)
     (sessions_apart books i count (free_or free) p held client.sessions sound joined.counted here conn joined.tracks below.sessions (own_back books i count (free_or free) p held sound joined.counted here conn))
@@ -195,8 +169,7 @@ raw_step bases books i count number free client event raw sound joined below is 
     ap (λ one. step bases number free one raw)
     (sym (under_agree count (numbers_at books i (count + 1) (other_of raw)) (books.number_of i) (pairs_at books i (count + 1) (free_or free)) (books.pair_of i) client below
     (numbers_agree books i count (other_of raw)) (pairs_agree books i count (free_or free))))
-    ∙ number_free bases number (numbers_at books i (count + 1) (other_of raw) count) free (client_under (numbers_at books i (count + 1) (other_of raw)) (pairs_at books i (count + 1) (free_or free)) client) raw
-    (open_number books i count number (other_of raw) raw opened same)
+    ∙ (grind (arith, (open_number books i count number (other_of raw) raw opened same)))
     ∙ sym (raw_same bases books i count (numbers_at books i (count + 1) (other_of raw) count) free free (client_under (numbers_at books i (count + 1) (other_of raw)) (pairs_at books i (count + 1) (free_or free)) client) event raw sound joined.counted is)
     ∙ ap (λ one. step bases (numbers_at books i (count + 1) (other_of raw) count) one (client_under (numbers_at books i (count + 1) (other_of raw)) (pairs_at books i (count + 1) (free_or free)) client)
     (event_under (numbers_at books i (count + 1) (other_of raw)) (pairs_at books i (count + 1) (free_or free)) event)) (sym (free_same books i (count + 1) free))
@@ -214,13 +187,10 @@ heard_is_raw books settled i waiting said turns = grind arith
 is_raw_by : (books settled : Books) (i : ℕ) (waiting : List Shape) (h : Happening) → turn books h ≡ Some i → IsRawOf books i (event_by books settled i waiting h) (raw_event books h)
 is_raw_by books settled i waiting h turns = grind (arith, heard_is_raw)
 
-both_raw : (books : Books) (i : ℕ) (event raw : Option PrivateEvent) (one other : PrivateEvent) → IsRawOf books i event raw → event ≡ Some one → raw ≡ Some other → IsRaw books i one other
-both_raw books i event raw one other is e r = grind arith
-
 -- An event and its raw form.
 pub raw_is : (books : Books) (i : ℕ) (waiting : List Shape) (h : Happening) (event raw : PrivateEvent) → turn books h ≡ Some i → event_of books i waiting h ≡ Some event → raw_event books h ≡ Some raw → IsRaw books i event raw
 raw_is books i waiting h event raw turns is_event is_raw =
-    both_raw books i (event_of books i waiting h) (raw_event books h) event raw (is_raw_by books (settled_by books h) i waiting h turns) is_event is_raw
+    grind (arith, (is_raw_by books (settled_by books h) i waiting h turns))
 
 -- The number of the open request that a reply names.
 abbrev IsOpenFact : Books → ℕ → ℕ → ℕ → Option PrivateEvent → Type 0
@@ -230,43 +200,16 @@ IsOpenFact books i count number (Some raw) = IsOpened count raw × IsOpenNumber 
 heard_open : (books : Books) (i count : ℕ) (client : Client) (said : Heard) → IsJoined books i client count → WasOpened count client.pending → heard_turn books said ≡ Some i → IsOpenFact books i count (heard_number said) (heard_raw books said)
 heard_open books i count client said joined was turns = grind arith
 
-open_by : (books : Books) (i count : ℕ) (client : Client) (h : Happening) → IsJoined books i client count → WasOpened count client.pending → turn books h ≡ Some i → IsOpenFact books i count (number_heard h) (raw_event books h)
-open_by books i count client h joined was turns = grind (arith, heard_open)
-
 pub open_is : (books : Books) (i count : ℕ) (client : Client) (h : Happening) (raw : PrivateEvent) → IsJoined books i client count → WasOpened count client.pending → turn books h ≡ Some i → raw_event books h ≡ Some raw
     → IsOpened count raw × IsOpenNumber (number_heard h) (books.number_of i count) raw
-open_is books i count client h raw joined was turns is = subst (λ (one : Option PrivateEvent). IsOpenFact books i count (number_heard h) one) is (open_by books i count client h joined was turns)
+open_is books i count client h raw joined was turns is = subst (λ (one : Option PrivateEvent). IsOpenFact books i count (number_heard h) one) is (grind (arith, heard_open))
 
 -- a SETUP asks for the pair that is free
 pub asked_is_free : (text : List ℕ) (free : Option ℕ) (shut : Bool) (q : ℕ) → pair_asked (kind_of_text text free shut) ≡ Some q → free ≡ Some q
 asked_is_free text free shut q = by (is_setup_text text) (is_teardown_text text) (id_in_text text)
   where
-    setup : (free : Option ℕ) → pair_asked (setup_kind free) ≡ Some q → free ≡ Some q
-    setup free e = grind arith
-
-    teardown : (shut : Bool) (id : Option (List ℕ)) → pair_asked (teardown_kind shut id) ≡ Some q → free ≡ Some q
-    teardown shut id e = grind arith
-
     by : (s t : Bool) (id : Option (List ℕ)) → pair_asked (cond s (setup_kind free) (cond t (teardown_kind shut id) plain)) ≡ Some q → free ≡ Some q
-    by s t id e = grind (arith, setup, teardown)
-
--- the numbers after a request
-lent_numbers : (books settled : Books) (i count other : ℕ) (kind : RequestKind) → count ≡ settled.counts i → settled.issued ≡ books.issued → ((k : ℕ) → settled.number_of i k ≡ books.number_of i k)
-    → Agree (count + 1) ((lends i kind settled).number_of i) (numbers_at books i (count + 1) other)
-lent_numbers books settled i count other kind counted issued same k low high = grind arith
-
--- the pairs after a SETUP
-lent_pairs : (books settled : Books) (i count p : ℕ) (kind : RequestKind) → count ≡ settled.counts i → ((k : ℕ) → settled.pair_of i k ≡ books.pair_of i k) → pair_asked kind ≡ Some p
-    → Agree (count + 1) ((lends i kind settled).pair_of i) (pairs_at books i (count + 1) p)
-lent_pairs books settled i count p kind counted same asked k low high = grind arith
-
-old_pairs : (books settled : Books) (i count free : ℕ) (kind : RequestKind) → count ≡ settled.counts i → ((k : ℕ) → settled.pair_of i k ≡ books.pair_of i k)
-    → Agree count ((lends i kind settled).pair_of i) (pairs_at books i (count + 1) free)
-old_pairs books settled i count free kind counted same k low high = grind arith
-
--- what is open has no stream where no pair was asked for
-no_track : (n : ℕ) (pairs : ℕ → ℕ) (kind : RequestKind) (sessions : List PlayerSession) (pending : Option Purpose) → pair_asked kind ≡ None → kind ≡ kind_pending sessions (option_map (purpose_under pairs) pending) → IsPurposeBelow n pending
-no_track n pairs kind sessions pending none same = grind arith
+    by s t id e = grind arith
 
 -- The connection by the books after its request, as the step has it.
 pub lent_client : (books settled : Books) (i count other : ℕ) (free : Option ℕ) (kind : RequestKind) (client : Client) → count ≡ settled.counts i → settled.issued ≡ books.issued
@@ -278,9 +221,9 @@ lent_client books settled i count other free kind client counted issued numbers 
     by : (asked : Option ℕ) → pair_asked kind ≡ asked → shared (lends i kind settled) i client ≡ client_under (numbers_at books i (count + 1) other) (pairs_at books i (count + 1) (free_or free)) client
     by None e =
         under_agree_each (count + 1) count ((lends i kind settled).number_of i) (numbers_at books i (count + 1) other) ((lends i kind settled).pair_of i) (pairs_at books i (count + 1) (free_or free)) client
-        below.sessions tracks (no_track count ((lends i kind settled).pair_of i) kind (shared (lends i kind settled) i client).sessions client.pending e is_kind)
-        (lent_numbers books settled i count other kind counted issued numbers) (old_pairs books settled i count (free_or free) kind counted pairs)
+        below.sessions tracks (grind arith)
+        (grind arith) (grind arith)
     by (Some q) e =
         under_agree (count + 1) ((lends i kind settled).number_of i) (numbers_at books i (count + 1) other) ((lends i kind settled).pair_of i) (pairs_at books i (count + 1) (free_or free)) client below
-        (lent_numbers books settled i count other kind counted issued numbers)
-        (subst (λ (p : ℕ). Agree (count + 1) ((lends i kind settled).pair_of i) (pairs_at books i (count + 1) p)) (sym (ap free_or (asks_free q e))) (lent_pairs books settled i count q kind counted pairs e))
+        (grind arith)
+        (subst (λ (p : ℕ). Agree (count + 1) ((lends i kind settled).pair_of i) (pairs_at books i (count + 1) p)) (sym (ap free_or (asks_free q e))) (grind arith))

@@ -1,20 +1,16 @@
 -- What is so of every connection alone: while it is alive, no PLAY is due after an event, since one that is due goes up at
 -- once; and none of its requests waits any longer once it is closed.
-use Rattle.std.proofs.Common.{◌≡◌, ◌≢◌, ◌∙◌, ℕ, zero, suc, ◌+◌, ◌==◌, ◌^◌, ◌&&◌, not, Bool, true, false, cond, List, [], ◌∷◌, ◌++◌, map, drop, length, Option, Some, None, Result, slice_get, is_none, ◌⊎◌, inl, inr, refl, sym, ap, subst, unwrap_or, arith}
-use Rattle.std.specs.Prelude.{is_some, slice_index_or}
+use Rattle.std.proofs.Common.{slice_get, ◌≡◌, ◌≢◌, ◌∙◌, ℕ, zero, suc, ◌+◌, ◌==◌, ◌^◌, ◌&&◌, not, Bool, true, false, cond, List, [], ◌∷◌, map, length, Option, Some, None, is_none, refl, sym, ap, subst, arith}
+use Rattle.std.specs.Prelude.{slice_index_or}
 use Rattle.std.proofs.lemmas.Bool.{ltb-true, eqb-true, eqb-false}
 use Rattle.rtsp_head.specs.Items.{Shape}
 use Rattle.rtsp_uri.specs.declared.base.Bases.{Bases}
-use Rattle.head_one.specs.declared.request.Request1.{Request1}
-use Rattle.head_one.specs.declared.refusal.Refusal.{Refusal}
 use Rattle.head_one.specs.Requests.{request_of_item}
-use Rattle.session_one.specs.declared.parts.Asked.{Asked}
 use Rattle.session_one.specs.declared.parts.Play.{Play}
 use Rattle.session_one.specs.declared.table.State.{State}
 use Rattle.session_one.specs.declared.table.State.TheVariants.{Init, Ready, Playing}
-use Rattle.session_one.specs.Table.{next_of, is_success}
 use Rattle.translate_up.specs.Views.{SeenSession, no_session, Given, session_or_none}
-use Rattle.translate_up.specs.Decisions.{judged_read, judged_of, decide}
+use Rattle.translate_up.specs.Decisions.{judged_of, decide}
 use Rattle.translate_up.specs.declared.decision.Decision.{Decision}
 use Rattle.translate_up.specs.declared.decision.Decision.TheVariants.{Answer, Queue}
 use Rattle.translate_up.specs.Sound.{AreFit}
@@ -23,25 +19,23 @@ use Rattle.translate_up.proofs.JudgementLemmas.{judged_fit}
 use Rattle.translate_up.proofs.StateLemmas.{IsDecided, decided}
 use Rattle.client_slot.specs.declared.purpose.Purpose.{Purpose}
 use Rattle.client_slot.specs.declared.purpose.Purpose.TheVariants as purposes
-use Rattle.client_slot.specs.declared.session_turn.SessionTurn.{SessionTurn}
 use Rattle.client_slot.specs.Session.{PlayerSession, new_session}
 use Rattle.client_slot.specs.SessionChanges.{when_next, when_queued}
-use Rattle.client_slot.specs.SessionTurns.{moved_turn, granted_turn, released_turn, part_then, queue_then}
-use Rattle.client_slot.specs.Places.{new_sessions, session_at, changed_at, changed_where, first_place, has_due, queued_at}
+use Rattle.client_slot.specs.Places.{session_at, changed_at, changed_where, first_place, has_due, queued_at}
 use Rattle.client_slot.specs.Client.{Client}
 use Rattle.client_slot.specs.Changes as changes
 use Rattle.client_slot.proofs.PlaceLemmas.{changed_other, kept_each, IsAtPlace, place_is}
 use Rattle.client_machine.specs.Alone.{pair_alone, private_after}
 use Rattle.client_machine.specs.Events.{PrivateEvent}
-use Rattle.client_machine.specs.Treatment.{session_found, given, queued_more_where, fits_memory, decision_on, Going, Treated, treated_first, treated}
+use Rattle.client_machine.specs.Treatment.{session_found, given, queued_more_where, fits_memory, decision_on, Treated, treated_first, treated}
 use Rattle.client_machine.specs.Step as going
 use Rattle.client_machine.specs.Step.{NextPart, rests, releases, goes_on, hear, going_on}
 use Rattle.client_machine.proofs.PlaceLemmas.{calm_in, seen_at}
 use Rattle.client_machine.proofs.WayLemmas.{hear_as, alone_as}
 use Rattle.client_machine.proofs.HoldLemmas.{going_steady}
 use Rattle.gateway_claim.specs.Books.{is_pair}
+use Rattle.gateway_claim.proofs.SettleLemmas.{changed_or_new}
 use Rattle.gateway_claim.proofs.FitLemmas.{IsFitClient, given_fit, queued_fit, hear_fit, alone_fit}
-use Rattle.client_machine.proofs.KeepLemmas.{plays_alive}
 
 -- While streams play, a PLAY runs, or one waits, or one that waited has gone up; by whether that is open, what runs and what
 -- waits.
@@ -80,11 +74,6 @@ abbrev pub IsTidy : Client → Type 0
 IsTidy client = IsTidyBy client.alive client
 
 -- What is so of each place, once the session at one is changed.
-changed_or_new : (k : ℕ) (change : PlayerSession → PlayerSession) (sessions : List PlayerSession) → (session_at k (changed_at k change sessions) ≡ change (session_at k sessions)) ⊎ (session_at k (changed_at k change sessions) ≡ new_session)
-changed_or_new k change [] = inr refl
-changed_or_new zero change (one ∷ more) = inl refl
-changed_or_new (suc k) change (one ∷ more) = changed_or_new k change more
-
 each_place : (P : ℕ → PlayerSession → Type 0) (k : ℕ) (change : PlayerSession → PlayerSession) (sessions : List PlayerSession) → P k new_session → P k (change (session_at k sessions))
     → ((place : ℕ) → place ≢ k → P place (session_at place sessions)) → (place : ℕ) → P place (session_at place (changed_at k change sessions))
 each_place P k change sessions empty here others place = grind (arith, eqb-true, changed_or_new, changed_other, eqb-false)
@@ -96,17 +85,6 @@ changed_order f g (Some k) change sessions order here others =
     each_place (λ place session. IsOrdered (g place) session) k change sessions refl (here k (session_at k sessions) refl (order k))
     (λ place apart. subst (λ (t : Bool). IsOrdered t (session_at place sessions)) (sym (others place (λ (e : Some k ≡ Some place). apart (let same : k ≡ place = cc in sym same)))) (order place))
 
--- The success of a player's request.
-abbrev IsTurnedSo : SessionTurn → ℕ → Option ℕ → List Play → Type 0
-IsTurnedSo turn number running queue = IsInOrder turn.state false (part_then turn.running running (Some number)) (queue_then turn.queue queue)
-
-asked_order : (success : Bool) (asked : Asked) (made : Bool) (number : ℕ) (session : PlayerSession) → IsOrdered false session
-    → IsTurnedSo (cond success (granted_turn asked.method made (cond success (unwrap_or (next_of session.state asked.method) session.state) session.state)) (moved_turn session.state)) number session.running session.queue
-asked_order success asked made number session order = grind arith
-
-played_order : (success : Bool) (state : State) (number : ℕ) (running : Option ℕ) (queue : List Play) → IsInOrder state true running queue → IsTurnedSo (released_turn success state) number running queue
-played_order success state number running queue order = grind arith
-
 -- A final reply.
 at_pair : (place : Option ℕ) (k : ℕ) → place ≡ Some k → is_pair place k ≡ true
 at_pair place k e = grind arith
@@ -117,10 +95,10 @@ off_pair place k apart = grind arith
 settled_order : (purpose : Purpose) (number code : ℕ) (id : Option (List ℕ)) (client : Client) → AreOrdered (is_released (Some purpose)) client.sessions → PlaysInOrder (changes.settle_with (Some purpose) number code id client)
 settled_order (purposes.Client asked track) number code id client order =
     changed_order (λ place. false) (λ place. false) (changes.settled_place (purposes.Client asked track) id client.sessions) (changes.session_after (purposes.Client asked track) number code client.described id) client.sessions order
-    (λ k session at was. asked_order (is_success code) asked (is_some id) number session was) (λ place apart. refl)
+    (λ k session at was. (grind arith)) (λ place apart. refl)
 settled_order (purposes.Released play) number code id client order =
     changed_order (is_pair play.place) (λ place. false) play.place (changes.session_after (purposes.Released play) number code client.described id) client.sessions order
-    (λ k session at was. played_order (is_success code) session.state number session.running session.queue (subst (λ (t : Bool). IsOrdered t session) (at_pair play.place k at) was)) (λ place apart. off_pair play.place place apart)
+    (λ k session at was. (grind (arith, (subst (λ (t : Bool). IsOrdered t session) (at_pair play.place k at) was)))) (λ place apart. off_pair play.place place apart)
 settled_order (purposes.Closing place) number code id client order =
     changed_order (λ place. false) (λ place. false) (Some place) (changes.session_after (purposes.Closing place) number code client.described id) client.sessions order (λ k session at was. refl) (λ place apart. refl)
 
@@ -138,14 +116,11 @@ IsHeardSo true releases client = PlaysInOrder client
 IsHeardSo true goes_on client = PlaysInOrder client
 IsHeardSo false next client = client.waiting ≡ []
 
-rested : (alive : Bool) (client : Client) → IsTidyBy alive client → IsHeardSo alive rests client
-rested alive client tidy = grind arith
-
 moved : (alive : Bool) (next : NextPart) (before after : Client) → IsTidyBy alive before → after.waiting ≡ before.waiting → (PlaysInOrder before → PlaysInOrder after) → (next ≢ rests) → IsHeardSo alive next after
 moved alive next before after tidy waits order other = grind arith
 
 hear_tidy : (bases : Bases) (number : ℕ) (client : Client) (event : PrivateEvent) → IsTidy client → IsHeardSo (hear bases number client event).effect.client.alive (hear bases number client event).next (hear bases number client event).effect.client
-hear_tidy bases number client event tidy = grind (arith, hear_as, rested, moved, settled_order, changed_order, ended_order)
+hear_tidy bases number client event tidy = grind (arith, hear_as, moved, settled_order, changed_order, ended_order)
 
 -- Where a request is treated, no PLAY is due, so one runs while streams play.
 abbrev IsRunning : State → Option ℕ → List Play → Type 0
@@ -163,12 +138,6 @@ AllRun sessions = (place : ℕ) → Runs (session_at place sessions)
 runs_idle : (state : State) (running : Option ℕ) (queue : List Play) → IsInOrder state false running queue → (is_none running && not (length queue == 0)) ≡ false → IsRunning state running queue
 runs_idle state running queue order none = grind arith
 
-order_kept : (state : State) (released : Bool) (running : Option ℕ) (queue : List Play) → IsRunning state running queue → IsInOrder state released running queue
-order_kept state released running queue runs = grind arith
-
-calm : (state : State) (running : Option ℕ) (queue : List Play) → IsRunning state running queue → (is_none running && not (length queue == 0)) ≡ false
-calm state running queue runs = grind arith
-
 -- No PLAY is due where none is at any place, and back.
 none_due : (from : ℕ) (sessions : List PlayerSession) → ((place : ℕ) → has_due (session_at place sessions) ≡ false) → first_place has_due from sessions ≡ None
 none_due from [] none = refl
@@ -176,10 +145,7 @@ none_due from (one ∷ more) none = ap (λ t. cond t (Some from) (first_place ha
 
 due_none : (from : ℕ) (sessions : List PlayerSession) → first_place has_due from sessions ≡ None → (place : ℕ) → has_due (session_at place sessions) ≡ false
 due_none from [] e place = refl
-due_none from (one ∷ more) e place = by place (has_due one) refl e (due_none (from + 1) more)
-  where
-    by : (place : ℕ) (t : Bool) → has_due one ≡ t → cond t (Some from) (first_place has_due (from + 1) more) ≡ None → (first_place has_due (from + 1) more ≡ None → (at : ℕ) → has_due (session_at at more) ≡ false) → has_due (session_at place (one ∷ more)) ≡ false
-    by place t is e later = grind arith
+due_none from (one ∷ more) e place = grind (arith, due_none (from + 1) more)
 
 -- A PLAY waits only while streams play.
 abbrev AreQueueing : List SeenSession → List Play → Type 0
@@ -189,9 +155,6 @@ AreQueueing sessions (play ∷ plays) = ((session_or_none play.place sessions).s
 abbrev QueuesIn : List SeenSession → Decision → Type 0
 QueuesIn sessions (Queue play text) = (session_or_none play.place sessions).state ≡ Playing
 QueuesIn sessions decision = Unit {0}
-
-judged_state : (given : Given) (read : Result Request1 Refusal) → (session_or_none (judged_read given read).place given.sessions).state ≡ (judged_read given read).state
-judged_state given read = grind arith
 
 queues_so : (given : Given) (shape : Shape) (decision : Decision) → IsDecided (judged_of given shape).state (request_of_item shape) decision → IsPlacedAs (judged_of given shape) decision → QueuesIn given.sessions decision
 queues_so given shape decision is placed = grind arith
@@ -219,14 +182,11 @@ treated_queues (shape ∷ more) given fit = first_queues (decision_on given shap
 seen_state : (place : ℕ) (sessions : List PlayerSession) → (slice_index_or (map session_found sessions) place no_session).state ≡ (session_at place sessions).state
 seen_state place sessions = ap (λ (one : SeenSession). one.state) (seen_at place sessions)
 
-any_queue : (state : State) (running : Option ℕ) (queue other : List Play) → state ≡ Playing → IsRunning state running queue → IsRunning state running other
-any_queue state running queue other playing runs = grind arith
-
 queue_runs : (place : Option ℕ) (play : Play) (sessions : List PlayerSession) → (session_or_none place (map session_found sessions)).state ≡ Playing → AllRun sessions → AllRun (changed_where place (when_queued play) sessions)
 queue_runs None play sessions playing runs = cc
 queue_runs (Some k) play sessions playing runs =
     each_place (λ place session. Runs session) k (when_queued play) sessions refl
-    (any_queue (session_at k sessions).state (session_at k sessions).running (session_at k sessions).queue ((session_at k sessions).queue ++ play ∷ []) (sym (seen_state k sessions) ∙ playing) (runs k)) (λ place apart. runs place)
+    (grind (arith, (sym (seen_state k sessions) ∙ playing), (runs k))) (λ place apart. runs place)
 
 queued_still : (place at : Option ℕ) (play : Play) (sessions : List PlayerSession) → (session_or_none at (map session_found (changed_where place (when_queued play) sessions))).state ≡ (session_or_none at (map session_found sessions)).state
 queued_still None at play sessions = refl
@@ -242,24 +202,13 @@ plays_run [] client queues runs = runs
 plays_run (play ∷ plays) client queues runs =
     plays_run plays (changes.after_queueing play client) (later_queueing play.place play client.sessions plays queues.1) (queue_runs play.place play client.sessions queues.0 runs)
 
--- a connection that is alive, in which a PLAY runs while streams play
-alive_tidy : (client : Client) → client.alive ≡ true → AllRun client.sessions → IsTidy client
-alive_tidy client alive runs = grind (arith, order_kept, none_due, calm)
-
-goes_tidy : (one : Option Going) (pair : Option ℕ) (text : List ℕ) (client : Client) → client.alive ≡ true → AllRun client.sessions → IsTidy (going.goes_at one pair text client).client
-goes_tidy one pair text client alive runs = grind (arith, alive_tidy)
-
-treat_tidy : (bases : Bases) (pair : Option ℕ) (client : Client) → client.alive ≡ true → IsFitClient client → AllRun client.sessions → IsTidy (going.treat bases pair client).client
-treat_tidy bases pair client alive fit runs =
+treat_tidy : (bases : Bases) (pair : Option ℕ) (client : Client) → IsFitClient client → AllRun client.sessions → IsTidyBy true (going.treat bases pair client).client
+treat_tidy bases pair client fit runs =
     let all : Treated = treated client.waiting (given bases (is_none pair) client) in
     let before : Client = record client { waiting = all.left } in
-    goes_tidy all.going pair all.hand (going.after_plays all.plays before) (plays_alive all.plays before ∙ alive)
-    (plays_run all.plays before (treated_queues client.waiting (given bases (is_none pair) client) (given_fit bases (is_none pair) client fit)) runs)
+    grind (arith, none_due, (plays_run all.plays before (treated_queues client.waiting (given bases (is_none pair) client) (given_fit bases (is_none pair) client fit)) runs))
 
 -- The PLAY that is due goes up.
-release_order : (state : State) (running : Option ℕ) (queue : List Play) → IsInOrder state false running queue → IsInOrder state true running (drop 1 queue)
-release_order state running queue order = grind arith
-
 has_first : (queue : List Play) (t : Bool) → (t && not (length queue == 0)) ≡ true → slice_get queue 0 ≢ None
 has_first [] true e = cc
 has_first [] false e = cc
@@ -271,7 +220,7 @@ idle_order pending client idle order = grind arith
 released_order : (k : ℕ) (play : Play) (client : Client) → client.pending ≡ None → PlaysInOrder client → PlaysInOrder (changes.release_with (Some play) k client)
 released_order k play client idle order =
     changed_order (λ place. false) (is_pair (Some k)) (Some k) when_next client.sessions (idle_order client.pending client idle order)
-    (λ at session is was. subst (λ (t : Bool). IsOrdered t (when_next session)) (sym (at_pair (Some k) at is)) (release_order session.state session.running session.queue was))
+    (λ at session is was. subst (λ (t : Bool). IsOrdered t (when_next session)) (sym (at_pair (Some k) at is)) (grind arith))
     (λ place apart. sym (off_pair (Some k) place apart))
 
 due_idle : (pending : Option Purpose) (sessions : List PlayerSession) (k : ℕ) → changes.due_place_at pending sessions ≡ Some k → (pending ≡ None) × (first_place has_due 0 sessions ≡ Some k)
@@ -295,10 +244,6 @@ due_tidy alive place client is due heard = grind (arith, play_tidy)
 kept_alive : (bases : Bases) (pair : Option ℕ) (next : NextPart) (client : Client) → (going_on bases pair next client).client.alive ≡ client.alive
 kept_alive bases pair next client = (going_steady bases pair next client).alive
 
--- whatever may go up
-left_waiting : (bases : Bases) (pair : Option ℕ) (next : NextPart) (client : Client) → client.alive ≡ false → (going_on bases pair next client).client.waiting ≡ client.waiting
-left_waiting bases pair next client dead = grind arith
-
 alive_on : (bases : Bases) (pair : Option ℕ) (next : NextPart) (client : Client) → client.alive ≡ true → IsFitClient client → IsHeardSo true next client → IsTidy (going_on bases pair next client).client
 alive_on bases pair rests client alive fit heard = subst (λ (b : Bool). IsTidyBy b client) (sym alive) heard
 alive_on bases pair releases client alive fit heard =
@@ -310,31 +255,18 @@ alive_on bases pair goes_on client alive fit heard =
     treats (Some k) idle due = due_tidy true (Some k) client alive due heard
     treats None idle due =
         let none : first_place has_due 0 client.sessions ≡ None = ap (λ (pending : Option Purpose). changes.due_place_at pending client.sessions) (sym idle) ∙ due in
-        let tidy : IsTidy (going.treat bases pair client).client = treat_tidy bases pair client alive fit (λ place. runs_idle (session_at place client.sessions).state (session_at place client.sessions).running (session_at place client.sessions).queue
-        (idle_order client.pending client idle heard place) (due_none 0 client.sessions none place)) in
-        subst (λ (b : Bool). IsTidyBy b (going.treat bases pair client).client) (treat_alive ∙ alive) tidy
-      where
-        treat_alive : (going.treat bases pair client).client.alive ≡ client.alive
-        treat_alive =
-            let all : Treated = treated client.waiting (given bases (is_none pair) client) in
-            goes_alive all.going (going.after_plays all.plays (record client { waiting = all.left })) ∙ plays_alive all.plays (record client { waiting = all.left })
-          where
-            goes_alive : (one : Option Going) (after : Client) → (going.goes_at one pair (treated client.waiting (given bases (is_none pair) client)).hand after).client.alive ≡ after.alive
-            goes_alive None after = refl
-            goes_alive (Some one) after = refl
+        treat_tidy bases pair client fit (λ place. runs_idle (session_at place client.sessions).state (session_at place client.sessions).running (session_at place client.sessions).queue
+        (idle_order client.pending client idle heard place) (due_none 0 client.sessions none place))
 
     by : (pending : Option Purpose) → client.pending ≡ pending → IsTidyBy true (going.go_at bases pair pending client).client
     by pending is = grind (arith, treats)
 
 going_tidy : (bases : Bases) (pair : Option ℕ) (next : NextPart) (client : Client) → IsFitClient client → IsHeardSo client.alive next client → IsTidy (going_on bases pair next client).client
-going_tidy bases pair next client fit heard = grind (arith, alive_on, kept_alive, left_waiting)
+going_tidy bases pair next client fit heard = grind (arith, alive_on, kept_alive)
 
 -- So it is for a connection alone.
 pub tidy_after : (bases : Bases) (events : List PrivateEvent) → IsTidy (private_after bases events).client
-tidy_after bases [] = (λ place. new_order place, refl)
-  where
-    new_order : (place : ℕ) → IsOrdered false (session_at place new_sessions)
-    new_order place = grind arith
+tidy_after bases [] = (λ place. grind arith, refl)
 tidy_after bases (event ∷ events) =
     let p = private_after bases events in
     let heard = hear bases p.count p.client event in

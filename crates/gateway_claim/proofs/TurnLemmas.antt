@@ -1,6 +1,6 @@
 -- What goes up for a connection: its kind by its text, the session or the empty place that it names, and the books once it
 -- went up.
-use Rattle.std.proofs.Common.{◌≡◌, ◌∙◌, ℕ, ◌+◌, Bool, true, false, cond, List, Option, Some, None, arith, ◌<◌, ◌^◌, ◌&&◌, [], ◌∷◌, map, IfSome, IsSome, Result, refl, sym, ap, subst, unwrap_or, not}
+use Rattle.std.proofs.Common.{false, true, cond, ◌≡◌, ◌∙◌, ℕ, ◌+◌, Bool, List, Option, Some, None, arith, ◌<◌, ◌^◌, ◌&&◌, [], ◌∷◌, map, IfSome, IsSome, Result, refl, sym, ap, subst, unwrap_or, not}
 use Rattle.rtsp_small.specs.declared.method.Method.TheVariants as methods
 use Rattle.head_two.specs.declared.request.Request2.{Request2}
 use Rattle.head_two.specs.Requests.{request_text, Numbered, IsRequest}
@@ -9,11 +9,11 @@ use Rattle.client_slot.specs.declared.purpose.Purpose.{Purpose}
 use Rattle.client_slot.specs.declared.purpose.Purpose.TheVariants as purposes
 use Rattle.client_slot.specs.Session.{PlayerSession}
 use Rattle.client_slot.specs.Places.{session_at, session_where}
-use Rattle.client_machine.specs.OpenRequests.{IsAskedAs, IsOpenAs, IsFreeFor, IsAsked, AsksBy}
+use Rattle.client_machine.specs.OpenRequests.{IsAskedAs, IsOpenAs, IsAsked, AsksBy}
 use Rattle.client_machine.specs.UpTexts.{over_pair}
 use Rattle.client_machine.proofs.HoldLemmas.{Suits, AreSame, same_at, same_first, plays_steady, IsSteady, going_steady, IsHeldStill, SuitsOpen, SuitsBy, going_suits}
 use Rattle.gateway_claim.specs.Books.{id_in_text, kind_of_text, Books, RequestKind, kind_of, pair_asked, lends, free_in}
-use Rattle.gateway_claim.specs.BooksAndSlots.{IsForSession, kind_for, IsHolding, HasPair, IsPurpose, IsOpenFor, IsJoined}
+use Rattle.gateway_claim.specs.BooksAndSlots.{IsForSession, IsOpenFor, IsJoined}
 use Rattle.gateway_claim.proofs.LendLemmas.{IsLentFor, IsFree, lent_free, own_lent}
 use Rattle.std.specs.Prelude.{is_none, is_some, codes}
 use Rattle.std.specs.Option.{option_and_then, option_map}
@@ -49,18 +49,13 @@ use Rattle.client_machine.specs.Step.{track_of, after_plays, goes_at, NextPart, 
 use Rattle.client_machine.proofs.PlaceLemmas.{calm_in, seen_at, calm_has, empty_seen}
 use Rattle.client_machine.proofs.WayLemmas.{going_as}
 use Rattle.gateway_claim.proofs.FitLemmas.{IsFitOne, fit_at, IsFitClient, given_fit, queued_fit, decision_sound}
-use Rattle.session_one.specs.declared.parts.Track.{Track}
 use Rattle.channel_map.proofs.PairLemmas.{lowest_free_is_free}
 use Rattle.client_machine.specs.Alone.{asked_in}
 use Rattle.client_machine.specs.Bounds.{AreSessionsBelow}
 use Rattle.client_machine.proofs.AskLemmas.{going_asks}
 use Rattle.gateway_claim.specs.Follows.{message_up}
 use Rattle.gateway_claim.proofs.CaseLemmas.{pair_where}
-use Rattle.gateway_claim.proofs.SettleLemmas.{AreAlike}
-
--- a request with a method
-abbrev asking : List ℕ → Request2 → Request2
-asking method request = record { method = method; uri = request.uri; headers = request.headers; body = request.body }
+use Rattle.gateway_claim.proofs.SettleLemmas.{AreAlike, alike_joined}
 
 -- the pair that is free is held by nobody
 abbrev pub IsFreePair : Books → Option ℕ → Type 0
@@ -80,7 +75,7 @@ IsToldFor sessions number request (purposes.Released play) = Unit {0}
 IsToldFor sessions number request (purposes.Closing place) = id_in_text (request_text number request) ≡ (session_at place sessions).id
 
 -- What goes up is lent for its purpose.
-pub kind_lent : (books : Books) (count number : ℕ) (request : Request2) (own free : Option ℕ) (shut : Bool) (sessions : List PlayerSession) (purpose : Purpose) → IsAskedAs purpose request own → IsNamedBy (count + 1) free own → IsFreePair books free
+kind_lent : (books : Books) (count number : ℕ) (request : Request2) (own free : Option ℕ) (shut : Bool) (sessions : List PlayerSession) (purpose : Purpose) → IsAskedAs purpose request own → IsNamedBy (count + 1) free own → IsFreePair books free
     → Suits (cond shut false true) purpose → IsToldFor sessions number request purpose → IsLentFor books count (kind_of_text (request_text number (over_pair own free request)) free shut) sessions purpose
 kind_lent books count number request own free shut sessions purpose is named is_free suits told = grind arith
 
@@ -107,11 +102,8 @@ teardown_sound uri id target valid number short = record {
   own = refl;
 }
 
-star_fit : (control : Option (List ℕ)) → IfSome control (λ uri. is_target uri ≡ true) → is_target (unwrap_or control (codes "*")) ≡ true
-star_fit control fit = grind arith
-
 closing_names : (number : ℕ) (control : Option (List ℕ)) (id : List ℕ) → number < 10 ^ CSEQ_TWO_DIGITS → IfSome control (λ uri. is_target uri ≡ true) → is_session_id id ≡ true → id_in_text (request_text number (closing_request control id)) ≡ Some id
-closing_names number control id short fit valid = text_names number (closing_request control id) (teardown_sound (unwrap_or control (codes "*")) id (star_fit control fit) valid number short)
+closing_names number control id short fit valid = text_names number (closing_request control id) (teardown_sound (unwrap_or control (codes "*")) id (grind arith) valid number short)
 
 -- The first request that goes up, by the sessions as requests see them.
 abbrev IsNamedIn : List SeenSession → Request2 → Option ℕ → Option Pair → Type 0
@@ -133,9 +125,6 @@ queued_named queued place sessions request None named = (named.0, named.1 ∙ ca
 queued_named queued None sessions request (Some channels) named = sym (calm_has queued sessions) ∙ named
 queued_named queued (Some place) sessions request (Some channels) named = sym (calm_in (λ one. is_some one.id) queued (Some place) sessions (λ one n. refl)) ∙ named
 
-queued_going : (queued : Option ℕ) (sessions : List SeenSession) (going : Option Going) → IsNamedGoing (queued_more_where queued sessions) going → IsNamedGoing sessions going
-queued_going queued sessions going named = grind (arith, queued_named)
-
 -- as it was decided
 judged_session : (given : Given) (read : Result Request1 Refusal) → (judged_read given read).session ≡ (session_or_none (judged_read given read).place given.sessions).id
 judged_session given read = grind arith
@@ -151,23 +140,17 @@ IsDecidedSo sessions decision = Unit {0}
 decided_so : (given : Given) (shape : Shape) (decision : Decision) → IsNaming (judged_of given shape) decision → IsDecidedIn given.sessions decision → SpeaksAs (judged_of given shape) decision → SendsSound decision → IsDecidedSo given.sessions decision
 decided_so given shape decision naming placed speaks sound = grind (arith, judged_session, judged_room)
 
-decision_so : (given : Given) (shape : Shape) → AreFit given → IsDecidedSo given.sessions (decision_on given shape)
-decision_so given shape fit = grind (arith, decision_sound, decided_so, decide_names, decided_in, decide_speaks)
-
 first_named : (decision : Decision) (given : Given) (more : List Shape) (again : Given → Treated) → IsDecidedSo given.sessions decision → AreFit given → ((one : Given) → AreFit one → IsNamedGoing one.sessions (again one).going)
     → IsNamedGoing given.sessions (treated_first decision given more again).going
-first_named decision given more again so fit later = grind (arith, queued_going, queued_fit)
+first_named decision given more again so fit later = grind (arith, queued_named, queued_fit)
 
 treated_named : (shapes : List Shape) (given : Given) → AreFit given → IsNamedGoing given.sessions (treated shapes given).going
 treated_named [] given fit = tt
-treated_named (shape ∷ more) given fit = first_named (decision_on given shape) given more (treated more) (decision_so given shape fit) fit (treated_named more)
+treated_named (shape ∷ more) given fit = first_named (decision_on given shape) given more (treated more) (grind (arith, decision_sound, decided_so, decide_names, decided_in, decide_speaks)) fit (treated_named more)
 
 -- as the connection has its sessions
 seen_in : (place : Option ℕ) (sessions : List PlayerSession) → (session_or_none place (map session_found sessions)).id ≡ (session_where place sessions).id
 seen_in place sessions = grind (arith, seen_at)
-
-some_is : (id : Option (List ℕ)) → is_some id ≡ true → IsSome id
-some_is id e = grind arith
 
 pub same_where : (place : Option ℕ) (a b : List PlayerSession) → AreSame a b → (session_where place b).id ≡ (session_where place a).id
 same_where place a b same = grind (arith, same_at)
@@ -184,7 +167,7 @@ goes_tells (Some one) pair text before client number short named same = by one.c
     setup_told None channels named =
         subst (λ (place : Option ℕ). IsSome place) (sym (same_first is_none 0 before.sessions client.sessions same)) (empty_seen 0 before.sessions named)
     setup_told (Some place) channels named =
-        subst (λ (id : Option (List ℕ)). IsSome id) (sym (same_where (Some place) before.sessions client.sessions same)) (some_is (session_at place before.sessions).id (ap (λ (one : SeenSession). is_some one.id) (sym (seen_at place before.sessions)) ∙ named))
+        subst (λ (id : Option (List ℕ)). IsSome id) (sym (same_where (Some place) before.sessions client.sessions same)) (grind (arith, (ap (λ (one : SeenSession). is_some one.id) (sym (seen_at place before.sessions)) ∙ named)))
 
     by : (channels : Option Pair) (pair : Option ℕ) → IsNamedIn (map session_found before.sessions) one.request one.asked.place channels → IsSetupWith one.asked channels → IsToldFor client.sessions number one.request (purposes.Client one.asked (track_of one.asked.uri pair channels))
     by channels pair named setup = grind (arith, plain_told, setup_told)
@@ -207,68 +190,31 @@ going_tells bases pair next client number short fit = going_as (λ effect. Tells
 pub alike : (sessions others : List PlayerSession) → AreSame sessions others → AreAlike sessions others
 alike sessions others same = λ place. let one = same_at place sessions others same in (one.id, one.tracks)
 
-kind_same : (pairs : ℕ → ℕ) (sessions others : List PlayerSession) (purpose : Purpose) → AreSame sessions others → kind_for pairs sessions purpose ≡ kind_for pairs others purpose
-kind_same pairs sessions others purpose same = grind (arith, same_where, same_at)
-
 for_same : (place : Option ℕ) (sessions others : List PlayerSession) → AreSame sessions others → IsForSession place sessions → IsForSession place others
 for_same None sessions others same there = subst (λ (one : Option ℕ). IsSome one) (sym (same_first is_none 0 sessions others same)) there
 for_same (Some place) sessions others same there = subst (λ (id : Option (List ℕ)). IsSome id) (sym (same_at place sessions others same).id) there
 
-purpose_same : (books : Books) (i : ℕ) (sessions others : List PlayerSession) (purpose : Purpose) → AreSame sessions others → IsPurpose books i sessions purpose → IsPurpose books i others purpose
-purpose_same books i sessions others purpose same is = grind (arith, for_same)
-
-open_same : (books : Books) (i number : ℕ) (sessions others : List PlayerSession) (pending : Option Purpose) → AreSame sessions others → IsOpenFor books i number sessions pending → IsOpenFor books i number others pending
-open_same books i number sessions others pending same is = grind (arith, kind_same, purpose_same)
-
 pub joined_still : (books : Books) (i : ℕ) (client after : Client) (count : ℕ) → IsHeldStill client after → IsJoined books i client count → IsJoined books i after count
 joined_still books i client after count still joined =
-    let same = alike client.sessions after.sessions still.sessions in
-    record {
-      counted = joined.counted;
-      tracks = λ place.
-          subst (λ (session : Option (List ℕ)). IsHolding books i session (session_at place after.sessions).tracks) (sym (same place).0)
-          (subst (λ (tracks : List Track). IsHolding books i (session_at place client.sessions).id tracks) (sym (same place).1) (joined.tracks place));
-      granted = λ p id here.
-          let was = joined.granted p id here in
-          record { place = was.place; named = (same was.place).0 ∙ was.named; has = subst (λ (tracks : List Track). HasPair (books.pair_of i) p tracks) (sym (same was.place).1) was.has };
-      pending = subst (λ (one : Option Purpose). IsOpenFor books i (books.number_of i count) after.sessions one) (sym still.pending)
-          (open_same books i (books.number_of i count) client.sessions after.sessions client.pending still.sessions joined.pending);
-      last = λ g opened here conn. let was = joined.last g opened here conn in (was.0, subst (λ (one : Option Purpose). IsSome one) (sym still.pending) was.1);
-      holds = λ place id here. joined.holds place id (sym (same place).0 ∙ here);
-      session = λ id here. let (place, is) = joined.session id here in (place, (same place).0 ∙ is);
-      once = λ a b id at_a at_b. joined.once a b id (sym (same a).0 ∙ at_a) (sym (same b).0 ∙ at_b);
-    }
-
--- the lowest pair that is free is held by nobody
-pub free_is_free : (books : Books) → IsFreePair books (free_in books)
-free_is_free books = grind (arith, lowest_free_is_free)
+    alike_joined books i count client after (alike client.sessions after.sessions still.sessions) still.pending
+    (subst (λ (one : Option Purpose). IsOpenFor books i (books.number_of i count) after.sessions one) (sym still.pending) (grind (arith, same_where, same_at, for_same, still.sessions, joined.pending))) joined
 
 -- What goes up, and what it does in the books: nothing; or a request, for which a kind is lent.
 abbrev pub HasGone : Books → ℕ → Client → ℕ → Option RequestKind → ℕ → Type 0
 HasGone books i after count None more = IsJoined books i after (count + more)
 HasGone books i after count (Some kind) more = IsFree books (pair_asked kind) × IsJoined (lends i kind books) i after (count + more)
 
-named_by : (next : ℕ) (free : Option ℕ) (named : Option ℕ) → IsFreeFor (pair_where free next) named → IsNamedBy next free named
-named_by next free named h = grind arith
-
-suits_by : (alive shut : Bool) (purpose : Purpose) → shut ≡ not alive → Suits alive purpose → Suits (cond shut false true) purpose
-suits_by alive shut purpose e suits = grind arith
-
 -- a request went up
-asked_gone : (books : Books) (i count number : ℕ) (client after : Client) (request : Request2) (named free : Option ℕ) (shut : Bool) → IsJoined books i client count → AreSessionsBelow count client.sessions → IsFreePair books free
-    → IsAsked (pair_where free (count + 1)) request named client.pending after.pending → IsSteady client after → SuitsOpen client.alive after.pending → shut ≡ not client.alive → TellsOpen after.sessions number request after.pending
+asked_gone : (books : Books) (i count number : ℕ) (client after : Client) (request : Request2) (named free : Option ℕ) (shut : Bool) (pending : Option Purpose) → IsJoined books i client count → AreSessionsBelow count client.sessions → IsFreePair books free
+    → IsAsked (pair_where free (count + 1)) request named client.pending after.pending → IsSteady client after → after.pending ≡ pending → IsOpenAs pending request named → SuitsOpen client.alive pending → shut ≡ not client.alive → TellsOpen after.sessions number request pending
     → HasGone books i after count (Some (kind_of_text (request_text number (over_pair named free request)) free shut)) 1
-asked_gone books i count number client after request named free shut joined below is_free asked steady suits closed tells = by after.pending refl asked.after suits tells
-  where
-    by : (pending : Option Purpose) → after.pending ≡ pending → IsOpenAs pending request named → SuitsOpen client.alive pending → TellsOpen after.sessions number request pending
-        → HasGone books i after count (Some (kind_of_text (request_text number (over_pair named free request)) free shut)) 1
-    by None e is_open suit told = absurd is_open
-    by (Some purpose) e is_open suit told =
-        let lent : IsLentFor books count (kind_of_text (request_text number (over_pair named free request)) free shut) after.sessions purpose =
-        kind_lent books count number request named free shut after.sessions purpose is_open (named_by (count + 1) free named asked.named) is_free (suits_by client.alive shut purpose closed suit) told in (
-          lent_free books count (kind_of_text (request_text number (over_pair named free request)) free shut) after.sessions purpose lent,
-          own_lent books i (kind_of_text (request_text number (over_pair named free request)) free shut) purpose client after count joined below asked.before e (alike client.sessions after.sessions steady.sessions) lent,
-        )
+asked_gone books i count number client after request named free shut None joined below is_free asked steady e is_open suits closed tells = absurd is_open
+asked_gone books i count number client after request named free shut (Some purpose) joined below is_free asked steady e is_open suits closed tells =
+    let lent : IsLentFor books count (kind_of_text (request_text number (over_pair named free request)) free shut) after.sessions purpose =
+    kind_lent books count number request named free shut after.sessions purpose is_open (grind (arith, asked.named)) is_free (grind arith) tells in (
+      lent_free books count (kind_of_text (request_text number (over_pair named free request)) free shut) after.sessions purpose lent,
+      own_lent books i (kind_of_text (request_text number (over_pair named free request)) free shut) purpose client after count joined below asked.before e (alike client.sessions after.sessions steady.sessions) lent,
+    )
 
 -- the same connection with one request more, or with none
 pub none_more : (books : Books) (i : ℕ) (client : Client) (count : ℕ) → IsJoined books i client count → IsJoined books i client (count + 0)
@@ -292,5 +238,5 @@ going_gone bases earlier books i count client next shut joined below closed tell
     by None same suits told =
         none_more books i _ count (joined_still books i client _ count (steady_still client _ (going_steady bases (pair_where (free_in books) (count + 1)) next client) same) joined)
     by (Some (asks request named)) asked suits told =
-        asked_gone books i count (earlier.issued + 1) client _ request named (free_in books) shut joined below (free_is_free books) asked (going_steady bases (pair_where (free_in books) (count + 1)) next client) suits closed told
+        asked_gone books i count (earlier.issued + 1) client _ request named (free_in books) shut _ joined below (grind (arith, lowest_free_is_free)) asked (going_steady bases (pair_where (free_in books) (count + 1)) next client) refl asked.after suits closed told
     by (Some (carries pair half rest)) asked suits told = absurd asked

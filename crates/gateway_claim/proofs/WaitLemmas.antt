@@ -11,11 +11,11 @@ use Rattle.translate_up.specs.Views.{Given}
 use Rattle.translate_up.specs.declared.decision.Decision.{Decision}
 use Rattle.client_slot.specs.Client.{Client}
 use Rattle.client_slot.specs.Changes as changes
-use Rattle.client_machine.specs.Alone.{Private, pair_alone, effect_alone, private_after}
+use Rattle.client_machine.specs.Alone.{pair_alone, effect_alone, private_after}
 use Rattle.client_machine.specs.Events.{Effect, PrivateEvent, arrive}
-use Rattle.client_machine.specs.Treatment.{given, Going, treated_first, treated}
+use Rattle.client_machine.specs.Treatment.{given, treated_first, treated}
 use Rattle.client_machine.specs.Step as going
-use Rattle.client_machine.specs.Step.{NextPart, going_on, step}
+use Rattle.client_machine.specs.Step.{step}
 use Rattle.client_machine.proofs.KeepLemmas.{over_stays, over_client}
 use Rattle.client_machine.proofs.WayLemmas.{hear_as, alone_as}
 use Rattle.gateway_claim.specs.declared.event.UpCause.{UpCause}
@@ -30,34 +30,13 @@ use Rattle.gateway_claim.proofs.AgreeLemmas.{alone}
 use Rattle.gateway_claim.proofs.TidyLemmas.{IsTidyBy, IsTidy, tidy_after}
 use Rattle.client_machine.proofs.PlanLemmas.{idle_is}
 
--- Of one request that is treated none is left, and of none.
-abbrev IsOneAtMost : List Shape → Type 0
-IsOneAtMost [] = Unit {0}
-IsOneAtMost (shape ∷ more) = more ≡ []
-
 first_left : (decision : Decision) (given : Given) → (treated_first decision given [] (treated [])).left ≡ []
 first_left decision given = grind arith
-
-none_left : (waiting : List Shape) (given : Given) → IsOneAtMost waiting → (treated waiting given).left ≡ []
-none_left waiting given one = grind (arith, first_left)
 
 -- What goes up keeps the requests that wait, but for those that are treated.
 plays_waiting : (plays : List Play) (client : Client) → (going.after_plays plays client).waiting ≡ client.waiting
 plays_waiting [] client = refl
 plays_waiting (play ∷ plays) client = plays_waiting plays (changes.after_queueing play client)
-
-goes_waiting : (one : Option Going) (pair : Option ℕ) (hand : List ℕ) (client : Client) → (going.goes_at one pair hand client).client.waiting ≡ client.waiting
-goes_waiting one pair hand client = grind arith
-
-treat_waiting : (bases : Bases) (pair : Option ℕ) (client : Client) → IsOneAtMost client.waiting → (going.treat bases pair client).client.waiting ≡ []
-treat_waiting bases pair client one = grind (arith, is_none, goes_waiting, plays_waiting, none_left)
-
-going_waiting : (bases : Bases) (pair : Option ℕ) (next : NextPart) (client : Client) → client.waiting ≡ [] → (going_on bases pair next client).client.waiting ≡ []
-going_waiting bases pair next client none = grind arith
-
--- A request of a connection that is alive, has none open, and has no PLAY that is due.
-one_treated : (bases : Bases) (pair : Option ℕ) (client : Client) → client.alive ≡ true → client.pending ≡ None → changes.due_place client ≡ None → IsOneAtMost client.waiting → (going.go bases pair client).client.waiting ≡ []
-one_treated bases pair client alive idle due one = grind (arith, treat_waiting)
 
 -- An event of a connection is no item of it while it is busy.
 abbrev IsTimelyFor : Bool → PrivateEvent → Type 0
@@ -66,7 +45,7 @@ IsTimelyFor busy event = Unit {0}
 
 step_waiting : (bases : Bases) (number : ℕ) (pair : Option ℕ) (client : Client) (event : PrivateEvent) → IsTidy client → IsTimelyFor (client.alive && is_some client.pending) event → client.waiting ≡ []
     → (step bases number pair client event).client.waiting ≡ []
-step_waiting bases number pair client event tidy timely none = grind (arith, hear_as, going_waiting, is_some, one_treated, idle_is)
+step_waiting bases number pair client event tidy timely none = grind (arith, hear_as, is_some, is_none, plays_waiting, first_left, idle_is)
 
 -- So it is for a connection alone.
 after_waiting : (bases : Bases) (events : List PrivateEvent) (event : PrivateEvent) → IsTimelyFor (is_busy_private (Some (private_after bases events))) event → (private_after bases events).client.waiting ≡ []
@@ -108,40 +87,27 @@ here_timely bases T i waiting None h busy timely is = by (is_turn i (turn (books
 more_waiting : (bases : Bases) (events more : List PrivateEvent) → AreTimely (is_busy_private (Some (private_after bases events))) more → (private_after bases events).client.waiting ≡ [] → (private_after bases (more ++ events)).client.waiting ≡ []
 more_waiting bases events more timely none = grind (arith, after_waiting)
 
--- In a history in which no request waits
-private_waiting : (bases : Bases) (T : List HistoryEntry) (i : ℕ) → entered i T ≡ true → requests_waiting bases i T ≡ 0 → (alone bases T i).client.waiting ≡ []
-private_waiting bases T i en none = grind (arith, nil_from_length, alone)
-
 own_waiting : (bases : Bases) (T : List HistoryEntry) (e : HistoryEntry) (i : ℕ) (was : Bool) → entered i T ≡ was → IsTimely (is_busy bases) T e.happening → requests_waiting bases i T ≡ 0 → (alone bases (e ∷ T) i).client.waiting ≡ []
 own_waiting bases T e i true en timely none =
     let here : List PrivateEvent = own_here (books_of T) i (alone bases T i).client.waiting e.outcome.fault e.happening in
     ap (λ (b : Bool). (private_after bases (cond b here [] ++ own bases i T)).client.waiting) en
     ∙ more_waiting bases (own bases i T) here
     (here_timely bases T i (alone bases T i).client.waiting e.outcome.fault e.happening (is_busy_private (Some (alone bases T i))) timely (ap (λ (b : Bool). is_busy_private (cond b (Some (alone bases T i)) None)) en))
-    (private_waiting bases T i en none)
-own_waiting bases T e i false absent timely none =
-    let here : List PrivateEvent = own_here (books_of T) i (alone bases T i).client.waiting e.outcome.fault e.happening in
-    ap (λ (b : Bool). (private_after bases (cond b here [] ++ own bases i T)).client.waiting) absent
-    ∙ ap (λ (events : List PrivateEvent). (private_after bases events).client.waiting) (own_absent bases T i absent)
-
-counted_none : (en : Bool) (p : Private) → p.client.waiting ≡ [] → waiting_private (cond en (Some p) None) ≡ 0
-counted_none en p none = grind arith
+    (grind (arith, nil_from_length, alone))
+own_waiting bases T e i false absent timely none = grind (arith, own_absent)
 
 -- none waits before anything happened, and none after an entry that is no item of a busy client
 pub none_waiting : (bases : Bases) → NoneWaits (requests_waiting bases) []
 none_waiting bases i = refl
 
 pub none_waiting_next : (bases : Bases) (T : List HistoryEntry) (e : HistoryEntry) → IsTimely (is_busy bases) T e.happening → NoneWaits (requests_waiting bases) T → NoneWaits (requests_waiting bases) (e ∷ T)
-none_waiting_next bases T e timely none i = counted_none (entered i (e ∷ T)) (alone bases (e ∷ T) i) (own_waiting bases T e i (entered i T) refl timely (none i))
+none_waiting_next bases T e timely none i = grind (arith, (own_waiting bases T e i (entered i T) refl timely (none i)))
 
 -- At the end of the connection to the server, and after it, as many wait as before.
-entered_late : (here en : Bool) → ((here && false) || en) ≡ en
-entered_late here en = grind arith
-
 over_waiting : (bases : Bases) (T : List HistoryEntry) (e : HistoryEntry) (i : ℕ) (cause : UpCause) → IsHistory bases T → Follows bases T e → fault_in T ≡ Some cause → requests_waiting bases i (e ∷ T) ≡ requests_waiting bases i T
 over_waiting bases T e i cause history follows ended =
     ap (λ (f : Option UpCause). waiting_private (cond ((enters_here i e.happening && is_none f) || entered i T) (Some (alone bases (e ∷ T) i)) None)) ended
-    ∙ ap (λ (b : Bool). waiting_private (cond b (Some (alone bases (e ∷ T) i)) None)) (entered_late (enters_here i e.happening) (entered i T))
+    ∙ ap (λ (b : Bool). waiting_private (cond b (Some (alone bases (e ∷ T) i)) None)) (grind arith)
     ∙ by (entered i T) refl
   where
     by : (was : Bool) → entered i T ≡ was → waiting_private (cond was (Some (alone bases (e ∷ T) i)) None) ≡ waiting_private (cond was (Some (alone bases T i)) None)
@@ -151,15 +117,12 @@ over_waiting bases T e i cause history follows ended =
         (over_client bases (own bases i T) (cond (entered i T) (cond (is_turn i (turn (books_of T) e.happening)) (own_event bases T i e.happening) None) None) (faults_over bases T history cause ended i en))
     by false en = refl
 
-ended_waiting : (bases : Bases) (T : List HistoryEntry) (e : HistoryEntry) (i : ℕ) (cause : UpCause) → Follows bases T e → e.outcome.fault ≡ Some cause → requests_waiting bases i (e ∷ T) ≡ requests_waiting bases i T
-ended_waiting bases T e i cause follows now = grind arith
-
 pub still_waiting : (bases : Bases) (T : List HistoryEntry) (e : HistoryEntry) (i : ℕ) → IsHistory bases T → Follows bases T e → is_some (fault_in (e ∷ T)) ≡ true → requests_waiting bases i (e ∷ T) ≡ requests_waiting bases i T
 still_waiting bases T e i history follows ended = by (fault_in T) e.outcome.fault refl refl ended
   where
     by : (before now : Option UpCause) → fault_in T ≡ before → e.outcome.fault ≡ now → is_some (option_or before now) ≡ true → requests_waiting bases i (e ∷ T) ≡ requests_waiting bases i T
     by (Some cause) now was is some = over_waiting bases T e i cause history follows was
-    by None (Some cause) was is some = ended_waiting bases T e i cause follows is
+    by None (Some cause) was is some = grind arith
     by None None was is some = cc
 
 -- None waits of a connection that closed.

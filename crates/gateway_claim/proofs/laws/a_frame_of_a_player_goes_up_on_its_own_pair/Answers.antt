@@ -1,4 +1,4 @@
-use Rattle.gateway_claim.proofs.FrameLemmas.{GoesUp, frame_up}
+use Rattle.gateway_claim.proofs.ApartLemmas.{GoesUp, frame_up}
 use Rattle.gateway_claim.proofs.laws.a_frame_of_a_player_goes_up_on_its_own_pair.Goals as goal
 
 pub returns-clause-goes : goal.returns-clause-goes

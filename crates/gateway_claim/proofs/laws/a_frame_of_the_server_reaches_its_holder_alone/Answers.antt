@@ -1,4 +1,4 @@
-use Rattle.gateway_claim.proofs.FrameLemmas.{GoesDown, frame_down}
+use Rattle.gateway_claim.proofs.ApartLemmas.{GoesDown, frame_down}
 use Rattle.gateway_claim.proofs.laws.a_frame_of_the_server_reaches_its_holder_alone.Goals as goal
 
 pub returns-clause-reaches : goal.returns-clause-reaches
