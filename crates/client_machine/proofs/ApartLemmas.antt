@@ -1,9 +1,10 @@
 -- The streams of a connection alone are apart: a SETUP has the next number as that of its pair, and channels that no other
 -- stream has.
-use Rattle.std.proofs.Common.{◌≡◌, ◌≢◌, ◌∙◌, ℕ, zero, suc, ◌+◌, ◌≤◌, ◌==◌, Bool, false, ◌||◌, List, [], ◌∷◌, ◌++◌, length, map, Option, Some, None, refl, sym, ap, subst, arith}
+use Rattle.std.proofs.Common.{◌≡◌, ◌≢◌, ◌∙◌, ℕ, zero, suc, ◌+◌, ◌≤◌, ◌==◌, false, List, [], ◌∷◌, ◌++◌, length, map, Option, Some, None, refl, sym, ap, subst, arith}
 use Rattle.std.specs.Prelude.{is_none, is_some}
 use Rattle.std.specs.Option.{option_to_list}
-use Rattle.std.proofs.lemmas.List.{append-nil}
+use Rattle.std.specs.List.{AllByRecursion}
+use Rattle.std.proofs.lemmas.List.{append-nil, append_assoc}
 use Rattle.rtsp_transport.specs.declared.channels.Pair.{Pair}
 use Rattle.rtsp_uri.specs.declared.base.Bases.{Bases}
 use Rattle.session_one.specs.declared.parts.Track.{Track}
@@ -21,8 +22,9 @@ use Rattle.client_slot.specs.SessionChanges.{when_next}
 use Rattle.client_machine.specs.Bounds.{stream_asked, streams_of, AreStreamsApart, IsStreamApart, AreAllStreamsApart, ArePairsBelow}
 use Rattle.client_machine.specs.Events.{PrivateEvent}
 use Rattle.client_machine.specs.Treatment.{session_found, given, Going, treated}
-use Rattle.client_machine.specs.Step.{track_of, after_plays, goes_at, NextPart, new_id, hear, going_on, step}
+use Rattle.client_machine.specs.Step.{after_plays, goes_at, NextPart, new_id, hear, going_on, step}
 use Rattle.client_machine.specs.Alone.{pair_alone, private_after}
+use Rattle.client_machine.proofs.EachLemmas.{each_so, both_so, parts_so}
 use Rattle.client_machine.proofs.WayLemmas.{going_as, alone_as}
 use Rattle.client_machine.proofs.BelowLemmas.{IsNumbered, hear_numbered, IsNextPair, next_alone, alone_numbered, tracks_below}
 use Rattle.client_machine.proofs.FullLemmas.{either_false}
@@ -33,28 +35,32 @@ use Rattle.client_machine.proofs.PlaceLemmas.{IsInPlace, hear_placed, IsGoingIn,
 swap_eq : (a b : ℕ) → (a == b) ≡ (b == a)
 swap_eq a b = grind arith
 
-swap_or : (a b c d : Bool) → ((a || b) || (c || d)) ≡ ((a || c) || (b || d))
-swap_or a b c d = grind arith
-
 share_swap : (p q : Pair) → share p q ≡ share q p
-share_swap p q = rw (swap_eq q.rtp p.rtp, swap_eq q.rtp p.rtcp, swap_eq q.rtcp p.rtp, swap_eq q.rtcp p.rtcp) (swap_or (p.rtp == q.rtp) (p.rtp == q.rtcp) (p.rtcp == q.rtp) (p.rtcp == q.rtcp))
+share_swap p q = rw (swap_eq q.rtp p.rtp, swap_eq q.rtp p.rtcp, swap_eq q.rtcp p.rtp, swap_eq q.rtcp p.rtcp) (grind arith)
 
 apart_swap : (one other : Track) → AreStreamsApart one other → AreStreamsApart other one
 apart_swap one other apart = record { pairs = λ same. apart.pairs (sym same); channels = share_swap other.client one.client ∙ apart.channels }
 
 -- each of these and each of those
 abbrev AreEachApart : List Track → List Track → Type 0
-AreEachApart [] others = Unit {0}
-AreEachApart (track ∷ tracks) others = IsStreamApart track others × AreEachApart tracks others
+AreEachApart tracks others = AllByRecursion (λ track. IsStreamApart track others) tracks
 
--- a stream and those of two lists
-one_parts : (track : Track) (first second : List Track) → IsStreamApart track (first ++ second) → IsStreamApart track first × IsStreamApart track second
-one_parts track [] second apart = (tt, apart)
-one_parts track (one ∷ first) second apart = let more = one_parts track first second apart.1 in ((apart.0, more.0), more.1)
+each_parts : (first second third : List Track) → AreEachApart first (second ++ third) → AreEachApart first second × AreEachApart first third
+each_parts first second third apart = (each_so _ _ first (λ track here. (parts_so _ second third here).0) apart, each_so _ _ first (λ track here. (parts_so _ second third here).1) apart)
 
-one_joined : (track : Track) (first second : List Track) → IsStreamApart track first → IsStreamApart track second → IsStreamApart track (first ++ second)
-one_joined track [] second a b = b
-one_joined track (one ∷ first) second a b = (a.0, one_joined track first second a.1 b)
+each_joined : (first second third : List Track) → AreEachApart first second → AreEachApart first third → AreEachApart first (second ++ third)
+each_joined [] second third a b = tt
+each_joined (track ∷ first) second third a b = (both_so _ second third a.0 b.0, each_joined first second third a.1 b.1)
+
+each_swap : (first second : List Track) → AreEachApart first second → AreEachApart second first
+each_swap first [] apart = tt
+each_swap first (track ∷ second) apart =
+    let parts = each_parts first (track ∷ []) second apart in
+    (swap_one first parts.0, each_swap first second parts.1)
+  where
+    swap_one : (tracks : List Track) → AreEachApart tracks (track ∷ []) → IsStreamApart track tracks
+    swap_one [] apart = tt
+    swap_one (one ∷ tracks) apart = (apart_swap one track apart.0.0, swap_one tracks apart.1)
 
 -- those of two lists are apart where those of each are, and each of one list from each of the other
 record AreBothApart (first second : List Track) : Type 0 where
@@ -65,42 +71,13 @@ record AreBothApart (first second : List Track) : Type 0 where
 all_parts : (first second : List Track) → AreAllStreamsApart (first ++ second) → AreBothApart first second
 all_parts [] second apart = record { one = tt; other = apart; between = tt }
 all_parts (track ∷ first) second apart =
-    let here = one_parts track first second apart.0 in
+    let here = parts_so _ first second apart.0 in
     let more = all_parts first second apart.1 in
     record { one = (here.0, more.one); other = more.other; between = (here.1, more.between) }
 
 all_joined : (first second : List Track) → AreBothApart first second → AreAllStreamsApart (first ++ second)
 all_joined [] second both = both.other
-all_joined (track ∷ first) second both =
-    (one_joined track first second both.one.0 both.between.0, all_joined first second (record { one = both.one.1; other = both.other; between = both.between.1 }))
-
-each_first : (first second third : List Track) → AreEachApart first (second ++ third) → AreEachApart first second
-each_first [] second third apart = tt
-each_first (track ∷ first) second third apart = ((one_parts track second third apart.0).0, each_first first second third apart.1)
-
-each_second : (first second third : List Track) → AreEachApart first (second ++ third) → AreEachApart first third
-each_second [] second third apart = tt
-each_second (track ∷ first) second third apart = ((one_parts track second third apart.0).1, each_second first second third apart.1)
-
-each_joined : (first second third : List Track) → AreEachApart first third → AreEachApart second third → AreEachApart (first ++ second) third
-each_joined [] second third a b = b
-each_joined (track ∷ first) second third a b = (a.0, each_joined first second third a.1 b)
-
-each_none : (tracks : List Track) → AreEachApart tracks []
-each_none [] = tt
-each_none (track ∷ tracks) = (tt, each_none tracks)
-
-each_more : (tracks : List Track) (track : Track) (more : List Track) → AreEachApart tracks (track ∷ []) → AreEachApart tracks more → AreEachApart tracks (track ∷ more)
-each_more [] track more a b = tt
-each_more (one ∷ tracks) track more a b = ((a.0.0, b.0), each_more tracks track more a.1 b.1)
-
-swap_one : (track : Track) (tracks : List Track) → IsStreamApart track tracks → AreEachApart tracks (track ∷ [])
-swap_one track [] apart = tt
-swap_one track (one ∷ tracks) apart = ((apart_swap track one apart.0, tt), swap_one track tracks apart.1)
-
-each_swap : (first second : List Track) → AreEachApart first second → AreEachApart second first
-each_swap [] second apart = each_none second
-each_swap (track ∷ first) second apart = each_more second track first (swap_one track second apart.0) (each_swap first second apart.1)
+all_joined (track ∷ first) second both = grind (arith, both_so, all_joined first second (record { one = both.one.1; other = both.other; between = both.between.1 }))
 
 nil_apart : (tracks : List Track) → AreAllStreamsApart tracks → AreAllStreamsApart (tracks ++ [])
 nil_apart tracks apart = subst (λ (all : List Track). AreAllStreamsApart all) (sym (append-nil tracks)) apart
@@ -108,64 +85,30 @@ nil_apart tracks apart = subst (λ (all : List Track). AreAllStreamsApart all) (
 front_apart : (front back : List Track) → AreAllStreamsApart (front ++ back) → AreAllStreamsApart front
 front_apart front back apart = (all_parts front back apart).one
 
+-- Streams are apart in another order too, and without some of them.
+ends_swap : (first second third : List Track) → AreAllStreamsApart (first ++ (second ++ third)) → AreAllStreamsApart (first ++ (third ++ second))
+ends_swap first second third apart = grind (arith, all_parts, each_parts, all_joined, each_swap, each_joined)
+
 -- A session whose streams are kept, or get one more, or are lost.
 record IsTurned (track : Option Track) (before after : PlayerSession) : Type 0 where
   part : PartTurn
   is : after.tracks ≡ tracks_then part before.tracks track
 
-part_apart : (part : PartTurn) (was : List Track) (track : Option Track) (more : List Track) → AreAllStreamsApart ((was ++ more) ++ option_to_list track) → AreAllStreamsApart (tracks_then part was track ++ more)
-part_apart Keeps was track more apart = front_apart (was ++ more) (option_to_list track) apart
-part_apart Loses was track more apart = (all_parts was more (front_apart (was ++ more) (option_to_list track) apart)).other
-part_apart Takes was track more apart =
-    let new = option_to_list track in
-    let outer = all_parts (was ++ more) new apart in
-    let inner = all_parts was more outer.one in
-    let new_and = each_swap (was ++ more) new outer.between in
-    all_joined (was ++ new) more (record {
-      one = all_joined was new (record { one = inner.one; other = outer.other; between = each_swap new was (each_first new was more new_and) });
-      other = inner.other;
-      between = each_joined was new more inner.between (each_second new was more new_and);
-    })
+part_apart : (first : List Track) (part : PartTurn) (was : List Track) (track : Option Track) (more : List Track) → AreAllStreamsApart ((first ++ was) ++ (more ++ option_to_list track)) → AreAllStreamsApart (first ++ (tracks_then part was track ++ more))
+part_apart first Keeps was track more apart = rw (← append_assoc) (front_apart ((first ++ was) ++ more) (option_to_list track) (rw append_assoc apart))
+part_apart first Loses was track more apart = front_apart (first ++ more) was (rw append_assoc (ends_swap first was more (rw (← append_assoc) (front_apart ((first ++ was) ++ more) (option_to_list track) (rw append_assoc apart)))))
+part_apart first Takes was track more apart = simp append_assoc (simp append_assoc at (ends_swap (first ++ was) more (option_to_list track) apart))
 
-part_each : (first : List Track) (part : PartTurn) (was : List Track) (track : Option Track) → AreEachApart first was → AreEachApart first (option_to_list track) → AreEachApart first (tracks_then part was track)
-part_each first part was track a b = grind (arith, each_swap, each_joined, each_none)
-
-turned_each : (first : List Track) (place : ℕ) (change : PlayerSession → PlayerSession) (track : Option Track) (sessions : List PlayerSession) → ((session : PlayerSession) → IsTurned track session (change session))
-    → AreEachApart first (tracks_of sessions) → AreEachApart first (option_to_list track) → AreEachApart first (tracks_of (changed_at place change sessions))
-turned_each first place change track [] turns a b = a
-turned_each first zero change track (one ∷ more) turns a b =
-    let turn = turns one in
-    subst (λ (tracks : List Track). AreEachApart first (tracks ++ tracks_of more)) (sym turn.is)
-    (each_swap (tracks_then turn.part one.tracks track ++ tracks_of more) first
-    (each_joined (tracks_then turn.part one.tracks track) (tracks_of more) first
-    (each_swap first (tracks_then turn.part one.tracks track) (part_each first turn.part one.tracks track (each_first first one.tracks (tracks_of more) a) b))
-    (each_swap first (tracks_of more) (each_second first one.tracks (tracks_of more) a))))
-turned_each first (suc place) change track (one ∷ more) turns a b =
-    each_swap (one.tracks ++ tracks_of (changed_at place change more)) first
-    (each_joined one.tracks (tracks_of (changed_at place change more)) first (each_swap first one.tracks (each_first first one.tracks (tracks_of more) a))
-    (each_swap first (tracks_of (changed_at place change more)) (turned_each first place change track more turns (each_second first one.tracks (tracks_of more) a) b)))
-
-turned_apart : (place : ℕ) (change : PlayerSession → PlayerSession) (track : Option Track) (sessions : List PlayerSession) → ((session : PlayerSession) → IsTurned track session (change session))
-    → AreAllStreamsApart (tracks_of sessions ++ option_to_list track) → AreAllStreamsApart (tracks_of (changed_at place change sessions))
-turned_apart place change track [] turns apart = tt
-turned_apart zero change track (one ∷ more) turns apart =
-    let turn = turns one in
-    subst (λ (tracks : List Track). AreAllStreamsApart (tracks ++ tracks_of more)) (sym turn.is) (part_apart turn.part one.tracks track (tracks_of more) apart)
-turned_apart (suc place) change track (one ∷ more) turns apart =
-    let new = option_to_list track in
-    let outer = all_parts (one.tracks ++ tracks_of more) new apart in
-    let inner = all_parts one.tracks (tracks_of more) outer.one in
-    let new_and = each_swap (one.tracks ++ tracks_of more) new outer.between in
-    all_joined one.tracks (tracks_of (changed_at place change more)) (record {
-      one = inner.one;
-      other = turned_apart place change track more turns
-          (all_joined (tracks_of more) new (record { one = inner.other; other = outer.other; between = each_swap new (tracks_of more) (each_second new one.tracks (tracks_of more) new_and) }));
-      between = turned_each one.tracks place change track more turns inner.between (each_swap new one.tracks (each_first new one.tracks (tracks_of more) new_and));
-    })
+turned_apart : (first : List Track) (place : ℕ) (change : PlayerSession → PlayerSession) (track : Option Track) (sessions : List PlayerSession) → ((session : PlayerSession) → IsTurned track session (change session))
+    → AreAllStreamsApart (first ++ (tracks_of sessions ++ option_to_list track)) → AreAllStreamsApart (first ++ tracks_of (changed_at place change sessions))
+turned_apart first place change track [] turns apart = nil_apart first (front_apart first (option_to_list track) apart)
+turned_apart first zero change track (one ∷ more) turns apart = grind (arith, part_apart, append_assoc)
+turned_apart first (suc place) change track (one ∷ more) turns apart = simp append_assoc at (turned_apart (first ++ one.tracks) place change track more turns (simp append_assoc (simp append_assoc at apart)))
 
 turned_where : (place : Option ℕ) (change : PlayerSession → PlayerSession) (track : Option Track) (sessions : List PlayerSession) → ((session : PlayerSession) → IsTurned track session (change session))
     → AreAllStreamsApart (tracks_of sessions ++ option_to_list track) → AreAllStreamsApart (tracks_of (changed_where place change sessions))
-turned_where place change track sessions turns apart = grind (arith, front_apart, turned_apart)
+turned_where None change track sessions turns apart = front_apart (tracks_of sessions) (option_to_list track) apart
+turned_where (Some place) change track sessions turns apart = turned_apart [] place change track sessions turns apart
 
 -- what a reply makes of the streams
 after_apart : (purpose : Purpose) (number code : ℕ) (described id : Option (List ℕ)) (sessions : List PlayerSession) → AreAllStreamsApart (tracks_of sessions ++ stream_asked (Some purpose))
@@ -201,16 +144,9 @@ abbrev AreFreeFor : List Track → Option Pair → Type 0
 AreFreeFor tracks None = Unit {0}
 AreFreeFor tracks (Some channels) = is_taken tracks channels ≡ false
 
-asked_apart : (n : ℕ) (tracks : List Track) (uri : List ℕ) (pair : Option ℕ) (channels : Option Pair) → IsNextPair n pair → ArePairsBelow n tracks → AreFreeFor tracks channels → AreAllStreamsApart tracks
-    → AreAllStreamsApart (tracks ++ option_to_list (track_of uri pair channels))
-asked_apart n tracks uri pair channels next below free apart = grind (arith, nil_apart, all_joined, new_apart)
-
-free_of : (sessions : List PlayerSession) (going : Option Going) (one : Going) → going ≡ Some one → IsGoingIn (map session_found sessions) going → length (tracks_of sessions) ≤ 63 → AreFreeFor (tracks_of sessions) one.channels
-free_of sessions going one is all few = grind (arith, seen_tracks)
-
 goes_apart : (n : ℕ) (one : Option Going) (pair : Option ℕ) (hand : List ℕ) (before client : Client) → IsNextPair n pair → ArePairsBelow n (tracks_of before.sessions) → length (tracks_of before.sessions) ≤ 63
     → IsGoingIn (map session_found before.sessions) one → AreAllStreamsApart (tracks_of before.sessions) → tracks_of client.sessions ≡ tracks_of before.sessions → AreAllStreamsApart (streams_of client) → AreAllStreamsApart (streams_of (goes_at one pair hand client).client)
-goes_apart n one pair hand before client next below few free apart same all = grind (arith, asked_apart, free_of)
+goes_apart n one pair hand before client next below few free apart same all = grind (arith, nil_apart, all_joined, new_apart, seen_tracks)
 
 going_apart : (bases : Bases) (n : ℕ) (pair : Option ℕ) (next : NextPart) (client : Client) → IsNextPair n pair → ArePairsBelow n (tracks_of client.sessions) → IsInPlace client → AreAllStreamsApart (streams_of client)
     → AreAllStreamsApart (streams_of (going_on bases pair next client).client)

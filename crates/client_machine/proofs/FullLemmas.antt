@@ -4,17 +4,16 @@ use Rattle.rtsp_head.specs.Items.{Shape}
 use Rattle.rtsp_uri.specs.declared.base.Bases.{Bases}
 use Rattle.translate_up.specs.Setups.{is_setup_item}
 use Rattle.translate_up.specs.Views.{Given}
-use Rattle.translate_up.specs.Decisions.{decide}
 use Rattle.translate_up.specs.declared.decision.Decision.{Decision}
 use Rattle.translate_up.specs.declared.decision.Decision.TheVariants.{Answer}
 use Rattle.translate_up.proofs.DecisionLemmas.{IsPlain, decide_plain, decide_marked}
-use Rattle.client_slot.specs.declared.purpose.Purpose.{Purpose}
 use Rattle.client_slot.specs.Client.{Client}
 use Rattle.client_machine.specs.OpenRequests.{has_setup}
 use Rattle.client_machine.specs.Events.{PrivateEvent}
 use Rattle.client_machine.specs.Treatment.{given, fits_memory, decision_on, Going, Treated, treated_first, treated}
 use Rattle.client_machine.specs.Step as going
-use Rattle.client_machine.specs.Step.{NextPart, hear, going_on, step}
+use Rattle.client_machine.specs.Step.{hear, step}
+use Rattle.client_machine.proofs.TreatLemmas.{decision_as}
 
 pub either_false : (a b : Bool) → (a || b) ≡ false → (a ≡ false) × (b ≡ false)
 either_false a b e = grind arith
@@ -42,9 +41,6 @@ abbrev IsPlainGoing : Option Going → Type 0
 IsPlainGoing None = Unit {0}
 IsPlainGoing (Some one) = one.channels ≡ None
 
-either_plain : (fits : Bool) (decision : Decision) → IsPlain decision → IsPlain (cond fits decision (Answer []))
-either_plain fits decision h2 = grind arith
-
 first_plain : (decision : Decision) (given : Given) (more : List Shape) (again : Given → Treated) → IsPlain decision → ((one : Given) → IsPlainGoing (again one).going)
     → IsPlainGoing (treated_first decision given more again).going
 first_plain decision given more again h4 later = grind arith
@@ -53,7 +49,7 @@ treated_plain : (shapes : List Shape) (given : Given) → has_setup shapes ≡ f
 treated_plain [] given none = tt
 treated_plain (shape ∷ more) given none =
     let parts = either_false (is_setup_item shape) (has_setup more) none in
-    first_plain (decision_on given shape) given more (treated more) (either_plain (fits_memory shape) (decide given shape) (decide_plain given shape parts.0)) (λ one. treated_plain more one parts.1)
+    first_plain (decision_on given shape) given more (treated more) (decision_as IsPlain given shape (decide_plain given shape parts.0) tt) (λ one. treated_plain more one parts.1)
 
 goes_plain : (one : Option Going) (p : ℕ) (text : List ℕ) (client : Client) → IsPlainGoing one → going.goes_at one None text client ≡ going.goes_at one (Some p) text client
 goes_plain one p text client h4 = grind arith
@@ -65,21 +61,6 @@ treat_unmarked bases p client none =
     (going.after_plays (treated client.waiting (given bases false client)).plays (record client { waiting = (treated client.waiting (given bases false client)).left }))
     (treated_plain client.waiting (given bases false client) none)
 
-due_unmarked : (bases : Bases) (p : ℕ) (place : Option ℕ) (client : Client) → has_setup client.waiting ≡ false → going.go_due bases None place client ≡ going.go_due bases (Some p) place client
-due_unmarked bases p place client none = grind (arith, treat_unmarked)
-
-idle_unmarked : (bases : Bases) (p : ℕ) (alive : Bool) (client : Client) → has_setup client.waiting ≡ false → going.go_idle bases None alive client ≡ going.go_idle bases (Some p) alive client
-idle_unmarked bases p alive client none = grind (arith, due_unmarked)
-
-at_unmarked : (bases : Bases) (p : ℕ) (pending : Option Purpose) (client : Client) → has_setup client.waiting ≡ false → going.go_at bases None pending client ≡ going.go_at bases (Some p) pending client
-at_unmarked bases p pending client none = grind (arith, idle_unmarked)
-
-pub go_unmarked : (bases : Bases) (p : ℕ) (client : Client) → has_setup client.waiting ≡ false → going.go bases None client ≡ going.go bases (Some p) client
-go_unmarked bases p client none = at_unmarked bases p client.pending client none
-
-pub going_unmarked : (bases : Bases) (p : ℕ) (next : NextPart) (client : Client) → has_setup client.waiting ≡ false → going_on bases None next client ≡ going_on bases (Some p) next client
-going_unmarked bases p next client none = grind (arith, go_unmarked)
-
 pub step_unmarked : (bases : Bases) (number p : ℕ) (client : Client) (event : PrivateEvent) → has_setup (hear bases number client event).effect.client.waiting ≡ false
     → step bases number None client event ≡ step bases number (Some p) client event
-step_unmarked bases number p client event none = grind (arith, going_unmarked)
+step_unmarked bases number p client event none = grind (arith, treat_unmarked)

@@ -1,11 +1,9 @@
 -- What a step keeps of a connection's sessions and of their streams, and for whom a request goes up.
-use Rattle.std.proofs.Common.{◌≡◌, ◌∙◌, ℕ, zero, suc, ◌+◌, ◌==◌, Bool, true, false, cond, List, [], ◌∷◌, ◌++◌, map, Option, Some, None, refl, sym, ap, subst, arith}
-use Rattle.std.specs.Prelude.{is_none, length}
+use Rattle.std.proofs.Common.{◌≡◌, ◌∙◌, ℕ, zero, suc, ◌+◌, Bool, true, false, List, [], ◌∷◌, ◌++◌, map, Option, Some, None, refl, sym, ap, subst, arith}
+use Rattle.std.specs.Prelude.{is_none}
 use Rattle.rtsp_uri.specs.declared.base.Bases.{Bases}
 use Rattle.session_one.specs.declared.parts.Play.{Play}
 use Rattle.session_one.specs.declared.parts.Track.{Track}
-use Rattle.session_one.specs.declared.table.State.TheVariants.{Ready}
-use Rattle.session_two.specs.Ends.{end_counts}
 use Rattle.translate_down.specs.Replies.{Told}
 use Rattle.client_slot.specs.declared.purpose.Purpose.{Purpose}
 use Rattle.client_slot.specs.declared.purpose.Purpose.TheVariants as purposes
@@ -15,8 +13,8 @@ use Rattle.client_slot.specs.Places.{session_at, changed_at, changed_where, firs
 use Rattle.client_slot.specs.Client.{Client}
 use Rattle.client_slot.specs.Changes.{after_queueing, after_waiting, settle_with, after_note, after_close}
 use Rattle.client_machine.specs.Events.{Outgoing, asks, PrivateEvent, answer}
-use Rattle.client_machine.specs.Treatment.{given, Going, Treated, treated}
-use Rattle.client_machine.specs.Step.{after_plays, goes_at, goes_with, NextPart, new_id, hear, going_on}
+use Rattle.client_machine.specs.Treatment.{given, Treated, treated}
+use Rattle.client_machine.specs.Step.{after_plays, goes_with, NextPart, new_id, hear, going_on}
 use Rattle.client_machine.proofs.WayLemmas.{hear_as, going_as}
 
 -- a session has its id and its streams as before
@@ -60,9 +58,7 @@ pub same_first : (test : Option (List ℕ) → Bool) (place : ℕ) (a b : List P
 same_first test place [] [] same = refl
 same_first test place [] (y ∷ b) same = absurd same
 same_first test place (x ∷ a) [] same = absurd same
-same_first test place (x ∷ a) (y ∷ b) same =
-    ap (λ (id : Option (List ℕ)). cond (test id) (Some place) (first_place (λ session. test session.id) (place + 1) b)) same.0.id
-    ∙ ap (λ (later : Option ℕ). cond (test x.id) (Some place) later) (same_first test (place + 1) a b same.1)
+same_first test place (x ∷ a) (y ∷ b) same = grind (arith, same_first test (place + 1) a b same.1)
 
 pub changed_same : (place : ℕ) (change : PlayerSession → PlayerSession) (sessions : List PlayerSession) → ((session : PlayerSession) → IsSame session (change session)) → AreSame sessions (changed_at place change sessions)
 changed_same place change [] keeps = tt
@@ -76,6 +72,11 @@ mapped_same : (change : PlayerSession → PlayerSession) (sessions : List Player
 mapped_same change [] keeps = tt
 mapped_same change (one ∷ more) keeps = (keeps one, mapped_same change more keeps)
 
+-- PLAYs that wait change nothing but the sessions.
+pub plays_kept : (plays : List Play) (client : Client) → after_plays plays client ≡ record client { sessions = (after_plays plays client).sessions }
+plays_kept [] client = refl
+plays_kept (play ∷ plays) client = plays_kept plays (after_queueing play client)
+
 -- The sessions with their streams, and whether it is alive, are as before.
 pub record IsSteady (before after : Client) : Type 0 where
   pub sessions : AreSame before.sessions after.sessions
@@ -84,21 +85,15 @@ pub record IsSteady (before after : Client) : Type 0 where
 pub plays_steady : (plays : List Play) (client : Client) → IsSteady client (after_plays plays client)
 plays_steady [] client = record { sessions = all_same client.sessions; alive = refl }
 plays_steady (play ∷ plays) client =
-    let later : IsSteady (after_queueing play client) (after_plays plays (after_queueing play client)) = plays_steady plays (after_queueing play client) in
-    record {
-      sessions = same_then client.sessions (after_queueing play client).sessions (after_plays plays (after_queueing play client)).sessions
-          (where_same play.place (when_queued play) client.sessions (λ session. record { id = refl; tracks = refl })) later.sessions;
-      alive = later.alive;
-    }
-
-goes_steady : (one : Option Going) (pair : Option ℕ) (hand : List ℕ) (before client : Client) → IsSteady before client → IsSteady before (goes_at one pair hand client).client
-goes_steady one pair hand before client steady = grind arith
+    let later = plays_steady plays (after_queueing play client) in
+    let same = where_same play.place (when_queued play) client.sessions (λ session. record { id = refl; tracks = refl }) in
+    record { sessions = same_then client.sessions (after_queueing play client).sessions (after_plays plays (after_queueing play client)).sessions same later.sessions; alive = later.alive }
 
 treat_steady : (all : Treated) (pair : Option ℕ) (client : Client) → IsSteady client (goes_with all pair client).client
 treat_steady all pair client =
     let left : Client = record client { waiting = all.left } in
     let steady : IsSteady left (after_plays all.plays left) = plays_steady all.plays left in
-    goes_steady all.going pair all.hand client (after_plays all.plays left) (record { sessions = steady.sessions; alive = steady.alive })
+    (grind arith)
 
 pub going_steady : (bases : Bases) (pair : Option ℕ) (next : NextPart) (client : Client) → IsSteady client (going_on bases pair next client).client
 going_steady bases pair next client = going_as (λ effect. IsSteady client effect.client) bases pair next client (record {
@@ -135,9 +130,6 @@ abbrev pub IsNoAnswer : PrivateEvent → Type 0
 IsNoAnswer (answer told ssrc full) = ⊥
 IsNoAnswer event = Unit {0}
 
-ended_same : (counts : Bool) (session : PlayerSession) → IsSame session (cond counts (record session { state = cond (length session.queue == 0) Ready session.state; running = None }) session)
-ended_same counts session = grind arith
-
 -- what an event makes of a connection by itself: it settles what is open, or keeps this
 pub heard_as : (P : Client → Type 0) (bases : Bases) (number : ℕ) (client : Client) (event : PrivateEvent) → ((after : Client) → IsHeldStill client after → P after)
     → ((purpose : Purpose) (told : Told) (ssrc : Option ℕ) (full : Bool) → event ≡ answer told ssrc full → client.pending ≡ Some purpose → P (settle_with (Some purpose) number told.code (new_id purpose told) client))
@@ -150,7 +142,7 @@ heard_as P bases number client event still settles = hear_as (λ heard. P heard.
   settles = λ purpose told ssrc full here late is.
       subst (λ (one : Option Purpose). P (settle_with one number told.code (new_id purpose told) client)) (sym is) (settles purpose told ssrc full here is);
   notes = λ id names here. still (after_note (place_with id client.sessions) names client)
-      (record { sessions = where_same (place_with id client.sessions) (when_ended names) client.sessions (λ session. ended_same (end_counts session.running names) session); pending = refl });
+      (record { sessions = where_same (place_with id client.sessions) (when_ended names) client.sessions (λ session. (grind arith)); pending = refl });
   gives = λ pair half channel rest here is alive. still client (record { sessions = all_same client.sessions; pending = refl });
 })
 

@@ -15,7 +15,7 @@ use Rattle.client_slot.specs.Session.{PlayerSession}
 use Rattle.client_slot.specs.Places.{session_at, session_where, changed_where, place_with, empty_place, filled_place}
 use Rattle.client_slot.specs.SessionChanges.{when_ended, when_unqueued}
 use Rattle.client_slot.specs.Client.{Client}
-use Rattle.client_slot.specs.Changes.{purpose_place, settled_place, sessions_after, described_after, due_place, after_waiting, after_note, after_close}
+use Rattle.client_slot.specs.Changes.{settled_place, sessions_after, described_after, due_place, after_waiting, after_note, after_close}
 use Rattle.client_slot.specs.declared.limits.TheConstants.{MOST_WAITING}
 use Rattle.client_slot.proofs.PlaceLemmas.{place_is, first_mapped}
 use Rattle.client_machine.specs.declared.why.CloseWhy.{CloseWhy}
@@ -58,11 +58,6 @@ plan_from bases next pair client comes first change plan is ready steps =
       does = λ number. step_done bases next pair client comes first plan number (step number);
     }
 
--- a request that comes waits, and then what may go up does
-pub request_same : (bases : Bases) (number : ℕ) (pair : Option ℕ) (client : Client) (shape : Shape) → client.alive ≡ true → shape.kind ≡ kinds.Request →
-    effect_by bases number pair client (requests shape) ≡ (let later = go bases pair (after_waiting (shape ∷ []) client) in record { client = later.client; hand = later.hand; message = later.message; close = later.close })
-request_same bases number pair client shape lives kind = grind arith
-
 -- the final reply
 by_code : (early : Bool) (code : ℕ) → nat_lt code 200 ≡ early → 200 ≤ code → nat_lt code 200 ≡ false
 by_code early code e last = grind arith
@@ -84,20 +79,7 @@ made_place None true false sessions after same = by (empty_place sessions) refl
     by (Some place) e =
         subst (λ (all : List PlayerSession). ◌≡◌ {A = Option (List ℕ)} None (session_at place all).id) (sym (same refl refl)) (none_there (session_at place sessions).id (place_is (λ session. is_none session.id) place sessions e).passes)
 
-pub own_place : (purpose : Purpose) (number code : ℕ) (described id : Option (List ℕ)) (sessions : List PlayerSession)
-    → (session_where (settled_place purpose id sessions) (sessions_after purpose number code described id sessions)).id ≡ (session_where (purpose_place purpose sessions) (sessions_after purpose number code described id sessions)).id
-own_place purpose number code described id sessions = grind (arith, made_place)
-
--- A final reply settles, and then what may go up does.
-pub settle_plan : (bases : Bases) (next : ℕ) (pair : Option ℕ) (client : Client) (reply : Reply2) (ssrc : Option ℕ) (purpose : Purpose) (made : Option MadeSession) (seen : List Sight) (described : Option (List ℕ)) (hand : List ℕ) (plan : PlannedStep) →
-    client.pending ≡ Some purpose → 200 ≤ reply.code → id_made made ≡ new_id purpose (told_by reply) → (IsSome made → described_made made ≡ client.described) →
-    ((number : ℕ) → seen ≡ map sight (sessions_after purpose number reply.code client.described (id_made made) client.sessions)) →
-    ((number : ℕ) → described ≡ described_after purpose reply.code (sessions_after purpose number reply.code client.described (id_made made) client.sessions) client.described) →
-    ((number : ℕ) → hand ≡ reply_hand bases client.alive purpose (told_by reply) ssrc (session_where (settled_place purpose (id_made made) client.sessions) (sessions_after purpose number reply.code client.described (id_made made) client.sessions)).id) →
-    GoesOnward bases next pair client seen described hand (changes.Settles reply.code made) plan → IsPlan bases next pair client (replies reply ssrc) plan
-settle_plan bases next pair client reply ssrc purpose made seen described hand plan open_for last is about shows tells handed goes = grind (arith, plan_from, by_code, nat_lt, own_place)
-
--- by the code and the id as they were read
+-- A final reply settles, by the code and the id as they were read, and then what may go up does.
 pub settle_from : (bases : Bases) (next : ℕ) (pair : Option ℕ) (client lives : Client) (reply : Reply2) (ssrc : Option ℕ) (purpose : Purpose) (code : ℕ) (id own : Option (List ℕ)) (made : Option MadeSession) (seen : List Sight) (described : Option (List ℕ)) (hand : List ℕ) (plan : PlannedStep) →
     client.pending ≡ Some purpose → 200 ≤ reply.code → code ≡ reply.code → id_made made ≡ id → id ≡ new_id purpose (told_by reply) → (IsSome made → described_made made ≡ client.described) → lives ≡ client →
     ((number : ℕ) → seen ≡ map sight (sessions_after purpose number code client.described id client.sessions)) →
@@ -106,15 +88,7 @@ pub settle_from : (bases : Bases) (next : ℕ) (pair : Option ℕ) (client lives
     hand ≡ reply_hand bases client.alive purpose (told_by reply) ssrc own → GoesOnward bases next pair lives seen described hand (changes.Settles code made) plan → IsPlan bases next pair client (replies reply ssrc) plan
 settle_from bases next pair client lives reply ssrc purpose code id own made seen described hand plan open_for last same makes is about there shows tells owns handed goes =
     let then : ℕ → ℕ → Option (List ℕ) → List PlayerSession = λ number k one. sessions_after purpose number k client.described one client.sessions in
-    settle_plan bases next pair client reply ssrc purpose made seen described hand plan open_for last (makes ∙ is) about
-    (λ number. shows number ∙ ap (λ k. map sight (then number k id)) same ∙ ap (λ (one : Option (List ℕ)). map sight (then number reply.code one)) (sym makes))
-    (λ number. tells number ∙ ap (λ k. described_after purpose k (then number k id) client.described) same ∙ ap (λ (one : Option (List ℕ)). described_after purpose reply.code (then number reply.code one) client.described) (sym makes))
-    (λ number. handed ∙ ap (reply_hand bases client.alive purpose (told_by reply) ssrc)
-    (owns number
-    ∙ ap (λ k. (session_where (settled_place purpose id client.sessions) (then number k id)).id) same
-    ∙ ap (λ (one : Option (List ℕ)). (session_where (settled_place purpose one client.sessions) (then number reply.code one)).id) (sym makes)))
-    (subst (λ k. GoesOnward bases next pair client seen described hand (changes.Settles k made) plan) same
-    (subst (λ (one : Client). GoesOnward bases next pair one seen described hand (changes.Settles code made) plan) there goes))
+    (grind (arith, plan_from, by_code, nat_lt, made_place))
 
 -- The plans for a request that comes.
 pub plan_waits : (bases : Bases) (next : ℕ) (pair : Option ℕ) (client : Client) (shape : Shape) (change : Change) (up : Up) (plan : PlannedStep) → shape.kind ≡ kinds.Request → length client.waiting < MOST_WAITING → client.alive ≡ true → client.pending ≡ None →
@@ -128,7 +102,7 @@ plan_waits bases next pair client shape change up plan kind space lives idle due
           subst (λ (one : PlannedStep). Onward next pair waiting [] one (go bases pair waiting)) (sym is)
           (subst (Onward next pair waiting [] (still change [] up)) (sym (go_alive bases pair waiting idle lives))
           (due_onward bases next pair waiting (map sight client.sessions) change [] up idle refl due (due_place waiting) refl (go_due bases pair) (λ k. refl)));
-      same = request_same bases number pair client shape lives kind;
+      same = (grind arith);
     })
 
 pub plan_before : (bases : Bases) (next : ℕ) (pair : Option ℕ) (client : Client) (last : Given) (shape : Shape) (progress : Progress) (change : Change) (plan : PlannedStep) → shape.kind ≡ kinds.Request → length client.waiting < MOST_WAITING →
@@ -141,7 +115,7 @@ plan_before bases next pair client last shape progress change plan kind space li
       onward =
           treat_onward bases next pair (after_waiting (shape ∷ []) client) last (client.waiting ++ shape ∷ []) [] progress change plan lives idle due
           (done_before client (given bases (is_none pair) client) last shape progress refl all goes) finished;
-      same = request_same bases number pair client shape lives kind;
+      same = (grind arith);
     })
 
 pub plan_with : (bases : Bases) (next : ℕ) (pair : Option ℕ) (client : Client) (last then : Given) (shape : Shape) (progress more : Progress) (plan : PlannedStep) → shape.kind ≡ kinds.Request → client.alive ≡ true → client.pending ≡ None → due_place client ≡ None →
@@ -154,7 +128,7 @@ plan_with bases next pair client last then shape progress more plan kind lives i
       onward =
           treat_onward bases next pair client then (client.waiting ++ shape ∷ []) [] more changes.Nothing plan lives idle due
           (done_and client (given bases (is_none pair) client) last then shape progress more refl all (not_going progress.going goes) head is after) finished;
-      same = request_same bases number pair client shape lives kind;
+      same = (grind arith);
     })
 
 -- The end of what plays was told.

@@ -1,55 +1,42 @@
 -- A step is the same under every numbering that tells apart what the event names.
-use Rattle.std.proofs.Common.{◌≡◌, ◌∙◌, ℕ, ◌==◌, nat_lt, Bool, true, cond, List, [], ◌∷◌, map, Option, Some, None, refl, sym, ap, arith}
+use Rattle.std.proofs.Common.{◌≡◌, ◌∙◌, ℕ, nat_lt, Bool, true, cond, List, [], ◌∷◌, map, Option, Some, None, refl, sym, ap, arith}
 use Rattle.std.specs.Prelude.{◌++◌, is_none}
 use Rattle.std.specs.Option.{option_map, option_or}
-use Rattle.std.specs.List.{find}
 use Rattle.rtsp_head.specs.Items.{Shape}
 use Rattle.rtsp_head.specs.declared.item.ItemKind.{ItemKind}
 use Rattle.rtsp_head.specs.declared.item.ItemKind.TheVariants.{Request, Response, Frame, Bad}
-use Rattle.rtsp_small.specs.declared.notify.NotifyReason.{NotifyReason}
-use Rattle.rtsp_transport.specs.declared.channels.Pair.{Pair}
 use Rattle.rtsp_uri.specs.declared.base.Bases.{Bases}
 use Rattle.session_one.specs.declared.parts.Play.{Play}
 use Rattle.session_one.specs.declared.parts.Track.{Track}
 use Rattle.translate_up.specs.Views.{session_with_pairs}
-use Rattle.session_two.specs.declared.names.Names.{Names}
 use Rattle.translate_down.specs.Replies.{Told}
 use Rattle.client_slot.specs.declared.purpose.Purpose.{Purpose}
 use Rattle.client_slot.specs.Client.{Client}
 use Rattle.client_slot.specs.Session.{PlayerSession}
-use Rattle.client_slot.specs.Places.{session_where, place_with, tracks_of}
+use Rattle.client_slot.specs.Places.{tracks_of}
 use Rattle.client_slot.specs.Changes.{due_place, closing_place, purpose_place, after_queueing}
-use Rattle.client_slot.specs.Renumber.{track_under, purpose_under, client_under, names_under, AreToldApart}
+use Rattle.client_slot.specs.Renumber.{track_under, purpose_under, client_under}
 use Rattle.client_slot.proofs.RenumberLemmas.{sessions_under, at_under, where_under, place_under, reply_under, note_under, queueing_under, due_under, queued_under, release_under, close_under, left_under, closing_under}
 use Rattle.client_machine.specs.declared.why.CloseWhy.{CloseWhy}
 use Rattle.client_machine.specs.declared.why.CloseWhy.TheVariants as why
-use Rattle.client_machine.specs.Events.{Effect, hands, then_effect, PrivateEvent}
-use Rattle.client_machine.specs.Frames.{channel_in, behind_channel, Half, half_on, half_for, player_channel, channel_for}
-use Rattle.client_machine.specs.Treatment.{session_found, given, Going, Treated, treated}
+use Rattle.client_machine.specs.Events.{Effect, then_effect, PrivateEvent}
+use Rattle.client_machine.specs.Frames.{channel_in, behind_channel, Half, half_on, half_for, channel_for}
+use Rattle.client_machine.specs.Treatment.{session_found, given, Treated, treated}
 use Rattle.client_machine.specs.Step as going
-use Rattle.client_machine.specs.Step.{NextPart, goes_on, Hearing, idles, closes, carry, take_item, take, new_id, reply_for, id_after, settled, settle_at, take_answer, take_note, give, take_media, hear, going_on, heard_step, step}
+use Rattle.client_machine.specs.Step.{NextPart, Hearing, idles, closes, carry, take_item, take, id_after, settled, settle_at, take_answer, take_media, hear, going_on, step}
 use Rattle.client_machine.specs.Renumber.{effect_under, event_under, AreTracksApart, IsToldApart}
-use Rattle.client_machine.proofs.BlindLemmas.{treated_under}
-
--- the same channels go to the stream
-pair_same : (pairs : ℕ → ℕ) (channels : Option Pair) (pair : Option ℕ) → going.pair_if_wanted channels (option_map pairs pair) ≡ option_map pairs (going.pair_if_wanted channels pair)
-pair_same pairs channels pair = grind arith
+use Rattle.client_machine.proofs.TreatLemmas.{treated_under}
 
 none_same : (pairs : ℕ → ℕ) (pair : Option ℕ) → is_none (option_map pairs pair) ≡ is_none pair
 none_same pairs pair = grind arith
 
 plays_under : (numbers pairs : ℕ → ℕ) (plays : List Play) (client : Client) → going.after_plays plays (client_under numbers pairs client) ≡ client_under numbers pairs (going.after_plays plays client)
 plays_under numbers pairs [] client = refl
-plays_under numbers pairs (play ∷ plays) client =
-    ap (going.after_plays plays) (sym (queueing_under numbers pairs play client)) ∙ plays_under numbers pairs plays (after_queueing play client)
-
-goes_at_under : (numbers pairs : ℕ → ℕ) (one : Option Going) (pair : Option ℕ) (hand : List ℕ) (client : Client)
-    → going.goes_at one (option_map pairs pair) hand (client_under numbers pairs client) ≡ effect_under numbers pairs (going.goes_at one pair hand client)
-goes_at_under numbers pairs one pair hand client = grind arith
+plays_under numbers pairs (play ∷ plays) client = grind (arith, queueing_under, plays_under numbers pairs plays (after_queueing play client))
 
 goes_with_under : (numbers pairs : ℕ → ℕ) (all : Treated) (pair : Option ℕ) (client : Client)
     → going.goes_with all (option_map pairs pair) (client_under numbers pairs client) ≡ effect_under numbers pairs (going.goes_with all pair client)
-goes_with_under numbers pairs all pair client = grind (arith, plays_under, goes_at_under)
+goes_with_under numbers pairs all pair client = grind (arith, plays_under)
 
 -- what requests are judged by
 seen_under : (numbers pairs : ℕ → ℕ) (sessions : List PlayerSession) → map session_found (sessions_under numbers pairs sessions) ≡ map (session_with_pairs pairs) (map session_found sessions)
@@ -141,9 +128,6 @@ item_under numbers pairs (Bad kind) shape client = closes_under numbers pairs tr
 take_under : (numbers pairs : ℕ → ℕ) (alive : Bool) (shape : Shape) (client : Client) → take alive shape (client_under numbers pairs client) ≡ heard_under numbers pairs (take alive shape client)
 take_under numbers pairs alive shape client = grind (arith, item_under)
 
-id_same : (pairs : ℕ → ℕ) (purpose : Purpose) (told : Told) → new_id (purpose_under pairs purpose) told ≡ new_id purpose told
-id_same pairs purpose told = grind arith
-
 purpose_place_under : (numbers pairs : ℕ → ℕ) (purpose : Purpose) (sessions : List PlayerSession) → purpose_place (purpose_under pairs purpose) (sessions_under numbers pairs sessions) ≡ purpose_place purpose sessions
 purpose_place_under numbers pairs purpose sessions = grind (arith, place_under)
 
@@ -151,15 +135,9 @@ purpose_place_under numbers pairs purpose sessions = grind (arith, place_under)
 id_after_under : (numbers pairs : ℕ → ℕ) (purpose : Purpose) (client after : Client) → id_after (purpose_under pairs purpose) (client_under numbers pairs client) (client_under numbers pairs after) ≡ id_after purpose client after
 id_after_under numbers pairs purpose client after = grind (arith, sessions_under, purpose_place_under, where_under)
 
-text_same : (pairs : ℕ → ℕ) (bases : Bases) (purpose : Purpose) (told : Told) (ssrc : Option ℕ) (id : Option (List ℕ)) → reply_for bases (purpose_under pairs purpose) told ssrc id ≡ reply_for bases purpose told ssrc id
-text_same pairs bases purpose told ssrc id = grind arith
-
-abbrev hears : List ℕ → Client → Hearing
-hears text then = record { effect = hands text then; next = goes_on }
-
 settled_under : (numbers pairs : ℕ → ℕ) (bases : Bases) (number : ℕ) (purpose : Purpose) (told : Told) (ssrc : Option ℕ) (client : Client)
     → settled bases (numbers number) (purpose_under pairs purpose) told ssrc (client_under numbers pairs client) ≡ heard_under numbers pairs (settled bases number purpose told ssrc client)
-settled_under numbers pairs bases number purpose told ssrc client = grind (arith, id_same, reply_under, id_after_under, text_same)
+settled_under numbers pairs bases number purpose told ssrc client = grind (arith, reply_under, id_after_under)
 
 settle_at_under : (numbers pairs : ℕ → ℕ) (bases : Bases) (number : ℕ) (pending : Option Purpose) (told : Told) (ssrc : Option ℕ) (client : Client)
     → settle_at bases (numbers number) (option_map (purpose_under pairs) pending) told ssrc (client_under numbers pairs client) ≡ heard_under numbers pairs (settle_at bases number pending told ssrc client)
@@ -174,38 +152,21 @@ answer_under : (numbers pairs : ℕ → ℕ) (bases : Bases) (number : ℕ) (tol
 answer_under numbers pairs bases number told ssrc client =
     answer_by numbers pairs (nat_lt told.code 200) client _ (settle_at bases number client.pending told ssrc client) (settle_at_under numbers pairs bases number client.pending told ssrc client)
 
-take_note_under : (numbers pairs : ℕ → ℕ) (id : List ℕ) (reason : NotifyReason) (names : Names) (client : Client) → AreToldApart numbers (session_where (place_with id client.sessions) client.sessions).running names
-    → take_note id reason (names_under numbers names) (client_under numbers pairs client) ≡ heard_under numbers pairs (take_note id reason names client)
-take_note_under numbers pairs id reason names client apart = grind (arith, place_under, note_under)
-
-found_by : (pairs : ℕ → ℕ) (here : Bool) (half : ℕ) (track : Track) (moved found : Option Track) → option_map (player_channel half) moved ≡ option_map (player_channel half) found
-    → option_map (player_channel half) (cond here (Some (track_under pairs track)) moved) ≡ option_map (player_channel half) (cond here (Some track) found)
-found_by pairs here half track moved found same = grind arith
-
 channel_same : (pairs : ℕ → ℕ) (pair half : ℕ) (tracks : List Track) → AreTracksApart pairs pair tracks → channel_for (pairs pair) half (map (track_under pairs) tracks) ≡ channel_for pair half tracks
 channel_same pairs pair half [] apart = refl
-channel_same pairs pair half (track ∷ tracks) apart =
-    ap (λ here. option_map (player_channel half) (cond here (Some (track_under pairs track)) (find (λ one. one.pair == pairs pair) (map (track_under pairs) tracks)))) apart.0
-    ∙ found_by pairs (track.pair == pair) half track (find (λ one. one.pair == pairs pair) (map (track_under pairs) tracks)) (find (λ one. one.pair == pair) tracks) (channel_same pairs pair half tracks apart.1)
-
-give_under : (numbers pairs : ℕ → ℕ) (channel : Option ℕ) (rest : List ℕ) (client : Client) → give channel rest (client_under numbers pairs client) ≡ heard_under numbers pairs (give channel rest client)
-give_under numbers pairs channel rest client = grind arith
+channel_same pairs pair half (track ∷ tracks) apart = grind (arith, channel_same pairs pair half tracks apart.1)
 
 media_under : (numbers pairs : ℕ → ℕ) (alive : Bool) (pair half : ℕ) (rest : List ℕ) (client : Client) → AreTracksApart pairs pair (tracks_of client.sessions)
     → take_media alive (pairs pair) half rest (client_under numbers pairs client) ≡ heard_under numbers pairs (take_media alive pair half rest client)
-media_under numbers pairs alive pair half rest client apart = grind (arith, tracks_of_under, channel_same, give_under)
+media_under numbers pairs alive pair half rest client apart = grind (arith, tracks_of_under, channel_same)
 
 hear_under : (numbers pairs : ℕ → ℕ) (bases : Bases) (number : ℕ) (client : Client) (event : PrivateEvent) → IsToldApart numbers pairs client event
     → hear bases (numbers number) (client_under numbers pairs client) (event_under numbers pairs event) ≡ heard_under numbers pairs (hear bases number client event)
-hear_under numbers pairs bases number client event apart = grind (arith, take_under, answer_under, take_note_under, media_under, closes_under)
+hear_under numbers pairs bases number client event apart = grind (arith, take_under, answer_under, place_under, note_under, media_under, closes_under)
 
 then_under : (numbers pairs : ℕ → ℕ) (first second : Effect) → then_effect (effect_under numbers pairs first) (effect_under numbers pairs second) ≡ effect_under numbers pairs (then_effect first second)
 then_under numbers pairs first second = grind arith
 
-heard_step_under : (numbers pairs : ℕ → ℕ) (bases : Bases) (pair : Option ℕ) (heard : Hearing)
-    → heard_step bases (option_map pairs pair) (heard_under numbers pairs heard) ≡ effect_under numbers pairs (heard_step bases pair heard)
-heard_step_under numbers pairs bases pair heard = grind (arith, going_on_under, then_under)
-
 pub step_under : (numbers pairs : ℕ → ℕ) (bases : Bases) (number : ℕ) (pair : Option ℕ) (client : Client) (event : PrivateEvent) → IsToldApart numbers pairs client event
     → step bases (numbers number) (option_map pairs pair) (client_under numbers pairs client) (event_under numbers pairs event) ≡ effect_under numbers pairs (step bases number pair client event)
-step_under numbers pairs bases number pair client event apart = grind (arith, hear_under, heard_step_under)
+step_under numbers pairs bases number pair client event apart = grind (arith, hear_under, going_on_under, then_under)

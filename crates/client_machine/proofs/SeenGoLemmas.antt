@@ -1,9 +1,7 @@
 -- A connection that is alive stands where the walks have come to, and what goes up keeps that.
-use Rattle.std.proofs.Common.{◌≡◌, ◌∙◌, ℕ, zero, suc, ◌+◌, ◌==◌, Bool, true, false, cond, not, ◌&&◌, List, [], ◌∷◌, ◌++◌, map, length, Option, None, Some, IfSome, refl, sym, ap, subst, arith}
+use Rattle.std.proofs.Common.{◌≡◌, ◌∙◌, ℕ, ◌+◌, ◌==◌, Bool, true, false, not, ◌&&◌, List, [], ◌∷◌, ◌++◌, map, length, Option, None, Some, IfSome, refl, sym, ap, subst, arith}
 use Rattle.std.specs.Prelude.{codes, is_none, slice_get}
-use Rattle.std.proofs.lemmas.List.{append_assoc, map-append}
 use Rattle.rtsp_head.specs.Items.{Shape}
-use Rattle.rtsp_transport.specs.declared.channels.Pair.{Pair}
 use Rattle.rtsp_uri.specs.declared.base.Bases.{Bases}
 use Rattle.head_one.specs.Requests.{request_of_item}
 use Rattle.session_one.specs.declared.parts.Asked.{Asked}
@@ -12,7 +10,6 @@ use Rattle.session_one.specs.declared.parts.Track.{Track}
 use Rattle.session_one.specs.declared.table.State.{State}
 use Rattle.session_one.specs.declared.table.State.TheVariants.{Init, Ready, Playing}
 use Rattle.translate_up.specs.Fields.{field}
-use Rattle.translate_up.specs.Ids.{are_same}
 use Rattle.translate_up.specs.Views.{SeenSession, place_from, session_or_none}
 use Rattle.translate_up.proofs.StateLemmas.{IsValidId, IsSent, IsGiven}
 use Rattle.client_slot.specs.declared.purpose.Purpose.{Purpose}
@@ -25,11 +22,12 @@ use Rattle.client_slot.specs.Changes.{after_queueing, release_with}
 use Rattle.client_slot.proofs.PlaceLemmas.{first_changed, kept_each, place_is}
 use Rattle.client_machine.specs.Events.{Effect, stays, then_effect}
 use Rattle.client_machine.specs.Treatment.{session_found, given, Going, Treated, treated}
-use Rattle.client_machine.specs.Step.{track_of, after_plays, goes_at, goes_with, NextPart, going_on}
-use Rattle.client_machine.specs.SeenRun.{SeenStep, may_become, TellNumbers}
+use Rattle.client_machine.specs.Step.{after_plays, goes_at, goes_with, NextPart, going_on}
+use Rattle.client_machine.specs.SeenRun.{may_become}
+use Rattle.client_machine.proofs.EachLemmas.{one_where, by_option}
 use Rattle.client_machine.proofs.WayLemmas.{going_as}
 use Rattle.client_machine.proofs.PlaceLemmas.{seen_at, plays_idle}
-use Rattle.client_machine.proofs.SeenWalkLemmas.{may_self, AreWalks, walks_more, numbers_more, texts, AreReplies, texts_more, replies_more}
+use Rattle.client_machine.proofs.SeenWalkLemmas.{may_self, IsWalked, none_walked, walked_more}
 use Rattle.client_machine.proofs.SeenTreatLemmas.{counted, places_in, states_in, ArePlaysOn, IsNamedAt, AreAway, IsTreatedSo, same_function, treat_walks}
 
 -- the place of the session with an id, and the state of the session at a place
@@ -77,54 +75,21 @@ pub record IsStanding (at : List ℕ → State) (client : Client) (requests : Li
 
 -- What an effect answers, and what stands then.
 pub record IsWalking (at : List ℕ → State) (requests : List Shape) (effect : Effect) : Type 0 where
-  pub steps : List SeenStep
   pub now : List ℕ → State
-  pub walks : AreWalks at steps now
-  pub numbers : TellNumbers steps
-  pub readable : AreReplies steps
-  pub text_is : effect.hand ≡ texts steps
   pub left : List Shape
-  pub requests_are : requests ≡ map (λ (step : SeenStep). step.request) steps ++ left
+  pub walked : IsWalked at requests effect.hand now left
   pub stands : IsStanding now effect.client left
 
 -- where nothing is answered
 pub walks_on : (at : List ℕ → State) (requests : List Shape) (effect : Effect) → effect.hand ≡ [] → IsStanding at effect.client requests → IsWalking at requests effect
-walks_on at requests effect none stands = record { steps = []; now = at; walks = λ id. refl; numbers = tt; readable = tt; text_is = none; left = requests; requests_are = refl; stands = stands }
+walks_on at requests effect none stands = record { now = at; left = requests; walked = none_walked at requests effect.hand none; stands = stands }
 
 -- one effect after another
 pub walks_then : (at : List ℕ → State) (requests : List Shape) (first second : Effect) → IsWalking at requests first
     → ((now : List ℕ → State) (left : List Shape) → IsStanding now first.client left → IsWalking now left second) → IsWalking at requests (then_effect first second)
 walks_then at requests first second a more =
     let b : IsWalking a.now a.left second = more a.now a.left a.stands in
-    record {
-      steps = a.steps ++ b.steps;
-      now = b.now;
-      walks = walks_more at a.now b.now a.steps b.steps a.walks b.walks;
-      numbers = numbers_more a.steps b.steps a.numbers b.numbers;
-      readable = replies_more a.steps b.steps a.readable b.readable;
-      text_is = ap (λ t. t ++ second.hand) a.text_is ∙ ap (λ t. texts a.steps ++ t) b.text_is ∙ sym (texts_more a.steps b.steps);
-      left = b.left;
-      requests_are = a.requests_are
-          ∙ ap (λ (l : List Shape). map (λ (step : SeenStep). step.request) a.steps ++ l) b.requests_are
-          ∙ sym (append_assoc (map (λ (step : SeenStep). step.request) a.steps) (map (λ (step : SeenStep). step.request) b.steps) b.left)
-          ∙ ap (λ (l : List Shape). l ++ b.left) (sym (map-append (λ (step : SeenStep). step.request) a.steps b.steps));
-      stands = b.stands;
-    }
-
--- what holds of a session, once that at a place is changed
-one_at : (P : PlayerSession → Type 0) (place at : ℕ) (change : PlayerSession → PlayerSession) (sessions : List PlayerSession) → (P (session_at place sessions) → P (change (session_at place sessions)))
-    → P (session_at at sessions) → P (session_at at (changed_at place change sessions))
-one_at P place at change [] keeps all = all
-one_at P zero zero change (one ∷ more) keeps all = keeps all
-one_at P zero (suc at) change (one ∷ more) keeps all = all
-one_at P (suc place) zero change (one ∷ more) keeps all = all
-one_at P (suc place) (suc at) change (one ∷ more) keeps all = one_at P place at change more keeps all
-
-pub one_where : (P : PlayerSession → Type 0) (place : Option ℕ) (change : PlayerSession → PlayerSession) (sessions : List PlayerSession) → (P (session_where place sessions) → P (change (session_where place sessions)))
-    → (at : Option ℕ) → P (session_where at sessions) → P (session_where at (changed_where place change sessions))
-one_where P None change sessions keeps at all = all
-one_where P (Some place) change sessions keeps None all = all
-one_where P (Some place) change sessions keeps (Some at) all = one_at P place at change sessions keeps all
+    record { now = b.now; left = b.left; walked = walked_more at a.now b.now requests a.left b.left first.hand second.hand a.walked b.walked; stands = b.stands }
 
 pub each_where : (P : PlayerSession → Type 0) (place : Option ℕ) (change : PlayerSession → PlayerSession) (sessions : List PlayerSession) → (P (session_where place sessions) → P (change (session_where place sessions)))
     → ((at : Option ℕ) → P (session_where at sessions)) → (at : Option ℕ) → P (session_where at (changed_where place change sessions))
@@ -206,41 +171,43 @@ plays_queued (play ∷ plays) client are each =
     (each_where IsSound play.place (when_queued play) client.sessions (λ sound. record { calm = calm_playing session.state session.running (session.queue ++ play ∷ []) are.0; id = sound.id }) each) in
     record { alive = later.alive; waiting = later.waiting; like = like_then client.sessions one.sessions (after_plays plays one).sessions like later.like; each = later.each }
 
--- the stream that a SETUP sets up
-track_given : (uri : List ℕ) (pair : Option ℕ) (channels : Option Pair) → IfSome channels IsGiven → IfSome (track_of uri pair channels) (λ one. IsGiven one.client)
-track_given uri pair channels given = grind arith
-
 -- Requests that were treated, and what goes up of them.
-goes_open : (one : Option Going) (pair : Option ℕ) (hand : List ℕ) (at : List ℕ → State) (after : Client) (owed : List Shape) → after.pending ≡ None → ((id : List ℕ) → may_become (at id) (states_of after.sessions (places_of after.sessions id)) ≡ true)
-    → AreAway (places_of after.sessions) (states_of after.sessions) one owed → IsOpen at (goes_at one pair hand after).client.sessions (goes_at one pair hand after).client.pending owed
-goes_open None pair hand at after owed idle became away = subst (λ (p : Option Purpose). IsOpen at after.sessions p owed) (sym idle) away
-goes_open (Some one) pair hand at after owed idle became away = record {
-  shape = away.shape;
-  owed_is = away.owed_is;
-  from = states_of after.sessions one.asked.place;
-  sent = away.sent;
-  at_is = away.at;
-  reached = λ id is. ap (λ (place : Option ℕ). may_become (at id) (states_of after.sessions place)) (sym is) ∙ became id;
-  became = may_self (states_of after.sessions one.asked.place);
-  channels = track_given one.asked.uri pair one.channels away.channels;
+goes_walks : (one : Option Going) (pair : Option ℕ) (hand : List ℕ) (at now : List ℕ → State) (after : Client) (requests owed : List Shape) → after.alive ≡ true → after.pending ≡ None
+    → ((id : List ℕ) → may_become (now id) (states_of after.sessions (places_of after.sessions id)) ≡ true) → ((place : Option ℕ) → IsSound (session_where place after.sessions))
+    → IsWalked at requests hand now (owed ++ counted after.waiting) → AreAway (places_of after.sessions) (states_of after.sessions) one owed → IsWalking at requests (goes_at one pair hand after)
+goes_walks None pair hand at now after requests owed alive idle became each walked away = record {
+  now = now;
+  left = owed ++ counted after.waiting;
+  walked = walked;
+  stands = record { alive = alive; became = became; each = each; owed = owed; is_open = subst (λ (p : Option Purpose). IsOpen now after.sessions p owed) (sym idle) away; requests_are = refl };
+}
+goes_walks (Some one) pair hand at now after requests owed alive idle became each walked away = record {
+  now = now;
+  left = owed ++ counted after.waiting;
+  walked = walked;
+  stands = record {
+    alive = alive;
+    became = became;
+    each = each;
+    owed = owed;
+    is_open = record {
+      shape = away.shape;
+      owed_is = away.owed_is;
+      from = states_of after.sessions one.asked.place;
+      sent = away.sent;
+      at_is = away.at;
+      reached = λ id is. ap (λ (place : Option ℕ). may_become (now id) (states_of after.sessions place)) (sym is) ∙ became id;
+      became = may_self (states_of after.sessions one.asked.place);
+      channels = (grind arith);
+    };
+    requests_are = refl;
+  };
 }
 
-goes_hand : (one : Option Going) (pair : Option ℕ) (hand : List ℕ) (client : Client) → (goes_at one pair hand client).hand ≡ hand
-goes_hand one pair hand client = grind arith
-
 -- as the sessions are seen
-seen_places : (sessions : List PlayerSession) (id : List ℕ) → places_in (map session_found sessions) id ≡ places_of sessions id
-seen_places sessions id = from 0 sessions
-  where
-    test : (one : Option (List ℕ)) → are_same one (Some id) ≡ is_session id one
-    test None = refl
-    test (Some one) = refl
-
-    from : (first : ℕ) (all : List PlayerSession) → place_from id first (map session_found all) ≡ first_place (λ session. is_session id session.id) first all
-    from first [] = refl
-    from first (one ∷ more) =
-        ap (λ (here : Bool). cond here (Some first) (place_from id (first + 1) (map session_found more))) (test one.id)
-        ∙ ap (λ (later : Option ℕ). cond (is_session id one.id) (Some first) later) (from (first + 1) more)
+seen_places : (id : List ℕ) (first : ℕ) (sessions : List PlayerSession) → place_from id first (map session_found sessions) ≡ first_place (λ session. is_session id session.id) first sessions
+seen_places id first [] = refl
+seen_places id first (one ∷ more) = grind (arith, by_option, seen_places id (first + 1) more)
 
 seen_states : (sessions : List PlayerSession) (place : Option ℕ) → states_in (map session_found sessions) place ≡ states_of sessions place
 seen_states sessions place = grind (arith, seen_at)
@@ -253,7 +220,7 @@ seen_treated : (client : Client) (bases : Bases) (full : Bool) (at : List ℕ �
     → IsTreatedSo at (places_of client.sessions) (states_of client.sessions) (counted client.waiting) (treated client.waiting (given bases full client))
 seen_treated client bases full at became each =
     let seen = map session_found client.sessions in
-    let places = same_function (places_in seen) (places_of client.sessions) (seen_places client.sessions) in
+    let places = same_function (places_in seen) (places_of client.sessions) (λ id. seen_places id 0 client.sessions) in
     let states = same_function (states_in seen) (states_of client.sessions) (seen_states client.sessions) in
     subst (λ (f : List ℕ → Option ℕ). IsTreatedSo at f (states_of client.sessions) (counted client.waiting) (treated client.waiting (given bases full client))) places
     (subst (λ (f : Option ℕ → State). IsTreatedSo at (places_in seen) f (counted client.waiting) (treated client.waiting (given bases full client))) states
@@ -272,24 +239,9 @@ treated_walks at client pair all alive idle each so =
     let before : Client = record client { waiting = all.left } in
     let after : Client = after_plays all.plays before in
     let queued : IsQueued before after = plays_queued all.plays before so.plays each in
-    let became = like_became so.now before.sessions after.sessions queued.like so.became in
-    record {
-      steps = so.steps;
-      now = so.now;
-      walks = so.walks;
-      numbers = so.numbers;
-      readable = so.readable;
-      text_is = goes_hand all.going pair all.hand after ∙ so.text_is;
-      left = so.owed ++ counted after.waiting;
-      requests_are = so.requests_are ∙ ap (λ (l : List Shape). map (λ (step : SeenStep). step.request) so.steps ++ (so.owed ++ counted l)) (sym queued.waiting);
-      stands = stands_at all.going pair all.hand so.now after so.owed (queued.alive ∙ alive) became queued.each
-          (goes_open all.going pair all.hand so.now after so.owed (plays_idle all.plays before ∙ idle) became (like_away before.sessions after.sessions all.going so.owed queued.like so.away));
-    }
-  where
-    stands_at : (one : Option Going) (pair : Option ℕ) (hand : List ℕ) (now : List ℕ → State) (after : Client) (owed : List Shape) → after.alive ≡ true → ((id : List ℕ) → may_become (now id) (states_of after.sessions (places_of after.sessions id)) ≡ true)
-        → ((place : Option ℕ) → IsSound (session_where place after.sessions)) → IsOpen now (goes_at one pair hand after).client.sessions (goes_at one pair hand after).client.pending owed → IsStanding now (goes_at one pair hand after).client (owed ++ counted after.waiting)
-    stands_at None pair hand now after owed alive became each is = record { alive = alive; became = became; each = each; owed = owed; is_open = is; requests_are = refl }
-    stands_at (Some one) pair hand now after owed alive became each is = record { alive = alive; became = became; each = each; owed = owed; is_open = is; requests_are = refl }
+    goes_walks all.going pair all.hand at so.now after (counted client.waiting) so.owed (queued.alive ∙ alive) (plays_idle all.plays before ∙ idle)
+    (like_became so.now before.sessions after.sessions queued.like so.became) queued.each
+    (subst (λ (l : List Shape). IsWalked at (counted client.waiting) all.hand so.now (so.owed ++ counted l)) (sym queued.waiting) so.walked) (like_away before.sessions after.sessions all.going so.owed queued.like so.away)
 
 -- What goes up for a connection that stands.
 none_before : (owed requests : List Shape) (client : Client) → owed ≡ [] → requests ≡ owed ++ counted client.waiting → counted client.waiting ≡ requests

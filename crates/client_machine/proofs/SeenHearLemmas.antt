@@ -4,7 +4,7 @@ use Rattle.std.specs.Prelude.{codes}
 use Rattle.std.specs.List.{list_all}
 use Rattle.translate_up.specs.Fields.{field}
 use Rattle.std.proofs.lemmas.List.{append_assoc, append-nil}
-use Rattle.std.proofs.lemmas.Bool.{eqb-true}
+use Rattle.std.proofs.lemmas.List.Elements.{filter-append}
 use Rattle.rtsp_head.specs.Items.{Shape}
 use Rattle.rtsp_head.specs.HeadText.{is_header}
 use Rattle.rtsp_head.specs.declared.item.ItemKind.{ItemKind}
@@ -23,68 +23,53 @@ use Rattle.client_slot.specs.Session.{PlayerSession}
 use Rattle.client_slot.specs.SessionChanges.{when_ended}
 use Rattle.client_slot.specs.Places.{session_where, changed_where, place_with}
 use Rattle.client_slot.specs.Client.{Client}
-use Rattle.client_slot.specs.Changes.{after_waiting, after_note}
+use Rattle.client_slot.specs.Changes.{after_note}
 use Rattle.client_machine.specs.Events.{Effect, stays, then_effect, PrivateEvent, arrive, answer, note, media, end, slow, up_end}
-use Rattle.client_machine.specs.Frames.{frame_text, Half}
+use Rattle.client_machine.specs.Frames.{frame_text}
 use Rattle.client_machine.specs.Treatment.{fits_memory}
-use Rattle.client_machine.specs.Step.{NextPart, rests, Hearing, idles, carry, take_item, take, new_id, hear, going_on, heard_step, step}
+use Rattle.client_machine.specs.Step.{NextPart, rests, Hearing, idles, take_item, take, new_id, hear, going_on, step}
 use Rattle.client_machine.specs.SeenRun.{may_become, request_among, request_taken}
 use Rattle.client_machine.proofs.WayLemmas.{hear_as}
+use Rattle.client_machine.proofs.EachLemmas.{one_where}
 use Rattle.client_machine.proofs.PlaceLemmas.{IsInPlace}
 use Rattle.client_machine.proofs.SeenTreatLemmas.{counted, IsNamedAt, same_function}
 use Rattle.client_machine.proofs.SeenWalkLemmas.{IsLoad}
-use Rattle.client_machine.proofs.SeenGoLemmas.{places_of, states_of, IsCalm, IsSound, IsOpen, IsStanding, IsWalking, IsDead, walks_on, walks_then, going_walks, going_dead, then_dead, calm_playing, one_where, each_where, same_places}
+use Rattle.client_machine.proofs.SeenGoLemmas.{places_of, states_of, IsSound, IsOpen, IsStanding, IsWalking, IsDead, walks_on, walks_then, going_walks, going_dead, then_dead, calm_playing, each_where, same_places}
 use Rattle.client_machine.proofs.SeenSettleLemmas.{AreDistinct, settle_walks}
 
--- What is heard walks on, closes the connection, or shows a frame.
-data IsHeard (at : List ℕ → State) (requests : List Shape) (heard : Hearing) : Type 0 where
-  walks : IsWalking at requests heard.effect → IsHeard at requests heard
-  dies : heard.effect.client.alive ≡ false → heard.effect.hand ≡ [] → IsHeard at requests heard
-  shows : (channel : ℕ) → (rest : List ℕ) → IsLoad rest → heard.effect.hand ≡ frame_text channel rest → heard.next ≡ rests → IsStanding at heard.effect.client requests → IsHeard at requests heard
+-- What an event does walks on, closes the connection, or shows a frame, after which nothing goes up.
+pub data IsHeard (at : List ℕ → State) (requests : List Shape) (next : NextPart) (effect : Effect) : Type 0 where
+  walked : IsWalking at requests effect → IsHeard at requests next effect
+  died : IsDead effect → IsHeard at requests next effect
+  shown : (channel : ℕ) → (rest : List ℕ) → IsLoad rest → effect.hand ≡ frame_text channel rest → next ≡ rests → IsStanding at effect.client requests → IsHeard at requests next effect
 
-idle : (at : List ℕ → State) (requests : List Shape) (client : Client) → IsStanding at client requests → IsHeard at requests (idles client)
-idle at requests client st = walks (walks_on at requests (stays client) refl st)
+abbrev IsHeardAs : (List ℕ → State) → List Shape → Hearing → Type 0
+IsHeardAs at requests heard = IsHeard at requests heard.next heard.effect
+
+idle : (at : List ℕ → State) (requests : List Shape) (client : Client) → IsStanding at client requests → IsHeardAs at requests (idles client)
+idle at requests client st = walked (walks_on at requests (stays client) refl st)
 
 -- a request waits behind the others
-counted_by : (fits : Bool) (one : Shape) (later more new : List Shape) → later ≡ more ++ new → cond fits (one ∷ later) later ≡ cond fits (one ∷ more) more ++ new
-counted_by fits one later more new e = grind arith
-
 counted_more : (waiting : List Shape) (shape : Shape) → counted (waiting ++ shape ∷ []) ≡ counted waiting ++ cond (fits_memory shape) (shape ∷ []) []
-counted_more [] shape = refl
-counted_more (one ∷ more) shape = counted_by (fits_memory one) one (counted (more ++ shape ∷ [])) (counted more) (cond (fits_memory shape) (shape ∷ []) []) (counted_more more shape)
-
-waits_so : (at : List ℕ → State) (requests : List Shape) (client : Client) (shape : Shape) → IsStanding at client requests → IsStanding at (after_waiting (shape ∷ []) client) (requests ++ cond (fits_memory shape) (shape ∷ []) [])
-waits_so at requests client shape st = grind (arith, append_assoc, counted, counted_more)
+counted_more waiting shape = filter-append fits_memory waiting (shape ∷ [])
 
 nothing_more : (at : List ℕ → State) (requests : List Shape) (client : Client) → IsStanding at client requests → IsStanding at client (requests ++ [])
 nothing_more at requests client st = subst (IsStanding at client) (sym (append-nil requests)) st
 
-carry_heard : (at : List ℕ → State) (requests : List Shape) (half : Option Half) (rest : List ℕ) (client : Client) → IsStanding at client requests → IsHeard at requests (carry half rest client)
-carry_heard at requests half rest client st = grind (arith, idle, walks_on)
-
-item_heard : (at : List ℕ → State) (requests : List Shape) (kind : ItemKind) (shape : Shape) (client : Client) → IsStanding at client requests → IsHeard at (requests ++ request_among kind shape) (take_item kind shape client)
-item_heard at requests kind shape client st = grind (arith, walks_on, waits_so, idle, nothing_more, carry_heard)
+item_heard : (at : List ℕ → State) (requests : List Shape) (kind : ItemKind) (shape : Shape) (client : Client) → IsStanding at client requests → IsHeardAs at (requests ++ request_among kind shape) (take_item kind shape client)
+item_heard at requests kind shape client st = grind (arith, walks_on, append_assoc, counted, counted_more, idle, nothing_more)
 
 -- The end of what plays.
-ends_playing : (state : State) (running : Option ℕ) (queue : List Play) (names : Names) → end_counts running names ≡ true → IsCalm state running queue → state ≡ Playing
-ends_playing state running queue names e calm = grind arith
-
 no_queue : (queue : List Play) → (length queue == 0) ≡ true → queue ≡ []
 no_queue [] e = refl
-no_queue (play ∷ queue) e =
-    let none : length (play ∷ queue) ≡ 0 = eqb-true (length (play ∷ queue)) 0 e in
-    let bad : ⊥ = omega (arith, none) in
-    absurd bad
-
-ended_calm : (empty : Bool) (state : State) (queue : List Play) → (length queue == 0) ≡ empty → state ≡ Playing → IsCalm (cond empty Ready state) None queue
-ended_calm empty state queue e playing = grind (arith, no_queue, calm_playing)
+no_queue (play ∷ queue) e = grind arith
 
 -- what it makes of a session
 abbrev ended_by : Bool → PlayerSession → PlayerSession
 ended_by counts session = cond counts (record session { state = cond (length session.queue == 0) Ready session.state; running = None }) session
 
 ended_sound : (counts : Bool) (names : Names) (session : PlayerSession) → end_counts session.running names ≡ counts → IsSound session → IsSound (ended_by counts session)
-ended_sound counts names session e sound = grind (arith, ended_calm, ends_playing)
+ended_sound counts names session e sound = grind (arith, no_queue, calm_playing)
 
 ended_became : (counts : Bool) (names : Names) (from : State) (session : PlayerSession) → end_counts session.running names ≡ counts → IsSound session → may_become from session.state ≡ true → may_become from (ended_by counts session).state ≡ true
 ended_became counts names from session e sound may = grind arith
@@ -159,23 +144,23 @@ IsOther (arrive shape full) = ⊥
 IsOther event = Unit {0}
 
 other_heard : (bases : Bases) (number : ℕ) (at : List ℕ → State) (requests : List Shape) (client : Client) (event : PrivateEvent) → IsOther event → IsReadableEvent event → IsFreshEvent client event → AreDistinct client.sessions → IsInPlace client
-    → IsStanding at client requests → IsHeard at requests (hear bases number client event)
-other_heard bases number at requests client event other readable fresh distinct placed st = hear_as (IsHeard at requests) bases number client event (record {
+    → IsStanding at client requests → IsHeardAs at requests (hear bases number client event)
+other_heard bases number at requests client event other readable fresh distinct placed st = hear_as (IsHeardAs at requests) bases number client event (record {
   idle = idle at requests client st;
-  closing = λ reason alive. dies refl refl;
+  closing = λ reason alive. died (record { closed = refl; none = refl });
   waits = λ shape full here is alive. absurd (subst IsOther here other);
   carrying = λ shape full half here is. absurd (subst IsOther here other);
   settles = λ purpose told ssrc full here late is.
       let can : IsReadableEvent (answer told ssrc full) = subst IsReadableEvent here readable in
-      walks (settle_walks bases number at client requests purpose told ssrc is can.0 can.1 distinct placed (subst (λ (p : Option Purpose). IsNew client.sessions p told) is (subst (IsFreshEvent client) here fresh)) st);
-  notes = λ id names here. walks (walks_on at requests (stays (after_note (place_with id client.sessions) names client)) refl (noted at requests client (place_with id client.sessions) names st));
-  gives = λ pair half channel rest here is alive. shows channel rest (subst IsReadableEvent here readable) refl refl st;
+      walked (settle_walks bases number at client requests purpose told ssrc is can.0 can.1 distinct placed (subst (λ (p : Option Purpose). IsNew client.sessions p told) is (subst (IsFreshEvent client) here fresh)) st);
+  notes = λ id names here. walked (walks_on at requests (stays (after_note (place_with id client.sessions) names client)) refl (noted at requests client (place_with id client.sessions) names st));
+  gives = λ pair half channel rest here is alive. shown channel rest (subst IsReadableEvent here readable) refl refl st;
 })
 
 hear_heard : (bases : Bases) (number : ℕ) (at : List ℕ → State) (requests : List Shape) (client : Client) (event : PrivateEvent) → IsReadableEvent event → IsFreshEvent client event → AreDistinct client.sessions → IsInPlace client → IsStanding at client requests
-    → IsHeard at (requests ++ asked_by event) (hear bases number client event)
+    → IsHeardAs at (requests ++ asked_by event) (hear bases number client event)
 hear_heard bases number at requests client (arrive shape full) readable fresh distinct placed st =
-    subst (λ b. IsHeard at (requests ++ request_taken shape) (take b shape client)) (sym st.alive) (item_heard at requests shape.kind shape client st)
+    subst (λ b. IsHeardAs at (requests ++ request_taken shape) (take b shape client)) (sym st.alive) (item_heard at requests shape.kind shape client st)
 hear_heard bases number at requests client (answer told ssrc full) readable fresh distinct placed st = other_heard bases number at (requests ++ []) client (answer told ssrc full) tt readable fresh distinct placed (nothing_more at requests client st)
 hear_heard bases number at requests client (note id reason names) readable fresh distinct placed st = other_heard bases number at (requests ++ []) client (note id reason names) tt readable fresh distinct placed (nothing_more at requests client st)
 hear_heard bases number at requests client (media pair half rest) readable fresh distinct placed st = other_heard bases number at (requests ++ []) client (media pair half rest) tt readable fresh distinct placed (nothing_more at requests client st)
@@ -184,24 +169,17 @@ hear_heard bases number at requests client slow readable fresh distinct placed s
 hear_heard bases number at requests client up_end readable fresh distinct placed st = other_heard bases number at (requests ++ []) client up_end tt readable fresh distinct placed (nothing_more at requests client st)
 
 -- What a whole step does.
-pub data IsStepped (at : List ℕ → State) (requests : List Shape) (effect : Effect) : Type 0 where
-  walked : IsWalking at requests effect → IsStepped at requests effect
-  died : IsDead effect → IsStepped at requests effect
-  shown : (channel : ℕ) → (rest : List ℕ) → IsLoad rest → effect.hand ≡ frame_text channel rest → IsStanding at effect.client requests → IsStepped at requests effect
-
-heard_stepped : (bases : Bases) (pair : Option ℕ) (at : List ℕ → State) (requests : List Shape) (heard : Hearing) → IsHeard at requests heard → IsStepped at requests (heard_step bases pair heard)
-heard_stepped bases pair at requests heard (walks one) =
-    walked (walks_then at requests heard.effect (going_on bases pair heard.next heard.effect.client) one (λ now left st. going_walks bases pair heard.next now heard.effect.client left st))
-heard_stepped bases pair at requests heard (dies closed none) =
-    died (then_dead heard.effect (going_on bases pair heard.next heard.effect.client) none (going_dead bases pair heard.next heard.effect.client closed))
-heard_stepped bases pair at requests heard (shows channel rest whole text quiet st) =
-    subst (λ (next : NextPart). IsStepped at requests (then_effect heard.effect (going_on bases pair next heard.effect.client))) (sym quiet)
-    (shown channel rest whole (append-nil heard.effect.hand ∙ text) st)
+heard_stepped : (bases : Bases) (pair : Option ℕ) (at : List ℕ → State) (requests : List Shape) (next : NextPart) (effect : Effect) → IsHeard at requests next effect → IsHeard at requests rests (then_effect effect (going_on bases pair next effect.client))
+heard_stepped bases pair at requests next effect (walked one) = walked (walks_then at requests effect (going_on bases pair next effect.client) one (λ now left st. going_walks bases pair next now effect.client left st))
+heard_stepped bases pair at requests next effect (died dead) = died (then_dead effect (going_on bases pair next effect.client) dead.none (going_dead bases pair next effect.client dead.closed))
+heard_stepped bases pair at requests next effect (shown channel rest whole text quiet st) =
+    subst (λ (one : NextPart). IsHeard at requests rests (then_effect effect (going_on bases pair one effect.client))) (sym quiet) (shown channel rest whole (append-nil effect.hand ∙ text) refl st)
 
 pub step_stepped : (bases : Bases) (number : ℕ) (pair : Option ℕ) (at : List ℕ → State) (requests : List Shape) (client : Client) (event : PrivateEvent) → IsReadableEvent event → IsFreshEvent client event → AreDistinct client.sessions → IsInPlace client
-    → IsStanding at client requests → IsStepped at (requests ++ asked_by event) (step bases number pair client event)
+    → IsStanding at client requests → IsHeard at (requests ++ asked_by event) rests (step bases number pair client event)
 step_stepped bases number pair at requests client event readable fresh distinct placed st =
-    heard_stepped bases pair at (requests ++ asked_by event) (hear bases number client event) (hear_heard bases number at requests client event readable fresh distinct placed st)
+    let heard : Hearing = hear bases number client event in
+    heard_stepped bases pair at (requests ++ asked_by event) heard.next heard.effect (hear_heard bases number at requests client event readable fresh distinct placed st)
 
 -- Nothing is handed to a connection that is not alive.
 pub step_dead : (bases : Bases) (number : ℕ) (pair : Option ℕ) (client : Client) (event : PrivateEvent) → client.alive ≡ false → IsDead (step bases number pair client event)

@@ -1,6 +1,6 @@
 -- A whole run of a connection alone walks the table of each of its sessions.
 use Rattle.std.proofs.Common.{◌≡◌, ◌∙◌, ◌+◌, ◌&&◌, ℕ, Bool, true, false, not, List, [], ◌∷◌, ◌++◌, map, Option, Some, refl, sym, ap, subst, arith}
-use Rattle.std.proofs.lemmas.List.{append_assoc, append-nil, map-append}
+use Rattle.std.proofs.lemmas.List.{append-nil, map-append}
 use Rattle.rtsp_head.specs.Items.{Shape}
 use Rattle.rtsp_uri.specs.declared.base.Bases.{Bases}
 use Rattle.head_one.specs.declared.reply.Reply1.{Reply1}
@@ -10,18 +10,15 @@ use Rattle.client_slot.specs.Client.{Client}
 use Rattle.client_slot.specs.Places.{session_where, new_sessions}
 use Rattle.client_machine.specs.Alone.{Private, is_live, pair_alone, effect_alone, is_up_end, or_else, private_next, private_after, piece, hand}
 use Rattle.client_machine.specs.Events.{Effect, PrivateEvent}
-use Rattle.client_machine.specs.Step.{step}
-use Rattle.client_machine.specs.SeenRun.{SeenStep, TellNumbers, IsTableRun, replies_handed}
+use Rattle.client_machine.specs.Step.{rests, step}
+use Rattle.client_machine.specs.SeenRun.{SeenStep, IsTableRun, replies_handed}
 use Rattle.client_machine.proofs.KeepLemmas.{or_true}
 use Rattle.client_machine.proofs.WayLemmas.{alone_by}
 use Rattle.client_machine.proofs.PlaceLemmas.{IsInPlace, alone_placed}
-use Rattle.client_machine.proofs.SeenWalkLemmas.{AreWalks, walks_more, numbers_more, handed_more, handed_frame}
+use Rattle.client_machine.proofs.SeenWalkLemmas.{IsWalked, none_walked, walked_more, walked_and, handed_more, handed_frame}
 use Rattle.client_machine.proofs.SeenGoLemmas.{IsSound, IsStanding, IsDead}
 use Rattle.client_machine.proofs.SeenSettleLemmas.{AreDistinct}
-use Rattle.client_machine.proofs.SeenHearLemmas.{asked_by, IsReadableEvent, IsFreshEvent, IsStepped, walked, died, shown, step_stepped, step_dead}
-
-abbrev requests_of : List SeenStep → List Shape
-requests_of steps = map (λ (step : SeenStep). step.request) steps
+use Rattle.client_machine.proofs.SeenHearLemmas.{asked_by, IsReadableEvent, IsFreshEvent, IsHeard, walked, died, shown, step_stepped, step_dead}
 
 abbrev replies_of : List SeenStep → List Reply1
 replies_of steps = map (λ (step : SeenStep). step.reply) steps
@@ -36,23 +33,21 @@ abbrev all_init : List ℕ → State
 all_init id = Init
 
 pub record IsRun (bases : Bases) (events : List PrivateEvent) (requests : List Shape) : Type 0 where
-  pub steps : List SeenStep
+  pub text : List ℕ
   pub now : List ℕ → State
   pub left : List Shape
-  pub requests_are : requests ≡ requests_of steps ++ left
-  pub replies_are : replies_handed (hand bases events) ≡ Some (replies_of steps)
-  pub numbers : TellNumbers steps
-  pub walks : AreWalks all_init steps now
+  pub walked : IsWalked all_init requests text now left
+  pub replies_are : replies_handed (hand bases events) ≡ Some (replies_of walked.steps)
   pub kept : IsKeptAt (is_live (private_after bases events)) now (private_after bases events).client left
 
 pub seen_run : (bases : Bases) (events : List PrivateEvent) (requests : List Shape) → IsRun bases events requests → IsTableRun requests (hand bases events)
 seen_run bases events requests run = record {
-  steps = run.steps;
+  steps = run.walked.steps;
   unanswered = run.left;
-  requests_are = run.requests_are;
+  requests_are = run.walked.requests_are;
   replies_are = run.replies_are;
-  numbers = run.numbers;
-  walk = λ id. (run.now id, run.walks id);
+  numbers = run.walked.numbers;
+  walk = λ id. (run.now id, run.walked.walks id);
 }
 
 -- a connection that entered
@@ -61,26 +56,22 @@ new_sound place = grind arith
 
 pub run_begins : (bases : Bases) → IsRun bases [] []
 run_begins bases = record {
-  steps = [];
+  text = [];
   now = all_init;
   left = [];
-  requests_are = refl;
+  walked = none_walked all_init [] [] refl;
   replies_are = refl;
-  numbers = tt;
-  walks = λ id. refl;
   kept = record { alive = refl; became = λ id. refl; each = new_sound; owed = []; is_open = refl; requests_are = refl };
 }
 
 -- What one event does, in walks that have come to states: what it answers, whether the connection is live then, and what
 -- stands.
 record IsNext (at : List ℕ → State) (left extra : List Shape) (live : Bool) (effect : Effect) (pieces : List (List ℕ)) (before : List Reply1) : Type 0 where
-  pub steps : List SeenStep
+  pub text : List ℕ
   pub now : List ℕ → State
-  pub numbers : TellNumbers steps
-  pub walks : AreWalks at steps now
-  pub replies_are : replies_handed (piece effect.hand ++ pieces) ≡ Some (before ++ replies_of steps)
   pub more : List Shape
-  pub requests_are : left ++ extra ≡ requests_of steps ++ more
+  pub walked : IsWalked at (left ++ extra) text now more
+  pub replies_are : replies_handed (piece effect.hand ++ pieces) ≡ Some (before ++ replies_of walked.steps)
   pub kept : IsKeptAt live now effect.client more
 
 nothing_handed : (text : List ℕ) (pieces : List (List ℕ)) (before : List Reply1) → text ≡ [] → replies_handed pieces ≡ Some before → replies_handed (piece text ++ pieces) ≡ Some (before ++ [])
@@ -89,42 +80,37 @@ nothing_handed text pieces before none e = ap (λ t. replies_handed (piece t ++ 
 -- where nothing is handed and the connection is not live
 ends_next : (at : List ℕ → State) (left extra : List Shape) (live : Bool) (effect : Effect) (pieces : List (List ℕ)) (before : List Reply1) → live ≡ false → effect.hand ≡ [] → replies_handed pieces ≡ Some before → IsNext at left extra live effect pieces before
 ends_next at left extra live effect pieces before closed none e = record {
-  steps = [];
+  text = [];
   now = at;
-  numbers = tt;
-  walks = λ id. refl;
-  replies_are = nothing_handed effect.hand pieces before none e;
   more = left ++ extra;
-  requests_are = refl;
+  walked = none_walked at (left ++ extra) [] refl;
+  replies_are = nothing_handed effect.hand pieces before none e;
   kept = subst (λ b. IsKeptAt b at effect.client (left ++ extra)) (sym closed) tt;
 }
 
 -- where it goes on
 steps_next : (at : List ℕ → State) (left extra asked : List Shape) (live : Bool) (effect : Effect) (pieces : List (List ℕ)) (before : List Reply1) → live ≡ effect.client.alive → (live ≡ true → extra ≡ asked)
-    → replies_handed pieces ≡ Some before → IsStepped at (left ++ asked) effect → IsNext at left extra live effect pieces before
+    → replies_handed pieces ≡ Some before → IsHeard at (left ++ asked) rests effect → IsNext at left extra live effect pieces before
 steps_next at left extra asked live effect pieces before same all e (walked one) =
     let alive : live ≡ true = same ∙ one.stands.alive in
+    let here : IsWalked at (left ++ extra) effect.hand one.now one.left = subst (λ (l : List Shape). IsWalked at (left ++ l) effect.hand one.now one.left) (sym (all alive)) one.walked in
     record {
-      steps = one.steps;
+      text = effect.hand;
       now = one.now;
-      numbers = one.numbers;
-      walks = one.walks;
-      replies_are = ap (λ t. replies_handed (piece t ++ pieces)) one.text_is ∙ handed_more one.steps pieces before one.readable e;
       more = one.left;
-      requests_are = ap (λ (l : List Shape). left ++ l) (all alive) ∙ one.requests_are;
+      walked = here;
+      replies_are = ap (λ t. replies_handed (piece t ++ pieces)) here.text_is ∙ handed_more here.steps pieces before here.readable e;
       kept = subst (λ b. IsKeptAt b one.now effect.client one.left) (sym alive) one.stands;
     }
 steps_next at left extra asked live effect pieces before same all e (died dead) = ends_next at left extra live effect pieces before (same ∙ dead.closed) dead.none e
-steps_next at left extra asked live effect pieces before same all e (shown channel rest whole text st) =
+steps_next at left extra asked live effect pieces before same all e (shown channel rest whole text quiet st) =
     let alive : live ≡ true = same ∙ st.alive in
     record {
-      steps = [];
+      text = [];
       now = at;
-      numbers = tt;
-      walks = λ id. refl;
-      replies_are = ap (λ t. replies_handed (piece t ++ pieces)) text ∙ handed_frame channel rest pieces before whole e ∙ ap (λ (l : List Reply1). Some l) (sym (append-nil before));
       more = left ++ extra;
-      requests_are = refl;
+      walked = none_walked at (left ++ extra) [] refl;
+      replies_are = ap (λ t. replies_handed (piece t ++ pieces)) text ∙ handed_frame channel rest pieces before whole e ∙ ap (λ (l : List Reply1). Some l) (sym (append-nil before));
       kept = subst (λ b. IsKeptAt b at effect.client (left ++ extra)) (sym alive) (subst (λ (l : List Shape). IsStanding at effect.client (left ++ l)) (sym (all alive)) st);
     }
 
@@ -165,19 +151,13 @@ pub run_more : (bases : Bases) (events : List PrivateEvent) (requests extra : Li
     → (is_live (private_after bases (event ∷ events)) ≡ true → extra ≡ asked_by event) → IsRun bases events requests → IsRun bases (event ∷ events) (requests ++ extra)
 run_more bases events requests extra event readable unmixed all run =
     let p : Private = private_after bases events in
-    let next : IsNext run.now run.left extra (is_live (private_next p event (effect_alone bases p event))) (effect_alone bases p event) (hand bases events) (replies_of run.steps) =
-    event_next bases p event run.now run.left extra (hand bases events) (replies_of run.steps) readable unmixed (alone_placed bases events) run.kept all run.replies_are in
+    let next : IsNext run.now run.left extra (is_live (private_next p event (effect_alone bases p event))) (effect_alone bases p event) (hand bases events) (replies_of run.walked.steps) =
+    event_next bases p event run.now run.left extra (hand bases events) (replies_of run.walked.steps) readable unmixed (alone_placed bases events) run.kept all run.replies_are in
     record {
-      steps = run.steps ++ next.steps;
+      text = run.text ++ next.text;
       now = next.now;
       left = next.more;
-      requests_are = ap (λ (l : List Shape). l ++ extra) run.requests_are
-          ∙ append_assoc (requests_of run.steps) run.left extra
-          ∙ ap (λ (l : List Shape). requests_of run.steps ++ l) next.requests_are
-          ∙ sym (append_assoc (requests_of run.steps) (requests_of next.steps) next.more)
-          ∙ ap (λ (l : List Shape). l ++ next.more) (sym (map-append (λ (step : SeenStep). step.request) run.steps next.steps));
-      replies_are = next.replies_are ∙ ap (λ (l : List Reply1). Some l) (sym (map-append (λ (step : SeenStep). step.reply) run.steps next.steps));
-      numbers = numbers_more run.steps next.steps run.numbers next.numbers;
-      walks = walks_more all_init run.now next.now run.steps next.steps run.walks next.walks;
+      walked = walked_more all_init run.now next.now (requests ++ extra) (run.left ++ extra) next.more run.text next.text (walked_and all_init run.now requests run.left extra run.text run.walked) next.walked;
+      replies_are = next.replies_are ∙ ap (λ (l : List Reply1). Some l) (sym (map-append (λ (step : SeenStep). step.reply) run.walked.steps next.walked.steps));
       kept = next.kept;
     }

@@ -3,7 +3,6 @@ use Rattle.std.proofs.Common.{◌≡◌, ◌≢◌, ◌∙◌, ◌+◌, ◌<◌,
 use Rattle.std.specs.Prelude.{codes, is_some, is_none}
 use Rattle.std.specs.List.{list_all}
 use Rattle.std.specs.Option.{option_or}
-use Rattle.std.proofs.lemmas.List.{append-nil}
 use Rattle.std.proofs.lemmas.Bool.{eqb-true, eqb-false}
 use Rattle.std.proofs.lemmas.Slice.Eq.{bytes_eq-Decides}
 use Rattle.rtsp_head.specs.Items.{Shape}
@@ -31,7 +30,6 @@ use Rattle.translate_down.specs.Sessions.{sets_up}
 use Rattle.translate_down.specs.Settings.{Setting}
 use Rattle.client_slot.specs.declared.purpose.Purpose.{Purpose}
 use Rattle.client_slot.specs.declared.purpose.Purpose.TheVariants as purposes
-use Rattle.client_slot.specs.declared.session_turn.PartTurn.{PartTurn}
 use Rattle.client_slot.specs.Session.{PlayerSession, new_session}
 use Rattle.client_slot.specs.SessionTurns.{Brought, granted_turn, moved_turn, released_turn, brought_by, part_then, turned}
 use Rattle.client_slot.specs.Places.{session_at, session_where, changed_at, changed_where, first_place, place_with, is_session, empty_place}
@@ -42,55 +40,50 @@ use Rattle.client_slot.proofs.PlaceLemmas.{place_is, changed_here, changed_other
 use Rattle.client_slot.proofs.TidyLemmas.{tidy_at}
 use Rattle.client_machine.specs.Events.{hands}
 use Rattle.client_machine.specs.Step.{new_id_at, new_id, setting, reply_hand, id_after, settled}
-use Rattle.client_machine.specs.SeenRun.{SeenStep, id_brought, id_by, id_about, is_about, may_become}
+use Rattle.client_machine.specs.SeenRun.{SeenStep, id_brought, id_by, id_about, may_become}
+use Rattle.client_machine.proofs.EachLemmas.{one_where, by_test}
 use Rattle.client_machine.proofs.PlaceLemmas.{IsInPlace}
-use Rattle.client_machine.proofs.SeenWalkLemmas.{IsMoved, moved, led_for, one_walks}
+use Rattle.client_machine.proofs.SeenWalkLemmas.{IsMoved, moved, led_for, IsWalked, step_walked}
 use Rattle.client_machine.proofs.SeenTreatLemmas.{counted, IsNamedAt, id_is}
-use Rattle.client_machine.proofs.SeenGoLemmas.{places_of, states_of, IsSound, IsAsked, IsOpen, IsStanding, IsWalking, walks_on, each_where, one_where, same_places}
+use Rattle.client_machine.proofs.SeenGoLemmas.{places_of, states_of, IsSound, IsAsked, IsOpen, IsStanding, IsWalking, walks_on, each_where, same_places}
 use Rattle.client_machine.proofs.SeenReplyLemmas.{code_refuses, down_readable, brought_is}
 
 -- no two sessions have one id
 abbrev pub AreDistinct : List PlayerSession → Type 0
 AreDistinct sessions = (place : ℕ) (id : List ℕ) → (session_at place sessions).id ≡ Some id → place_with id sessions ≡ Some place
 
+-- What a reply makes of the states, by the id that it is about and by the place that its request names.
+record IsSettledSo (at : List ℕ → State) (before after : List PlayerSession) (place : Option ℕ) (next : State) (about : Option (List ℕ)) : Type 0 where
+  pub named : (id : List ℕ) → is_session id about ≡ true → places_of before id ≡ place
+  pub became : (id : List ℕ) → may_become (cond (is_session id about) next (at id)) (states_of after (places_of after id)) ≡ true
+
 -- One step more of the walks, by a reply to the open request.
 step_made : (at : List ℕ → State) (client after : Client) (requests owed : List Shape) (asked : Asked) (track : Option Track) (reply : Reply1) (next : State) (hand : List ℕ)
     (o : IsAsked at (places_of client.sessions) (states_of client.sessions) asked track owed)
     → requests ≡ owed ++ counted client.waiting → after.alive ≡ true → after.pending ≡ None → after.waiting ≡ client.waiting → hand ≡ reply_text reply → IsReply reply → reply.cseq ≡ Some asked.cseq
     → led_by o.from (Some asked.method) reply.code ≡ Some next
-    → ((id : List ℕ) → is_session id (id_by (field o.sent.request (codes "Session")) asked.method reply) ≡ true → (places_of client.sessions id ≡ asked.place) × (may_become next (states_of after.sessions (places_of after.sessions id)) ≡ true))
-    → ((id : List ℕ) → is_session id (id_by (field o.sent.request (codes "Session")) asked.method reply) ≡ false → may_become (at id) (states_of after.sessions (places_of after.sessions id)) ≡ true)
+    → IsSettledSo at client.sessions after.sessions asked.place next (id_by (field o.sent.request (codes "Session")) asked.method reply)
     → ((place : Option ℕ) → IsSound (session_where place after.sessions)) → IsWalking at requests (hands hand after)
-step_made at client after requests owed asked track reply next hand o are alive idle waits text readable number leads on off each =
+step_made at client after requests owed asked track reply next hand o are alive idle waits text readable number leads so each =
     let step : SeenStep = record { request = o.shape; reply = reply } in
     let named : number_asked (request_of_item o.shape) ≡ Some asked.cseq = ap number_asked o.sent.found_is ∙ ap (λ n. Some n) o.sent.cseq in
     let method : method_asked (request_of_item o.shape) ≡ Some asked.method = ap method_asked o.sent.found_is ∙ ap (λ m. Some m) o.sent.method in
     let about : id_about (request_of_item o.shape) reply ≡ id_by (field o.sent.request (codes "Session")) asked.method reply =
     ap (λ found. id_about found reply) o.sent.found_is ∙ ap (λ m. id_by (field o.sent.request (codes "Session")) m reply) o.sent.method in
-    let here : (id : List ℕ) → is_session id (id_by (field o.sent.request (codes "Session")) asked.method reply) ≡ is_about id step = λ id. sym (ap (is_session id) about) in
     record {
-      steps = step ∷ [];
       now = led_for at step next;
-      walks = one_walks at step o.from next (λ id is. o.reached id (on id (here id ∙ is)).0) (ap (λ m. led_by o.from m reply.code) method ∙ leads);
-      numbers = (number ∙ sym named, tt);
-      readable = (readable, tt);
-      text_is = text ∙ sym (append-nil (reply_text reply));
       left = counted client.waiting;
-      requests_are = are ∙ ap (λ (l : List Shape). l ++ counted client.waiting) o.owed_is;
+      walked = subst (λ (l : List Shape). IsWalked at l hand (led_for at step next) (counted client.waiting)) (sym (are ∙ ap (λ (l : List Shape). l ++ counted client.waiting) o.owed_is))
+          (step_walked at step o.from next (counted client.waiting) hand (λ id is. o.reached id (so.named id (sym (ap (is_session id) about) ∙ is))) (ap (λ m. led_by o.from m reply.code) method ∙ leads) (number ∙ sym named) readable text);
       stands = record {
         alive = alive;
-        became = λ id. by id (is_about id step) refl (here id);
+        became = λ id. ap (λ one. may_become (cond (is_session id one) next (at id)) (states_of after.sessions (places_of after.sessions id))) about ∙ so.became id;
         each = each;
         owed = [];
         is_open = subst (λ (p : Option Purpose). IsOpen (led_for at step next) after.sessions p []) (sym idle) refl;
         requests_are = ap counted (sym waits);
       };
     }
-  where
-    by : (id : List ℕ) (is : Bool) → is_about id (record { request = o.shape; reply = reply }) ≡ is → is_session id (id_by (field o.sent.request (codes "Session")) asked.method reply) ≡ is_about id (record { request = o.shape; reply = reply })
-        → may_become (cond is next (at id)) (states_of after.sessions (places_of after.sessions id)) ≡ true
-    by id true is here = (on id (here ∙ is)).1
-    by id false is here = off id (here ∙ is)
 
 -- the state that a success moves a session to
 abbrev pub moves_to : Method → State → State
@@ -109,9 +102,6 @@ none_new : (sets : Bool) (place : ℕ) (told : Told) → new_id_at sets (Some pl
 none_new sets place told = grind arith
 
 -- A session that is not that of an id is found by it neither before nor after.
-test_none : (id : List ℕ) (part : PartTurn) (was new : Option (List ℕ)) → is_session id was ≡ false → is_session id new ≡ false → is_session id (part_then part was new) ≡ false
-test_none id part was new a b = grind arith
-
 off_at : (place : ℕ) (change : PlayerSession → PlayerSession) (sessions : List PlayerSession) (id : List ℕ) → is_session id (session_at place sessions).id ≡ false → is_session id (change (session_at place sessions)).id ≡ false
     → states_of (changed_at place change sessions) (places_of (changed_at place change sessions) id) ≡ states_of sessions (places_of sessions id)
 off_at place change sessions id was new =
@@ -123,11 +113,7 @@ off_at place change sessions id was new =
         (λ same. let here = place_is (λ session. is_session id session.id) at sessions is in
         let bad : true ≡ false = sym (subst (λ (k : ℕ). is_session id (session_at k sessions).id ≡ true) same here.passes) ∙ was in cc))
 
--- That of its id is found at its place, or is gone.
-kept_at : (place : ℕ) (change : PlayerSession → PlayerSession) (sessions : List PlayerSession) (id : List ℕ) (next : State) → place_with id sessions ≡ Some place → (change (session_at place sessions)).id ≡ (session_at place sessions).id
-    → may_become next (change (session_at place sessions)).state ≡ true → may_become next (states_of (changed_at place change sessions) (places_of (changed_at place change sessions) id)) ≡ true
-kept_at place change sessions id next is kept may = grind (arith, place_is, states_of, first_changed, changed_here)
-
+-- One that is gone is found nowhere.
 gone_place : (place : ℕ) (change : PlayerSession → PlayerSession) (sessions : List PlayerSession) (id : List ℕ) → AreDistinct sessions → place_with id sessions ≡ Some place → (change (session_at place sessions)).id ≡ None
     → (q : Option ℕ) → place_with id (changed_at place change sessions) ≡ q → q ≡ None
 gone_place place change sessions id distinct is gone None found = refl
@@ -149,27 +135,12 @@ gone_place place change sessions id distinct is gone (Some at) found = absurd (b
         let same : at ≡ place = cc in
         apart same
 
-gone_at : (place : ℕ) (change : PlayerSession → PlayerSession) (sessions : List PlayerSession) (id : List ℕ) (next : State) → AreDistinct sessions → place_with id sessions ≡ Some place → (change (session_at place sessions)).id ≡ None
-    → may_become next Init ≡ true → may_become next (states_of (changed_at place change sessions) (places_of (changed_at place change sessions) id)) ≡ true
-gone_at place change sessions id next distinct is gone may = grind (arith, states_of, gone_place)
-
 -- One that was made is found at its place.
 filled_first : (test : PlayerSession → Bool) (from place : ℕ) (change : PlayerSession → PlayerSession) (sessions : List PlayerSession) → first_place test from sessions ≡ None → place < length sessions → test (change (session_at place sessions)) ≡ true
     → first_place test from (changed_at place change sessions) ≡ Some (from + place)
 filled_first test from place change [] none within passes = absurd (omega (arith, within))
-filled_first test from zero change (one ∷ more) none within passes =
-    ap (λ (here : Bool). cond here (Some from) (first_place test (from + 1) more)) passes ∙ ap (λ (k : ℕ). Some k) (omega arith)
-filled_first test from (suc place) change (one ∷ more) none within passes = by (test one) none (filled_first test (from + 1) place change more)
-  where
-    by : (here : Bool) → cond here (Some from) (first_place test (from + 1) more) ≡ None
-        → (first_place test (from + 1) more ≡ None → place < length more → test (change (session_at place more)) ≡ true → first_place test (from + 1) (changed_at place change more) ≡ Some ((from + 1) + place))
-        → cond here (Some from) (first_place test (from + 1) (changed_at place change more)) ≡ Some (from + suc place)
-    by true none later = cc
-    by false none later = later none (omega (arith, within)) passes ∙ ap (λ (k : ℕ). Some k) (omega arith)
-
-filled_at : (place : ℕ) (change : PlayerSession → PlayerSession) (sessions : List PlayerSession) (id : List ℕ) (next : State) → place_with id sessions ≡ None → place < length sessions → is_session id (change (session_at place sessions)).id ≡ true
-    → may_become next (change (session_at place sessions)).state ≡ true → may_become next (states_of (changed_at place change sessions) (places_of (changed_at place change sessions) id)) ≡ true
-filled_at place change sessions id next none within passes may = grind (arith, states_of, filled_first, changed_here)
+filled_first test from zero change (one ∷ more) none within passes = grind (arith)
+filled_first test from (suc place) change (one ∷ more) none within passes = grind (arith, filled_first test (from + 1) place change more)
 
 -- what a success makes of a session
 abbrev granted : Asked → Option Track → ℕ → Option (List ℕ) → Option (List ℕ) → PlayerSession → PlayerSession
@@ -178,11 +149,6 @@ granted asked track number described new session = turned (granted_turn asked.me
 abbrev turned_so : Asked → Option Track → ℕ → Option (List ℕ) → Option (List ℕ) → PlayerSession → Bool → PlayerSession
 turned_so asked track number described new session success =
     turned (cond success (granted_turn asked.method (is_some new) (cond success (moves_to asked.method session.state) session.state)) (moved_turn session.state)) (brought_by (purposes.Client asked track) number described new) session
-
--- What a reply makes of the states, by the id that it is about and by the place that its request names.
-record IsSettledSo (at : List ℕ → State) (before after : List PlayerSession) (place : Option ℕ) (next : State) (about : Option (List ℕ)) : Type 0 where
-  pub on : (id : List ℕ) → is_session id about ≡ true → (places_of before id ≡ place) × (may_become next (states_of after (places_of after id)) ≡ true)
-  pub off : (id : List ℕ) → is_session id about ≡ false → may_become (at id) (states_of after (places_of after id)) ≡ true
 
 abbrev AreReached : (List ℕ → State) → List PlayerSession → Type 0
 AreReached at sessions = (id : List ℕ) → may_become (at id) (states_of sessions (places_of sessions id)) ≡ true
@@ -196,16 +162,14 @@ refused_so : (at : List ℕ → State) (before after : List PlayerSession) (plac
     → ((id : List ℕ) → is_session id about ≡ true → places_of before id ≡ place) → may_become from (states_of before place) ≡ true → IsSettledSo at before after place from about
 refused_so at before after place from about became same named may = grind arith
 
-same_text : (one id : List ℕ) → is_session id (Some one) ≡ true → one ≡ id
-same_text one id is = (bytes_eq-Decides one id).0 is
-
-gone_init : (next state : State) → may_become next (moves_to methods.Teardown state) ≡ true → may_become next Init ≡ true
-gone_init next state may = grind arith
+told_so : (at : List ℕ → State) (before after : List PlayerSession) (place : Option ℕ) (next : State) (one : List ℕ) → places_of before one ≡ place → may_become next (states_of after (places_of after one)) ≡ true
+    → ((id : List ℕ) → is_session id (Some one) ≡ false → may_become (at id) (states_of after (places_of after id)) ≡ true) → IsSettledSo at before after place next (Some one)
+told_so at before after place next one named on off = grind (arith, places_of, bytes_eq-Decides, by_test, states_of)
 
 -- a success for a session that is named
 on_granted : (method : Method) (brought : Brought) (place : ℕ) (sessions : List PlayerSession) (id : List ℕ) (next : State) → AreDistinct sessions → place_with id sessions ≡ Some place → may_become next (moves_to method (session_at place sessions).state) ≡ true
     → may_become next (states_of (changed_at place (λ session. turned (granted_turn method false (moves_to method session.state)) brought session) sessions) (places_of (changed_at place (λ session. turned (granted_turn method false (moves_to method session.state)) brought session) sessions) id)) ≡ true
-on_granted method brought place sessions id next distinct is may = grind (arith, kept_at, gone_at, gone_init)
+on_granted method brought place sessions id next distinct is may = grind (arith, place_is, states_of, first_changed, changed_here, gone_place)
 
 named_so : (at : List ℕ → State) (sessions : List PlayerSession) (place : ℕ) (asked : Asked) (track : Option Track) (number : ℕ) (described : Option (List ℕ)) (one : List ℕ) (next : State) → AreDistinct sessions → place_with one sessions ≡ Some place → AreReached at sessions
     → may_become next (moves_to asked.method (session_at place sessions).state) ≡ true → IsSettledSo at sessions (changed_at place (granted asked track number described None) sessions) (Some place) next (Some one)
@@ -214,13 +178,10 @@ named_so at sessions place asked track number described one next distinct is bec
     let session : PlayerSession = session_at place sessions in
     let there = place_is (λ session. is_session one session.id) place sessions is in
     let own : session.id ≡ Some one = id_is session.id one there.passes in
-    record {
-      on = λ id here. subst (λ (k : List ℕ). (places_of sessions k ≡ Some place) × (may_become next (states_of (changed_at place change sessions) (places_of (changed_at place change sessions) k)) ≡ true)) (same_text one id here)
-          (is, on_granted asked.method (brought_by (purposes.Client asked track) number described None) place sessions one next distinct is may);
-      off = λ id other.
-          let was : is_session id session.id ≡ false = ap (is_session id) own ∙ other in
-          ap (λ (s : State). may_become (at id) s) (off_at place change sessions id was (test_none id (granted_turn asked.method false (moves_to asked.method session.state)).id session.id None was refl)) ∙ became id;
-    }
+    told_so at sessions (changed_at place change sessions) (Some place) next one is (on_granted asked.method (brought_by (purposes.Client asked track) number described None) place sessions one next distinct is may)
+    (λ id other.
+    let was : is_session id session.id ≡ false = ap (is_session id) own ∙ other in
+    ap (λ (s : State). may_become (at id) s) (off_at place change sessions id was (grind arith)) ∙ became id)
 
 -- a success of a SETUP that makes a session
 empty_is : (sessions : List PlayerSession) (place : Option ℕ) → AreTidy sessions → empty_place sessions ≡ place → session_where place sessions ≡ new_session
@@ -243,13 +204,10 @@ filled_so at sessions place asked track number described one next setup tidy fre
     ap (λ (m : Method). is_session one (part_then (granted_turn m true (moves_to m session.state)).id session.id (Some one))) setup ∙ (bytes_eq-Decides one one).1 refl in
     let reaches : may_become next (change session).state ≡ true =
     ap (λ (m : Method). may_become next (granted_turn m true (moves_to m session.state)).state) setup ∙ ap (λ (s : PlayerSession). may_become next (moves_to methods.Setup s.state)) new ∙ may in
-    record {
-      on = λ id here. subst (λ (k : List ℕ). (places_of sessions k ≡ None) × (may_become next (states_of (changed_at place change sessions) (places_of (changed_at place change sessions) k)) ≡ true)) (same_text one id here)
-          (fresh, filled_at place change sessions one next fresh there.within passes reaches);
-      off = λ id other.
-          let was : is_session id session.id ≡ false = ap (λ (s : PlayerSession). is_session id s.id) new in
-          ap (λ (s : State). may_become (at id) s) (off_at place change sessions id was (test_none id (granted_turn asked.method true (moves_to asked.method session.state)).id session.id (Some one) was other)) ∙ became id;
-    }
+    told_so at sessions (changed_at place change sessions) None next one fresh (grind (arith, states_of, filled_first, changed_here))
+    (λ id other.
+    let was : is_session id session.id ≡ false = ap (λ (s : PlayerSession). is_session id s.id) new in
+    ap (λ (s : State). may_become (at id) s) (off_at place change sessions id was (grind arith)) ∙ became id)
 
 made_so : (at : List ℕ → State) (sessions : List PlayerSession) (empty : Option ℕ) (asked : Asked) (track : Option Track) (number : ℕ) (described new : Option (List ℕ)) (next : State) → asked.method ≡ methods.Setup → AreTidy sessions
     → ((id : List ℕ) → new ≡ Some id → place_with id sessions ≡ None) → empty_place sessions ≡ empty → AreReached at sessions → may_become next (moves_to methods.Setup Init) ≡ true
@@ -265,10 +223,6 @@ made_so at sessions (Some place) asked track number described (Some one) next se
     ap (λ (s : PlayerSession). s.id) (changed_here place change sessions there.within)
     ∙ ap (λ (m : Method). part_then (granted_turn m true (moves_to m (session_at place sessions).state)).id (session_at place sessions).id (Some one)) setup in
     subst (IsSettledSo at sessions (changed_at place change sessions) None next) (sym about) (filled_so at sessions place asked track number described one next setup tidy (fresh one refl) is became may)
-
--- whether a request is a SETUP
-setup_or : (method : Method) → (method ≡ methods.Setup) ⊎ (is_setup method ≡ false)
-setup_or method = grind arith
 
 -- the place that is settled, by the place that a request names and by whether it makes a session
 abbrev settled_by : Option ℕ → Bool → List PlayerSession → Option ℕ
@@ -289,7 +243,7 @@ success_so at sessions asked track number described told from (Some place) (Some
     (subst (IsSettledSo at sessions (changed_at place (granted asked track number described None) sessions) (Some place) move.next) (sym is)
     (named_so at sessions place asked track number described one move.next distinct there became move.became))
 success_so at sessions asked track number described told from None (Some value) reply distinct tidy became (one, is, there, some) fresh success move brought = cc
-success_so at sessions asked track number described told from None None reply distinct tidy became named fresh success move brought = by (setup_or asked.method)
+success_so at sessions asked track number described told from None None reply distinct tidy became named fresh success move brought = by (grind arith)
   where
     by : (asked.method ≡ methods.Setup) ⊎ (is_setup asked.method ≡ false)
         → IsSettledSo at sessions (all_granted asked track number described None (new_id_at (sets_up asked.method) None told) sessions) None move.next (id_brought asked.method reply)
@@ -355,7 +309,7 @@ asked_settles true bases number at client requests asked track told ssrc e field
     subst (λ (one : List PlayerSession). IsSettledSo at sessions one asked.place move.next (id_by (field o.sent.request (codes "Session")) asked.method (reply_down place asked told))) (sym all_is) so in
     step_made at client after requests st.owed asked track (reply_down place asked told) move.next (reply_hand bases client.alive purpose told ssrc id) o st.requests_are st.alive refl refl hand_is
     (down_readable bases asked track told ssrc id (record { id = valid; channels = o.channels; short = o.sent.short; fields = fields; body = body }))
-    (ap (λ (one : Reply1). one.cseq) reply_is) (ap (λ (one : Reply1). led_by o.from (Some asked.method) one.code) reply_is ∙ move.row) now.on now.off each
+    (ap (λ (one : Reply1). one.cseq) reply_is) (ap (λ (one : Reply1). led_by o.from (Some asked.method) one.code) reply_is ∙ move.row) now each
 asked_settles false bases number at client requests asked track told ssrc e fields body distinct placed fresh st o =
     let purpose : Purpose = purposes.Client asked track in
     let new : Option (List ℕ) = new_id purpose told in
@@ -376,7 +330,7 @@ asked_settles false bases number at client requests asked track told ssrc e fiel
     step_made at client after requests st.owed asked track (reply_down place asked told) o.from (reply_hand bases client.alive purpose told ssrc id) o st.requests_are st.alive refl refl hand_is
     (down_readable bases asked track told ssrc id (record { id = valid; channels = o.channels; short = o.sent.short; fields = fields; body = body }))
     (ap (λ (one : Reply1). one.cseq) reply_is)
-    (ap (λ b. cond b (option_and_then (next_of o.from) (Some asked.method)) (Some o.from)) refused) so.on so.off each
+    (ap (λ b. cond b (option_and_then (next_of o.from) (Some asked.method)) (Some o.from)) refused) so each
 
 -- A reply to a PLAY that waited: nothing is answered, and where it is refused what played has ended.
 released_sound : (success : Bool) (brought : Brought) (session : PlayerSession) → session.state ≡ Playing → IsSound session → IsSound (turned (released_turn success session.state) brought session)
@@ -384,9 +338,6 @@ released_sound success brought session playing sound = grind arith
 
 released_may : (success : Bool) (from : State) (brought : Brought) (session : PlayerSession) → session.state ≡ Playing → may_become from session.state ≡ true → may_become from (turned (released_turn success session.state) brought session).state ≡ true
 released_may success from brought session playing may = grind arith
-
-released_id : (success : Bool) (brought : Brought) (session : PlayerSession) → (turned (released_turn success session.state) brought session).id ≡ session.id
-released_id success brought session = grind arith
 
 released_settles : (bases : Bases) (number : ℕ) (at : List ℕ → State) (client : Client) (requests : List Shape) (play : Play) (told : Told) (ssrc : Option ℕ) (session new : Option (List ℕ)) (st : IsStanding at client requests) → st.owed ≡ []
     → (session_where play.place client.sessions).state ≡ Playing
@@ -401,7 +352,7 @@ released_settles bases number at client requests play told ssrc session new st n
     walks_on at requests (hands (reply_hand bases client.alive purpose told ssrc session) (settle_with (Some purpose) number told.code new client)) (ap (λ b. cond {A = List ℕ} b [] []) st.alive)
     (record {
       alive = st.alive;
-      became = λ one. ap (λ (q : Option ℕ). may_become (at one) (states_of (changed_where play.place change sessions) q)) (same_places play.place change sessions (released_id success brought own) one)
+      became = λ one. ap (λ (q : Option ℕ). may_become (at one) (states_of (changed_where play.place change sessions) q)) (same_places play.place change sessions (grind arith) one)
           ∙ one_where (λ (s : PlayerSession). may_become (at one) s.state ≡ true) play.place change sessions (released_may success (at one) brought own playing) (places_of sessions one) (st.became one);
       each = each_where IsSound play.place change sessions (released_sound success brought own playing) st.each;
       owed = [];

@@ -1,6 +1,7 @@
 -- Requests that are treated in a row walk the table.
-use Rattle.std.proofs.Common.{◌≡◌, ◌∙◌, ◌^◌, ℕ, zero, suc, ◌+◌, Bool, true, false, cond, List, [], ◌∷◌, ◌++◌, map, length, Option, None, Some, IfSome, IsSome, Result, Ok, refl, sym, ap, subst, arith}
+use Rattle.std.proofs.Common.{◌≡◌, ◌∙◌, ◌^◌, ℕ, ◌+◌, Bool, true, cond, List, [], ◌∷◌, ◌++◌, length, Option, None, Some, IfSome, IsSome, Result, Ok, refl, sym, ap, subst, arith}
 use Rattle.std.specs.Prelude.{codes}
+use Rattle.std.specs.List.{filter}
 use Rattle.std.proofs.lemmas.Bool.{ltb-true}
 use Rattle.std.proofs.lemmas.Slice.Eq.{bytes_eq-Decides}
 use Rattle.rtsp_head.specs.Items.{Shape}
@@ -8,11 +9,10 @@ use Rattle.rtsp_small.specs.declared.method.Method.{Method}
 use Rattle.head_one.specs.declared.reply.Reply1.{Reply1}
 use Rattle.head_one.specs.declared.request.Request1.{Request1}
 use Rattle.head_one.specs.declared.refusal.Refusal.{Refusal}
-use Rattle.head_one.specs.Replies.{reply_text}
 use Rattle.head_one.specs.Requests.{request_of_item}
 use Rattle.session_one.specs.declared.parts.Play.{Play}
 use Rattle.session_one.specs.declared.table.State.{State}
-use Rattle.session_one.specs.declared.table.State.TheVariants.{Init, Playing}
+use Rattle.session_one.specs.declared.table.State.TheVariants.{Playing}
 use Rattle.translate_up.specs.Fields.{field}
 use Rattle.translate_up.specs.Ids.{id_of, are_same}
 use Rattle.translate_up.specs.Leads.{method_asked, led_by}
@@ -24,15 +24,16 @@ use Rattle.translate_up.proofs.StateLemmas.{IsValidId, IsAnswer, IsSent, IsGiven
 use Rattle.translate_up.proofs.DecisionLemmas.{IsPlacedAs, decide_placed}
 use Rattle.translate_up.proofs.NoRefusalLemmas.{IsUnrefused, IsUpAs, IsUnrefusedIn, decided_unrefused}
 use Rattle.client_slot.specs.Places.{is_session}
-use Rattle.client_machine.specs.Treatment.{queued_more, queued_more_where, one_queued, fits_memory, Going, Treated, treated_first, treated, ahead}
-use Rattle.client_machine.specs.SeenRun.{SeenStep, id_brought, id_by, id_about, is_about, may_become, TellNumbers}
+use Rattle.client_machine.specs.Treatment.{queued_more_where, one_queued, fits_memory, Going, Treated, treated_first, treated, ahead}
+use Rattle.client_machine.specs.SeenRun.{SeenStep, id_about, is_about, may_become}
+use Rattle.client_machine.proofs.EachLemmas.{by_test}
 use Rattle.client_machine.proofs.PlaceLemmas.{calm_in}
-use Rattle.client_machine.proofs.SeenWalkLemmas.{may_self, AreWalks, walks_more, led_for, one_walks, texts, AreReplies}
+use Rattle.client_machine.proofs.TreatLemmas.{calm_by}
+use Rattle.client_machine.proofs.SeenWalkLemmas.{may_self, led_for, IsWalked, none_walked, step_walked, walked_more}
 
 -- the requests that memory can hold
 abbrev pub counted : List Shape → List Shape
-counted [] = []
-counted (shape ∷ more) = cond (fits_memory shape) (shape ∷ counted more) (counted more)
+counted shapes = filter fits_memory shapes
 
 -- the place of the session with an id, and the state of the session at a place
 abbrev pub places_in : List SeenSession → List ℕ → Option ℕ
@@ -65,32 +66,20 @@ AreAway places states (Some one) owed = IsAway places states one owed
 
 -- What becomes of requests, from states that the walks have come to, in the states of the sessions.
 pub record IsTreatedSo (at : List ℕ → State) (places : List ℕ → Option ℕ) (states : Option ℕ → State) (requests : List Shape) (all : Treated) : Type 0 where
-  pub steps : List SeenStep
   pub owed : List Shape
   pub now : List ℕ → State
-  pub walks : AreWalks at steps now
+  pub walked : IsWalked at requests all.hand now (owed ++ counted all.left)
   pub became : (id : List ℕ) → may_become (now id) (states (places id)) ≡ true
-  pub numbers : TellNumbers steps
-  pub readable : AreReplies steps
-  pub text_is : all.hand ≡ texts steps
-  pub requests_are : requests ≡ map (λ (step : SeenStep). step.request) steps ++ (owed ++ counted all.left)
   pub away : AreAway places states all.going owed
   pub plays : ArePlaysOn states all.plays
 
 -- An answer of the gateway itself is about the session by whose state it was decided.
-brought_none : (method : Method) (reply : Reply1) (id : List ℕ) → led_by Init (Some method) reply.code ≡ Some Init → is_session id (id_brought method reply) ≡ true → ⊥
-brought_none method reply id leads about = grind arith
-
 pub id_is : (one : Option (List ℕ)) (id : List ℕ) → is_session id one ≡ true → one ≡ Some id
 id_is one id e = grind (arith, bytes_eq-Decides)
 
-answered_by : (sessions : List SeenSession) (value : Option (List ℕ)) (method : Method) (reply : Reply1) (id : List ℕ) → led_by (states_in sessions (place_named value sessions)) (Some method) reply.code ≡ Some (states_in sessions (place_named value sessions))
-    → is_session id (id_by value method reply) ≡ true → states_in sessions (places_in sessions id) ≡ states_in sessions (place_named value sessions)
-answered_by sessions value method reply id leads about = grind (arith, brought_none, id_is)
-
 answered_at : (given : Given) (found : Result Request1 Refusal) (reply : Reply1) (id : List ℕ) → led_by (judged_read given found).state (method_asked found) reply.code ≡ Some (judged_read given found).state
     → is_session id (id_about found reply) ≡ true → states_in given.sessions (places_in given.sessions id) ≡ (judged_read given found).state
-answered_at given found reply id leads about = grind (arith, answered_by)
+answered_at given found reply id leads about = grind (arith, id_is)
 
 -- one step before those of the others
 step_first : (at : List ℕ → State) (places : List ℕ → Option ℕ) (states : Option ℕ → State) (state : State) (shape : Shape) (requests : List Shape) (text : List ℕ) (later : Treated) (answer : IsAnswer state (request_of_item shape) text)
@@ -99,38 +88,26 @@ step_first : (at : List ℕ → State) (places : List ℕ → Option ℕ) (state
 step_first at places states state shape requests text later answer about may on =
     let step : SeenStep = record { request = shape; reply = answer.reply } in
     let next : List ℕ → State = led_for at step state in
-    let so : IsTreatedSo next places states requests later = on next (λ id. by id (is_about id step) refl) in
+    let so : IsTreatedSo next places states requests later = on next (λ id. by_test (is_about id step) (λ here. may_become (cond here state (at id)) (states (places id)) ≡ true)
+    (λ is. subst (λ (s : State). may_become state s ≡ true) (sym (about id is)) (may_self state)) (λ is. may id)) in
     record {
-      steps = step ∷ so.steps;
       owed = so.owed;
       now = so.now;
-      walks = walks_more at next so.now (step ∷ []) so.steps (one_walks at step state state (λ id here. subst (λ (s : State). may_become (at id) s ≡ true) (about id here) (may id)) answer.leads) so.walks;
+      walked = walked_more at next so.now (shape ∷ requests) requests (so.owed ++ counted later.left) text later.hand
+          (step_walked at step state state requests text (λ id here. subst (λ (s : State). may_become (at id) s ≡ true) (about id here) (may id)) answer.leads answer.number answer.readable answer.text_is) so.walked;
       became = so.became;
-      numbers = (answer.number, so.numbers);
-      readable = (answer.readable, so.readable);
-      text_is = ap (λ t. t ++ later.hand) answer.text_is ∙ ap (λ t. reply_text answer.reply ++ t) so.text_is;
-      requests_are = ap (λ (l : List Shape). shape ∷ l) so.requests_are;
       away = so.away;
       plays = so.plays;
     }
-  where
-    by : (id : List ℕ) (here : Bool) → is_about id (record { request = shape; reply = answer.reply }) ≡ here → may_become (cond here state (at id)) (states (places id)) ≡ true
-    by id true is = subst (λ (s : State). may_become state s ≡ true) (sym (about id is)) (may_self state)
-    by id false is = may id
 
 goes_away : (at : List ℕ → State) (places : List ℕ → Option ℕ) (states : Option ℕ → State) (shape : Shape) (more : List Shape) (one : Going) → ((id : List ℕ) → may_become (at id) (states (places id)) ≡ true)
     → (sent : IsSent (states one.asked.place) (request_of_item shape) one.asked) → IfSome one.channels IsGiven → IsNamedAt places (field sent.request (codes "Session")) one.asked.place
     → IsTreatedSo at places states (shape ∷ counted more) (record { hand = []; plays = []; going = Some one; left = more })
 goes_away at places states shape more one may sent channels named = record {
-  steps = [];
   owed = shape ∷ [];
   now = at;
-  walks = λ id. refl;
+  walked = none_walked at (shape ∷ counted more) [] refl;
   became = may;
-  numbers = tt;
-  readable = tt;
-  text_is = refl;
-  requests_are = refl;
   away = record { shape = shape; owed_is = refl; sent = sent; channels = channels; at = named };
   plays = tt;
 }
@@ -154,13 +131,9 @@ Walks more = (at : List ℕ → State) (given : Given) → ((id : List ℕ) → 
 
 -- PLAYs that wait change no place and no state.
 calm_places : (queued : Option ℕ) (sessions : List SeenSession) (id : List ℕ) → places_in (queued_more_where queued sessions) id ≡ places_in sessions id
-calm_places None sessions id = refl
-calm_places (Some queued) sessions id = from queued 0 sessions
-  where
-    from : (at first : ℕ) (all : List SeenSession) → place_from id first (queued_more at all) ≡ place_from id first all
-    from at first [] = refl
-    from zero first (one ∷ more) = refl
-    from (suc at) first (one ∷ more) = ap (λ (later : Option ℕ). cond (are_same one.id (Some id)) (Some first) later) (from at (first + 1) more)
+calm_places queued sessions id =
+    ap (λ (find : ℕ → Option ℕ). find 0)
+    (calm_by (λ all first. place_from id first all) queued sessions (λ one n more. refl) (λ one a b same. λ i first. cond (are_same one.id (Some id)) (Some first) (same i (first + 1))))
 
 calm_states : (queued : Option ℕ) (sessions : List SeenSession) (place : Option ℕ) → states_in (queued_more_where queued sessions) place ≡ states_in sessions place
 calm_states queued sessions place = calm_in (λ one. one.state) queued place sessions (λ one n. refl)
@@ -214,26 +187,19 @@ by_decision at given shape more (Setup request asked pair) may valid one placed 
 valid_judged : (given : Given) (found : Result Request1 Refusal) → AreValid given.sessions → IsValidId (judged_read given found).session
 valid_judged given found valid = grind arith
 
-by_memory : (fits : Bool) (at : List ℕ → State) (given : Given) (shape : Shape) (more : List Shape) → fits_memory shape ≡ fits → ((id : List ℕ) → may_become (at id) (states_in given.sessions (places_in given.sessions id)) ≡ true) → AreValid given.sessions → Walks more
-    → IsTreatedSo at (places_in given.sessions) (states_in given.sessions) (cond fits (shape ∷ counted more) (counted more)) (treated_first (cond fits (decide given shape) (Answer [])) given more (treated more))
-by_memory true at given shape more e may valid walks =
-    by_decision at given shape more (decide given shape) may valid (decided given shape (valid_judged given (request_of_item shape) valid) (ltb-true (length shape.bytes) (2 ^ 64) e)) (decide_placed given shape) (decided_unrefused given shape) walks
-by_memory false at given shape more e may valid walks = walks at given may valid
-
 -- Requests that wait are treated.
 pub treat_walks : (waiting : List Shape) (at : List ℕ → State) (given : Given) → ((id : List ℕ) → may_become (at id) (states_in given.sessions (places_in given.sessions id)) ≡ true) → AreValid given.sessions
     → IsTreatedSo at (places_in given.sessions) (states_in given.sessions) (counted waiting) (treated waiting given)
 treat_walks [] at given may valid = record {
-  steps = [];
   owed = [];
   now = at;
-  walks = λ id. refl;
+  walked = none_walked at [] [] refl;
   became = may;
-  numbers = tt;
-  readable = tt;
-  text_is = refl;
-  requests_are = refl;
   away = refl;
   plays = tt;
 }
-treat_walks (shape ∷ more) at given may valid = by_memory (fits_memory shape) at given shape more refl may valid (treat_walks more)
+treat_walks (shape ∷ more) at given may valid =
+    let becomes : Bool → Type 0 = λ fits. IsTreatedSo at (places_in given.sessions) (states_in given.sessions) (cond fits (shape ∷ counted more) (counted more)) (treated_first (cond fits (decide given shape) (Answer [])) given more (treated more)) in
+    by_test (fits_memory shape) becomes
+    (λ fits. by_decision at given shape more (decide given shape) may valid (decided given shape (valid_judged given (request_of_item shape) valid) (ltb-true (length shape.bytes) (2 ^ 64) fits)) (decide_placed given shape) (decided_unrefused given shape) (treat_walks more))
+    (λ none. treat_walks more at given may valid)

@@ -1,18 +1,18 @@
 -- Walks of the table, and how replies in a row are read.
-use Rattle.std.proofs.Common.{◌≡◌, ◌∙◌, ℕ, zero, suc, ◌+◌, ◌*◌, ◌≤◌, Bool, true, false, cond, List, [], ◌∷◌, ◌++◌, length, drop, map, Option, Some, None, refl, sym, ap, subst, unwrap_or, arith}
-use Rattle.std.specs.Prelude.{is_some, slice_index}
-use Rattle.std.proofs.lemmas.Bool.{le-ltb}
+use Rattle.std.proofs.Common.{◌≡◌, ◌∙◌, ℕ, zero, suc, ◌+◌, ◌*◌, ◌≤◌, Bool, true, false, cond, List, [], ◌∷◌, ◌++◌, length, map, Option, Some, refl, sym, ap, subst, unwrap_or, arith}
+use Rattle.std.specs.Prelude.{slice_index}
 use Rattle.std.specs.Option.{option_and_then, option_map}
-use Rattle.std.proofs.lemmas.List.{append_assoc, append-nil, length-append, drop_all}
+use Rattle.std.specs.List.{AllByRecursion, flat_map}
+use Rattle.std.proofs.lemmas.Grind.{flat_map-append}
+use Rattle.std.proofs.lemmas.List.Elements.{filter-append}
+use Rattle.std.proofs.lemmas.List.{append_assoc, append-nil, length-append, drop_all, map-append}
 use Rattle.rtsp_head.specs.Messages.{Front, first_message}
-use Rattle.rtsp_head.specs.Items.{when_whole, frame_span}
-use Rattle.rtsp_head.specs.declared.item.Span.{Span}
-use Rattle.rtsp_head.specs.declared.item.ItemKind.TheVariants.{Frame}
+use Rattle.rtsp_head.specs.Items.{Shape}
 use Rattle.rtsp_head.proofs.StreamLemmas.{front_read}
 use Rattle.rtsp_small.specs.declared.method.Method.{Method}
 use Rattle.head_one.specs.declared.reply.Reply1.{Reply1}
 use Rattle.head_one.specs.Requests.{request_of_item}
-use Rattle.translate_up.specs.Leads.{method_asked, led_by}
+use Rattle.translate_up.specs.Leads.{method_asked, number_asked, led_by}
 use Rattle.head_one.specs.Replies.{reply_start, reply_text, reply_message, IsReply}
 use Rattle.head_one.proofs.ReadLemmas.{reply_told}
 use Rattle.session_one.specs.declared.table.State.{State}
@@ -20,6 +20,7 @@ use Rattle.session_one.specs.Table.{next_of, is_allowed}
 use Rattle.client_machine.specs.Alone.{piece}
 use Rattle.client_machine.specs.Frames.{frame_text}
 use Rattle.client_machine.specs.SeenRun.{SeenStep, is_about, steps_about, may_become, IsWalk, TellNumbers, reply_before, replies_by, replies_in, and_replies, replies_handed}
+use Rattle.client_machine.proofs.EachLemmas.{both_so, by_test}
 
 -- A session can be in the state that it is in, and what it can be in from there.
 pub may_self : (s : State) → may_become s s ≡ true
@@ -30,12 +31,8 @@ pub walk_more : (from mid to : State) (xs ys : List SeenStep) → IsWalk from xs
 walk_more from mid to [] ys first second = subst (λ (s : State). IsWalk s ys to) first second
 walk_more from mid to (x ∷ xs) ys first second = (first.0, first.1, walk_more first.0 mid to xs ys first.2 second)
 
-about_by : (here : Bool) (one : SeenStep) (xs ys both : List SeenStep) → both ≡ xs ++ ys → cond here (one ∷ both) both ≡ cond here (one ∷ xs) xs ++ ys
-about_by here one xs ys both e = grind arith
-
 about_more : (id : List ℕ) (xs ys : List SeenStep) → steps_about id (xs ++ ys) ≡ steps_about id xs ++ steps_about id ys
-about_more id [] ys = refl
-about_more id (x ∷ xs) ys = about_by (is_about id x) x (steps_about id xs) (steps_about id ys) (steps_about id (xs ++ ys)) (about_more id xs ys)
+about_more id xs ys = filter-append (is_about id) xs ys
 
 -- A walk for each id, from the states that the sessions had.
 abbrev pub AreWalks : (List ℕ → State) → List SeenStep → (List ℕ → State) → Type 0
@@ -44,21 +41,9 @@ AreWalks from steps to = (id : List ℕ) → IsWalk (from id) (steps_about id st
 pub walks_more : (from mid to : List ℕ → State) (xs ys : List SeenStep) → AreWalks from xs mid → AreWalks mid ys to → AreWalks from (xs ++ ys) to
 walks_more from mid to xs ys first second id = grind (arith, about_more, walk_more)
 
-pub numbers_more : (xs ys : List SeenStep) → TellNumbers xs → TellNumbers ys → TellNumbers (xs ++ ys)
-numbers_more [] ys first second = second
-numbers_more (x ∷ xs) ys first second = (first.0, numbers_more xs ys first.1 second)
-
 -- the states after one step more
 abbrev pub led_for : (List ℕ → State) → SeenStep → State → List ℕ → State
 led_for from step to id = cond (is_about id step) to (from id)
-
-pub one_walks : (from : List ℕ → State) (step : SeenStep) (before to : State) → ((id : List ℕ) → is_about id step ≡ true → may_become (from id) before ≡ true)
-    → led_by before (method_asked (request_of_item step.request)) step.reply.code ≡ Some to → AreWalks from (step ∷ []) (led_for from step to)
-one_walks from step before to reached leads id = by (is_about id step) refl
-  where
-    by : (here : Bool) → is_about id step ≡ here → IsWalk (from id) (cond here (step ∷ []) []) (cond here to (from id))
-    by true is = (to, record { before = before; reached = reached id is; leads = leads }, refl)
-    by false is = refl
 
 -- What a success moves: the state of the walk by its row, and that of the session, which may have ended to play since.
 pub record IsMoved (walked state : State) (method : Method) : Type 0 where
@@ -66,28 +51,66 @@ pub record IsMoved (walked state : State) (method : Method) : Type 0 where
   pub row : next_of walked method ≡ Some next
   pub became : may_become next (unwrap_or (next_of state method) state) ≡ true
 
-moved_same : (state : State) (method : Method) (next : Option State) → next_of state method ≡ next → is_some next ≡ true → IsMoved state state method
-moved_same state method next e allowed = grind arith
-
 pub moved : (walked state : State) (method : Method) → may_become walked state ≡ true → is_allowed walked method ≡ true → IsMoved walked state method
 moved walked state method may allowed = grind arith
 
 -- the text of the replies of steps, each of which can be read back
 abbrev pub texts : List SeenStep → List ℕ
-texts [] = []
-texts (step ∷ more) = reply_text step.reply ++ texts more
+texts steps = flat_map (λ step. reply_text step.reply) steps
 
 abbrev pub AreReplies : List SeenStep → Type 0
-AreReplies [] = Unit {0}
-AreReplies (step ∷ more) = IsReply step.reply × AreReplies more
+AreReplies steps = AllByRecursion (λ step. IsReply step.reply) steps
 
-pub texts_more : (xs ys : List SeenStep) → texts (xs ++ ys) ≡ texts xs ++ texts ys
-texts_more [] ys = refl
-texts_more (x ∷ xs) ys = ap (λ t. reply_text x.reply ++ t) (texts_more xs ys) ∙ sym (append_assoc (reply_text x.reply) (texts xs) (texts ys))
+-- Steps that answer the first of some requests by these bytes, and walk from states to others. The other requests are left.
+pub record IsWalked (at : List ℕ → State) (requests : List Shape) (text : List ℕ) (now : List ℕ → State) (left : List Shape) : Type 0 where
+  pub steps : List SeenStep
+  pub walks : AreWalks at steps now
+  pub numbers : TellNumbers steps
+  pub readable : AreReplies steps
+  pub text_is : text ≡ texts steps
+  pub requests_are : requests ≡ map (λ (step : SeenStep). step.request) steps ++ left
 
-pub replies_more : (xs ys : List SeenStep) → AreReplies xs → AreReplies ys → AreReplies (xs ++ ys)
-replies_more [] ys first second = second
-replies_more (x ∷ xs) ys first second = (first.0, replies_more xs ys first.1 second)
+-- nothing is answered
+abbrev pub none_walked : (at : List ℕ → State) (requests : List Shape) (text : List ℕ) → text ≡ [] → IsWalked at requests text at requests
+none_walked at requests text none = record { steps = []; walks = λ id. refl; numbers = tt; readable = tt; text_is = none; requests_are = refl }
+
+-- one request is
+pub step_walked : (at : List ℕ → State) (step : SeenStep) (before to : State) (left : List Shape) (text : List ℕ) → ((id : List ℕ) → is_about id step ≡ true → may_become (at id) before ≡ true)
+    → led_by before (method_asked (request_of_item step.request)) step.reply.code ≡ Some to → step.reply.cseq ≡ number_asked (request_of_item step.request) → IsReply step.reply → text ≡ reply_text step.reply
+    → IsWalked at (step.request ∷ left) text (led_for at step to) left
+step_walked at step before to left text reached leads number readable is = record {
+  steps = step ∷ [];
+  walks = λ id. by_test (is_about id step) (λ here. IsWalk (at id) (cond here (step ∷ []) []) (cond here to (at id))) (λ is. (to, record { before = before; reached = reached id is; leads = leads }, refl)) (λ is. refl);
+  numbers = (number, tt);
+  readable = (readable, tt);
+  text_is = is ∙ sym (append-nil (reply_text step.reply));
+  requests_are = refl;
+}
+
+-- some are, and then others
+abbrev pub walked_more : (at mid now : List ℕ → State) (requests between left : List Shape) (first second : List ℕ) → IsWalked at requests first mid between → IsWalked mid between second now left → IsWalked at requests (first ++ second) now left
+walked_more at mid now requests between left first second a b = record {
+  steps = a.steps ++ b.steps;
+  walks = walks_more at mid now a.steps b.steps a.walks b.walks;
+  numbers = both_so _ a.steps b.steps a.numbers b.numbers;
+  readable = both_so _ a.steps b.steps a.readable b.readable;
+  text_is = ap (λ t. t ++ second) a.text_is ∙ ap (λ t. texts a.steps ++ t) b.text_is ∙ sym (flat_map-append (λ (step : SeenStep). reply_text step.reply) a.steps b.steps);
+  requests_are = a.requests_are
+      ∙ ap (λ (l : List Shape). map (λ (step : SeenStep). step.request) a.steps ++ l) b.requests_are
+      ∙ sym (append_assoc (map (λ (step : SeenStep). step.request) a.steps) (map (λ (step : SeenStep). step.request) b.steps) left)
+      ∙ ap (λ (l : List Shape). l ++ left) (sym (map-append (λ (step : SeenStep). step.request) a.steps b.steps));
+}
+
+-- more requests come behind those that are left
+abbrev pub walked_and : (at now : List ℕ → State) (requests left extra : List Shape) (text : List ℕ) → IsWalked at requests text now left → IsWalked at (requests ++ extra) text now (left ++ extra)
+walked_and at now requests left extra text one = record {
+  steps = one.steps;
+  walks = one.walks;
+  numbers = one.numbers;
+  readable = one.readable;
+  text_is = one.text_is;
+  requests_are = ap (λ (l : List Shape). l ++ extra) one.requests_are ∙ append_assoc (map (λ (step : SeenStep). step.request) one.steps) left extra;
+}
 
 -- A reply that was written stands first, and is no less than a byte.
 reply_front : (reply : Reply1) (rest : List ℕ) → IsReply reply → first_message (reply_text reply ++ rest) ≡ Some (record { message = reply_message reply; rest = rest })
@@ -98,8 +121,7 @@ begins [] = false
 begins (b ∷ bytes) = true
 
 more_long : (text more : List ℕ) (n : ℕ) → begins text ≡ true → n ≤ length more → suc n ≤ length (text ++ more)
-more_long [] more n e le = cc
-more_long (b ∷ text) more n e le = omega (arith, le, length-append text more)
+more_long text more n e le = grind (arith, length-append)
 
 few_replies : (steps : List SeenStep) → length steps ≤ length (texts steps)
 few_replies [] = omega arith
@@ -123,21 +145,8 @@ abbrev pub IsLoad : List ℕ → Type 0
 IsLoad rest = (2 ≤ length rest) × (length rest ≡ 2 + (256 * slice_index rest 0 + slice_index rest 1))
 
 -- A whole frame is passed over.
-frame_span_is : (channel : ℕ) (rest : List ℕ) → IsLoad rest → frame_span (frame_text channel rest) ≡ Some (record { kind = Frame; len = length (frame_text channel rest); head = 0 })
-frame_span_is channel [] is = absurd (omega (arith, is.0))
-frame_span_is channel (high ∷ []) is = absurd (omega (arith, is.0))
-frame_span_is channel (high ∷ low ∷ load) is =
-    let given : length (high ∷ low ∷ load) ≡ 2 + (256 * high + low) = is.1 in
-    let come : ℕ = length (frame_text channel (high ∷ low ∷ load)) in
-    let whole : 4 + (256 * high + low) ≡ length (frame_text channel (high ∷ low ∷ load)) = omega (arith, given) in
-    ap (λ t. cond {A = Option Span} t None (when_whole come (record { kind = Frame; len = 4 + (256 * high + low); head = 0 }))) (le-ltb come 4 (omega arith))
-    ∙ ap (λ t. cond {A = Option Span} t None (Some (record { kind = Frame; len = 4 + (256 * high + low); head = 0 }))) (le-ltb come (4 + (256 * high + low)) (omega (arith, whole)))
-    ∙ ap (λ n. Some (record { kind = Frame; len = n; head = 0 })) whole
-
 read_frame : (channel : ℕ) (rest : List ℕ) → IsLoad rest → replies_in (frame_text channel rest) ≡ Some []
-read_frame channel rest is =
-    ap (λ (o : Option Span). option_and_then (replies_by (length (channel ∷ rest))) (option_map (λ (span : Span). drop span.len (frame_text channel rest)) o)) (frame_span_is channel rest is)
-    ∙ ap (replies_by (length (channel ∷ rest))) (drop_all (length (frame_text channel rest)) (frame_text channel rest) (omega arith))
+read_frame channel rest is = grind (arith, drop_all)
 
 -- Bytes are one piece, where there is one.
 one_piece : (bytes : List ℕ) → begins bytes ≡ true → piece bytes ≡ bytes ∷ []

@@ -1,30 +1,42 @@
 -- What sessions show.
-use Rattle.std.proofs.Common.{◌≡◌, ◌≢◌, ◌∙◌, ℕ, zero, suc, ◌+◌, ◌<◌, ◌==◌, Bool, true, false, not, ◌&&◌, cond, List, [], ◌∷◌, length, drop, map, Option, None, Some, refl, sym, ap, subst, add-one, drop-cons, arith}
+use Rattle.std.proofs.Common.{◌≡◌, ◌≢◌, ◌∙◌, ℕ, zero, suc, ◌+◌, ◌<◌, ◌==◌, Bool, true, false, not, ◌&&◌, cond, List, [], ◌∷◌, length, drop, map, Option, None, Some, refl, sym, ap, subst, add-one, drop-cons, arith, ◌≤◌, IfSome}
 use Rattle.std.specs.Prelude.{is_some, is_none, slice_get}
 use Rattle.std.specs.Borrow.{Bor}
-use Rattle.std.specs.Option.{option_copied}
-use Rattle.std.proofs.lemmas.Bool.{ne_eqb}
+use Rattle.std.specs.Option.{option_copied, option_and_then}
+use Rattle.std.proofs.Math.ListN.{get_or-map}
 use Rattle.std.proofs.Math.Seq.{drop-length}
+use Rattle.std.proofs.lemmas.List.{length-map}
 use Rattle.session_one.specs.declared.parts.TheConstants.{MOST_SESSIONS}
-use Rattle.client_machine.specs.declared.outlook.Outlook.{Outlook}
-use Rattle.client_machine.specs.Sights.{Sight, sight, sight_at, sight_of, replaced, replaced_where, first_sight, has_due_seen, session_in_sight, IsTidySight, AreTidySights}
-use Rattle.client_machine.specs.Outlooks.{sights_of}
 use Rattle.session_one.specs.declared.parts.Play.{Play}
+use Rattle.client_machine.specs.declared.outlook.Outlook.{Outlook}
+use Rattle.client_machine.specs.Sights.{Sight, sight, sight_at, sight_of, replaced, replaced_where, first_sight, has_due_seen, session_in_sight, IsTidySight, AreTidySights, filled_seen, are_sights_short}
+use Rattle.client_machine.specs.Outlooks.{sights_of}
 use Rattle.client_slot.specs.Session.{PlayerSession, new_session}
-use Rattle.client_slot.specs.Places.{session_at, changed_at, first_place, has_due}
-use Rattle.client_slot.specs.Bounds.{IsTidyBy, AreTidy}
-use Rattle.client_slot.proofs.TidyLemmas.{tidy_at}
+use Rattle.client_slot.specs.Places.{session_at, changed_at, first_place, has_due, session_where, changed_where, filled_place}
+use Rattle.client_slot.specs.Bounds.{IsTidyBy, AreTidy, AreControlsShort, IsPlacedIn}
+use Rattle.client_slot.proofs.TidyLemmas.{tidy_at, tidy_where, ended_tidy, after_tidy}
 use Rattle.client_machine.specs.declared.sight.PlacedShowing.{PlacedShowing}
 use Rattle.client_machine.specs.Treatment.{session_found}
+use Rattle.std.proofs.lemmas.Bool.{le-leb}
+use Rattle.session_one.specs.declared.table.State.{State}
+use Rattle.session_two.specs.declared.names.Names.{Names}
+use Rattle.session_two.specs.Ends.{end_counts}
+use Rattle.client_slot.specs.declared.purpose.Purpose.{Purpose}
+use Rattle.client_slot.specs.declared.session_turn.SessionTurn.{SessionTurn}
+use Rattle.client_slot.specs.SessionChanges.{when_ended}
+use Rattle.client_slot.specs.SessionTurns.{Brought, reply_turn, brought_by, turned}
+use Rattle.client_slot.specs.Changes.{settled_place, session_after, sessions_after, described_after}
+use Rattle.client_slot.specs.declared.limits.TheConstants.{LONGEST_URI}
+use Rattle.client_slot.specs.ShortUris.{is_short_where}
+use Rattle.client_slot.proofs.ControlLemmas.{IsShortUri, where_short, controls_after}
+use Rattle.client_slot.proofs.LimitLemmas.{ended_keeps}
+use Rattle.client_slot.proofs.RoomLemmas.{open_placed, after_short}
 
 pub shown_at : (place : ℕ) (sessions : List PlayerSession) → sight_at place (map sight sessions) ≡ sight (session_at place sessions)
-shown_at place [] = refl
-shown_at zero (one ∷ more) = refl
-shown_at (suc place) (one ∷ more) = shown_at place more
+shown_at place sessions = get_or-map sight sessions place new_session
 
 pub shown_length : (sessions : List PlayerSession) → length (map sight sessions) ≡ length sessions
-shown_length [] = refl
-shown_length (one ∷ more) = ap suc (shown_length more)
+shown_length sessions = length-map sessions sight
 
 -- A session changes.
 pub replaced_sight : (place : ℕ) (change : PlayerSession → PlayerSession) (sessions : List PlayerSession) → replaced place (sight (change (session_at place sessions))) (map sight sessions) ≡ map sight (changed_at place change sessions)
@@ -56,17 +68,14 @@ replaced_other (suc place) (suc at) new (one ∷ more) apart = replaced_other pl
 -- A place that passes a test is the same among sights.
 shown_first : (seen : Sight → Bool) (test : PlayerSession → Bool) (from : ℕ) (sessions : List PlayerSession) → ((session : PlayerSession) → seen (sight session) ≡ test session) → first_sight seen from (map sight sessions) ≡ first_place test from sessions
 shown_first seen test from [] same = refl
-shown_first seen test from (one ∷ more) same =
-    ap (λ (b : Bool). cond b (Some from) (first_sight seen (from + 1) (map sight more))) (same one)
-    ∙ ap (λ (later : Option ℕ). cond (test one) (Some from) later) (shown_first seen test (from + 1) more same)
+shown_first seen test from (one ∷ more) same = grind (arith, shown_first seen test (from + 1) more same)
 
 has_due_shown : (session : PlayerSession) → has_due_seen (sight session) ≡ has_due session
 has_due_shown session = by session.running session.queue
   where
     by : (running : Option ℕ) (queue : List Play) → (not (is_some running) && is_some (slice_get queue 0)) ≡ (is_none running && not (length queue == 0))
-    by None [] = refl
-    by None (play ∷ plays) = sym (ap not (ne_eqb (suc (length plays)) 0 (λ e. cc)))
-    by (Some number) queue = refl
+    by running [] = grind arith
+    by running (play ∷ queue) = grind arith
 
 pub due_shown : (sessions : List PlayerSession) → first_sight has_due_seen 0 (map sight sessions) ≡ first_place has_due 0 sessions
 due_shown sessions = shown_first has_due_seen has_due 0 sessions has_due_shown
@@ -154,5 +163,76 @@ found_shown [] = refl
 found_shown (one ∷ more) = ap (λ later. session_found one ∷ later) (found_shown more)
 
 pub found_length : (sights : List Sight) → length (map session_in_sight sights) ≡ length sights
-found_length [] = refl
-found_length (one ∷ more) = ap suc (found_length more)
+found_length sights = length-map sights session_in_sight
+
+-- A connection as it will be after an event.
+-- The final reply changes a session.
+pub changed_is : (purpose : Purpose) (number code : ℕ) (described id : Option (List ℕ)) (sessions : List PlayerSession) (place : ℕ) (given : Option ℕ) (seen : Sight) (turn : SessionTurn) (brought : Brought) (made : Bool) (state : State)
+    → seen ≡ sight (turned turn brought (session_at place sessions)) → turn ≡ reply_turn purpose code made state → made ≡ is_some id → state ≡ (session_at place sessions).state → brought ≡ brought_by purpose number described id
+    → given ≡ Some place → given ≡ settled_place purpose id sessions → replaced place seen (map sight sessions) ≡ map sight (sessions_after purpose number code described id sessions)
+changed_is purpose number code described id sessions place given seen turn brought made state shows turns makes at brings there is =
+    let session = session_at place sessions in
+    let after = session_after purpose number code described id in
+    ap (λ one. replaced place one (map sight sessions))
+    (shows
+    ∙ ap (λ (one : SessionTurn). sight (turned one brought session)) turns
+    ∙ ap (λ b. sight (turned (reply_turn purpose code b state) brought session)) makes
+    ∙ ap (λ (one : State). sight (turned (reply_turn purpose code (is_some id) one) brought session)) at
+    ∙ ap (λ (one : Brought). sight (turned (reply_turn purpose code (is_some id) session.state) one session)) brings)
+    ∙ replaced_sight place after sessions
+    ∙ ap (λ one. map sight (changed_where one after sessions)) (sym there ∙ is)
+
+-- the place of what is open
+pub settled_open : (pending : Option Purpose) (purpose : Purpose) (id : Option (List ℕ)) (sessions : List PlayerSession) → pending ≡ Some purpose
+    → option_and_then (λ one. settled_place one id sessions) pending ≡ settled_place purpose id sessions
+settled_open pending purpose id sessions is = ap (option_and_then (λ one. settled_place one id sessions)) is
+
+-- What was described is forgotten where no session is left.
+pub left_described : (left : Bool) (sessions : List PlayerSession) (sights : List Sight) (described : Option (List ℕ)) → sights ≡ map sight sessions → left ≡ is_some (filled_seen sights)
+    → cond (is_some (filled_place sessions)) described None ≡ cond left described None
+left_described left sessions sights described shows is = grind (arith, filled_shown)
+
+-- The end of what plays.
+quiet_at : (place : ℕ) (change : PlayerSession → PlayerSession) (sessions : List PlayerSession) → change (session_at place sessions) ≡ session_at place sessions → changed_at place change sessions ≡ sessions
+quiet_at place change [] same = refl
+quiet_at zero change (one ∷ more) same = ap (λ first. first ∷ more) same
+quiet_at (suc place) change (one ∷ more) same = ap (λ later. one ∷ later) (quiet_at place change more same)
+
+pub not_ended : (place : ℕ) (names : Names) (sessions : List PlayerSession) → end_counts (session_at place sessions).running names ≡ false → changed_at place (when_ended names) sessions ≡ sessions
+not_ended place names sessions stays = grind (arith, quiet_at)
+
+pub ended_tidily : (place : Option ℕ) (names : Names) (sessions : List PlayerSession) → AreTidy sessions → AreTidySights (map sight (changed_where place (when_ended names) sessions))
+ended_tidily place names sessions tidy = grind (arith, tidy_sights, tidy_where, ended_tidy, tidy_at)
+
+pub replied_tidily : (pending : Option Purpose) (purpose : Purpose) (number code : ℕ) (described id : Option (List ℕ)) (sessions : List PlayerSession) → pending ≡ Some purpose → AreTidy sessions → IfSome pending (IsPlacedIn sessions)
+    → AreTidySights (map sight (sessions_after purpose number code described id sessions))
+replied_tidily pending purpose number code described id sessions is tidy placed = grind (arith, tidy_sights, after_tidy, open_placed)
+
+-- What each session is about stays short enough, and so does what was described.
+pub short_is : (uri : Option (List ℕ)) → IsShortUri uri → is_short_where uri ≡ true
+short_is uri short = grind (arith, le-leb)
+
+pub shown_short : (sessions : List PlayerSession) → AreControlsShort sessions → are_sights_short (map sight sessions) ≡ true
+shown_short [] short = refl
+shown_short (one ∷ more) short = ap (λ first. first && are_sights_short (map sight more)) (short_is one.control short.0) ∙ shown_short more short.1
+
+pub ended_short : (place : Option ℕ) (names : Names) (sessions : List PlayerSession) → AreControlsShort sessions → are_sights_short (map sight (changed_where place (when_ended names) sessions)) ≡ true
+ended_short place names sessions short = grind (arith, shown_short, where_short, ended_keeps)
+
+pub kept_short : (lent : Option (Bor (List ℕ))) (kept : Option (List ℕ)) → option_copied lent ≡ kept → IfSome lent (λ uri. length uri.now ≤ LONGEST_URI) → IsShortUri kept
+kept_short lent kept is short = grind arith
+
+pub replied_short : (pending : Option Purpose) (purpose : Purpose) (number code : ℕ) (described id : Option (List ℕ)) (sessions : List PlayerSession) → pending ≡ Some purpose → IfSome pending (IsPlacedIn sessions) → IsShortUri described → AreControlsShort sessions
+    → are_sights_short (map sight (sessions_after purpose number code described id sessions)) ≡ true
+replied_short pending purpose number code described id sessions is placed was short = grind (arith, shown_short, controls_after, open_placed)
+
+pub told_short : (pending : Option Purpose) (purpose : Purpose) (code : ℕ) (described told : Option (List ℕ)) (sessions after : List PlayerSession) → pending ≡ Some purpose → IfSome pending (IsPlacedIn sessions) → IsShortUri described
+    → told ≡ described_after purpose code after described → is_short_where told ≡ true
+told_short pending purpose code described told sessions after is placed was tells = grind (arith, short_is, after_short, open_placed)
+
+-- the id of the session that changes
+pub own_is : (place : ℕ) (seen : Sight) (sessions after : List PlayerSession) (given settled : Option ℕ) → replaced place seen (map sight sessions) ≡ map sight after → place < length sessions → given ≡ Some place → given ≡ settled
+    → seen.id ≡ (session_where settled after).id
+own_is place seen sessions after given settled shows within there is =
+    ap (λ (one : Sight). one.id) (sym (replaced_here place seen (map sight sessions) (subst (λ n. place < n) (sym (shown_length sessions)) within)) ∙ ap (sight_at place) shows ∙ shown_at place after)
+    ∙ ap (λ (one : Option ℕ). (session_where one after).id) (sym there ∙ is)

@@ -4,7 +4,7 @@ use Rattle.std.specs.Option.{option_copied}
 use Rattle.client_slot.specs.Purposes.{purpose_seen}
 use Rattle.client_slot.specs.Changes.{sessions_after, described_after}
 use Rattle.client_machine.specs.Sights.{AreTidySights, are_sights_short}
-use Rattle.client_machine.proofs.AfterLemmas.{replied_tidily, short_is, kept_short, replied_short, told_short}
+use Rattle.client_machine.proofs.SightLemmas.{replied_tidily, short_is, kept_short, replied_short, told_short}
 use Rattle.client_machine.proofs.after.after_reply.Goals as goal
 
 pub invariant_of-after : goal.invariant_of-after

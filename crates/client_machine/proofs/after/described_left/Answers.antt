@@ -2,7 +2,7 @@
 use Rattle.std.proofs.Common.{sym}
 use Rattle.std.specs.Option.{option_copied}
 use Rattle.client_machine.specs.Outlooks.{sights_of}
-use Rattle.client_machine.proofs.AfterLemmas.{left_described}
+use Rattle.client_machine.proofs.SightLemmas.{left_described}
 use Rattle.client_machine.proofs.after.described_left.Goals as goal
 
 pub returns-then-has_session : goal.returns-then-has_session

@@ -1,13 +1,11 @@
 -- One session after another.
-use Rattle.std.proofs.Common.{◌≡◌, ◌∙◌, ◌<◌, List, arith, refl, sym, ap, subst}
+use Rattle.std.proofs.lemmas.Grind.{common_steps}
+use Rattle.std.proofs.Common.{◌∙◌, ◌<◌, List, arith, sym, ap, subst}
 use Rattle.std.specs.Prelude.{is_some}
 use Rattle.session_one.specs.declared.parts.Track.{Track}
 use Rattle.client_machine.specs.Frames.{channel_for}
-use Rattle.client_machine.proofs.HalfLemmas.{found_here, found_later, found_nowhere, channel_searches}
+use Rattle.client_machine.proofs.CarryLemmas.{found_here, found_later, found_nowhere, channel_searches}
 use Rattle.client_machine.proofs.frames.channel_for.Goals as goal
-
-pub loop-place-init : goal.loop-place-init
-loop-place-init c = refl
 
 pub returns-then-is_some : goal.returns-then-is_some
 returns-then-is_some c =
@@ -22,6 +20,4 @@ loop-place-preserved c =
     found_later (channel_for c.args.pair c.args.half) c.loop-place.place sessions (channel_searches c.args.pair c.args.half) (subst (λ n. c.loop-place.place < n) (sym c.keeps.ensures.places) c.loop-place-test.true) (ap (λ one. is_some one) (sym here) ∙ sym c.if-is_some.ensures) c.loop-place.invariant
 
 pub returns : goal.returns
-returns c =
-    let four : c.loop-place.place ≡ 4 = omega (arith, c.loop-place-test.false, c.loop-place.auto.place-end) in
-    found_nowhere (channel_for c.args.pair c.args.half) c.loop-place.place c.args.slot.now.sessions (channel_searches c.args.pair c.args.half) (four ∙ sym c.keeps.ensures.places) c.loop-place.invariant
+returns c = grind (arith, common_steps, found_nowhere, channel_searches)

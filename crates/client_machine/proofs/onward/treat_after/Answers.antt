@@ -11,8 +11,7 @@ use Rattle.client_machine.specs.Treatment.{given_shown}
 use Rattle.client_machine.specs.Progresses.{begun}
 use Rattle.session_one.specs.declared.parts.TheConstants.{MOST_SESSIONS}
 use Rattle.client_machine.proofs.SightLemmas.{outlook_length, found_length}
-use Rattle.client_machine.proofs.ShortUriLemmas.{known_shown}
-use Rattle.client_machine.proofs.TreatLemmas.{way_begins}
+use Rattle.client_machine.proofs.TreatLemmas.{known_shown, way_begins}
 use Rattle.client_machine.proofs.onward.treat_after.Goals as goal
 
 pub returns-then-waiting-eq0 : goal.returns-then-waiting-eq0

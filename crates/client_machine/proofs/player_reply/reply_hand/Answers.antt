@@ -1,5 +1,5 @@
 -- The player's own request.
-use Rattle.std.proofs.Common.{◌∙◌, ℕ, [], Option, cond, sym, ap}
+use Rattle.std.proofs.Common.{◌∙◌, ℕ, [], Option, cond, sym, ap, arith}
 use Rattle.std.specs.Option.{option_copied, option_map}
 use Rattle.std.proofs.lemmas.Result.{IfOk-weaker}
 use Rattle.session_one.specs.declared.parts.Track.{Track}
@@ -8,12 +8,11 @@ use Rattle.client_slot.specs.Purposes.{purpose_seen}
 use Rattle.client_slot.specs.declared.purpose.Pending.{Pending}
 use Rattle.client_slot.specs.declared.purpose.Pending.TheVariants as lent
 use Rattle.client_machine.specs.Step.{reply_for, reply_hand}
-use Rattle.client_machine.proofs.PlayerReplyLemmas.{open_apart}
+use Rattle.client_machine.proofs.SeenReplyLemmas.{open_apart}
 use Rattle.client_machine.proofs.player_reply.reply_hand.Goals as goal
 
 pub reply_down-requires-clause-apart : goal.reply_down-requires-clause-apart
-reply_down-requires-clause-apart c =
-    open_apart c.args.pending c.in-Client.asked c.in-Client.track c.args.slot.now.pending c.args.slot.now.sessions c.requires.pending c.in-Client.is c.keeps.ensures.placed
+reply_down-requires-clause-apart c = grind (arith, open_apart)
 
 pub returns-in-Client : goal.returns-in-Client
 returns-in-Client c =

@@ -1,15 +1,13 @@
 -- A request waits behind a PLAY that is due.
-use Rattle.std.proofs.Common.{◌∙◌, sym, ap}
+use Rattle.std.proofs.Common.{◌∙◌, sym, ap, arith}
 use Rattle.rtsp_head.specs.Shapes.{shape_of}
 use Rattle.client_machine.specs.Onward.{due_for}
-use Rattle.client_machine.specs.Outlooks.{sights_of}
 use Rattle.client_machine.proofs.OnwardLemmas.{still, is_due}
 use Rattle.client_machine.proofs.PlanLemmas.{plan_waits}
 use Rattle.client_machine.proofs.requests.plan_due.Goals as goal
 
 pub unreachable-requires : goal.unreachable-requires
-unreachable-requires c =
-    is_due c.args.next c.args.slot.now (sights_of c.now.result) c.requires.idle (sym c.now.ensures.sights) c.requires.due (sym c.in_ok-up.ensures ∙ c.in_default.is)
+unreachable-requires c = grind (arith, is_due)
 
 pub returns : goal.returns
 returns c = λ bases pair.

@@ -9,12 +9,10 @@ use Rattle.translate_up.proofs.ItemHeadLemmas.{item_head}
 use Rattle.client_machine.specs.declared.parts.Change.TheVariants as changes
 use Rattle.client_machine.specs.Treatment.{given, decision_on, given_shown}
 use Rattle.client_machine.specs.Sights.{sight}
-use Rattle.client_machine.proofs.TreatLemmas.{shown_then}
-use Rattle.client_machine.proofs.CourseLemmas.{up_is, with_change}
+use Rattle.client_machine.proofs.TreatLemmas.{shown_then, up_is, with_change, known_by}
 use Rattle.client_machine.proofs.OnwardLemmas.{judged_now, treated_by_now}
 use Rattle.client_machine.proofs.PlanLemmas.{plan_before, plan_with}
-use Rattle.client_machine.proofs.ShortUriLemmas.{known_by}
-use Rattle.client_machine.proofs.AfterLemmas.{short_is, shown_short, kept_short}
+use Rattle.client_machine.proofs.SightLemmas.{short_is, shown_short, kept_short}
 use Rattle.client_machine.proofs.requests.treat_request.Goals as goal
 
 pub treat_waiting-requires-clause-known : goal.treat_waiting-requires-clause-known

@@ -1,22 +1,17 @@
 -- Each is treated in its turn.
-use Rattle.std.proofs.Common.{◌≤◌, rules, arith, sym, subst, map}
+use Rattle.std.proofs.Common.{rules, arith, sym, map}
 use Rattle.std.specs.Prelude.{is_none}
 use Rattle.std.specs.Option.{option_copied}
 use Rattle.std.proofs.lemmas.List.{length-map}
-use Rattle.session_one.specs.declared.parts.TheConstants.{MOST_SESSIONS}
 use Rattle.rtsp_head.specs.Shapes.{shape_of}
 use Rattle.translate_up.specs.Views.{session_shown}
 use Rattle.translate_up.proofs.ItemHeadLemmas.{item_head}
 use Rattle.client_machine.specs.Treatment.{decision_on, given_shown}
-use Rattle.client_machine.specs.Progresses.{begun}
-use Rattle.client_machine.proofs.TreatLemmas.{shown_then, way_begins}
-use Rattle.client_machine.proofs.CourseLemmas.{treated_same, way_by}
+use Rattle.client_machine.proofs.TreatLemmas.{shown_then, way_begins, treated_same, way_by}
 use Rattle.client_machine.proofs.treat.treat_waiting.Goals as goal
 
 pub loop-plan-init : goal.loop-plan-init
-loop-plan-init c =
-    let given = given_shown c.args.course.bases.now (is_none c.args.course.pair) (map session_shown c.args.sessions.now) (option_copied c.args.course.described) in
-    record { progress = begun c.args.plan.now.hand; finished = c.requires.begun; way = way_begins given c.args.slot.now.waiting c.args.plan.now.hand (subst (λ n. n ≤ MOST_SESSIONS) (sym (length-map c.args.sessions.now session_shown)) c.requires.few) c.requires.known }
+loop-plan-init c = grind (arith, way_begins, length-map)
 
 pub overflow_add-plan : goal.overflow_add-plan
 overflow_add-plan c =

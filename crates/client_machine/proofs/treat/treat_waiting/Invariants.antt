@@ -4,7 +4,7 @@ use Rattle.std.specs.Prelude.{is_none}
 use Rattle.std.specs.Option.{option_copied}
 use Rattle.translate_up.specs.Views.{session_shown}
 use Rattle.client_machine.specs.Treatment.{given_shown}
-use Rattle.client_machine.proofs.CourseLemmas.{IsWayBy}
+use Rattle.client_machine.proofs.TreatLemmas.{IsWayBy}
 use Rattle.client_machine.proofs.treat.treat_waiting.Given as goal
 
 abbrev pub invariant-loop-plan : goal.invariant-loop-plan

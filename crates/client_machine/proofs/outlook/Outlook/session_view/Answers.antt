@@ -1,9 +1,9 @@
 -- The session that changes, or another one.
-use Rattle.std.proofs.Common.{◌≡◌, ◌∙◌, None, sym, ap, subst}
+use Rattle.std.proofs.Common.{◌≡◌, ◌∙◌, None, sym, ap, subst, arith}
 use Rattle.translate_up.specs.Views.{session_shown}
 use Rattle.session_one.specs.declared.table.State.{State}
 use Rattle.client_slot.specs.Places.{session_at}
-use Rattle.client_machine.specs.Sights.{Sight, sight, sight_at, session_in_sight, streams_where, IsTidySight}
+use Rattle.client_machine.specs.Sights.{Sight, sight, sight_at, session_in_sight, IsTidySight}
 use Rattle.client_machine.specs.Outlooks.{sights_of}
 use Rattle.client_machine.proofs.SightLemmas.{here_is, apart_is, same_is}
 use Rattle.client_machine.proofs.outlook.Outlook.session_view.Goals.{in_default-via-in-Some+else-changed-place, in_default-via-in_default}
@@ -22,18 +22,10 @@ view_of-requires-in_default c =
     ]
 
 pub returns-in-Some : goal.returns-in-Some
-returns-in-Some c = λ streams.
-    c.view_of.ensures (streams ∙ ap streams_where c.in-Some.is)
-    ∙ ap session_in_sight (sym (here_is c.args.self.now c.in-Some.changed c.args.place c.in-Some.is c.if-changed-place.true c.requires))
+returns-in-Some c = λ streams. grind (arith, here_is)
 
 pub returns-in_ok-session-in_default : goal.returns-in_ok-session-in_default
-returns-in_ok-session-in_default c = λ streams.
-    let now = c.seen-now.ensures.shows ∙ ap (λ (state : State). sight (record (session_at c.args.place c.args.self.now.slot.now.sessions) { state = state })) c.state.ensures in
-    let viewed = c.view_of-in_default.ensures (c.seen-now.ensures.tracks ∙ sym (ap (λ (seen : Sight). seen.tracks) now)) in
-    elim c.in_default.branch [
-      | in_default-via-in-Some+else-changed-place w ↦ viewed ∙ ap session_in_sight (now ∙ sym (apart_is c.args.self.now w.in-Some.changed c.args.place w.in-Some.is w.if-changed-place.false))
-      | in_default-via-in_default w ↦ viewed ∙ ap session_in_sight (now ∙ sym (same_is c.args.self.now c.args.place w.in_default.is))
-    ]
+returns-in_ok-session-in_default c = λ streams. grind (arith, apart_is, in_default-via-in_default, same_is)
 
 pub returns-in_err-session-in_default : goal.returns-in_err-session-in_default
 returns-in_err-session-in_default c = λ streams. elim c.in_default.branch [

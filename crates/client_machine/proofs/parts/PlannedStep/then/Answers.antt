@@ -6,8 +6,7 @@ use Rattle.rtsp_head.specs.Shapes.{shape_of}
 use Rattle.translate_up.specs.Views.{session_shown}
 use Rattle.translate_up.specs.DecisionPlaces.{IsDecidedIn}
 use Rattle.rtsp_head.proofs.LastLemmas.{weaker}
-use Rattle.client_machine.proofs.TreatLemmas.{decided_on}
-use Rattle.client_machine.proofs.CourseLemmas.{next_is}
+use Rattle.client_machine.proofs.TreatLemmas.{decided_on, next_is}
 use Rattle.client_machine.proofs.OnwardLemmas.{none_is}
 use Rattle.client_machine.proofs.parts.PlannedStep.then.Goals as goal
 use Rattle.client_machine.specs.Treatment.{decision_on, given_shown}
