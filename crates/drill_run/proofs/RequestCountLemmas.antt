@@ -1,4 +1,4 @@
--- A player asks at most seven times.
+-- What players say weighs no more than the steps that they took; so a player asks at most seven times.
 use Rattle.std.proofs.Common.{◌≡◌, ℕ, zero, suc, ◌+◌, ◌*◌, ◌^◌, ◌≤◌, ◌<◌, Bool, true, false, List, [], ◌∷◌, ◌++◌, length, map, Option, Some, None, Result, Ok, Err, IfSome, unwrap_or, refl, sym, ap, ◌∙◌, subst, arith}
 use Rattle.std.specs.Prelude.{codes, replicate, slice_set, take}
 use Rattle.std.specs.List.{AllByRecursion}
@@ -14,21 +14,20 @@ use Rattle.translate_up.proofs.SoundLemmas.{session_value}
 use Rattle.client_machine.proofs.SeenReplyLemmas.{id_told}
 use Rattle.gateway_claim.specs.declared.event.ToClient.{ToClient}
 use Rattle.gateway_claim.specs.Happenings.{Happening, takes, hears, HistoryEntry, happened}
-use Rattle.drill_server.specs.ServerSteps.{requests_among, next_answer}
-use Rattle.drill_run.specs.declared.counts.Counts.{Counts}
+use Rattle.drill_server.specs.ServerSteps.{is_request_kind, next_answer}
 use Rattle.drill_run.specs.declared.player.Player.{Player}
 use Rattle.drill_run.specs.declared.step.PlayerStep.{PlayerStep}
 use Rattle.drill_run.specs.declared.step.PlayerStep.TheVariants as steps
 use Rattle.drill_run.specs.declared.turn.Who.{Who}
 use Rattle.drill_run.specs.declared.turn.Who.TheVariants.{Client, Server}
-use Rattle.drill_run.specs.CountSteps.{requests_told, counts_of}
+use Rattle.drill_run.specs.CountSteps.{count_if, counts_of}
 use Rattle.drill_run.specs.Players.{new_player, is_response_kind, session_in_head, session_replied, heard_kind, heard_player, player_at, handed_players, stepped_by, stepped_player, player_said}
-use Rattle.drill_run.specs.Steps.{step_after, requests_of_step, said_at, end_told}
-use Rattle.drill_run.specs.TurnCounts.{requests_before, requests_sent}
+use Rattle.drill_run.specs.Steps.{step_after, requests_of_step, step_text, said_at, end_told}
+use Rattle.drill_run.specs.TurnCounts.{requests_before, over_players, requests_sent}
 use Rattle.drill_run.specs.Turns.{Drilled, DrillRun, begins, goes_on, Turn, entered_below, after_draw, after_saying, after_entries, turn_told}
-use Rattle.drill_run.proofs.CountLemmas.{counts_entered}
-use Rattle.drill_run.proofs.FramerCountLemmas.{requests_framed, one_counted}
-use Rattle.drill_run.proofs.ScriptLemmas.{script_few}
+use Rattle.drill_run.proofs.WeighLemmas.{weighed}
+use Rattle.drill_run.proofs.UpstreamLemmas.{told_of, told_in, asked_item, requests_told_in}
+use Rattle.drill_run.proofs.ScriptLemmas.{WeighsMost, step_most, script_weighed}
 use Rattle.drill_run.proofs.OneDrillLemmas.{turn_history}
 use Rattle.drill_run.proofs.TurnCountLemmas.{over_set, handed_over, MayTake, chosen_may, client_may, run_counted}
 
@@ -107,45 +106,38 @@ handed_values None players all = all
 handed_values (Some piece) players all =
     value_set players piece.conn (heard_player (player_at piece.conn players) (items_of piece.bytes)) (heard_value (player_at piece.conn players) (items_of piece.bytes) (value_at players piece.conn all)) all
 
--- What it says at a step is no more requests than the step has.
-said_few : (next : Option PlayerStep) (i : ℕ) (player : Player) → i < 2 ^ 64 → player.next ≡ next → HasValue player
-    → requests_framed (said_at next i player.session).text + requests_before next ≤ requests_before (stepped_by next player).next
-said_few None i player below is value = let none : requests_framed (said_at None i player.session).text ≡ 0 = refl in let same = ap requests_before is in omega (arith, none, same)
-said_few (Some step) i player below is value = let few = script_few step i player.session below value in let more = step_asks step in omega (arith, few, more)
+-- What happenings weigh.
+abbrev told_all : (Shape → ℕ) → List Happening → ℕ
+told_all weigh [] = 0
+told_all weigh (happening ∷ more) = told_of weigh happening + told_all weigh more
 
--- How many requests are among some happenings.
-abbrev asked_told : List Happening → ℕ
-asked_told [] = 0
-asked_told (happening ∷ more) = requests_told happening + asked_told more
+told_both : (weigh : Shape → ℕ) (one other : List Happening) → told_all weigh (one ++ other) ≡ told_all weigh one + told_all weigh other
+told_both weigh [] other = omega arith
+told_both weigh (happening ∷ one) other = let rest = told_both weigh one other in omega (arith, rest)
 
-told_both : (one other : List Happening) → asked_told (one ++ other) ≡ asked_told one + asked_told other
-told_both [] other = omega arith
-told_both (happening ∷ one) other = let rest = told_both one other in omega (arith, rest)
+taken_told : (weigh : Shape → ℕ) (i : ℕ) (items : List Shape) → told_all weigh (map (λ shape. takes i shape) items) ≡ weighed weigh items
+taken_told weigh i [] = refl
+taken_told weigh i (item ∷ items) = let rest = taken_told weigh i items in omega (arith, rest)
 
-taken_told : (i : ℕ) (items : List Shape) → asked_told (map (λ shape. takes i shape) items) ≡ length (requests_among items)
-taken_told i [] = refl
-taken_told i (item ∷ items) = let rest = taken_told i items in let one = one_counted item items in omega (arith, rest, one)
+heard_told : (weigh : Shape → ℕ) (items : List Shape) → told_all weigh (map (λ shape. hears shape) items) ≡ 0
+heard_told weigh [] = refl
+heard_told weigh (item ∷ items) = let rest = heard_told weigh items in omega (arith, rest)
 
-heard_told : (items : List Shape) → asked_told (map (λ shape. hears shape) items) ≡ 0
-heard_told [] = refl
-heard_told (item ∷ items) = let rest = heard_told items in omega (arith, rest)
+ended_told : (weigh : Shape → ℕ) (last : Bool) (i : ℕ) → told_all weigh (end_told last i) ≡ 0
+ended_told weigh true i = refl
+ended_told weigh false i = refl
 
-ended_told : (last : Bool) (i : ℕ) → asked_told (end_told last i) ≡ 0
-ended_told true i = refl
-ended_told false i = refl
+entries_told : (weigh : Shape → ℕ) (more earlier : List HistoryEntry) → told_in weigh (more ++ earlier) ≡ told_in weigh earlier + told_all weigh (happened more)
+entries_told weigh [] earlier = omega arith
+entries_told weigh (e ∷ more) earlier = let both = told_both weigh (happened more) (e.happening ∷ []) in let rest = entries_told weigh more earlier in omega (arith, both, rest)
 
-entries_told : (more earlier : List HistoryEntry) → (counts_of (more ++ earlier)).requests ≡ (counts_of earlier).requests + asked_told (happened more)
-entries_told [] earlier = omega arith
-entries_told (e ∷ more) earlier = let both = told_both (happened more) (e.happening ∷ []) in let rest = entries_told more earlier in omega (arith, both, rest)
+entered_told : (weigh : Shape → ℕ) (n : ℕ) → told_in weigh (entered_below n) ≡ 0
+entered_told weigh zero = refl
+entered_told weigh (suc n) = let rest = entered_told weigh n in omega (arith, rest)
 
--- The requests that were counted are those of the steps that were taken, or fewer.
-record IsAsked (drilled : Drilled) : Type 0 where
-  few : (counts_of drilled.history).requests ≤ requests_sent drilled.players
-  values : AllByRecursion HasValue drilled.players
-
-entries_sent : (more : List HistoryEntry) (drilled : Drilled) → requests_sent (after_entries more drilled).players ≡ requests_sent drilled.players
-entries_sent [] drilled = refl
-entries_sent (e ∷ more) drilled = handed_over requests_before e.outcome.to_client (after_entries more drilled).players ∙ entries_sent more drilled
+entries_sent : (before : Option PlayerStep → ℕ) (more : List HistoryEntry) (drilled : Drilled) → over_players before (after_entries more drilled).players ≡ over_players before drilled.players
+entries_sent before [] drilled = refl
+entries_sent before (e ∷ more) drilled = handed_over before e.outcome.to_client (after_entries more drilled).players ∙ entries_sent before more drilled
 
 entries_values : (more : List HistoryEntry) (drilled : Drilled) → AllByRecursion HasValue drilled.players → AllByRecursion HasValue (after_entries more drilled).players
 entries_values [] drilled all = all
@@ -161,45 +153,85 @@ saying_values (Client i) drilled all =
     value_set drilled.players i (stepped_player player) (stepped_value player.next player (value_at drilled.players i all)) all
 saying_values Server drilled all = all
 
-saying_asks : (who : Who) (drilled : Drilled) → length drilled.players < 2 ^ 32 → MayTake 0 drilled.players drilled.server.waiting who → AllByRecursion HasValue drilled.players
-    → asked_told (turn_told who drilled) + requests_sent drilled.players ≤ requests_sent (after_saying who (after_draw drilled)).players
-saying_asks (Client i) drilled small may all =
-    let player = player_at i drilled.players in
-    let said = player_said i player in
-    let within = (client_may drilled.players drilled.server.waiting i may).0 in
-    let both = told_both (map (λ shape. takes i shape) (items_of said.text)) (end_told said.last i) in
-    let taken = taken_told i (items_of said.text) in
-    let ended = ended_told said.last i in
-    let few = said_few player.next i player (omega (arith, small, within)) refl (value_at drilled.players i all) in
-    let set = over_set requests_before drilled.players i (stepped_player player) within in
-    omega (arith, both, taken, ended, few, set)
-saying_asks Server drilled small may all = let none = heard_told (items_of (next_answer drilled.server).text) in omega (arith, none)
+-- A count over the steps before a step grows by what the step weighs, or more.
+abbrev pub IsWeighed : (Shape → ℕ) → (Option PlayerStep → ℕ) → Type 0
+IsWeighed weigh before = (step : PlayerStep) (i : ℕ) (id : List ℕ) → i < 2 ^ 64 → is_value id ≡ true → weighed weigh (items_of (step_text step i id)) + before (Some step) ≤ before (step_after step)
 
-turn_asked : (drilled next : Drilled) → length drilled.players < 2 ^ 32 → Turn drilled next → IsAsked drilled → IsAsked next
-turn_asked drilled next small turn is =
-    let spoken = after_saying turn.who (after_draw drilled) in
-    let counted : (counts_of next.history).requests ≡ (counts_of drilled.history).requests + asked_told (turn_told turn.who drilled) =
-    ap (λ (l : List HistoryEntry). (counts_of l).requests) (turn_history drilled next turn)
-    ∙ entries_told turn.more drilled.history
-    ∙ ap (λ (told : List Happening). (counts_of drilled.history).requests + asked_told told) turn.told in
-    let sent : requests_sent next.players ≡ requests_sent spoken.players = ap (λ (d : Drilled). requests_sent d.players) turn.after ∙ entries_sent turn.more spoken in
-    let asks = saying_asks turn.who drilled small (chosen_may drilled turn.who turn.drawn) is.values in
-    let few = is.few in
-    record {
-      few = omega (arith, counted, sent, asks, few);
-      values = subst (λ (d : Drilled). AllByRecursion HasValue d.players) (sym turn.after) (entries_values turn.more spoken (saying_values turn.who drilled is.values));
-    }
+-- What was said weighs no more than the steps that were taken.
+record IsSaid (weigh : Shape → ℕ) (before : Option PlayerStep → ℕ) (drilled : Drilled) : Type 0 where
+  few : told_in weigh drilled.history ≤ over_players before drilled.players
+  values : AllByRecursion HasValue drilled.players
 
-run_asked : (players number : ℕ) (drilled : Drilled) → players < 2 ^ 32 → DrillRun players number drilled → IsAsked drilled
-run_asked players number drilled small begins =
-    let none : (counts_of (entered_below players)).requests ≡ 0 = ap (λ (counts : Counts). counts.requests) (counts_entered players) in
-    record { few = omega (arith, none); values = new_values players }
-run_asked players number drilled small (goes_on before next ran turn) =
-    let many = (run_counted players number before ran).many in turn_asked before next (omega (arith, small, many)) turn (run_asked players number before small ran)
+module _ (weigh : Shape → ℕ) (before : Option PlayerStep → ℕ) (is_weighed : IsWeighed weigh before) where
+  said_few : (next : Option PlayerStep) (i : ℕ) (player : Player) → i < 2 ^ 64 → player.next ≡ next → HasValue player
+      → weighed weigh (items_of (said_at next i player.session).text) + before next ≤ before (stepped_by next player).next
+  said_few None i player below is value = let none : weighed weigh (items_of (said_at None i player.session).text) ≡ 0 = refl in let same = ap before is in omega (arith, none, same)
+  said_few (Some step) i player below is value = is_weighed step i player.session below value
+
+  saying_weighs : (who : Who) (drilled : Drilled) → length drilled.players < 2 ^ 32 → MayTake 0 drilled.players drilled.server.waiting who → AllByRecursion HasValue drilled.players
+      → told_all weigh (turn_told who drilled) + over_players before drilled.players ≤ over_players before (after_saying who (after_draw drilled)).players
+  saying_weighs (Client i) drilled small may all =
+      let player = player_at i drilled.players in
+      let said = player_said i player in
+      let within = (client_may drilled.players drilled.server.waiting i may).0 in
+      let both = told_both weigh (map (λ shape. takes i shape) (items_of said.text)) (end_told said.last i) in
+      let taken = taken_told weigh i (items_of said.text) in
+      let ended = ended_told weigh said.last i in
+      let few = said_few player.next i player (omega (arith, small, within)) refl (value_at drilled.players i all) in
+      let set = over_set before drilled.players i (stepped_player player) within in
+      omega (arith, both, taken, ended, few, set)
+  saying_weighs Server drilled small may all = let none = heard_told weigh (items_of (next_answer drilled.server).text) in omega (arith, none)
+
+  turn_said : (drilled next : Drilled) → length drilled.players < 2 ^ 32 → Turn drilled next → IsSaid weigh before drilled → IsSaid weigh before next
+  turn_said drilled next small turn is =
+      let spoken = after_saying turn.who (after_draw drilled) in
+      let told : told_in weigh next.history ≡ told_in weigh drilled.history + told_all weigh (turn_told turn.who drilled) =
+      ap (told_in weigh) (turn_history drilled next turn)
+      ∙ entries_told weigh turn.more drilled.history
+      ∙ ap (λ (all : List Happening). told_in weigh drilled.history + told_all weigh all) turn.told in
+      let sent : over_players before next.players ≡ over_players before spoken.players = ap (λ (d : Drilled). over_players before d.players) turn.after ∙ entries_sent before turn.more spoken in
+      let weighs = saying_weighs turn.who drilled small (chosen_may drilled turn.who turn.drawn) is.values in
+      let few = is.few in
+      record {
+        few = omega (arith, told, sent, weighs, few);
+        values = subst (λ (d : Drilled). AllByRecursion HasValue d.players) (sym turn.after) (entries_values turn.more spoken (saying_values turn.who drilled is.values));
+      }
+
+  run_said : (players number : ℕ) (drilled : Drilled) → players < 2 ^ 32 → DrillRun players number drilled → IsSaid weigh before drilled
+  run_said players number drilled small begins = record { few = let none = entered_told weigh players in omega (arith, none); values = new_values players }
+  run_said players number drilled small (goes_on earlier next ran turn) =
+      let many = (run_counted players number earlier ran).many in turn_said earlier next (omega (arith, small, many)) turn (run_said players number earlier small ran)
+
+pub said_within : (weigh : Shape → ℕ) (before : Option PlayerStep → ℕ) → IsWeighed weigh before → (players number : ℕ) (drilled : Drilled) → players < 2 ^ 32 → DrillRun players number drilled
+    → told_in weigh drilled.history ≤ over_players before drilled.players
+said_within weigh before is players number drilled small ran = (run_said weigh before is players number drilled small ran).few
+
+-- Each request is one.
+asks_one : WeighsMost asked_item (λ method headers. 1)
+asks_one = record { other = λ shape is. ap count_if is; request = λ shape method uri headers read. one_most (is_request_kind shape.kind) }
+  where
+    one_most : (request : Bool) → count_if request ≤ 1
+    one_most true = omega arith
+    one_most false = omega arith
+
+requests_most : (step : PlayerStep) (id : List ℕ) → step_most (λ method headers. 1) step id ≡ requests_of_step step
+requests_most steps.Options id = refl
+requests_most steps.Describe id = refl
+requests_most steps.SetupFirst id = refl
+requests_most steps.SetupSecond id = refl
+requests_most steps.Play id = refl
+requests_most steps.Frame id = refl
+requests_most steps.Teardown id = refl
+requests_most steps.End id = refl
+
+requests_weighed : IsWeighed asked_item requests_before
+requests_weighed step i id below value =
+    let few = script_weighed asked_item (λ method headers. 1) asks_one step i id below value in let most = requests_most step id in let asks = step_asks step in omega (arith, few, most, asks)
 
 pub requests_few : (players number : ℕ) (drilled : Drilled) → players < 2 ^ 32 → DrillRun players number drilled → (counts_of drilled.history).requests ≤ 7 * players
 requests_few players number drilled small ran =
-    let few = (run_asked players number drilled small ran).few in
+    let few = said_within asked_item requests_before requests_weighed players number drilled small ran in
+    let same = requests_told_in drilled.history in
     let most = few_sent drilled.players in
     let many = (run_counted players number drilled ran).many in
-    omega (arith, few, most, many)
+    omega (arith, few, same, most, many)

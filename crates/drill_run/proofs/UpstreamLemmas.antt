@@ -1,6 +1,8 @@
--- No more requests go up in a history than players sent, and four more for each player.
+-- No more requests go up in a history than players sent, and four more for each player; and no more than the most for what
+-- they sent, where the server grants what it answers.
 use Rattle.std.proofs.Common.{◌≡◌, ℕ, zero, suc, ◌+◌, ◌*◌, ◌≤◌, ◌<◌, ◌==◌, Bool, true, false, cond, List, [], ◌∷◌, ◌++◌, map, Option, Some, None, Result, Ok, Err, inl, inr, refl, sym, ap, ◌∙◌, subst, arith}
 use Rattle.std.specs.Prelude.{is_some}
+use Rattle.std.specs.List.{AllByRecursion}
 use Rattle.std.specs.Option.{option_map, option_to_list}
 use Rattle.std.proofs.lemmas.Bool.{cases_Bool, cases_eq, cases_lt, or_parts, eq-eqb, eqb-true}
 use Rattle.rtsp_head.specs.Items.{Shape}
@@ -8,8 +10,8 @@ use Rattle.rtsp_head.specs.declared.item.ItemKind.{ItemKind}
 use Rattle.rtsp_head.specs.declared.item.ItemKind.TheVariants as kind
 use Rattle.rtsp_uri.specs.declared.base.Bases.{Bases}
 use Rattle.client_machine.specs.Alone.{asked_in, private_after, effect_alone}
-use Rattle.client_machine.specs.AskCounts.{request_arrived, requests_brought}
-use Rattle.client_machine.specs.Events.{Outgoing, asks, carries, PrivateEvent}
+use Rattle.client_machine.specs.AskCounts.{request_arrived, request_brought, requests_brought}
+use Rattle.client_machine.specs.Events.{Outgoing, asks, carries, PrivateEvent, arrive, answer, note, media, end, slow, up_end}
 use Rattle.client_machine.proofs.AskCountLemmas.{few_asked}
 use Rattle.gateway_claim.specs.Books.{Books}
 use Rattle.gateway_claim.specs.ServerItems.{Heard, replies, requests, frames, faults, heard, HeardNotice, notice_of}
@@ -25,6 +27,9 @@ use Rattle.gateway_claim.proofs.AgreeLemmas.{effect_absent}
 use Rattle.gateway_claim.proofs.AskLemmas.{asked, never_part}
 use Rattle.drill_server.specs.ServerSteps.{is_request_kind}
 use Rattle.drill_run.specs.CountSteps.{count_if, requests_told, requests_up, counts_of}
+use Rattle.drill_run.proofs.WeighLemmas.{brought_by, brought, brought_both}
+use Rattle.drill_run.proofs.MostLemmas.{most_item}
+use Rattle.drill_run.proofs.DebtLemmas.{IsGranted, few_granted}
 
 -- The sum over the numbers below n.
 abbrev sum_below : (ℕ → ℕ) → ℕ → ℕ
@@ -167,10 +172,68 @@ all_asked_below bases (e ∷ T) n is below =
     (λ i. in_both (asked_for i (turn (books_of T) e.happening) e.outcome.to_up) (asked_up i T)) in
     omega (arith, here, rest, both)
 
--- A request of a player is an event of that player alone.
-brought_both : (one other : List PrivateEvent) → requests_brought (one ++ other) ≡ requests_brought one + requests_brought other
-brought_both [] other = omega arith
-brought_both (event ∷ one) other = let rest = brought_both one other in omega (arith, rest)
+-- how much the items of players in a history weigh
+abbrev pub told_of : (Shape → ℕ) → Happening → ℕ
+told_of weigh (enters conn) = 0
+told_of weigh (takes conn shape) = weigh shape
+told_of weigh (ends conn) = 0
+told_of weigh (lags conn) = 0
+told_of weigh (hears shape) = 0
+told_of weigh (up_ends cause) = 0
+
+abbrev pub told_in : (Shape → ℕ) → List HistoryEntry → ℕ
+told_in weigh [] = 0
+told_in weigh (e ∷ T) = told_of weigh e.happening + told_in weigh T
+
+-- An item is an event of its player alone, so all players together are brought no more.
+module _ (weigh : Shape → ℕ) where
+  notice_brings : (books : Books) (i : ℕ) (notice : Result HeardNotice ℕ) → brought weigh (option_to_list (notice_event books i notice)) ≡ 0
+  notice_brings books i (Ok notice) = refl
+  notice_brings books i (Err code) = refl
+
+  heard_brings : (books settled : Books) (i : ℕ) (waiting : List Shape) (said : Heard) → brought weigh (option_to_list (heard_event books settled i waiting said)) ≡ 0
+  heard_brings books settled i waiting (replies reply) = refl
+  heard_brings books settled i waiting (requests request) = notice_brings books i (notice_of books.holder request)
+  heard_brings books settled i waiting (frames channel rest) = refl
+  heard_brings books settled i waiting (faults fault) = refl
+
+  event_brings : (books : Books) (i : ℕ) (waiting : List Shape) (happening : Happening) → brought weigh (option_to_list (event_of books i waiting happening)) ≤ told_of weigh happening
+  event_brings books i waiting (enters conn) = omega arith
+  event_brings books i waiting (takes conn shape) = omega arith
+  event_brings books i waiting (ends conn) = omega arith
+  event_brings books i waiting (lags conn) = omega arith
+  event_brings books i waiting (hears shape) = let none = heard_brings books (settled_by books (hears shape)) i waiting (heard shape) in omega (arith, none)
+  event_brings books i waiting (up_ends cause) = omega arith
+
+  turn_brings : (here : Bool) (event : Option PrivateEvent) (most : ℕ) → brought weigh (option_to_list event) ≤ most → brought weigh (cond here (option_to_list event) []) ≤ cond here most 0
+  turn_brings true event most few = few
+  turn_brings false event most few = omega arith
+
+  own_brings : (part : Bool) (books : Books) (i : ℕ) (waiting : List Shape) (fault : Option UpCause) (happening : Happening)
+      → brought weigh (cond part (own_here books i waiting fault happening) []) ≤ cond (is_turn i (turn books happening)) (told_of weigh happening) 0
+  own_brings false books i waiting fault happening = omega arith
+  own_brings true books i waiting (Some cause) happening = omega arith
+  own_brings true books i waiting None happening = turn_brings (is_turn i (turn books happening)) (event_of books i waiting happening) (told_of weigh happening) (event_brings books i waiting happening)
+
+  all_brought_below : (bases : Bases) (T : List HistoryEntry) (n : ℕ) → sum_below (λ i. brought weigh (own bases i T)) n ≤ told_in weigh T
+  all_brought_below bases [] n = let none = sum_none (λ i. brought weigh (own bases i [])) n (λ i. refl) in omega (arith, none)
+  all_brought_below bases (e ∷ T) n =
+      let here : ℕ → List PrivateEvent = λ i. cond (entered i T) (own_here (books_of T) i (private_after bases (own bases i T)).client.waiting e.outcome.fault e.happening) [] in
+      let both = sum_both (λ i. brought weigh (here i)) (λ i. brought weigh (own bases i T)) (λ i. brought weigh (own bases i (e ∷ T))) n (λ i. brought_both weigh (here i) (own bases i T)) in
+      let few =
+      sum_most (λ i. brought weigh (here i)) (λ i. cond (is_turn i (turn (books_of T) e.happening)) (told_of weigh e.happening) 0) n
+      (λ i. own_brings (entered i T) (books_of T) i (private_after bases (own bases i T)).client.waiting e.outcome.fault e.happening) in
+      let one = turn_below (turn (books_of T) e.happening) (told_of weigh e.happening) n in
+      let rest = all_brought_below bases T n in
+      omega (arith, both, few, one, rest)
+
+-- what the server is asked for a player
+asked_same : (bases : Bases) (T : List HistoryEntry) → IsHistory bases T → (i : ℕ) → requests_in (asked_up i T) ≡ (private_after bases (own bases i T)).count
+asked_same bases T is i = ap requests_in (asked bases T i is) ∙ spelled_count (books_of T) i bases (own bases i T)
+
+-- Each request weighs one.
+abbrev pub asked_item : Shape → ℕ
+asked_item shape = count_if (is_request_kind shape.kind)
 
 arrived_told : (one : ItemKind) → request_arrived one ≡ count_if (is_request_kind one)
 arrived_told kind.Request = refl
@@ -178,56 +241,47 @@ arrived_told kind.Response = refl
 arrived_told kind.Frame = refl
 arrived_told (kind.Bad fault) = refl
 
-notice_brings : (books : Books) (i : ℕ) (notice : Result HeardNotice ℕ) → requests_brought (option_to_list (notice_event books i notice)) ≡ 0
-notice_brings books i (Ok notice) = refl
-notice_brings books i (Err code) = refl
+event_asks : (event : PrivateEvent) → request_brought event ≡ brought_by asked_item event
+event_asks (arrive shape full) = arrived_told shape.kind
+event_asks (answer told ssrc full) = refl
+event_asks (note id reason names) = refl
+event_asks (media pair half rest) = refl
+event_asks end = refl
+event_asks slow = refl
+event_asks up_end = refl
 
-heard_brings : (books settled : Books) (i : ℕ) (waiting : List Shape) (said : Heard) → requests_brought (option_to_list (heard_event books settled i waiting said)) ≡ 0
-heard_brings books settled i waiting (replies reply) = refl
-heard_brings books settled i waiting (requests request) = notice_brings books i (notice_of books.holder request)
-heard_brings books settled i waiting (frames channel rest) = refl
-heard_brings books settled i waiting (faults fault) = refl
+events_ask : (events : List PrivateEvent) → requests_brought events ≡ brought asked_item events
+events_ask [] = refl
+events_ask (event ∷ events) = let here = event_asks event in let rest = events_ask events in omega (arith, here, rest)
 
-event_brings : (books : Books) (i : ℕ) (waiting : List Shape) (happening : Happening) → requests_brought (option_to_list (event_of books i waiting happening)) ≤ requests_told happening
-event_brings books i waiting (enters conn) = omega arith
-event_brings books i waiting (takes conn shape) = let same = arrived_told shape.kind in omega (arith, same)
-event_brings books i waiting (ends conn) = omega arith
-event_brings books i waiting (lags conn) = omega arith
-event_brings books i waiting (hears shape) = let none = heard_brings books (settled_by books (hears shape)) i waiting (heard shape) in omega (arith, none)
-event_brings books i waiting (up_ends cause) = omega arith
+happening_asks : (happening : Happening) → requests_told happening ≡ told_of asked_item happening
+happening_asks (enters conn) = refl
+happening_asks (takes conn shape) = refl
+happening_asks (ends conn) = refl
+happening_asks (lags conn) = refl
+happening_asks (hears shape) = refl
+happening_asks (up_ends cause) = refl
 
-turn_brings : (here : Bool) (event : Option PrivateEvent) (most : ℕ) → requests_brought (option_to_list event) ≤ most → requests_brought (cond here (option_to_list event) []) ≤ cond here most 0
-turn_brings true event most few = few
-turn_brings false event most few = omega arith
-
-own_brings : (part : Bool) (books : Books) (i : ℕ) (waiting : List Shape) (fault : Option UpCause) (happening : Happening)
-    → requests_brought (cond part (own_here books i waiting fault happening) []) ≤ cond (is_turn i (turn books happening)) (requests_told happening) 0
-own_brings false books i waiting fault happening = omega arith
-own_brings true books i waiting (Some cause) happening = omega arith
-own_brings true books i waiting None happening = turn_brings (is_turn i (turn books happening)) (event_of books i waiting happening) (requests_told happening) (event_brings books i waiting happening)
-
-all_brought_below : (bases : Bases) (T : List HistoryEntry) (n : ℕ) → sum_below (λ i. requests_brought (own bases i T)) n ≤ (counts_of T).requests
-all_brought_below bases [] n = let none = sum_none (λ i. requests_brought (own bases i [])) n (λ i. refl) in omega (arith, none)
-all_brought_below bases (e ∷ T) n =
-    let here : ℕ → List PrivateEvent = λ i. cond (entered i T) (own_here (books_of T) i (private_after bases (own bases i T)).client.waiting e.outcome.fault e.happening) [] in
-    let both = sum_both (λ i. requests_brought (here i)) (λ i. requests_brought (own bases i T)) (λ i. requests_brought (own bases i (e ∷ T))) n (λ i. brought_both (here i) (own bases i T)) in
-    let few =
-    sum_most (λ i. requests_brought (here i)) (λ i. cond (is_turn i (turn (books_of T) e.happening)) (requests_told e.happening) 0) n
-    (λ i. own_brings (entered i T) (books_of T) i (private_after bases (own bases i T)).client.waiting e.outcome.fault e.happening) in
-    let one = turn_below (turn (books_of T) e.happening) (requests_told e.happening) n in
-    let rest = all_brought_below bases T n in
-    omega (arith, both, few, one, rest)
-
--- what the server is asked for a player
-asked_few : (bases : Bases) (T : List HistoryEntry) → IsHistory bases T → (i : ℕ) → requests_in (asked_up i T) ≤ requests_brought (own bases i T) + 4
-asked_few bases T is i =
-    let same : requests_in (asked_up i T) ≡ (private_after bases (own bases i T)).count =
-    ap requests_in (asked bases T i is) ∙ spelled_count (books_of T) i bases (own bases i T) in
-    let few = few_asked bases (own bases i T) in omega (arith, same, few)
+pub requests_told_in : (T : List HistoryEntry) → (counts_of T).requests ≡ told_in asked_item T
+requests_told_in [] = refl
+requests_told_in (e ∷ T) = let here = happening_asks e.happening in let rest = requests_told_in T in omega (arith, here, rest)
 
 pub upstream_few : (bases : Bases) (T : List HistoryEntry) (n : ℕ) → IsHistory bases T → EntersBelow n T → (counts_of T).upstream ≤ (counts_of T).requests + 4 * n
 upstream_few bases T n is below =
     let up = all_asked_below bases T n is below in
-    let each = sum_more (λ i. requests_in (asked_up i T)) (λ i. requests_brought (own bases i T)) n (asked_few bases T is) in
-    let down = all_brought_below bases T n in
+    let each =
+    sum_more (λ i. requests_in (asked_up i T)) (λ i. brought asked_item (own bases i T)) n
+    (λ i. let same = asked_same bases T is i in let few = few_asked bases (own bases i T) in let events = events_ask (own bases i T) in omega (arith, same, few, events)) in
+    let down = all_brought_below asked_item bases T n in
+    let told = requests_told_in T in
+    omega (arith, up, each, down, told)
+
+-- no more than the most for what players sent, where the server grants all
+pub upstream_most : (bases : Bases) (T : List HistoryEntry) (n : ℕ) → IsHistory bases T → EntersBelow n T → ((i : ℕ) → AllByRecursion IsGranted (own bases i T)) → (counts_of T).upstream ≤ told_in most_item T
+upstream_most bases T n is below granted =
+    let up = all_asked_below bases T n is below in
+    let each =
+    sum_most (λ i. requests_in (asked_up i T)) (λ i. brought most_item (own bases i T)) n
+    (λ i. let same = asked_same bases T is i in let few = few_granted bases (own bases i T) (granted i) in omega (arith, same, few)) in
+    let down = all_brought_below most_item bases T n in
     omega (arith, up, each, down)

@@ -83,6 +83,16 @@ pub fn a_player_asks_at_most_seven_times()
         → (counts_of drilled.history).requests ≤ 7 * players }
 {}
 
+/// The server of a drill is asked six times at most for each player: the gateway answers OPTIONS by
+/// itself, and a player has one session, which is torn down once. This is a count that the drill
+/// prints.
+pub fn the_server_is_asked_at_most_six_times_for_a_player()
+    ensures { (players number : ℕ) (drilled : Drilled) → players < 2 ^ 32
+        → DrillRun players number drilled
+        → IsDrilledHistory drilled.history
+        → (counts_of drilled.history).upstream ≤ 6 * players }
+{}
+
 /// The server of a drill is asked no more than goes up of the multiplexer, as the drill counts it.
 pub fn the_server_hears_no_more_than_goes_up()
     ensures { (players number : ℕ) (drilled : Drilled) → DrillRun players number drilled
@@ -90,10 +100,9 @@ pub fn the_server_hears_no_more_than_goes_up()
         → requests_heard drilled.server ≤ (counts_of drilled.history).upstream }
 {}
 
-/// A drill of the multiplexer has at most 19 turns for each of its players: eight steps, and answers to
-/// seven requests and to the TEARDOWNs of four sessions. So [`crate::drill`] never meets its limit of
-/// turns: what is so of a drill that was left there, of whatever core, is not so of a multiplexer
-/// between the drill's addresses.
+/// A drill of the multiplexer has at most 14 turns for each of its players: eight steps, and answers to
+/// six requests. So [`crate::drill`] never meets its limit of turns: what is so of a drill that was left
+/// there, of whatever core, is not so of a multiplexer between the drill's addresses.
 pub fn no_drill_meets_the_limit_of_turns()
     ensures turns { (players number : ℕ) (drilled : Drilled) → players < 2 ^ 32
         → DrillRun players number drilled

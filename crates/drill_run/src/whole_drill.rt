@@ -17,10 +17,9 @@ use gateway_claim::Core;
 use run_status::Status;
 use std::alloc::Global;
 
-/// The most turns of a drill for each of its players: eight steps, and the server's answers to seven requests and to the
-/// TEARDOWNs of four sessions. No drill of the multiplexer has more; one of another core, which asks more, would end for
-/// want of memory.
-pub const MOST_PLAYER_TURNS: u64 = 19;
+/// The most turns of a drill for each of its players: eight steps, and the server's answers to six requests. No drill of
+/// the multiplexer has more; one of another core, which asks more, would end for want of memory.
+pub const MOST_PLAYER_TURNS: u64 = 14;
 
 /// So many connections enter, by rising number.
 fn enter_all<M: Core>(alloc: Global, core: &mut M, count: u32) -> Result<(), Memory>
