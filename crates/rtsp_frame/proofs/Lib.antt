@@ -15,3 +15,4 @@ pub mod ReachLemmas
 pub mod FrontLemmas
 pub mod RestLemmas
 pub mod WholeHeadLemmas
+pub mod MarkLemmas

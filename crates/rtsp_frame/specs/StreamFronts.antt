@@ -1,5 +1,5 @@
 -- What stands first in a stream, and the steps that are to be paid for what follows it.
-use Rattle.std.specs.Prelude.{◌≡◌, ℕ, ◌+◌, ◌*◌, ◌-◌, nat_lt, List, drop, Some, None, Result, Ok, Err, if◌then◌else◌}
+use Rattle.std.specs.Prelude.{◌≡◌, ℕ, ◌+◌, ◌*◌, ◌-◌, nat_lt, List, take, drop, Some, None, Result, Ok, Err, if◌then◌else◌}
 use Rattle.rtsp_head.specs.Items.{blank_lines, bad_span, bad_kind, message_kind, span_of, first_extent}
 use Rattle.rtsp_head.specs.declared.facts.Facts.{Facts}
 use Rattle.rtsp_head.specs.declared.facts.Length.{Length}
@@ -9,6 +9,8 @@ use Rattle.rtsp_head.specs.declared.item.BadKind.TheVariants as bad
 use Rattle.rtsp_head.specs.declared.item.ItemKind.{ItemKind}
 use Rattle.rtsp_head.specs.declared.item.TheConstants.{MOST_BODY}
 use Rattle.rtsp_head.specs.declared.item.Span.{Span}
+use Rattle.rtsp_head.specs.declared.marks.HeadMarks.{HeadMarks}
+use Rattle.rtsp_head.specs.MarkedHeads.{IsMarkedHead}
 use Rattle.rtsp_frame.specs.declared.item_front.ItemFront.{ItemFront}
 use Rattle.rtsp_frame.specs.declared.item_front.ItemFront.TheVariants.{End}
 use Rattle.rtsp_frame.specs.declared.item_front.StreamFront.{StreamFront}
@@ -49,6 +51,11 @@ IsStreamFront stream (Begun skipped front) = (first_extent stream ≡ None) × (
 abbrev pub span_cost : ℕ → Result Span ItemFront → ℕ
 span_cost come (Ok span) = 6 * span.len
 span_cost come (Err front) = 6 * come - 4 * head_held front come
+
+-- where the headers of a whole item stand
+abbrev pub IsMarkedFront : List ℕ → StreamFront → HeadMarks → Type 0
+IsMarkedFront stream (Whole extent) marks = IsMarkedHead (take extent.span.head (drop extent.skipped stream)) marks
+IsMarkedFront stream (Begun skipped front) marks = Unit {0}
 
 -- The steps that are still to be paid: eight a byte behind a whole item, and four a byte of an unfinished head.
 abbrev pub owed : StreamFront → ℕ → ℕ

@@ -4,13 +4,14 @@ ghost use Rattle.rtsp_head.specs.Items.{first_extent, shape_at};
 ghost use Rattle.rtsp_head.specs.Shapes.{shape_of};
 ghost use Rattle.rtsp_frame.specs.CutItems.{Joined, Fed, Same, IsUndone, IsWhole, used_of, IsLeftover, due_after};
 ghost use Rattle.rtsp_frame.specs.Fronts.{IsKnownFront, IsItemFront, head_held};
-ghost use Rattle.rtsp_frame.specs.StreamFronts.{IsStreamFront, owed};
+ghost use Rattle.rtsp_frame.specs.StreamFronts.{IsStreamFront, IsMarkedFront, owed};
+ghost use Rattle.rtsp_head.specs.MarkedHeads.{IsMarkedHead};
 
 use crate::extent::{front_with, stream_front};
 use crate::held_head::feed_head;
 use crate::item_front::{ItemFront, Leftover, StreamFront};
 use gate_bytes::{Memory, Steps, after, before};
-use rtsp_head::{Extent, Item, Span};
+use rtsp_head::{Extent, HeadMarks, Item, Span};
 use std::alloc::Global;
 use std::collections::VecDeque;
 use std::marker::Brand;
@@ -75,8 +76,9 @@ fn feed_fresh<L: Ledger>(
         ≤ steps.old + 4 * head_held front.old (length rest.old.items) + 8 * length piece.now + 4) }
 {
     let waited = queue.waiting.len();
-    let first = stream_front(piece, steps);
-    let Some(left) = cut(alloc, queue, piece, first, steps)? else {
+    let mut marks = HeadMarks::unknown();
+    let first = stream_front(piece, steps, &mut marks);
+    let Some(left) = cut(alloc, queue, piece, first, &mut marks, steps)? else {
         *front = ItemFront::Nothing;
         return Ok(false);
     };
@@ -148,10 +150,12 @@ fn end_item<L: Ledger>(
         kind: span.kind,
         bytes,
         head: span.head,
+        marks: HeadMarks::unknown(),
     })?;
     let more = after(piece, missing);
-    let first = stream_front(more, steps);
-    let Some(left) = cut(alloc, queue, more, first, steps)? else {
+    let mut marks = HeadMarks::unknown();
+    let first = stream_front(more, steps, &mut marks);
+    let Some(left) = cut(alloc, queue, more, first, &mut marks, steps)? else {
         rest.clear();
         *front = ItemFront::Nothing;
         return Ok(false);
@@ -182,8 +186,9 @@ fn feed_more<L: Ledger>(
 {
     let held = rest.len();
     rest.extend_from_slice(piece)?;
-    let first = front_with(rest.as_slice(), *front, held, steps);
-    feed_found(alloc, queue, rest, front, held, first, steps)
+    let mut marks = HeadMarks::unknown();
+    let first = front_with(rest.as_slice(), *front, held, steps, &mut marks);
+    feed_found(alloc, queue, rest, front, held, first, &mut marks, steps)
 }
 
 /// Cuts these bytes, of which so many were held before and this stands first, and keeps what is left of them. Where memory
@@ -196,9 +201,11 @@ pub fn feed_found<L: Ledger>(
     front: &mut ItemFront,
     held: usize,
     first: StreamFront,
+    marks: &mut HeadMarks,
     steps: &mut Steps<L>,
 ) -> Result<bool, Memory>
     requires first { IsStreamFront rest.old.items first }
+    requires marks { IsMarkedFront rest.old.items first marks.old }
     requires within { held ≤ length rest.old.items }
     requires known { IsKnownFront (take held rest.old.items) front.old }
     ensures ok { IfOk result (λ goes_on.
@@ -217,7 +224,7 @@ pub fn feed_found<L: Ledger>(
         *front = more;
         return Ok(true);
     }
-    match cut(alloc, queue, rest.as_slice(), first, steps) {
+    match cut(alloc, queue, rest.as_slice(), first, marks, steps) {
         Ok(Some(left)) => {
             drop_front(rest, left.used);
             *front = left.front;
@@ -255,9 +262,11 @@ fn cut<L: Ledger>(
     queue: &mut Queue,
     bytes: &[u8],
     first: StreamFront,
+    marks: &mut HeadMarks,
     steps: &mut Steps<L>,
 ) -> Result<Option<Leftover>, Memory>
-    requires { IsStreamFront bytes.now first }
+    requires first { IsStreamFront bytes.now first }
+    requires marks { IsMarkedFront bytes.now first marks.old }
     ensures ok { IfOk result (λ left. Joined queue.old.waiting.items queue.new.waiting.items bytes.now (used_of left)) }
     ensures left { IfOk result (λ left. IsLeftover bytes.now left) }
     ensures err { OnErr result (queue.new.waiting.items ≡ queue.old.waiting.items) }
@@ -265,7 +274,7 @@ fn cut<L: Ledger>(
         ≤ steps.old + owed first (length bytes.now)) }
 {
     let waited = queue.waiting.len();
-    let result = cut_on(alloc, queue, bytes, first, steps);
+    let result = cut_on(alloc, queue, bytes, first, marks, steps);
     if result.is_err() {
         queue.waiting.truncate(waited);
     }
@@ -278,9 +287,11 @@ fn cut_on<L: Ledger>(
     queue: &mut Queue,
     bytes: &[u8],
     first: StreamFront,
+    marks: &mut HeadMarks,
     steps: &mut Steps<L>,
 ) -> Result<Option<Leftover>, Memory>
-    requires { IsStreamFront bytes.now first }
+    requires first { IsStreamFront bytes.now first }
+    requires marks { IsMarkedFront bytes.now first marks.old }
     ensures ok { IfOk result (λ left. Joined queue.old.waiting.items queue.new.waiting.items bytes.now (used_of left)) }
     ensures left { IfOk result (λ left. IsLeftover bytes.now left) }
     ensures err { OnErr result
@@ -294,7 +305,7 @@ fn cut_on<L: Ledger>(
     'items: loop {
         match next {
             StreamFront::Whole(extent) => {
-                let item = copy_item(alloc, &mut queue.pool, left, extent)?;
+                let item = copy_item(alloc, &mut queue.pool, left, extent, marks)?;
                 queue.waiting.push_back(item)?;
                 if extent.span.kind.is_bad() {
                     return Ok(None);
@@ -302,7 +313,7 @@ fn cut_on<L: Ledger>(
                 let taken = extent.skipped + extent.span.len;
                 used += taken;
                 left = after(left, taken);
-                next = stream_front(left, steps);
+                next = stream_front(left, steps, marks);
             }
             StreamFront::Begun { skipped, front } => {
                 return Ok(Some(Leftover {
@@ -321,8 +332,10 @@ fn copy_item(
     pool: &mut TextPool,
     stream: &[u8],
     extent: Extent,
+    marks: &HeadMarks,
 ) -> Result<Item, Memory>
-    requires { first_extent stream.now ≡ Some extent }
+    requires first { first_extent stream.now ≡ Some extent }
+    requires marks { IsMarkedHead (take extent.span.head (drop extent.skipped stream.now)) marks.now }
     ensures { IfOk result (λ item. shape_of item ≡ shape_at stream.now extent) }
 {
     let bytes = before(after(stream, extent.skipped), extent.span.len);
@@ -330,24 +343,27 @@ fn copy_item(
         kind: extent.span.kind,
         bytes: pool.copy(alloc, bytes)?,
         head: extent.span.head,
+        marks: *marks,
     })
 }
 
 /// The item that these bytes are, where they are one whole item and nothing else.
-pub fn whole(bytes: &[u8]) -> Option<Span>
-    ensures { IfSome result (IsWhole bytes.now) }
+pub fn whole(bytes: &[u8], marks: &mut HeadMarks) -> Option<Span>
+    ensures whole { IfSome result (IsWhole bytes.now) }
+    ensures marks { IfSome result (λ span. IsMarkedHead (take span.head bytes.now) marks.new) }
 {
-    whole_with::<Brand>(bytes, Blank::new(1))
+    whole_with::<Brand>(bytes, marks, Blank::new(1))
 }
 
 /// The same, with steps of a ledger of their own.
-fn whole_with<L: Ledger>(bytes: &[u8], blank: Blank) -> Option<Span>
+fn whole_with<L: Ledger>(bytes: &[u8], marks: &mut HeadMarks, blank: Blank) -> Option<Span>
     requires name { blank.name ≡ L.name }
     requires parts { blank.parts ≡ L.parts }
     requires share { blank.parts ≡ 1 }
-    ensures { IfSome result (IsWhole bytes.now) }
+    ensures whole { IfSome result (IsWhole bytes.now) }
+    ensures marks { IfSome result (λ span. IsMarkedHead (take span.head bytes.now) marks.new) }
 {
-    match stream_front(bytes, &mut Steps::<L>::new(blank)) {
+    match stream_front(bytes, &mut Steps::<L>::new(blank), marks) {
         StreamFront::Whole(extent) if extent.skipped == 0 && extent.span.len == bytes.len() => {
             Some(extent.span)
         }

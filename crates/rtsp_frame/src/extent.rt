@@ -3,21 +3,27 @@ ghost use Rattle.std.specs.Prelude.{◌≡◌, ◌≤◌, ◌<◌, ◌+◌, ◌-
 ghost use Rattle.gate_bytes.specs.Ascii.{dollar};
 ghost use Rattle.rtsp_head.specs.Items.{blank_lines, begins_blank};
 ghost use Rattle.rtsp_frame.specs.Fronts.{IsKnownFront, head_held};
-ghost use Rattle.rtsp_frame.specs.StreamFronts.{IsSpanFound, IsStreamFront, span_cost, owed, when_come};
+ghost use Rattle.rtsp_frame.specs.StreamFronts.{IsSpanFound, IsStreamFront, IsMarkedFront, span_cost, owed, when_come};
+ghost use Rattle.rtsp_head.specs.MarkedHeads.{IsMarkedHead};
 
 use crate::item_front::{ItemFront, StreamFront};
 use crate::message::message_span;
 use gate_bytes::{Steps, after, look};
-use rtsp_head::{Extent, ItemKind, Span};
+use rtsp_head::{Extent, HeadMarks, ItemKind, Span};
 use std::sync::ledger::Ledger;
 
-/// What stands first in a stream, in eight steps a byte.
-pub fn stream_front<L: Ledger>(stream: &[u8], steps: &mut Steps<L>) -> StreamFront
+/// What stands first in a stream, in eight steps a byte. Where the headers of a whole item stand is marked.
+pub fn stream_front<L: Ledger>(
+    stream: &[u8],
+    steps: &mut Steps<L>,
+    marks: &mut HeadMarks,
+) -> StreamFront
     ensures front { IsStreamFront stream.now result }
+    ensures marks { IsMarkedFront stream.now result marks.new }
     ensures steps { steps.new + owed result (length stream.now) ≤ steps.old + 8 * length stream.now }
 {
     let skipped = blank_lines(stream, steps);
-    match first_span(after(stream, skipped), steps) {
+    match first_span(after(stream, skipped), steps, marks) {
         Ok(span) => StreamFront::Whole(Extent { skipped, span }),
         Err(front) => StreamFront::Begun { skipped, front },
     }
@@ -31,18 +37,28 @@ pub fn front_with<L: Ledger>(
     front: ItemFront,
     held: usize,
     steps: &mut Steps<L>,
+    marks: &mut HeadMarks,
 ) -> StreamFront
     requires within { held ≤ length bytes.now }
     requires known { IsKnownFront (take held bytes.now) front }
     ensures front { IsStreamFront bytes.now result }
+    ensures marks { IsMarkedFront bytes.now result marks.new }
     ensures steps { steps.new + owed result (length bytes.now)
         ≤ steps.old + 4 * head_held front held + 8 * (length bytes.now - held) + 4 }
 {
     match front {
-        ItemFront::Nothing => stream_front(bytes, steps),
-        ItemFront::Frame => StreamFront::at_once(frame_span(bytes, steps)),
-        ItemFront::Line(line) => StreamFront::at_once(message_span(bytes, line, held, steps)),
-        ItemFront::End(span) => StreamFront::at_once(when_come(bytes.len(), span)),
+        ItemFront::Nothing => stream_front(bytes, steps, marks),
+        ItemFront::Frame => {
+            marks.forget();
+            StreamFront::at_once(frame_span(bytes, steps))
+        }
+        ItemFront::Line(line) => StreamFront::at_once(message_span(
+            bytes, line, held, steps, marks,
+        )),
+        ItemFront::End(span) => {
+            marks.forget();
+            StreamFront::at_once(when_come(bytes.len(), span))
+        }
     }
 }
 
@@ -77,20 +93,26 @@ fn begins_blank<L: Ledger>(bytes: &[u8], steps: &mut Steps<L>) -> bool
 
 /// The item that begins with the first byte, which no empty line does. That byte was looked at already.
 #[inline(always)]
-fn first_span<L: Ledger>(bytes: &[u8], steps: &mut Steps<L>) -> Result<Span, ItemFront>
+fn first_span<L: Ledger>(
+    bytes: &[u8],
+    steps: &mut Steps<L>,
+    marks: &mut HeadMarks,
+) -> Result<Span, ItemFront>
     requires { begins_blank bytes.now ≡ false }
     ensures found { IsSpanFound bytes.now result }
+    ensures marks { IfOk result (λ span. IsMarkedHead (take span.head bytes.now) marks.new) }
     ensures steps { steps.new ≤ steps.old + span_cost (length bytes.now) result }
 {
     let Some(first) = bytes.first() else {
         return Err(ItemFront::Nothing);
     };
     if *first == b'$' {
+        marks.forget();
         frame_span(bytes, steps)
     } else if *first == b'\r' && bytes.len() == 1 {
         Err(ItemFront::Nothing)
     } else {
-        message_span(bytes, 0, 0, steps)
+        message_span(bytes, 0, 0, steps, marks)
     }
 }
 

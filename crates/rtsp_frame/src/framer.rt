@@ -1,7 +1,8 @@
 //! The framer of a stream.
-ghost use Rattle.std.specs.Prelude.{◌≡◌, ◌≤◌, ℕ, ◌+◌, ◌*◌, List, [], ◌∷◌, ◌++◌, length, IfSome, IfNone, IfOk, OnOk, OnErr};
+ghost use Rattle.std.specs.Prelude.{◌≡◌, ◌≤◌, ℕ, ◌+◌, ◌*◌, List, [], ◌∷◌, ◌++◌, length, take, IfSome, IfNone, IfOk, OnOk, OnErr};
 ghost use Rattle.rtsp_head.specs.Items.{Shape, items_of};
 ghost use Rattle.rtsp_head.specs.Shapes.{shape_of};
+ghost use Rattle.rtsp_head.specs.MarkedHeads.{IsMarkedHead};
 ghost use Rattle.rtsp_frame.specs.FramerState.{Framed, IsAlone, GivesNext, HoldsPiece};
 ghost use Rattle.rtsp_frame.specs.Fronts.{unfinished_of};
 
@@ -10,7 +11,7 @@ use crate::item_front::ItemFront;
 use crate::rest::Rest;
 use crate::{cut_items, held_head};
 use gate_bytes::{Memory, Steps, Text};
-use rtsp_head::{Item, Span};
+use rtsp_head::{HeadMarks, Item, Span};
 use std::alloc::Global;
 use std::collections::VecDeque;
 use std::marker::{Brand, Model};
@@ -143,7 +144,8 @@ impl Framer {
             Framed self.old stream given → GivesNext self.new (stream ++ piece.old) given taken) }
         ensures err { OnErr result (self.new ≡ self.old) }
     {
-        let Some(span) = self.whole(piece.as_bytes()) else {
+        let mut marks = HeadMarks::unknown();
+        let Some(span) = self.whole(piece.as_bytes(), &mut marks) else {
             self.feed(alloc, piece.as_bytes())?;
             return Ok(self.next());
         };
@@ -154,6 +156,7 @@ impl Framer {
             kind: span.kind,
             bytes: mem::replace(piece, Text::new(alloc)),
             head: span.head,
+            marks,
         }))
     }
 
@@ -175,12 +178,13 @@ impl Framer {
 
     /// The item that a piece is, where it is one whole item, nothing of the stream is held before it,
     /// and no item waits.
-    fn whole(&self, piece: &[u8]) -> Option<Span>
-        ensures { IfSome result (IsAlone self.now piece.now) }
+    fn whole(&self, piece: &[u8], marks: &mut HeadMarks) -> Option<Span>
+        ensures alone { IfSome result (IsAlone self.now piece.now) }
+        ensures marks { IfSome result (λ span. IsMarkedHead (take span.head piece.now) marks.new) }
     {
         match &self.rest {
             Some(rest) if rest.bytes.is_empty() && self.queue.waiting.is_empty() =>
-                cut_items::whole(piece),
+                cut_items::whole(piece, marks),
             _ => None,
         }
     }

@@ -9,7 +9,7 @@ use crate::cut_items::{Queue, feed_found};
 use crate::item_front::{ItemFront, StreamFront};
 use crate::message::message_span;
 use gate_bytes::{Memory, Steps, before, find, seek};
-use rtsp_head::MOST_HEAD;
+use rtsp_head::{HeadMarks, MOST_HEAD};
 use std::alloc::Global;
 use std::sync::ledger::Ledger;
 
@@ -101,7 +101,8 @@ fn feed_line<L: Ledger>(
 {
     let held = rest.len();
     rest.extend_from_slice(piece)?;
-    let found = message_span(rest.as_slice(), line, held + clear, steps);
+    let mut marks = HeadMarks::unknown();
+    let found = message_span(rest.as_slice(), line, held + clear, steps, &mut marks);
     let first = StreamFront::at_once(found);
-    feed_found(alloc, queue, rest, front, held, first, steps)
+    feed_found(alloc, queue, rest, front, held, first, &mut marks, steps)
 }

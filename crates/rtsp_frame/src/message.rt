@@ -5,13 +5,15 @@ ghost use Rattle.rtsp_frame.specs.Lines.{ends_empty};
 ghost use Rattle.rtsp_frame.specs.Fronts.{OpensMessage, IsLineTo};
 ghost use Rattle.rtsp_frame.specs.StreamFronts.{IsSpanFound, span_cost, told_span, told_body};
 ghost use Rattle.rtsp_head.specs.Heads.{facts_of};
+ghost use Rattle.rtsp_head.specs.MarkedHeads.{IsMarkedHead};
 ghost use Rattle.rtsp_head.specs.Items.{begins_blank, head_len, bad_span, bad_kind, message_kind};
 
 use crate::extent::when_come;
 use crate::item_front::ItemFront;
 use gate_bytes::{Steps, after, before, look, seek};
 use rtsp_head::{
-    BadKind, Facts, HeadFault, ItemKind, Length, MOST_BODY, MOST_HEAD, Span, check_front_counted,
+    BadKind, Facts, HeadFault, HeadMarks, ItemKind, Length, MOST_BODY, MOST_HEAD, Span,
+    check_front_counted,
 };
 use std::sync::ledger::Ledger;
 
@@ -27,13 +29,15 @@ struct WholeHead {
     facts: Result<Facts, HeadFault>,
 }
 
-/// The message at the front, a line of which begins at one place and was searched up to another.
+/// The message at the front, a line of which begins at one place and was searched up to another. Where its headers stand is
+/// marked.
 #[inline(always)]
 pub fn message_span<L: Ledger>(
     bytes: &[u8],
     line: usize,
     searched: usize,
     steps: &mut Steps<L>,
+    marks: &mut HeadMarks,
 ) -> Result<Span, ItemFront>
     requires begins { OpensMessage bytes.now }
     requires short { searched < MOST_HEAD }
@@ -41,11 +45,15 @@ pub fn message_span<L: Ledger>(
     ensures found { IsSpanFound bytes.now result }
     ensures steps { steps.new + 2 * searched ≤ steps.old + span_cost (length bytes.now) result }
     ensures more { IfOk result (λ span. searched < span.len) }
+    ensures marks { IfOk result (λ span. IsMarkedHead (take span.head bytes.now) marks.new) }
 {
-    match find_head(front(bytes), line, searched, steps) {
+    match find_head(front(bytes), line, searched, steps, marks) {
         Ok(head) => when_come(bytes.len(), judged_span(head.len, head.facts)),
         Err(line) if bytes.len() < MOST_HEAD => Err(ItemFront::Line(line)),
-        Err(_) => Ok(bad_span(BadKind::Head, MOST_HEAD)),
+        Err(_) => {
+            marks.forget();
+            Ok(bad_span(BadKind::Head, MOST_HEAD))
+        }
     }
 }
 
@@ -68,22 +76,24 @@ fn find_head<L: Ledger>(
     line: usize,
     searched: usize,
     steps: &mut Steps<L>,
+    marks: &mut HeadMarks,
 ) -> Result<WholeHead, usize>
     requires begins { begins_blank bytes.now ≡ false }
     requires reached { IsLineTo bytes.now line searched }
     ensures ok { IfOk result (λ head. head_len bytes.now ≡ Some head.len) }
     ensures facts { IfOk result (λ head. head.facts ≡ facts_of (take head.len bytes.now)) }
     ensures more { IfOk result (λ head. searched < head.len) }
+    ensures marks { IfOk result (λ head. IsMarkedHead (take head.len bytes.now) marks.new) }
     ensures cost { IfOk result (λ head. steps.new + 2 * searched ≤ steps.old + 6 * head.len) }
     ensures err { IfErr result (λ last. IsLineTo bytes.now last (length bytes.now)) }
     ensures err_cost { OnErr result (steps.new + 2 * searched ≤ steps.old + 2 * length bytes.now) }
 {
     if ends_head(bytes, searched, steps) {
-        return Ok(whole_head(bytes, steps));
+        return Ok(whole_head(bytes, steps, marks));
     }
     match head_end(bytes, line, searched, steps) {
         Ok(len) => {
-            let facts = check_front_counted(before(bytes, len), steps).facts;
+            let facts = check_front_counted(before(bytes, len), steps, marks).facts;
             Ok(WholeHead { len, facts })
         }
         Err(last) => Err(last),
@@ -119,14 +129,15 @@ fn ends_empty(bytes: &[u8]) -> bool
 
 /// The head at the front of bytes that hold one. The look for its end begins where its lines were walked to: at its empty
 /// line, or behind a fault.
-fn whole_head<L: Ledger>(bytes: &[u8], steps: &mut Steps<L>) -> WholeHead
+fn whole_head<L: Ledger>(bytes: &[u8], steps: &mut Steps<L>, marks: &mut HeadMarks) -> WholeHead
     requires { is_some (head_len bytes.now) ≡ true }
     ensures ends { head_len bytes.now ≡ Some result.len }
     ensures facts { result.facts ≡ facts_of (take result.len bytes.now) }
     ensures some { 0 < result.len }
+    ensures marks { IsMarkedHead (take result.len bytes.now) marks.new }
     ensures steps { steps.new ≤ steps.old + 4 * result.len + 2 }
 {
-    let front = check_front_counted(bytes, steps);
+    let front = check_front_counted(bytes, steps, marks);
     let walked = bytes.len() - front.rest.len();
     match head_end(front.rest, 0, 0, steps) {
         Ok(more) => WholeHead {

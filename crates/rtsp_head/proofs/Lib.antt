@@ -17,3 +17,4 @@ pub mod NameLemmas
 pub mod LastLemmas
 pub mod HeadEndLemmas
 pub mod PassLemmas
+pub mod MarkLemmas

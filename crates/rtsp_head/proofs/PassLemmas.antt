@@ -94,11 +94,12 @@ lines_in_front text k m at =
     ∙ ap (λ line. cond (is_empty_line line) [] (strip_carriage_return line ∷ head_lines (drop (k + 1) front))) (take-take k (k + 1 + m) text (omega arith))
     ∙ ap (λ rest. cond (is_empty_line (take k text)) [] (strip_carriage_return (take k text) ∷ head_lines rest)) (drop-take (k + 1) m text)
 
-later_some : (n m : ℕ) (o : Option ℕ) (P : Type 0) → ((k : ℕ) → o ≡ Some k → n + k ≡ m → P) → later n o ≡ Some m → P
+pub later_some : (n m : ℕ) (o : Option ℕ) (P : Type 0) → ((k : ℕ) → o ≡ Some k → n + k ≡ m → P) → later n o ≡ Some m → P
 later_some n m None P f h = cc
 later_some n m (Some k) P f h = let e : n + k ≡ m = cc in f k refl e
 
-by_lines : (fuel : ℕ) (bytes : List ℕ) (n : ℕ) (place : Option ℕ) → length bytes ≤ fuel → place_of lf bytes ≡ place → head_len bytes ≡ Some n →
+-- The lines of a head are those of its front, whatever stands behind it.
+pub by_lines : (fuel : ℕ) (bytes : List ℕ) (n : ℕ) (place : Option ℕ) → length bytes ≤ fuel → place_of lf bytes ≡ place → head_len bytes ≡ Some n →
     head_lines (take n bytes) ≡ head_lines bytes
 by_lines fuel bytes n None less at h = let never : ◌≡◌ {A = Option ℕ} None (Some n) = sym (head_needs_lf bytes true at) ∙ h in cc never
 by_lines zero bytes n (Some k) less at h = absurd (omega (arith, place_within lf bytes k at))

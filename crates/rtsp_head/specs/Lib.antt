@@ -15,3 +15,5 @@ pub mod FieldViews
 pub mod HeadParts
 pub mod HeadText
 pub mod LineWalk
+pub mod Marks
+pub mod MarkedHeads

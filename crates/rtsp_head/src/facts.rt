@@ -1,12 +1,16 @@
 //! What a framer needs of a head.
-ghost use Rattle.std.specs.Prelude.{◌≡◌, ◌≢◌, ◌<◌, ◌≤◌, ◌+◌, ◌*◌, length, Err, IfSome, IfNone, option_map};
-ghost use Rattle.rtsp_head.specs.Lines.{result_map, head_lines, lines_with};
+ghost use Rattle.std.specs.Prelude.{◌≡◌, ◌≢◌, ◌<◌, ◌≤◌, ◌+◌, ◌*◌, true, length, Err, IfSome, IfNone, option_map};
+ghost use Rattle.rtsp_head.specs.Lines.{result_map, head_lines, lines_with, first_line};
 ghost use Rattle.rtsp_head.specs.Headers.{header_limit, headers_of};
 ghost use Rattle.rtsp_head.specs.Heads.{facts_of, length_in_headers};
 ghost use Rattle.rtsp_head.specs.LineWalk.{IsPassed};
+ghost use Rattle.rtsp_head.specs.Marks.{marks_known, marked_len};
+ghost use Rattle.rtsp_head.specs.MarkedHeads.{is_short_of, AreMarks, AreFrontMarks};
+ghost use Rattle.rtsp_head.specs.Items.{head_len};
 
 use crate::HeadFault;
 use crate::line::{Line, next_line};
+use crate::marks::HeadMarks;
 use crate::start::start_line;
 use crate::tally::Tally;
 use gate_bytes::Steps;
@@ -71,18 +75,24 @@ pub fn check_head_counted<L: Ledger>(bytes: &[u8], steps: &mut Steps<L>) -> Resu
     ensures never { result ≢ Err HeadFault.Memory }
     ensures steps { steps.new ≤ steps.old + 4 * length bytes.now }
 {
-    check_front_counted(bytes, steps).facts
+    check_front_counted(bytes, steps, &mut HeadMarks::unknown()).facts
 }
 
 /// What [`check_head`] answers of the bytes, and what it left of them: four steps for each byte that it walked, and a few
-/// for its look at the empty line.
-pub fn check_front_counted<'a, L: Ledger>(bytes: &'a [u8], steps: &mut Steps<L>) -> CheckedFront<'a>
+/// for its look at the empty line. Where the headers stand is marked.
+pub fn check_front_counted<'a, L: Ledger>(
+    bytes: &'a [u8],
+    steps: &mut Steps<L>,
+    marks: &mut HeadMarks,
+) -> CheckedFront<'a>
     ensures facts { result.facts ≡ facts_of bytes.now }
     ensures never { result.facts ≢ Err HeadFault.Memory }
     ensures passed { IsPassed bytes.now result.rest.now }
+    ensures marks { IfSome (marks_known marks.new) (AreFrontMarks bytes.now) }
     ensures steps { steps.new + 2 * length result.rest.now ≤ steps.old + 4 * length bytes.now }
     ensures few { steps.new + 4 * length result.rest.now ≤ steps.old + 4 * length bytes.now + 4 }
 {
+    marks.forget();
     let Some((line, rest)) = counted_line(bytes, steps) else {
         return CheckedFront {
             facts: Err(HeadFault::Start),
@@ -92,7 +102,7 @@ pub fn check_front_counted<'a, L: Ledger>(bytes: &'a [u8], steps: &mut Steps<L>)
     match start_line(line) {
         Ok(start) => {
             let request = start.is_request();
-            let (length, rest) = check_headers(rest, steps);
+            let (length, rest) = check_headers(rest, steps, marks);
             CheckedFront {
                 facts: length.map(|length| Facts { request, length }),
                 rest,
@@ -110,19 +120,28 @@ pub fn check_front_counted<'a, L: Ledger>(bytes: &'a [u8], steps: &mut Steps<L>)
 fn check_headers<'a, L: Ledger>(
     bytes: &'a [u8],
     steps: &mut Steps<L>,
+    marks: &mut HeadMarks,
 ) -> (Result<Length, HeadFault>, &'a [u8])
     ensures length { result.0 ≡ result_map length_in_headers (headers_of header_limit (head_lines bytes.now)) }
     ensures passed { IsPassed bytes.now result.1.now }
+    ensures marks { IfSome (marks_known marks.new) (AreMarks bytes.now) }
+    ensures short { IfSome (marks_known marks.new) (λ known.
+        is_short_of (head_len bytes.now) (marked_len known) ≡ true) }
     ensures steps { steps.new + 2 * length result.1.now ≤ steps.old + 4 * length bytes.now }
     ensures few { steps.new + 4 * length result.1.now ≤ steps.old + 4 * length bytes.now + 4 }
 {
+    marks.begin();
     let mut tally = Tally::new();
     let mut rest = bytes;
     while let Some((line, after)) = counted_line(rest, steps) {
+        let taken = rest.len() - after.len();
         rest = after;
-        match tally.with_line(line) {
+        match tally.with_line(line, taken, marks) {
             Ok(more) => tally = more,
-            Err(fault) => return (Err(fault), rest),
+            Err(fault) => {
+                marks.forget();
+                return (Err(fault), rest);
+            }
         }
     }
     (Ok(tally.length()), rest)
@@ -139,6 +158,7 @@ fn counted_line<'a, L: Ledger>(
     ensures line { head_lines bytes.now ≡ lines_with (option_map (λ parts. (parts.0, parts.1.now)) result) }
     ensures less { IfSome result (λ parts. length parts.1.now < length bytes.now) }
     ensures passed { IfSome result (λ parts. IsPassed bytes.now parts.1.now) }
+    ensures first { IfSome result (λ parts. (parts.0, parts.1.now) ≡ first_line bytes.now) }
     ensures none { IfNone result (steps.new ≤ steps.old + 2 * length bytes.now) }
     ensures few { IfNone result (steps.new ≤ steps.old + 4) }
     ensures some { IfSome result (λ parts.

@@ -1,16 +1,19 @@
 //! A head and its fields.
 ghost use Rattle.std.specs.Prelude.{◌≡◌, Ok, option_map, IsTrue, IsOk, IfSome, IfOk};
 ghost use Rattle.gate_bytes.specs.Outcomes.{UnlessMemory};
-ghost use Rattle.rtsp_head.specs.Lines.{head_refusal, head_lines};
+ghost use Rattle.rtsp_head.specs.Lines.{result_map, head_refusal, head_lines, first_line};
 ghost use Rattle.rtsp_head.specs.Headers.{header_limit, field_of, headers_of};
 ghost use Rattle.rtsp_head.specs.Heads.{head_of};
 ghost use Rattle.rtsp_head.specs.Optional.{said_where};
 ghost use Rattle.rtsp_head.specs.HeadText.{is_value, CanBeWritten};
-ghost use Rattle.rtsp_head.specs.Views.{start_seen};
+ghost use Rattle.rtsp_head.specs.Views.{start_seen, fields_seen};
+ghost use Rattle.rtsp_head.specs.MarkedHeads.{AreMarks};
 
 use crate::facts::check_head;
+use crate::head_fields::{HeadFields, MarkedLines};
 use crate::header_lines::Reading;
 use crate::line::plain_line;
+use crate::marks::HeaderMark;
 use crate::start::plain_start;
 use crate::{FieldValue, HeadFault, Headers, StartLine};
 use gate_bytes::Memory;
@@ -22,16 +25,16 @@ use std::marker::Model;
 #[derive(Drop)]
 pub struct Head<'a> {
     start: StartLine<'a>,
-    headers: Headers<'a>,
+    fields: HeadFields<'a>,
 }
 
 impl<'a> Model for Head<'a> {
     ghost use Rattle.rtsp_head.specs.HeadParts.{HeadParts};
-    ghost use Rattle.rtsp_head.specs.Views.{start_seen};
+    ghost use Rattle.rtsp_head.specs.Views.{start_seen, fields_seen};
 
     ghost Value = { HeadParts };
 
-    ghost view = { λ head. record { start = start_seen head.start; headers = head.headers } };
+    ghost view = { λ head. record { start = start_seen head.start; headers = fields_seen head.fields } };
 }
 
 impl<'a> Head<'a> {
@@ -42,11 +45,14 @@ impl<'a> Head<'a> {
         self.start
     }
 
-    /// The headers, in their order.
-    pub fn headers(&self) -> &Headers<'a>
-        ensures { result.now ≡ self.now.headers }
+    /// The headers in their order, where they stand in a list: those of [`read_head`] do.
+    pub fn listed(&self) -> Option<&Headers<'a>>
+        ensures { IfSome result (λ headers. headers.now ≡ self.now.headers) }
     {
-        &self.headers
+        match &self.fields {
+            HeadFields::Listed(headers) => Some(headers),
+            HeadFields::Marked(_) => None,
+        }
     }
 
     /// The value of the first header of a name, without ASCII case (RFC 7826, 5.2).
@@ -55,7 +61,7 @@ impl<'a> Head<'a> {
         ensures writable { CanBeWritten self.now.start self.now.headers
             → IfSome result (λ value. IsTrue (is_value value.now)) }
     {
-        self.headers.field(name)
+        self.fields.field(name)
     }
 
     /// The same where a condition holds. Nothing is looked up where it doesn't.
@@ -78,7 +84,7 @@ impl<'a> Head<'a> {
             value ≡ said_where holds (field_of self.now.headers name.now)) }
     {
         if holds {
-            self.headers.value(alloc, name)
+            self.fields.value(alloc, name)
         } else {
             Ok(None)
         }
@@ -103,14 +109,44 @@ pub(crate) fn sound_head(alloc: Global, bytes: &[u8]) -> Result<Head<'_>, Memory
     ensures head { IfOk result (λ head. head_of bytes.now ≡ Ok head) }
     ensures writable { IfOk result (λ head. CanBeWritten head.start head.headers) }
 {
+    let (start, rest) = head_start(bytes);
+    let headers = read_headers(alloc, rest)?;
+    Ok(Head {
+        start,
+        fields: HeadFields::Listed(headers),
+    })
+}
+
+/// The same, where it is known where its headers stand. It takes no memory.
+pub(crate) fn marked_head<'a>(bytes: &'a [u8], marks: &'a [HeaderMark]) -> Head<'a>
+    requires sound { IsOk (head_of bytes.now) }
+    requires marks { AreMarks (first_line bytes.now).1 marks.now }
+    ensures head { head_of bytes.entry.now ≡ Ok result }
+    ensures writable { CanBeWritten result.start result.headers }
+{
+    let (start, lines) = head_start(bytes);
+    Head {
+        start,
+        fields: HeadFields::Marked(MarkedLines { lines, marks }),
+    }
+}
+
+/// The first line of a head that is known to be sound, and the lines behind it.
+#[inline(always)]
+fn head_start(bytes: &[u8]) -> (StartLine<'_>, &[u8])
+    requires { IsOk (head_of bytes.now) }
+    ensures head { head_of bytes.now
+        ≡ result_map (λ headers. record { start = start_seen result.0; headers = headers })
+        (headers_of header_limit (head_lines result.1.now)) }
+    ensures behind { result.1.now ≡ (first_line bytes.now).1 }
+{
     let Some((line, rest)) = plain_line(bytes) else {
         unreachable!();
     };
     let Some(start) = plain_start(line) else {
         unreachable!();
     };
-    let headers = read_headers(alloc, rest)?;
-    Ok(Head { start, headers })
+    (start, rest)
 }
 
 /// The headers of a head's further lines, in which there is no fault.

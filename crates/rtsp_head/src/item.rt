@@ -1,12 +1,16 @@
 //! Items: what stands on a stream, one after another.
 ghost use Rattle.std.specs.Prelude.{◌≡◌, length, take, drop, Some, IfOk};
 ghost use Rattle.gate_bytes.specs.Outcomes.{UnlessMemory};
-ghost use Rattle.rtsp_head.specs.Lines.{head_refusal};
+ghost use Rattle.rtsp_head.specs.Lines.{head_refusal, first_line};
+ghost use Rattle.rtsp_head.specs.Marks.{marks_known};
+ghost use Rattle.rtsp_head.specs.MarkedHeads.{IsMarkedHead, known_prop};
+ghost use Rattle.std.proofs.Props.{props};
 ghost use Rattle.rtsp_head.specs.Heads.{head_of};
 ghost use Rattle.rtsp_head.specs.HeadText.{CanBeWritten};
 ghost use Rattle.rtsp_head.specs.Items.{first_extent, is_bad};
 
-use crate::head::{read_head, sound_head};
+use crate::head::{marked_head, read_head, sound_head};
+use crate::marks::HeadMarks;
 use crate::{Head, HeadFault};
 use gate_bytes::{Memory, Text, after, before};
 use std::alloc::Global;
@@ -90,6 +94,11 @@ pub struct Item {
     pub bytes: Text,
     /// The bytes of its head: 0 for a frame, all of them for a bad item.
     pub head: usize,
+    /// Where the headers of its head stand.
+    pub marks: HeadMarks,
+    /// They stand there.
+    pub ghost marked: { IsMarkedHead (take head bytes) marks } by { known_prop (first_line (take head bytes)).1 (marks_known marks)
+        (Prim.hlevel props) (λ known. Prim.hlevel props) },
     /// The bytes are those of one item of this kind, and the head has this length.
     pub ghost whole: { first_extent bytes ≡ Some (record { skipped = 0; span = record { kind = kind; len = length bytes; head = head } }) },
 }
@@ -106,6 +115,7 @@ impl Item {
             kind: self.kind,
             bytes,
             head: self.head,
+            marks: self.marks,
         })
     }
 
@@ -116,7 +126,10 @@ impl Item {
         ensures writable { IfOk result (λ head. CanBeWritten head.start head.headers) }
     {
         match self.kind {
-            ItemKind::Request | ItemKind::Response => Ok(sound_head(alloc, self.head_bytes())?),
+            ItemKind::Request | ItemKind::Response => match self.marks.known() {
+                Some(marks) => Ok(marked_head(self.head_bytes(), marks)),
+                None => Ok(sound_head(alloc, self.head_bytes())?),
+            },
             ItemKind::Frame | ItemKind::Bad(_) => read_head(alloc, self.head_bytes()),
         }
     }

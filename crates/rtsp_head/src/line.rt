@@ -40,6 +40,13 @@ impl<'a> Line<'a> {
         self.text.is_empty()
     }
 
+    /// How many bytes it has.
+    pub(crate) fn len(&self) -> usize
+        ensures { result ≡ length self.now }
+    {
+        self.text.len()
+    }
+
     /// Its bytes.
     pub(crate) fn text(self) -> &'a [u8]
         ensures { result.now ≡ self.entry }
@@ -146,6 +153,7 @@ pub(crate) fn plain_line(bytes: &[u8]) -> Option<(&[u8], &[u8])>
     ensures line { head_lines bytes.now
         ≡ lines_with (option_map (λ parts. (parts.0.now, parts.1.now)) result) }
     ensures less { IfSome result (λ parts. length parts.1.now < length bytes.now) }
+    ensures first { IfSome result (λ parts. (parts.0.now, parts.1.now) ≡ first_line bytes.now) }
 {
     let (line, rest) = plain_first(bytes);
     if line.is_empty() {
@@ -187,6 +195,7 @@ pub(crate) fn next_line(bytes: &[u8]) -> Option<(Line<'_>, &[u8])>
     ensures line { head_lines bytes.now ≡ lines_with (option_map (λ parts. (parts.0, parts.1.now)) result) }
     ensures less { IfSome result (λ parts. length parts.1.now < length bytes.now) }
     ensures passed { IfSome result (λ parts. IsPassed bytes.now parts.1.now) }
+    ensures first { IfSome result (λ parts. (parts.0, parts.1.now) ≡ first_line bytes.now) }
 {
     let (line, rest) = first_line(bytes);
     if line.is_empty() {

@@ -1,12 +1,15 @@
 //! The length of a body by the headers, line by line, without memory.
-ghost use Rattle.std.specs.Prelude.{◌≡◌, None, Some, Ok, Err, codes};
+ghost use Rattle.std.specs.Prelude.{◌≡◌, None, Some, Ok, Err, IfOk, IfSome, codes};
 ghost use Rattle.std.specs.Option.{option_or};
 ghost use Rattle.gate_bytes.specs.Tokens.{equal_fold, trimmed};
+ghost use Rattle.rtsp_head.specs.Marks.{marks_known};
+ghost use Rattle.rtsp_head.specs.MarkedHeads.{IsLineMarked};
 ghost use Rattle.rtsp_head.specs.Tallies.{empty_tally, part_of, joined, last_part, last_of, tally_more, tally_header, tally_line, tally_length};
 
 use crate::further::{FurtherLine, further_line};
 use crate::headers::MOST_HEADERS;
 use crate::line::Line;
+use crate::marks::HeadMarks;
 use crate::{HeadFault, LENGTH_DIGITS, Length};
 use gate_bytes::{eq_fold, read_decimal, trim};
 
@@ -129,13 +132,28 @@ impl Tally {
         }
     }
 
-    /// The same with one more line.
-    pub(crate) fn with_line(self, line: Line<'_>) -> Result<Tally, HeadFault>
-        ensures { result ≡ tally_line self line.entry }
+    /// The same with one more line, which takes so many bytes with its end. Where a header stands is marked.
+    #[inline(always)]
+    pub(crate) fn with_line(
+        self,
+        line: Line<'_>,
+        taken: usize,
+        marks: &mut HeadMarks,
+    ) -> Result<Tally, HeadFault>
+        ensures tally { result ≡ tally_line self line.entry }
+        ensures marks { IfOk result (λ tally.
+            IfSome (marks_known marks.new) (λ now. IsLineMarked (marks_known marks.old) now line.entry taken)) }
     {
+        let len = line.len();
         match further_line(line)? {
-            FurtherLine::More(text) => self.with_more(LengthPart::of(trim(text))),
-            FurtherLine::Begins { name, value } => self.with_header(name, value),
+            FurtherLine::More(text) => {
+                marks.forget();
+                self.with_more(LengthPart::of(trim(text)))
+            }
+            FurtherLine::Begins { name, value } => {
+                marks.push(len, taken, name.len());
+                self.with_header(name, value)
+            }
         }
     }
 

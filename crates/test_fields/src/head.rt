@@ -49,7 +49,10 @@ fn tell_read(alloc: Global, bytes: &[u8], answer: &mut CaseAnswer) {
         Ok(head) => {
             push_counted(answer, &head);
             answer.push(b", written ");
-            push_written(alloc, None, head.headers(), b"", answer);
+            match head.listed() {
+                Some(headers) => push_written(alloc, None, headers, b"", answer),
+                None => answer.push(b"nothing"),
+            }
         }
         Err(fault) => answer.push_debug(alloc, &fault),
     }
@@ -59,7 +62,10 @@ fn tell_read(alloc: Global, bytes: &[u8], answer: &mut CaseAnswer) {
 fn push_counted(answer: &mut CaseAnswer, head: &Head<'_>) {
     push_start(answer, head.start());
     answer.push(b", ");
-    answer.push_number(head.headers().len() as u64);
+    match head.listed() {
+        Some(headers) => answer.push_number(headers.len() as u64),
+        None => answer.push(b"marked"),
+    }
     answer.push(b" headers");
 }
 

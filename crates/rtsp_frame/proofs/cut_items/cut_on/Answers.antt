@@ -50,6 +50,7 @@ items-preserved g c =
           c.in-Whole.extent c.in_ok-item-in-Whole.item c.items.invariant.cutting at c.in_ok-item-in-Whole.ensures
           (sym c.is_bad.ensures ∙ c.if-is_bad.false)));
       next = c.stream_front-next.ensures.front;
+      marks = c.stream_front-next.ensures.marks;
       steps = omega (arith, due, c.stream_front-next.ensures.steps, c.items.invariant.steps, ap length c.after-left.ensures, length-drop taken left);
     }
 

@@ -2,6 +2,9 @@ use Rattle.std.proofs.Common.{◌≡◌, ◌+◌, ◌*◌, ◌≤◌, ℕ, List,
 use Rattle.std.proofs.lemmas.List.{length-take-le}
 use Rattle.rtsp_head.specs.LineWalk.{IsPassed}
 use Rattle.rtsp_frame.proofs.WholeHeadLemmas.{head_long, end_left, looks_paid, looks_paid_on}
+use Rattle.rtsp_head.specs.Marks.{marks_known}
+use Rattle.rtsp_head.specs.MarkedHeads.{IsMarkedHead}
+use Rattle.rtsp_head.proofs.MarkLemmas.{known_whole}
 use Rattle.rtsp_frame.proofs.message.find_head.Goals as goal
 
 pub returns-then-ends_head-clause-cost : goal.returns-then-ends_head-clause-cost
@@ -24,6 +27,11 @@ returns-in-Ok-clause-cost g c =
     let check : c.check_front_counted-facts.new.steps + 2 ≤ c.head_end.new.steps + 4 * len = omega (arith, some, all, c.check_front_counted-facts.ensures.steps) in
     looks_paid c.args.searched c.args.line c.args.steps.now c.ends_head.new.steps c.head_end.new.steps c.check_front_counted-facts.new.steps len c.ends_head.ensures.few c.ends_head.ensures.later c.in-Ok.ensures.cost
     c.in-Ok.ensures.lines check long
+
+pub returns-in-Ok-clause-marks : goal.returns-in-Ok-clause-marks
+returns-in-Ok-clause-marks g c =
+    let marks = c.check_front_counted-facts.new.marks in
+    subst (λ (head : List ℕ). IsMarkedHead head marks) c.before-in-Ok.ensures (known_whole c.before-in-Ok.result.now (marks_known marks) c.check_front_counted-facts.ensures.marks)
 
 pub returns-in-Err-clause-err_cost : goal.returns-in-Err-clause-err_cost
 returns-in-Err-clause-err_cost g c =

@@ -11,6 +11,8 @@ use Rattle.rtsp_frame.proofs.ExtentLemmas.{head_within}
 use Rattle.rtsp_frame.proofs.ReachLemmas.{reached_front}
 use Rattle.rtsp_frame.proofs.FrontLemmas.{begins_full, IsTold, found_head, found_line, found_longest, is_told, when_cost}
 use Rattle.rtsp_frame.proofs.WholeHeadLemmas.{still_full}
+use Rattle.rtsp_head.specs.MarkedHeads.{IsMarkedHead}
+use Rattle.rtsp_frame.proofs.MarkLemmas.{come_marked, told_head}
 use Rattle.rtsp_frame.proofs.message.message_span.Goals as goal
 
 pub find_head-requires-clause-begins : goal.find_head-requires-clause-begins
@@ -43,6 +45,16 @@ returns-in-Ok-clause-steps g c =
     let cost = when_cost (length c.args.bytes.now) len c.judged_span.result told.head fits in
     let paid = ap (span_cost (length c.args.bytes.now)) c.when_come.ensures in
     omega (arith, c.in-Ok.ensures.cost, cost, paid)
+
+pub returns-in-Ok-clause-marks : goal.returns-in-Ok-clause-marks
+returns-in-Ok-clause-marks g c =
+    let bytes = c.args.bytes.now in
+    let len = c.in-Ok.head.len in
+    let marks = c.find_head.new.marks in
+    let at : head_len (take MOST_HEAD bytes) ≡ Some len = ap head_len (sym c.front.ensures) ∙ c.in-Ok.ensures.ok in
+    let same : take len c.front.result.now ≡ take len bytes = ap (take len) c.front.ensures ∙ take-take len MOST_HEAD bytes (head_within bytes len at).1 in
+    come_marked (length bytes) len c.judged_span.result bytes marks c.when_come.result c.when_come.ensures (ap (λ (span : Span). span.head) c.judged_span.ensures ∙ told_head len c.in-Ok.head.facts)
+    (subst (λ (head : List ℕ). IsMarkedHead head marks) same c.in-Ok.ensures.marks)
 
 pub returns-in-Err-clause-found : goal.returns-in-Err-clause-found
 returns-in-Err-clause-found g c =

@@ -8,7 +8,7 @@ use Rattle.rtsp_frame.proofs.framer.Framer.take.Goals.{then-is_bad+in-Some-1, th
 pub returns-clause-ok : goal.returns-clause-ok
 returns-clause-ok c stream given h =
     let bytes : List ℕ = c.args.piece.now in
-    let alone : IsAlone c.args.self.now bytes c.in-Some.span = subst (λ (bytes : List ℕ). IsAlone c.args.self.now bytes c.in-Some.span) c.as_bytes.ensures c.in-Some.ensures in
+    let alone : IsAlone c.args.self.now bytes c.in-Some.span = subst (λ (bytes : List ℕ). IsAlone c.args.self.now bytes c.in-Some.span) c.as_bytes.ensures c.in-Some.ensures.alone in
     let left = framed_whole c.args.self.now c.if-is_bad.self stream bytes c.in-Some.span given alone in
     let framed : Framed c.if-is_bad.self (stream ++ bytes) (given ++ record { kind = c.in-Some.span.kind; bytes = bytes; head = c.in-Some.span.head } ∷ []) =
     elim c.if-is_bad.branch [

@@ -1,0 +1,11 @@
+use Rattle.std.proofs.Common.{◌≡◌, true, drop}
+use Rattle.rtsp_head.specs.Headers.{field_of}
+use Rattle.rtsp_head.specs.Marks.{headers_marked, has_marked}
+use Rattle.rtsp_head.proofs.head_fields.MarkedLines.field.Given as goal
+
+-- the field is among those of the lines that are left, and these are there
+abbrev pub invariant-loop-mark : goal.invariant-loop-mark
+invariant-loop-mark l = record {
+  field : field_of (headers_marked l.rest (drop l.mark-index l.mark-items)) l.name ≡ field_of (headers_marked l.self.lines.now l.self.marks.now) l.name;
+  there : has_marked l.rest (drop l.mark-index l.mark-items) ≡ true;
+}

@@ -1,0 +1,38 @@
+-- Where the headers of a head stand, each on a line of its own (this project's own).
+use Rattle.std.specs.Prelude.{◌≡◌, ℕ, ◌+◌, ◌<◌, ◌&&◌, nat_le, nat_lt, Bool, if◌then◌else◌, List, [], ◌∷◌, ◌++◌, length, take, drop, Option, Some, None}
+use Rattle.std.specs.List.{list_all}
+use Rattle.gate_bytes.specs.Tokens.{trimmed}
+use Rattle.rtsp_head.specs.declared.header.Header.{Header}
+use Rattle.rtsp_head.specs.declared.marks.HeaderMark.{HeaderMark}
+use Rattle.rtsp_head.specs.declared.marks.HeadMarks.{HeadMarks}
+use Rattle.rtsp_head.specs.declared.marks.TheConstants.{MOST_MARKS}
+
+-- the marks of all headers, where they are known
+abbrev pub marks_known : HeadMarks → Option (List HeaderMark)
+marks_known it = if nat_le it.count MOST_MARKS then Some (take it.count it.marks) else None
+
+-- the header whose line stands first in these bytes
+abbrev pub header_marked : List ℕ → HeaderMark → Header
+header_marked lines mark = record { name = take mark.name lines; value = trimmed (drop (mark.name + 1) (take mark.line lines)) }
+
+-- the headers whose lines stand first in these bytes, one behind another, each with CRLF at its end
+abbrev pub headers_marked : List ℕ → List HeaderMark → List Header
+headers_marked lines [] = []
+headers_marked lines (mark ∷ marks) = header_marked lines mark ∷ headers_marked (drop (mark.line + 2) lines) marks
+
+-- how many bytes these lines have
+abbrev pub marked_len : List HeaderMark → ℕ
+marked_len [] = 0
+marked_len (mark ∷ marks) = mark.line + 2 + marked_len marks
+
+-- Whether these lines are there, each longer than its name.
+abbrev pub has_marked : List ℕ → List HeaderMark → Bool
+has_marked lines marks = nat_le (marked_len marks) (length lines) && list_all (λ mark. nat_lt mark.name mark.line) marks
+
+-- One mark more is known: that of a line of so many bytes, which takes so many with its end.
+pub record IsMarkPut (old : Option (List HeaderMark)) (now : List HeaderMark) (line taken name : ℕ) : Type 0 where
+  pub marks : List HeaderMark
+  pub was : old ≡ Some marks
+  pub is : now ≡ marks ++ record { line = line; name = name } ∷ []
+  pub ends : taken ≡ line + 2
+  pub few : length marks < MOST_MARKS
