@@ -1,10 +1,12 @@
 //! Heads.
 
 use crate::answer::{keep, push_bytes, push_named, push_part};
-use crate::content::content_of;
+use crate::content::{content_of, fed};
 use crate::words::Words;
-use gate_bytes::Text;
-use rtsp_head::{Facts, Head, Headers, Length, StartLine, check_head, push_message, read_head};
+use gate_bytes::{Text, after, before};
+use rtsp_head::{
+    Facts, Head, Headers, Item, Length, StartLine, check_head, push_message, read_head,
+};
 use std::alloc::Global;
 use test_text::CaseAnswer;
 
@@ -14,6 +16,7 @@ pub fn tell(name: &str, words: Words<'_>, answer: &mut CaseAnswer) -> bool {
         "check" => tell_checked(words.alloc, words.whole, answer),
         "head" => tell_read(words.alloc, words.whole, answer),
         "field" => tell_field(words, answer),
+        "item-field" => tell_item_field(words, answer),
         "many-headers" => tell_many(words, answer),
         "message" => tell_message(words, answer),
         _ => return false,
@@ -100,11 +103,52 @@ fn tell_field(mut words: Words<'_>, answer: &mut CaseAnswer) {
     let name = words.next(answer);
     let bytes = words.all(answer);
     match read_head(words.alloc, bytes.as_bytes()) {
-        Ok(head) => match head.field(name.as_bytes()) {
-            Some(value) => push_bytes(answer, value),
-            None => answer.push(b"none"),
-        },
+        Ok(head) => push_value(answer, head.field(name.as_bytes())),
         Err(fault) => answer.push_debug(words.alloc, &fault),
+    }
+}
+
+/// The first line of an item's head, whether its headers are found by marks or stand in a list, and the value of a field. The
+/// stream comes in two pieces, the first of so many bytes.
+fn tell_item_field(mut words: Words<'_>, answer: &mut CaseAnswer) {
+    let name = words.next(answer);
+    let cut = words.number(answer) as usize;
+    let stream = words.all(answer);
+    match cut_item(words.alloc, stream.as_bytes(), cut, answer) {
+        Some(item) => push_item_field(words.alloc, &item, name.as_bytes(), answer),
+        None => answer.unreadable(),
+    }
+}
+
+/// The first item of a stream that comes in two pieces, the first of so many bytes.
+fn cut_item(alloc: Global, stream: &[u8], cut: usize, answer: &mut CaseAnswer) -> Option<Item> {
+    let cut = cut.min(stream.len());
+    let mut framer = fed(alloc, before(stream, cut), answer);
+    let taken = framer.feed(alloc, after(stream, cut));
+    keep(answer, taken);
+    framer.next()
+}
+
+/// Tells the first line of an item's head, and the value of a field with how it was found.
+fn push_item_field(alloc: Global, item: &Item, name: &[u8], answer: &mut CaseAnswer) {
+    match item.head(alloc) {
+        Ok(head) => {
+            push_start(answer, head.start());
+            answer.push(match head.listed() {
+                Some(_) => b", listed: ".as_slice(),
+                None => b", marked: ",
+            });
+            push_value(answer, head.field(name));
+        }
+        Err(fault) => answer.push_debug(alloc, &fault),
+    }
+}
+
+/// Tells the value of a field, or that there is none.
+fn push_value(answer: &mut CaseAnswer, value: Option<&[u8]>) {
+    match value {
+        Some(value) => push_bytes(answer, value),
+        None => answer.push(b"none"),
     }
 }
 
