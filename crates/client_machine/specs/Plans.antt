@@ -1,5 +1,5 @@
 -- A plan for an event of a connection: what it says is done, and when that is what the machine does (this project's own).
-use Rattle.std.specs.Prelude.{◌≡◌, ℕ, ◌^◌, ◌≤◌, ◌<◌, Bool, true, false, is_some, List, [], ◌∷◌, drop, length, Option, Some, None, IsSome, IfSome}
+use Rattle.std.specs.Prelude.{◌≡◌, ℕ, ◌^◌, ◌≤◌, ◌<◌, Bool, true, false, is_some, List, [], ◌∷◌, drop, length, Option, Some, None, IsSome, IfSome, ◌⊎◌}
 use Rattle.rtsp_head.specs.Items.{Shape}
 use Rattle.rtsp_head.specs.Shapes.{shape_of}
 use Rattle.rtsp_head.specs.declared.item.ItemKind.TheVariants as kinds
@@ -52,6 +52,11 @@ incoming_seen (comings.Notice id reason names) = notes id.now reason names
 abbrev pub CanCome : Comes → Type 0
 CanCome (requests shape) = shape.kind ≡ kinds.Request
 CanCome comes = Unit {0}
+
+-- A request that comes finds room among those that wait.
+abbrev pub CanWait : Comes → Client → Type 0
+CanWait (requests shape) client = length client.waiting < MOST_WAITING
+CanWait comes client = Unit {0}
 
 -- what the event does by itself, by the number of the open request
 abbrev pub heard_by : Bases → ℕ → Client → Comes → Hearing
@@ -171,9 +176,19 @@ IsShortUp (ups.Due text) = length text < 2 ^ 31
 IsShortUp (ups.Ask text asked track) = length text < 2 ^ 31
 IsShortUp up = Unit {0}
 
+-- so long that it is not handed out
+abbrev pub IsLongUp : Up → Type 0
+IsLongUp (ups.Due text) = 2 ^ 31 ≤ length text
+IsLongUp (ups.Ask text asked track) = 2 ^ 31 ≤ length text
+IsLongUp up = ⊥
+
 -- what a plan hands out fits into a record
 abbrev pub IsShortPlan : PlannedStep → Type 0
 IsShortPlan plan = (length plan.hand < 2 ^ 32) × IsShortUp plan.up
+
+-- some of what a plan hands out is too long
+abbrev pub IsLongPlan : PlannedStep → Type 0
+IsLongPlan plan = (2 ^ 32 ≤ length plan.hand) ⊎ IsLongUp plan.up
 
 -- what was done hands out no more than fits into a record
 pub record IsShortDone (done : Done) : Type 0 where

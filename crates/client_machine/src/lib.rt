@@ -9,6 +9,7 @@
 mod after;
 mod commit;
 mod ends;
+mod fault;
 mod frames;
 mod input;
 mod laws;
@@ -24,6 +25,7 @@ mod treat;
 mod why;
 
 pub use ends::plan_close;
+pub use fault::PlanFault;
 pub use frames::{StreamHalf, channel_for, half_for};
 pub use input::{Incoming, ServerReply};
 pub use laws::{

@@ -1,14 +1,17 @@
 //! Plans are made.
-ghost use Rattle.std.specs.Prelude.{◌≡◌, ◌<◌, true, IfSome, OnOk};
+ghost use Rattle.std.specs.Prelude.{◌≡◌, ◌≤◌, ◌<◌, true, false, length, Err, IfSome, OnOk};
 ghost use Rattle.channel_map.specs.declared.map.TheConstants.{PAIRS};
-ghost use Rattle.client_machine.specs.Plans.{incoming_seen, CanCome, IsPlan, IsShortUp, IsShortPlan};
+ghost use Rattle.client_slot.specs.declared.limits.TheConstants.{MOST_WAITING};
+ghost use Rattle.client_machine.specs.declared.fault.PlanFault.TheVariants as faults;
+ghost use Rattle.client_machine.specs.Plans.{incoming_seen, CanCome, CanWait, IsPlan, IsShortUp, IsLongUp, IsShortPlan, IsLongPlan};
 
 use crate::ends::plan_notice;
+use crate::fault::PlanFault;
 use crate::input::Incoming;
 use crate::parts::{PlannedStep, Up};
 use crate::replies::plan_reply;
 use crate::requests::plan_request;
-use client_slot::Slot;
+use client_slot::{MOST_WAITING, Slot};
 use gate_bytes::Memory;
 use rtsp_uri::Bases;
 use std::alloc::Global;
@@ -21,13 +24,7 @@ const LONGEST_REQUEST: usize = 0x7fff_ffff;
 
 /// What an event will do to a connection, by the number that the next request would have and the
 /// lowest pair of channels that is free once the event is heard: it is written over a plan. Nothing else
-/// changes, and all memory is taken.
-///
-/// `Memory` is the answer where memory is wanting, and past two limits:
-/// - the player would be handed 2^32 bytes or more, or a request of 2^31 bytes or more would go up;
-/// - [`MOST_WAITING`](client_slot::MOST_WAITING) requests wait, which no memory holds.
-///
-/// What the plan says then is of no use.
+/// changes, and all memory is taken. [`PlanFault`] says why there is none; what the plan says then is of no use.
 #[inline(always)]
 pub fn plan(
     alloc: Global,
@@ -37,14 +34,34 @@ pub fn plan(
     pair: Option<u8>,
     incoming: &Incoming<'_>,
     plan: &mut PlannedStep,
-) -> Result<(), Memory>
+) -> Result<(), PlanFault>
     requires sound { CanCome (incoming_seen incoming.now) }
     requires pair { IfSome pair (λ one. one < PAIRS) }
     ensures plan { OnOk result (IsPlan bases.now next pair slot.now (incoming_seen incoming.now) plan.new) }
     ensures short { OnOk result (IsShortPlan plan.new) }
+    ensures long { result ≡ Err faults.TooLong
+        → IsPlan bases.now next pair slot.now (incoming_seen incoming.now) plan.new × IsLongPlan plan.new }
+    ensures many { result ≡ Err faults.TooMany → MOST_WAITING ≤ length slot.now.waiting }
 {
-    plan_any(alloc, bases, slot, next, pair, incoming, plan)?;
-    if plan.is_short() { Ok(()) } else { Err(Memory) }
+    if finds_no_room(slot, incoming) {
+        return Err(PlanFault::TooMany);
+    }
+    match plan_any(alloc, bases, slot, next, pair, incoming, plan) {
+        Ok(()) if plan.is_short() => Ok(()),
+        Ok(()) => Err(PlanFault::TooLong),
+        Err(Memory) => Err(PlanFault::Memory),
+    }
+}
+
+/// Whether a request comes, and so many wait that it can't.
+fn finds_no_room(slot: &Slot, incoming: &Incoming<'_>) -> bool
+    ensures many { result ≡ true → MOST_WAITING ≤ length slot.now.waiting }
+    ensures room { result ≡ false → CanWait (incoming_seen incoming.now) slot.now }
+{
+    match incoming {
+        Incoming::Request(_) => slot.waiting() >= MOST_WAITING,
+        Incoming::Reply(_) | Incoming::Notice(..) => false,
+    }
 }
 
 /// A plan of any length.
@@ -59,6 +76,7 @@ fn plan_any(
 ) -> Result<(), Memory>
     requires sound { CanCome (incoming_seen incoming.now) }
     requires pair { IfSome pair (λ one. one < PAIRS) }
+    requires room { CanWait (incoming_seen incoming.now) slot.now }
     ensures { OnOk result (IsPlan bases.now next pair slot.now (incoming_seen incoming.now) plan.new) }
 {
     match *incoming {
@@ -71,23 +89,24 @@ fn plan_any(
 }
 
 impl PlannedStep {
-    ghost use Rattle.std.specs.Prelude.{◌≡◌, true};
+    ghost use Rattle.std.specs.Prelude.{◌≡◌, true, false};
 
-    /// Whether what it hands out is short enough. A longer one is not made, as if there were no memory
-    /// for it.
+    /// Whether what it hands out is short enough.
     fn is_short(&self) -> bool
-        ensures { result ≡ true → IsShortPlan self.now }
+        ensures short { result ≡ true → IsShortPlan self.now }
+        ensures long { result ≡ false → IsLongPlan self.now }
     {
         self.hand.len() <= LONGEST_HAND && self.up.is_short()
     }
 }
 
 impl Up {
-    ghost use Rattle.std.specs.Prelude.{◌≡◌, true};
+    ghost use Rattle.std.specs.Prelude.{◌≡◌, true, false};
 
     /// Whether what goes up is short enough.
     fn is_short(&self) -> bool
-        ensures { result ≡ true → IsShortUp self.now }
+        ensures short { result ≡ true → IsShortUp self.now }
+        ensures long { result ≡ false → IsLongUp self.now }
     {
         match self {
             Up::Nothing | Up::Leave => true,

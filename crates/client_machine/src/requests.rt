@@ -13,7 +13,7 @@ use crate::outlook::Outlook;
 use crate::parts::{Change, PlannedStep, Up};
 use crate::sight::see_sessions;
 use crate::treat::{Course, treat_waiting};
-use client_slot::{MOST_WAITING, Slot, Waiting};
+use client_slot::{Slot, Waiting};
 use gate_bytes::{Memory, Text};
 use rtsp_head::Item;
 use rtsp_uri::Bases;
@@ -32,6 +32,7 @@ pub(crate) fn plan_request(
 ) -> Result<(), Memory>
     requires sound { CanCome (requests (shape_of item.now)) }
     requires pair { IfSome pair (λ one. one < PAIRS) }
+    requires room { length slot.now.waiting < MOST_WAITING }
     ensures { OnOk result (IsPlan bases.now next pair slot.now (requests (shape_of item.now)) plan.new) }
 {
     if !slot.alive() {
@@ -39,7 +40,7 @@ pub(crate) fn plan_request(
         return Ok(());
     }
     if slot.busy() {
-        let change = waits(alloc, slot, item)?;
+        let change = waits(alloc, item)?;
         plan.become_still(alloc, change, Text::new(alloc), Up::Nothing);
         return Ok(());
     }
@@ -60,6 +61,7 @@ fn plan_due(
     plan: &mut PlannedStep,
 ) -> Result<(), Memory>
     requires sound { CanCome (requests (shape_of item.now)) }
+    requires room { length slot.now.waiting < MOST_WAITING }
     requires alive { slot.now.alive ≡ true }
     requires idle { slot.now.pending ≡ None }
     requires due { IsSome (due_place slot.now) }
@@ -69,21 +71,16 @@ fn plan_due(
     let Some(up) = due_up(alloc, &Outlook::now(slot), next)? else {
         unreachable!();
     };
-    let change = waits(alloc, slot, item)?;
+    let change = waits(alloc, item)?;
     plan.become_still(alloc, change, Text::new(alloc), up);
     Ok(())
 }
 
-/// A copy of a request waits. Never so many wait as may, so that no memory is wanting for that. It is not inlined, since
-/// few requests wait.
+/// A copy of a request waits. It is not inlined, since few requests wait.
 #[inline(never)]
-fn waits(alloc: Global, slot: &Slot, item: &Item) -> Result<Change, Memory>
-    ensures waits { IfOk result (λ change. change ≡ changes.Waits (shape_of item.now ∷ [])) }
-    ensures room { OnOk result (length slot.now.waiting < MOST_WAITING) }
+fn waits(alloc: Global, item: &Item) -> Result<Change, Memory>
+    ensures { IfOk result (λ change. change ≡ changes.Waits (shape_of item.now ∷ [])) }
 {
-    if slot.waiting() >= MOST_WAITING {
-        return Err(Memory);
-    }
     match Waiting::new(alloc, item.try_clone(alloc)?) {
         Ok(waiting) => Ok(Change::Waits(waiting)),
         Err(_) => Err(Memory),
@@ -103,6 +100,7 @@ fn treat_request<'a>(
 ) -> Result<(), Memory>
     requires sound { CanCome (requests (shape_of item.now)) }
     requires pair { IfSome pair (λ one. one < PAIRS) }
+    requires room { length slot.now.waiting < MOST_WAITING }
     requires alive { slot.now.alive ≡ true }
     requires idle { slot.now.pending ≡ None }
     requires due { due_place slot.now ≡ None }
@@ -121,7 +119,7 @@ fn treat_request<'a>(
     see_sessions(slot, &mut sessions);
     treat_waiting(alloc, &mut sessions, course, slot, plan)?;
     if plan.up.is_up() {
-        plan.change = waits(alloc, slot, item)?;
+        plan.change = waits(alloc, item)?;
         return Ok(());
     }
     plan.then(alloc, &mut sessions, course, item)

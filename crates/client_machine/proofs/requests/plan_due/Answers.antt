@@ -11,6 +11,6 @@ unreachable-requires c = grind (arith, is_due)
 
 pub returns : goal.returns
 returns c = λ bases pair.
-    plan_waits bases c.args.next pair c.args.slot.now (shape_of c.args.item.now) c.in_ok-change.change c.in-Some.up c.become_still.new.self c.requires.sound c.in_ok-change.ensures.room c.requires.alive
-    c.requires.idle (ap (due_for c.args.next) (sym c.now.ensures.sights) ∙ sym c.in_ok-up.ensures ∙ c.in-Some.is) c.in_ok-change.ensures.waits
+    plan_waits bases c.args.next pair c.args.slot.now (shape_of c.args.item.now) c.in_ok-change.change c.in-Some.up c.become_still.new.self c.requires.sound c.requires.room c.requires.alive
+    c.requires.idle (ap (due_for c.args.next) (sym c.now.ensures.sights) ∙ sym c.in_ok-up.ensures ∙ c.in-Some.is) c.in_ok-change.ensures
     (c.become_still.ensures ∙ ap (λ bytes. still c.in_ok-change.change bytes c.in-Some.up) c.new.ensures)

@@ -30,8 +30,8 @@ returns-then-is_up c =
     let last = given_shown bases full (map session_shown c.treat_waiting.new.sessions) about in
     let judged = judged_now bases c.args.pair full slot (map session_shown c.see_sessions.new.sessions) about c.see_sessions.ensures.shown c.described.ensures.uri refl in
     let all = treated_by_now c.args.next c.args.pair _ (given bases full slot) last slot.waiting c.become_blank.new.self c.treat_waiting.new.plan judged c.become_blank.ensures c.in_ok-treat_waiting.ensures in
-    plan_before bases c.args.next c.args.pair slot last (shape_of c.args.item.now) all.progress c.in_ok-plan.field-0 _ c.requires.sound c.in_ok-plan.ensures.room c.requires.alive c.requires.idle c.requires.due all.treated
-    (sym (up_is c.args.next c.args.pair changes.Nothing all.progress c.treat_waiting.new.plan all.finished) ∙ sym c.if-is_up.ensures) c.in_ok-plan.ensures.waits
+    plan_before bases c.args.next c.args.pair slot last (shape_of c.args.item.now) all.progress c.in_ok-plan.field-0 _ c.requires.sound c.requires.room c.requires.alive c.requires.idle c.requires.due all.treated
+    (sym (up_is c.args.next c.args.pair changes.Nothing all.progress c.treat_waiting.new.plan all.finished) ∙ sym c.if-is_up.ensures) c.in_ok-plan.ensures
     (with_change c.args.next c.args.pair changes.Nothing c.in_ok-plan.field-0 all.progress c.treat_waiting.new.plan all.finished)
 
 pub returns : goal.returns
