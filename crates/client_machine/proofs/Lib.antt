@@ -18,6 +18,7 @@ pub mod SeenSettleLemmas
 pub mod SeenTreatLemmas
 pub mod SeenWalkLemmas
 pub mod SightLemmas
+pub mod TimeoutLemmas
 pub mod TreatLemmas
 pub mod WayLemmas
 pub mod AskCountLemmas

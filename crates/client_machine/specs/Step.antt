@@ -2,7 +2,7 @@
 -- event is heard, and then what may go up does: where no request of it is open, the TEARDOWN of one that closed, the PLAY
 -- that is due, or the first of the requests that wait. The numbers are arguments: a connection alone counts its own, and on
 -- the one connection to the server they are those of all players.
-use Rattle.std.specs.Prelude.{ℕ, Bool, true, false, List, [], ◌∷◌, Option, Some, None, is_none, option_map, nat_lt, codes, if◌then◌else◌}
+use Rattle.std.specs.Prelude.{◌≡◌, ℕ, Bool, true, false, List, [], ◌∷◌, Option, Some, None, is_none, option_map, nat_lt, codes, if◌then◌else◌}
 use Rattle.std.specs.Option.{option_and_then}
 use Rattle.rtsp_transport.specs.declared.channels.Pair.{Pair}
 use Rattle.rtsp_uri.specs.declared.base.Bases.{Bases}
@@ -152,6 +152,11 @@ take true shape client = take_item shape.kind shape client
 -- what the field Session of a reply says (RFC 7826, 18.49)
 abbrev pub session_told : Told → Option SessionParts
 session_told told = option_and_then session_of (field_of told.fields (codes "Session"))
+
+-- What was read of the field Session of a reply is what it says, where a SETUP asked: of no other reply does it matter.
+abbrev pub IsToldFor : Purpose → Told → Option SessionParts → Type 0
+IsToldFor (purposes.Client asked track) told said = sets_up asked.method ≡ true → said ≡ session_told told
+IsToldFor purpose told said = Unit {0}
 
 -- the id of the session that the server made for a SETUP that named none
 abbrev pub new_id_at : Bool → Option ℕ → Told → Option (List ℕ)

@@ -1,14 +1,14 @@
 //! What a reply of the server says, and what the player gets of it.
-ghost use Rattle.std.specs.Prelude.{◌≡◌, ◌<◌, ◌^◌, true, Some, IfOk, IfSome, option_map};
+ghost use Rattle.std.specs.Prelude.{◌≡◌, ◌<◌, ◌^◌, true, Option, Some, IfOk, IfSome, option_map};
 ghost use Rattle.std.specs.Option.{option_copied, option_and_then};
 ghost use Rattle.rtsp_small.specs.declared.session.TheConstants.{TIMEOUT_DIGITS};
-ghost use Rattle.rtsp_small.specs.Sessions.{is_session_id};
+ghost use Rattle.rtsp_small.specs.Sessions.{is_session_id, SessionParts};
 ghost use Rattle.rtsp_small.specs.Views.{session_seen};
 ghost use Rattle.rtsp_transport.specs.Channels.{AreApart};
 ghost use Rattle.head_two.specs.declared.reply.Reply2.{Reply2};
 ghost use Rattle.translate_down.specs.Replies.{told_by, reply_text_of};
 ghost use Rattle.client_slot.specs.Purposes.{purpose_seen};
-ghost use Rattle.client_machine.specs.Step.{session_told, new_id, reply_hand};
+ghost use Rattle.client_machine.specs.Step.{session_told, IsToldFor, new_id, reply_hand};
 ghost use Rattle.client_machine.specs.UpTexts.{grant_said};
 
 use crate::input::ServerReply;
@@ -32,8 +32,22 @@ pub fn grant_said(reply: &Reply2<'_>) -> Option<Grant>
     }
 }
 
+/// What the field Session of the reply to the open request says. It is looked up for a SETUP alone: of no other reply
+/// does it matter.
+pub(crate) fn told_for<'a>(pending: Pending<'_>, reply: &'a Reply2<'_>) -> Option<SessionField<'a>>
+    ensures said { IsToldFor (purpose_seen pending.entry) (told_by reply.now) (option_map session_seen result) }
+    ensures valid { IfSome result (λ field. is_session_id field.id.now ≡ true) }
+    ensures timeout { IfSome result (λ field.
+        IfSome field.timeout (λ seconds. seconds < 10 ^ TIMEOUT_DIGITS)) }
+{
+    match pending {
+        Pending::Client(asked, _) if asked.method == Method::Setup => session_told(reply),
+        _ => None,
+    }
+}
+
 /// What the field Session of a reply says.
-pub(crate) fn session_told<'a>(reply: &'a Reply2<'_>) -> Option<SessionField<'a>>
+fn session_told<'a>(reply: &'a Reply2<'_>) -> Option<SessionField<'a>>
     ensures said { option_map session_seen result ≡ session_told (told_by reply.now) }
     ensures valid { IfSome result (λ field. is_session_id field.id.now ≡ true) }
     ensures timeout { IfSome result (λ field.
@@ -54,7 +68,8 @@ pub(crate) fn timeout_told(told: Option<SessionField<'_>>) -> Option<u64>
 /// The id of the session that the server made for a SETUP that named none.
 pub(crate) fn new_id<'a>(pending: Pending<'a>, told: Option<SessionField<'a>>) -> Option<&'a [u8]>
     requires { IfSome told (λ field. is_session_id field.id.now ≡ true) }
-    ensures id { (reply : Reply2) → option_map session_seen told.entry ≡ session_told (told_by reply)
+    ensures id { (reply : Reply2)
+        → IsToldFor (purpose_seen pending.entry) (told_by reply) (option_map session_seen told.entry)
         → option_copied result ≡ new_id (purpose_seen pending.entry) (told_by reply) }
     ensures valid { IfSome result (λ id. is_session_id id.now ≡ true) }
 {
@@ -80,9 +95,9 @@ pub(crate) fn reply_hand<'a>(
     requires pending { slot.now.pending ≡ Some (purpose_seen pending) }
     requires id { IfSome id (λ one. is_session_id one.now ≡ true) }
     requires timeout { IfSome timeout (λ seconds. seconds < 10 ^ TIMEOUT_DIGITS) }
-    ensures { IfOk result (λ text.
-        option_and_then (λ field. field.timeout) (session_told (told_by answer.entry.reply.now))
-        ≡ timeout
+    ensures { IfOk result (λ text. (said : Option SessionParts)
+        → IsToldFor (purpose_seen pending.entry) (told_by answer.entry.reply.now) said
+        → timeout ≡ option_and_then (λ field. field.timeout) said
         → text
         ≡ reply_hand bases.entry.now slot.entry.now.alive (purpose_seen pending.entry)
         (told_by answer.entry.reply.now) answer.entry.source (option_copied id.entry)) }

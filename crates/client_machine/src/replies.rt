@@ -12,7 +12,7 @@ use crate::after::after_reply;
 use crate::input::ServerReply;
 use crate::onward::onward;
 use crate::parts::{Change, PlannedStep, Up};
-use crate::player_reply::{new_id, reply_hand, session_told, timeout_told};
+use crate::player_reply::{new_id, reply_hand, timeout_told, told_for};
 use crate::treat::Course;
 use client_slot::{ClosingRoom, MadeParts, MadeSession, Pending, Slot};
 use gate_bytes::{Memory, Text};
@@ -68,7 +68,7 @@ fn settle<'a>(
         (replies answer.entry.reply.now answer.entry.source) plan.new) }
 {
     let reply = answer.reply;
-    let told = session_told(reply);
+    let told = told_for(pending, reply);
     let timeout = timeout_told(told);
     let id = new_id(pending, told);
     let outlook = after_reply(slot, pending, reply.code, id);
