@@ -18,3 +18,4 @@ pub mod LastLemmas
 pub mod HeadEndLemmas
 pub mod PassLemmas
 pub mod MarkLemmas
+pub mod StartMarkLemmas

@@ -1,4 +1,4 @@
--- Headers that are marked line by line are those of the head.
+-- A first line and headers that are marked line by line are those of the head.
 use Rattle.std.proofs.Common.{◌≡◌, ◌∙◌, ℕ, ◌+◌, ◌-◌, ◌<◌, ◌≤◌, ◌&&◌, ◌||◌, nat_le, nat_lt, Bool, true, false, cond, List, [], ◌∷◌, ◌++◌, length, take, drop, Option, Some, None, Ok, Err, get_or, suc, ◌==◌, refl, sym, ap, subst, arith}
 use Rattle.std.specs.List.{list_all, find}
 use Rattle.std.specs.Str.Lines.{strip_carriage_return}
@@ -15,17 +15,22 @@ use Rattle.rtsp_head.specs.declared.header.Header.{Header}
 use Rattle.rtsp_head.specs.declared.headers.TheConstants.{MOST_HEADERS}
 use Rattle.rtsp_head.specs.declared.fault.HeadFault.TheVariants as faults
 use Rattle.rtsp_head.specs.declared.marks.HeaderMark.{HeaderMark}
+use Rattle.rtsp_head.specs.declared.marks.StartMark.{StartMark}
+use Rattle.rtsp_head.specs.HeadParts.{Start}
+use Rattle.rtsp_head.specs.Starts.{start_of}
+use Rattle.rtsp_head.specs.Heads.{head_of_lines, head_of}
 use Rattle.rtsp_head.specs.Lines.{and_then, result_map, has_control, line_apart, first_line, head_lines, is_empty_line}
 use Rattle.rtsp_head.specs.LineWalk.{IsPassed}
 use Rattle.rtsp_head.specs.LastHeader.{apart}
 use Rattle.rtsp_head.specs.Items.{begins_with_lf, head_from, head_len}
 use Rattle.rtsp_head.specs.Headers.{header_limit, headers_of, headers_in, More, Begins, goes_on, header_from, further_of, with_further, with_line, after_lines, no_headers, field_of}
-use Rattle.rtsp_head.specs.MarkedHeads.{is_short_of, AreMarks, AreFrontMarks, IsLineMarked}
-use Rattle.rtsp_head.specs.Marks.{header_marked, headers_marked, marked_len, has_marked}
+use Rattle.rtsp_head.specs.MarkedHeads.{is_short_of, AreMarks, IsStartMark, AreHeadMarks, AreFrontMarks, IsLineMarked}
+use Rattle.rtsp_head.specs.Marks.{header_marked, headers_marked, marked_len, has_marked, start_marked, mark_of, IsStartPut}
 use Rattle.rtsp_head.proofs.LastLemmas.{begun, tidy_last}
 use Rattle.rtsp_head.proofs.TrimLemmas.{trimmed_twice}
 use Rattle.rtsp_head.proofs.LineLemmas.{lines_apart}
 use Rattle.rtsp_head.proofs.HeadEndLemmas.{place_in_front, head_goes_on, head_needs_lf}
+use Rattle.rtsp_head.proofs.StartMarkLemmas.{start_places}
 use Rattle.rtsp_head.proofs.PassLemmas.{stripped_empty, later_some, by_lines}
 
 -- A line begins with a header's name; a colon and the value stand behind it.
@@ -184,19 +189,34 @@ pub known_more : (lines rest line after : List ℕ) (old now : Option (List Head
 known_more lines rest line after old None before lines_are first marked = tt
 known_more lines rest line after old (Some now) before lines_are first marked = line_marked lines rest line after old now before lines_are first marked
 
--- a line that is one of a head's has a byte
-line_full : (bytes line rest : List ℕ) (empty : Bool) → (length line == 0) ≡ empty → cond (length line == 0) [] (line ∷ head_lines rest) ≡ line ∷ head_lines rest → empty ≡ false
-line_full bytes line rest false is e = refl
-line_full bytes line rest true is e = let no : [] ≡ line ∷ head_lines rest = ap (λ t. cond t [] (line ∷ head_lines rest)) (sym is) ∙ e in cc no
+-- A first line that ends with CRLF is marked by its parts.
+start_marks : (bytes line rest : List ℕ) (mark : StartMark) (start : Start) → ◌≡◌ {A = List ℕ × List ℕ} (line, rest) (first_line bytes) → start_of line ≡ Ok start
+    → mark ≡ mark_of (length line) start → length bytes - length rest ≡ length line + 2 → IsStartMark bytes mark
+start_marks bytes line rest mark start apart says is ends =
+    let first = stands_first bytes line rest apart in
+    let places = start_places line start says in
+    subst (IsStartMark bytes) (sym is) (
+    let len = places.line in
+    let same : take (mark_of (length line) start).line bytes ≡ line = ap (λ n. take n bytes) len ∙ first.line_is in
+    record {
+      line = ap (λ (parts : List ℕ × List ℕ). parts.0) (sym apart) ∙ sym same;
+      rest = ap (λ (parts : List ℕ × List ℕ). parts.1) (sym apart) ∙ sym (ap (λ n. drop (n + 2) bytes) len ∙ ap (λ n. drop n bytes) (sym ends) ∙ first.rest_is);
+      says = subst (λ (text : List ℕ). start_of text ≡ Ok (start_marked text (mark_of (length line) start))) (sym same) (says ∙ ap Ok places.says);
+      apart = places.apart;
+      within = omega (arith, places.within, len);
+      there = omega (arith, ends, len);
+    })
 
--- The front of a head is marked where the lines behind its first are.
-pub known_behind : (bytes line rest : List ℕ) (marks : Option (List HeaderMark)) → ◌≡◌ {A = List ℕ × List ℕ} (line, rest) (first_line bytes) → head_lines bytes ≡ line ∷ head_lines rest
-    → IfSome marks (AreMarks rest) → IfSome marks (λ known. is_short_of (head_len rest) (marked_len known) ≡ true) → IfSome marks (AreFrontMarks bytes)
-known_behind bytes line rest None first lines known short = tt
-known_behind bytes line rest (Some marks) first lines known short = record {
-  full = ap (λ (parts : List ℕ × List ℕ). length parts.0 == 0) (sym first) ∙ line_full bytes line rest (length line == 0) refl (sym (lines_apart bytes line rest first) ∙ lines);
-  lines = subst (λ (parts : List ℕ × List ℕ). AreMarks parts.1 marks) first known;
-  short = ap (λ (parts : List ℕ × List ℕ). is_short_of (head_len parts.1) (marked_len marks)) (sym first) ∙ short;
+-- The front of a head is marked where its first line and those behind it are.
+pub known_behind : (bytes line rest : List ℕ) (old now : Option (List HeaderMark)) (mark : StartMark) (start : Start) → ◌≡◌ {A = List ℕ × List ℕ} (line, rest) (first_line bytes) → start_of line ≡ Ok start
+    → IfSome old (AreMarks rest) → IfSome old (λ known. is_short_of (head_len rest) (marked_len known) ≡ true)
+    → IfSome now (λ known. IsStartPut old known mark (length line) (length bytes - length rest) start) → IfSome now (AreFrontMarks bytes mark)
+known_behind bytes line rest old None mark start first says known short put = tt
+known_behind bytes line rest old (Some marks) mark start first says known short put = record {
+  start = start_marks bytes line rest mark start first says put.is put.ends;
+  lines = subst (λ (parts : List ℕ × List ℕ). AreMarks parts.1 marks) first (subst (λ (o : Option (List HeaderMark)). IfSome o (AreMarks rest)) put.was known);
+  short = ap (λ (parts : List ℕ × List ℕ). is_short_of (head_len parts.1) (marked_len marks)) (sym first)
+      ∙ subst (λ (o : Option (List HeaderMark)). IfSome o (λ known. is_short_of (head_len rest) (marked_len known) ≡ true)) put.was short;
 }
 
 -- The first of the marked lines is there, and the others behind it.
@@ -282,34 +302,74 @@ lines_front lines n marks ends fits within known =
       there = ap (λ t. t && list_all (λ (one : HeaderMark). nat_lt one.name one.line) marks) (le-leb (marked_len marks) (length (take n lines)) (omega (arith, within, taken n lines fits))) ∙ longer;
     }
 
-front_by : (bytes : List ℕ) (n : ℕ) (marks : List HeaderMark) (place : Option ℕ) → place_of lf bytes ≡ place → head_len bytes ≡ Some n → AreFrontMarks bytes marks → AreMarks (first_line (take n bytes)).1 marks
-front_by bytes n marks None at ends known = let never : ◌≡◌ {A = Option ℕ} None (Some n) = sym (head_needs_lf bytes true at) ∙ ends in cc never
-front_by bytes n marks (Some k) at ends known =
+-- A first line that is marked has a byte.
+first_full : (bytes : List ℕ) (mark : StartMark) → IsStartMark bytes mark → (length (take mark.line bytes) == 0) ≡ false
+first_full bytes mark at =
+    let len : length (take mark.line bytes) ≡ mark.line = taken mark.line bytes (omega (arith, at.there)) in
+    let some : 0 < length (take mark.line bytes) = omega (arith, len, at.apart, at.within) in
+    grind (arith, some)
+
+-- Bytes behind the first line change nothing of it.
+start_front : (bytes : List ℕ) (k n : ℕ) (mark : StartMark) → first_line bytes ≡ (strip_carriage_return (take k bytes), drop (k + 1) bytes)
+    → first_line (take n bytes) ≡ (strip_carriage_return (take k (take n bytes)), drop (k + 1) (take n bytes)) → k < n → n ≤ length bytes → IsStartMark bytes mark → IsStartMark (take n bytes) mark
+start_front bytes k n mark whole front within fits at =
+    let next : mark.line + 2 ≡ k + 1 =
+    omega (arith, at.there, within, fits, ap (λ (parts : List ℕ × List ℕ). length parts.1) (sym whole) ∙ ap length at.rest, length-drop (k + 1) bytes, length-drop (mark.line + 2) bytes) in
+    let line : take mark.line (take n bytes) ≡ take mark.line bytes = take-take mark.line n bytes (omega (arith, next, within)) in
+    record {
+      line = ap (λ (parts : List ℕ × List ℕ). parts.0) front ∙ ap strip_carriage_return (take-take k n bytes (omega (arith, within)))
+          ∙ ap (λ (parts : List ℕ × List ℕ). parts.0) (sym whole) ∙ at.line ∙ sym line;
+      rest = ap (λ (parts : List ℕ × List ℕ). parts.1) front ∙ ap (λ j. drop j (take n bytes)) (sym next);
+      says = subst (λ (text : List ℕ). start_of text ≡ Ok (start_marked text mark)) (sym line) at.says;
+      apart = at.apart;
+      within = at.within;
+      there = omega (arith, next, within, taken n bytes fits);
+    }
+
+front_by : (bytes : List ℕ) (n : ℕ) (mark : StartMark) (marks : List HeaderMark) (place : Option ℕ) → place_of lf bytes ≡ place → head_len bytes ≡ Some n → AreFrontMarks bytes mark marks → AreHeadMarks (take n bytes) mark marks
+front_by bytes n mark marks None at ends known = let never : ◌≡◌ {A = Option ℕ} None (Some n) = sym (head_needs_lf bytes true at) ∙ ends in cc never
+front_by bytes n mark marks (Some k) at ends known =
     let split : (text : List ℕ) → place_of lf text ≡ Some k → ◌≡◌ {A = List ℕ × List ℕ} (first_line text) (strip_carriage_return (take k text), drop (k + 1) text) = λ text there. ap (λ place. line_apart text (option_map (λ k. (take k text, drop (k + 1) text)) place)) there in
     let rest = drop (k + 1) bytes in
     let here : AreMarks rest marks = subst (λ (parts : List ℕ × List ℕ). AreMarks parts.1 marks) (split bytes at) known.lines in
     let short : is_short_of (head_len rest) (marked_len marks) ≡ true = ap (λ (parts : List ℕ × List ℕ). is_short_of (head_len parts.1) (marked_len marks)) (sym (split bytes at)) ∙ known.short in
-    let full : is_empty_line (take k bytes) ≡ false = sym (stripped_empty (take k bytes)) ∙ ap (λ (parts : List ℕ × List ℕ). length parts.0 == 0) (sym (split bytes at)) ∙ known.full in
+    let line : strip_carriage_return (take k bytes) ≡ take mark.line bytes = ap (λ (parts : List ℕ × List ℕ). parts.0) (sym (split bytes at)) ∙ known.start.line in
+    let full : is_empty_line (take k bytes) ≡ false = sym (stripped_empty (take k bytes)) ∙ ap (λ (text : List ℕ). length text == 0) line ∙ first_full bytes mark known.start in
     let next : suc k ≡ k + 1 = omega arith in
-    later_some (suc k) n (head_len (drop (suc k) bytes)) (AreMarks (first_line (take n bytes)).1 marks)
+    later_some (suc k) n (head_len (drop (suc k) bytes)) (AreHeadMarks (take n bytes) mark marks)
     (λ m there sum.
     let parts : n ≡ k + 1 + m = omega (arith, sum) in
     let ends_rest : head_len rest ≡ Some m = ap (λ j. head_len (drop j bytes)) (sym next) ∙ there in
     let fits : m ≤ length rest = head_fits rest true m ends_rest in
-    let front = take (k + 1 + m) bytes in
-    let there_front : place_of lf front ≡ Some k = ap (place_of lf) (sym (append-nil front)) ∙ place_in_front lf bytes [] k (k + 1 + m) at (omega arith) in
+    let all : n ≤ length bytes = head_fits bytes true n ends in
+    let there_front : place_of lf (take n bytes) ≡ Some k = ap (place_of lf) (sym (append-nil (take n bytes))) ∙ place_in_front lf bytes [] k n at (omega (arith, parts)) in
     let within : marked_len marks ≤ m = leb-true (marked_len marks) m (ap (λ end. is_short_of end (marked_len marks)) (sym ends_rest) ∙ short) in
-    subst (λ (j : ℕ). AreMarks (first_line (take j bytes)).1 marks) (sym parts)
-    (subst (λ (parts : List ℕ × List ℕ). AreMarks parts.1 marks) (sym (split front there_front))
-    (subst (λ (left : List ℕ). AreMarks left marks) (sym (drop-take (k + 1) m bytes)) (lines_front rest m marks ends_rest fits within here))))
+    let left : drop (k + 1) (take n bytes) ≡ take m rest = ap (λ j. drop (k + 1) (take j bytes)) parts ∙ drop-take (k + 1) m bytes in
+    record {
+      start = start_front bytes k n mark (split bytes at) (split (take n bytes) there_front) (omega (arith, parts)) all known.start;
+      lines = subst (λ (parts : List ℕ × List ℕ). AreMarks parts.1 marks) (sym (split (take n bytes) there_front))
+          (subst (λ (left : List ℕ). AreMarks left marks) (sym left) (lines_front rest m marks ends_rest fits within here));
+    })
     (sym (head_goes_on bytes k at full) ∙ ends)
 
 -- What is known of the front of a stream is known of the head that it begins with.
-pub known_front : (bytes : List ℕ) (n : ℕ) (marks : Option (List HeaderMark)) → head_len bytes ≡ Some n → IfSome marks (AreFrontMarks bytes) → IfSome marks (AreMarks (first_line (take n bytes)).1)
-known_front bytes n None ends known = tt
-known_front bytes n (Some marks) ends known = front_by bytes n marks (place_of lf bytes) refl ends known
+pub known_front : (bytes : List ℕ) (n : ℕ) (mark : StartMark) (marks : Option (List HeaderMark)) → head_len bytes ≡ Some n → IfSome marks (AreFrontMarks bytes mark) → IfSome marks (AreHeadMarks (take n bytes) mark)
+known_front bytes n mark None ends known = tt
+known_front bytes n mark (Some marks) ends known = front_by bytes n mark marks (place_of lf bytes) refl ends known
 
 -- What is known of a whole head.
-pub known_whole : (head : List ℕ) (marks : Option (List HeaderMark)) → IfSome marks (AreFrontMarks head) → IfSome marks (AreMarks (first_line head).1)
-known_whole head None known = tt
-known_whole head (Some marks) known = known.lines
+pub known_whole : (head : List ℕ) (mark : StartMark) (marks : Option (List HeaderMark)) → IfSome marks (AreFrontMarks head mark) → IfSome marks (AreHeadMarks head mark)
+known_whole head mark None known = tt
+known_whole head mark (Some marks) known = record { start = known.start; lines = known.lines }
+
+-- The head that is marked, of this first line and these lines behind it.
+pub head_marked : (head : List ℕ) (mark : StartMark) (marks : List HeaderMark) (start : Start) (rest : List ℕ) → AreHeadMarks head mark marks → start ≡ start_marked (take mark.line head) mark → rest ≡ drop (mark.line + 2) head
+    → head_of head ≡ Ok (record { start = start; headers = headers_marked rest marks })
+head_marked head mark marks start rest known start_is rest_is =
+    let line = take mark.line head in
+    let behind : (first_line head).1 ≡ rest = known.start.rest ∙ sym rest_is in
+    let apart : ◌≡◌ {A = List ℕ × List ℕ} (line, rest) (first_line head) =
+    ap (λ (text : List ℕ). (text, rest)) (sym known.start.line) ∙ ap (λ (text : List ℕ). ((first_line head).0, text)) (sym behind) in
+    ap (head_of_lines header_limit) (lines_apart head line rest apart ∙ ap (λ t. cond t [] (line ∷ head_lines rest)) (first_full head mark known.start))
+    ∙ ap (and_then (λ start. result_map (λ headers. record { start = start; headers = headers }) (headers_of header_limit (head_lines rest)))) (known.start.says ∙ ap Ok (sym start_is))
+    ∙ ap (result_map (λ headers. record { start = start; headers = headers })) (subst (λ (left : List ℕ). AreMarks left marks) behind known.lines).headers

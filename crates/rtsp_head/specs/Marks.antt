@@ -1,10 +1,12 @@
--- Where the headers of a head stand, each on a line of its own (this project's own).
-use Rattle.std.specs.Prelude.{◌≡◌, ℕ, ◌+◌, ◌<◌, ◌&&◌, nat_le, nat_lt, Bool, if◌then◌else◌, List, [], ◌∷◌, ◌++◌, length, take, drop, Option, Some, None}
+-- Where the first line of a head stands, and its headers, each on a line of its own (this project's own).
+use Rattle.std.specs.Prelude.{◌≡◌, ℕ, ◌+◌, ◌-◌, ◌<◌, ◌&&◌, nat_le, nat_lt, Bool, if◌then◌else◌, List, [], ◌∷◌, ◌++◌, length, take, drop, Option, Some, None}
 use Rattle.std.specs.List.{list_all}
 use Rattle.gate_bytes.specs.Tokens.{trimmed}
 use Rattle.rtsp_head.specs.declared.header.Header.{Header}
+use Rattle.rtsp_head.specs.HeadParts.{Start, Request, Status}
 use Rattle.rtsp_head.specs.declared.marks.HeaderMark.{HeaderMark}
 use Rattle.rtsp_head.specs.declared.marks.HeadMarks.{HeadMarks}
+use Rattle.rtsp_head.specs.declared.marks.StartMark.{StartMark}
 use Rattle.rtsp_head.specs.declared.marks.TheConstants.{MOST_MARKS}
 
 -- the marks of all headers, where they are known
@@ -36,3 +38,28 @@ pub record IsMarkPut (old : Option (List HeaderMark)) (now : List HeaderMark) (l
   pub is : now ≡ marks ++ record { line = line; name = name } ∷ []
   pub ends : taken ≡ line + 2
   pub few : length marks < MOST_MARKS
+
+-- what three parts say: those of a request line, or the first and the last of a status line with a code
+abbrev pub start_with : List ℕ → List ℕ → List ℕ → Option ℕ → Start
+start_with first middle last None = Request first middle last
+start_with first middle last (Some code) = Status first code last
+
+-- what a first line says whose parts stand there
+abbrev pub start_marked : List ℕ → StartMark → Start
+start_marked line mark = start_with (take mark.first line) (drop (mark.first + 1) (take (mark.last - 1) line)) (drop mark.last line) mark.code
+
+-- where the parts stand in a first line of so many bytes that says this
+abbrev pub mark_of : ℕ → Start → StartMark
+mark_of line (Request method uri version) = record { line = line; first = length method; last = line - length version; code = None }
+mark_of line (Status version code reason) = record { line = line; first = length version; last = line - length reason; code = Some code }
+
+-- whether its first part and its last are no longer than so many bytes
+abbrev pub has_ends : ℕ → Start → Bool
+has_ends line (Request method uri version) = nat_le (length method) line && nat_le (length version) line
+has_ends line (Status version code reason) = nat_le (length version) line && nat_le (length reason) line
+
+-- The mark of the first line is put to those of all headers: the line has so many bytes, and takes so many with its end.
+pub record IsStartPut (old : Option (List HeaderMark)) (now : List HeaderMark) (mark : StartMark) (line taken : ℕ) (start : Start) : Type 0 where
+  pub was : old ≡ Some now
+  pub is : mark ≡ mark_of line start
+  pub ends : taken ≡ line + 2

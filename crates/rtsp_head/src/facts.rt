@@ -79,7 +79,7 @@ pub fn check_head_counted<L: Ledger>(bytes: &[u8], steps: &mut Steps<L>) -> Resu
 }
 
 /// What [`check_head`] answers of the bytes, and what it left of them: four steps for each byte that it walked, and a few
-/// for its look at the empty line. Where the headers stand is marked.
+/// for its look at the empty line. Where the first line and the headers stand is marked.
 pub fn check_front_counted<'a, L: Ledger>(
     bytes: &'a [u8],
     steps: &mut Steps<L>,
@@ -88,7 +88,7 @@ pub fn check_front_counted<'a, L: Ledger>(
     ensures facts { result.facts ≡ facts_of bytes.now }
     ensures never { result.facts ≢ Err HeadFault.Memory }
     ensures passed { IsPassed bytes.now result.rest.now }
-    ensures marks { IfSome (marks_known marks.new) (AreFrontMarks bytes.now) }
+    ensures marks { IfSome (marks_known marks.new) (AreFrontMarks bytes.now marks.new.start) }
     ensures steps { steps.new + 2 * length result.rest.now ≤ steps.old + 4 * length bytes.now }
     ensures few { steps.new + 4 * length result.rest.now ≤ steps.old + 4 * length bytes.now + 4 }
 {
@@ -99,10 +99,12 @@ pub fn check_front_counted<'a, L: Ledger>(
             rest: bytes,
         };
     };
+    let (len, taken) = (line.len(), bytes.len() - rest.len());
     match start_line(line) {
         Ok(start) => {
             let request = start.is_request();
             let (length, rest) = check_headers(rest, steps, marks);
+            marks.put_start(start, len, taken);
             CheckedFront {
                 facts: length.map(|length| Facts { request, length }),
                 rest,

@@ -1,22 +1,22 @@
 //! A head and its fields.
 ghost use Rattle.std.specs.Prelude.{◌≡◌, Ok, option_map, IsTrue, IsOk, IfSome, IfOk};
 ghost use Rattle.gate_bytes.specs.Outcomes.{UnlessMemory};
-ghost use Rattle.rtsp_head.specs.Lines.{result_map, head_refusal, head_lines, first_line};
+ghost use Rattle.rtsp_head.specs.Lines.{result_map, head_refusal, head_lines};
 ghost use Rattle.rtsp_head.specs.Headers.{header_limit, field_of, headers_of};
 ghost use Rattle.rtsp_head.specs.Heads.{head_of};
 ghost use Rattle.rtsp_head.specs.Optional.{said_where};
 ghost use Rattle.rtsp_head.specs.HeadText.{is_value, CanBeWritten};
 ghost use Rattle.rtsp_head.specs.Views.{start_seen, fields_seen};
-ghost use Rattle.rtsp_head.specs.MarkedHeads.{AreMarks};
+ghost use Rattle.rtsp_head.specs.MarkedHeads.{AreHeadMarks};
 
 use crate::facts::check_head;
 use crate::head_fields::{HeadFields, MarkedLines};
 use crate::header_lines::Reading;
 use crate::line::plain_line;
-use crate::marks::HeaderMark;
+use crate::marks::{HeaderMark, StartMark};
 use crate::start::plain_start;
 use crate::{FieldValue, HeadFault, Headers, StartLine};
-use gate_bytes::Memory;
+use gate_bytes::{Memory, after, before};
 use std::alloc::Global;
 use std::marker::Model;
 
@@ -117,17 +117,23 @@ pub(crate) fn sound_head(alloc: Global, bytes: &[u8]) -> Result<Head<'_>, Memory
     })
 }
 
-/// The same, where it is known where its headers stand. It takes no memory.
-pub(crate) fn marked_head<'a>(bytes: &'a [u8], marks: &'a [HeaderMark]) -> Head<'a>
-    requires sound { IsOk (head_of bytes.now) }
-    requires marks { AreMarks (first_line bytes.now).1 marks.now }
+/// The same, where it is known where its first line and its headers stand. It takes no memory, and looks at no byte.
+pub(crate) fn marked_head<'a>(
+    bytes: &'a [u8],
+    start: StartMark,
+    marks: &'a [HeaderMark],
+) -> Head<'a>
+    requires { AreHeadMarks bytes.now start marks.now }
     ensures head { head_of bytes.entry.now ≡ Ok result }
     ensures writable { CanBeWritten result.start result.headers }
 {
-    let (start, lines) = head_start(bytes);
+    let line = usize::from(start.line);
     Head {
-        start,
-        fields: HeadFields::Marked(MarkedLines { lines, marks }),
+        start: start.start(before(bytes, line)),
+        fields: HeadFields::Marked(MarkedLines {
+            lines: after(bytes, line + 2),
+            marks,
+        }),
     }
 }
 
@@ -138,7 +144,6 @@ fn head_start(bytes: &[u8]) -> (StartLine<'_>, &[u8])
     ensures head { head_of bytes.now
         ≡ result_map (λ headers. record { start = start_seen result.0; headers = headers })
         (headers_of header_limit (head_lines result.1.now)) }
-    ensures behind { result.1.now ≡ (first_line bytes.now).1 }
 {
     let Some((line, rest)) = plain_line(bytes) else {
         unreachable!();

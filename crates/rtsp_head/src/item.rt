@@ -1,7 +1,7 @@
 //! Items: what stands on a stream, one after another.
 ghost use Rattle.std.specs.Prelude.{◌≡◌, length, take, drop, Some, IfOk};
 ghost use Rattle.gate_bytes.specs.Outcomes.{UnlessMemory};
-ghost use Rattle.rtsp_head.specs.Lines.{head_refusal, first_line};
+ghost use Rattle.rtsp_head.specs.Lines.{head_refusal};
 ghost use Rattle.rtsp_head.specs.Marks.{marks_known};
 ghost use Rattle.rtsp_head.specs.MarkedHeads.{IsMarkedHead, known_prop};
 ghost use Rattle.std.proofs.Props.{props};
@@ -90,14 +90,14 @@ pub struct Extent {
 pub struct Item {
     /// What it is.
     pub kind: ItemKind,
+    /// Where the first line and the headers of its head stand: beside the kind, so that an item keeps its 64 bytes.
+    pub marks: HeadMarks,
     /// Its bytes, without the empty lines before it.
     pub bytes: Text,
     /// The bytes of its head: 0 for a frame, all of them for a bad item.
     pub head: usize,
-    /// Where the headers of its head stand.
-    pub marks: HeadMarks,
-    /// They stand there.
-    pub ghost marked: { IsMarkedHead (take head bytes) marks } by { known_prop (first_line (take head bytes)).1 (marks_known marks)
+    /// The first line and the headers stand where the marks say.
+    pub ghost marked: { IsMarkedHead (take head bytes) marks } by { known_prop (take head bytes) marks.start (marks_known marks)
         (Prim.hlevel props) (λ known. Prim.hlevel props) },
     /// The bytes are those of one item of this kind, and the head has this length.
     pub ghost whole: { first_extent bytes ≡ Some (record { skipped = 0; span = record { kind = kind; len = length bytes; head = head } }) },
@@ -127,7 +127,7 @@ impl Item {
     {
         match self.kind {
             ItemKind::Request | ItemKind::Response => match self.marks.known() {
-                Some(marks) => Ok(marked_head(self.head_bytes(), marks)),
+                Some(marks) => Ok(marked_head(self.head_bytes(), self.marks.start, marks)),
                 None => Ok(sound_head(alloc, self.head_bytes())?),
             },
             ItemKind::Frame | ItemKind::Bad(_) => read_head(alloc, self.head_bytes()),

@@ -1,6 +1,10 @@
-//! Where the headers of a head stand.
-ghost use Rattle.std.specs.Prelude.{◌≡◌, ◌<◌, None, Some, [], IfSome, option_map};
-ghost use Rattle.rtsp_head.specs.Marks.{marks_known, IsMarkPut};
+//! Where the first line and the headers of a head stand.
+ghost use Rattle.std.specs.Prelude.{◌≡◌, ◌<◌, ◌≤◌, ◌+◌, true, length, None, Some, [], IfSome, option_map};
+ghost use Rattle.rtsp_head.specs.Marks.{marks_known, IsMarkPut, has_ends, mark_of, start_marked, IsStartPut};
+ghost use Rattle.rtsp_head.specs.Views.{start_seen};
+
+use crate::StartLine;
+use gate_bytes::{after, before};
 
 /// How many headers have marks. Most heads have no more.
 const MOST_MARKS: usize = 8;
@@ -9,7 +13,7 @@ const MOST_MARKS: usize = 8;
 const LONGEST_MARKED: usize = 255;
 
 /// The count of marks that are not known.
-const UNKNOWN: usize = MOST_MARKS + 1;
+const UNKNOWN: u8 = MOST_MARKS as u8 + 1;
 
 /// A header that stands on one line, with CRLF at its end.
 #[derive(Clone, Copy)]
@@ -20,12 +24,81 @@ pub struct HeaderMark {
     pub(crate) name: u8,
 }
 
-/// Where the headers of a head stand. It is not known of a head with more than eight headers, and of one with a long line,
-/// a value that goes on over several lines, or a line that ends with an LF alone.
+/// Where the parts of a first line stand, which has CRLF at its end.
+#[derive(Clone, Copy)]
+pub struct StartMark {
+    /// The bytes of the line, without the end.
+    pub(crate) line: u8,
+    /// The bytes of its first part. A space follows them.
+    pub(crate) first: u8,
+    /// Where its last part begins: behind a space, or where the line ends.
+    pub(crate) last: u8,
+    /// The code of a status line, which need not be read again.
+    pub(crate) code: Option<u16>,
+}
+
+impl StartMark {
+    /// The mark of a first line of so many bytes.
+    #[inline(always)]
+    fn of(start: StartLine<'_>, line: usize) -> StartMark
+        requires short { line ≤ LONGEST_MARKED }
+        requires ends { has_ends line (start_seen start) ≡ true }
+        ensures { result ≡ mark_of line (start_seen start.entry) }
+    {
+        match start {
+            StartLine::Request {
+                method,
+                version,
+                ..
+            } => StartMark {
+                line: line as u8,
+                first: method.len() as u8,
+                last: (line - version.len()) as u8,
+                code: None,
+            },
+            StartLine::Status {
+                version,
+                code,
+                reason,
+            } => StartMark {
+                line: line as u8,
+                first: version.len() as u8,
+                last: (line - reason.len()) as u8,
+                code: Some(code),
+            },
+        }
+    }
+
+    /// What the line says whose mark it is: nothing is searched for.
+    #[inline(always)]
+    pub(crate) fn start(self, line: &[u8]) -> StartLine<'_>
+        requires apart { self.first + 1 < self.last }
+        requires within { self.last ≤ length line.now }
+        ensures { start_seen result ≡ start_marked line.now self }
+    {
+        let (first, last) = (usize::from(self.first), usize::from(self.last));
+        match self.code {
+            None => StartLine::Request {
+                method: before(line, first),
+                uri: after(before(line, last - 1), first + 1),
+                version: after(line, last),
+            },
+            Some(code) => StartLine::Status {
+                version: before(line, first),
+                code,
+                reason: after(line, last),
+            },
+        }
+    }
+}
+
+/// Where the first line and the headers of a head stand. It is not known of a head with more than eight headers, and of one
+/// with a long line, a value that goes on over several lines, or a line that ends with an LF alone.
 #[derive(Clone, Copy)]
 pub struct HeadMarks {
-    pub(crate) count: usize,
+    pub(crate) count: u8,
     pub(crate) marks: [HeaderMark; MOST_MARKS],
+    pub(crate) start: StartMark,
 }
 
 impl HeadMarks {
@@ -36,6 +109,12 @@ impl HeadMarks {
         HeadMarks {
             count: UNKNOWN,
             marks: [HeaderMark { line: 0, name: 0 }; MOST_MARKS],
+            start: StartMark {
+                line: 0,
+                first: 0,
+                last: 0,
+                code: None,
+            },
         }
     }
 
@@ -61,8 +140,9 @@ impl HeadMarks {
         requires { name < line }
         ensures { IfSome (marks_known self.new) (λ now. IsMarkPut (marks_known self.old) now line taken name) }
     {
-        if self.count < MOST_MARKS && line <= LONGEST_MARKED && taken == line + 2 {
-            self.marks[self.count] = HeaderMark {
+        let count = usize::from(self.count);
+        if count < MOST_MARKS && line <= LONGEST_MARKED && taken == line + 2 {
+            self.marks[count] = HeaderMark {
                 line: line as u8,
                 name: name as u8,
             };
@@ -72,12 +152,28 @@ impl HeadMarks {
         }
     }
 
+    /// The first line of a head whose headers were seen: it has so many bytes, and takes so many with its end. It is put last,
+    /// so that the walk over the headers need not say what it leaves.
+    #[inline(always)]
+    pub(crate) fn put_start(&mut self, start: StartLine<'_>, line: usize, taken: usize)
+        requires { has_ends line (start_seen start) ≡ true }
+        ensures { IfSome (marks_known self.new) (λ now.
+            IsStartPut (marks_known self.old) now self.new.start line taken (start_seen start.entry)) }
+    {
+        if line <= LONGEST_MARKED && taken == line + 2 {
+            self.start = StartMark::of(start, line);
+        } else {
+            self.count = UNKNOWN;
+        }
+    }
+
     /// The marks of all headers, where they are known.
     pub(crate) fn known(&self) -> Option<&[HeaderMark]>
         ensures { option_map (λ marks. marks.now) result ≡ marks_known self.now }
     {
-        if self.count <= MOST_MARKS {
-            Some(&self.marks[..self.count])
+        let count = usize::from(self.count);
+        if count <= MOST_MARKS {
+            Some(&self.marks[..count])
         } else {
             None
         }

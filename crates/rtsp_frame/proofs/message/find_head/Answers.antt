@@ -31,7 +31,7 @@ returns-in-Ok-clause-cost g c =
 pub returns-in-Ok-clause-marks : goal.returns-in-Ok-clause-marks
 returns-in-Ok-clause-marks g c =
     let marks = c.check_front_counted-facts.new.marks in
-    subst (λ (head : List ℕ). IsMarkedHead head marks) c.before-in-Ok.ensures (known_whole c.before-in-Ok.result.now (marks_known marks) c.check_front_counted-facts.ensures.marks)
+    subst (λ (head : List ℕ). IsMarkedHead head marks) c.before-in-Ok.ensures (known_whole c.before-in-Ok.result.now marks.start (marks_known marks) c.check_front_counted-facts.ensures.marks)
 
 pub returns-in-Err-clause-err_cost : goal.returns-in-Err-clause-err_cost
 returns-in-Err-clause-err_cost g c =

@@ -21,5 +21,5 @@ returns-clause-facts g c =
 pub returns-clause-marks : goal.returns-clause-marks
 returns-clause-marks g c =
     let passed = c.check_front_counted-front.ensures.passed in
-    known_front c.args.bytes.now _ (marks_known c.check_front_counted-front.new.marks)
+    known_front c.args.bytes.now _ c.check_front_counted-front.new.marks.start (marks_known c.check_front_counted-front.new.marks)
     (passed.ends ∙ ap (option_map (λ k. length c.args.bytes.now - length c.check_front_counted-front.result.rest.now + k)) c.in-Ok.ensures.ok) c.check_front_counted-front.ensures.marks

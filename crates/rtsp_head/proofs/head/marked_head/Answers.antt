@@ -1,24 +1,23 @@
-use Rattle.std.proofs.Common.{◌≡◌, ◌∙◌, List, ℕ, true, sym, ap, subst}
-use Rattle.rtsp_head.specs.Lines.{result_map}
+use Rattle.std.proofs.Common.{◌∙◌, ◌+◌, take, drop, ap}
+use Rattle.rtsp_head.specs.Marks.{start_marked, headers_marked}
 use Rattle.rtsp_head.specs.Views.{start_seen}
-use Rattle.rtsp_head.specs.Marks.{headers_marked, has_marked}
-use Rattle.rtsp_head.specs.MarkedHeads.{AreMarks}
+use Rattle.rtsp_head.proofs.MarkLemmas.{head_marked}
 use Rattle.rtsp_head.proofs.SoundLemmas.{read_sound}
 use Rattle.rtsp_head.proofs.head.marked_head.Goals as goal
 
-pub invariant_of-result : goal.invariant_of-result
-invariant_of-result c =
-    record { there = subst (λ (lines : List ℕ). has_marked lines c.args.marks.now ≡ true) (sym c.head_start.ensures.behind) c.requires.marks.there }
-
 pub returns-clause-head : goal.returns-clause-head
 returns-clause-head c =
-    c.head_start.ensures.head
-    ∙ ap (result_map (λ headers. record { start = start_seen c.head_start.result.0; headers = headers }))
-    (subst (λ (lines : List ℕ). AreMarks lines c.args.marks.now) (sym c.head_start.ensures.behind) c.requires.marks).headers
+    let bytes = c.args.bytes.now in
+    let line = c.from-line.ensures in
+    head_marked bytes c.args.start c.args.marks.now (start_seen c.start.result) c.after.result.now c.requires
+    (c.start.ensures ∙ ap (λ text. start_marked text c.args.start) (c.before-2.ensures ∙ ap (λ n. take n bytes) line))
+    (c.after.ensures ∙ ap (λ n. drop (n + 2) bytes) line)
 
 pub returns-clause-writable : goal.returns-clause-writable
 returns-clause-writable c =
-    read_sound c.args.bytes.now (record { start = start_seen c.head_start.result.0; headers = headers_marked c.head_start.result.1.now c.args.marks.now })
-    (c.head_start.ensures.head
-    ∙ ap (result_map (λ headers. record { start = start_seen c.head_start.result.0; headers = headers }))
-    (subst (λ (lines : List ℕ). AreMarks lines c.args.marks.now) (sym c.head_start.ensures.behind) c.requires.marks).headers)
+    let bytes = c.args.bytes.now in
+    let line = c.from-line.ensures in
+    read_sound bytes (record { start = start_seen c.start.result; headers = headers_marked c.after.result.now c.args.marks.now })
+    (head_marked bytes c.args.start c.args.marks.now (start_seen c.start.result) c.after.result.now c.requires
+    (c.start.ensures ∙ ap (λ text. start_marked text c.args.start) (c.before-2.ensures ∙ ap (λ n. take n bytes) line))
+    (c.after.ensures ∙ ap (λ n. drop (n + 2) bytes) line))
