@@ -5,6 +5,8 @@ use Rattle.gate_bytes.specs.Ascii.{semicolon, equals_sign}
 use Rattle.gate_bytes.specs.Tokens.{trimmed, equal_fold}
 use Rattle.gate_bytes.specs.Places.{cut_at}
 use Rattle.rtsp_transport.specs.Splits.{unquoted_parts, unquoted_left}
+use Rattle.rtsp_transport.specs.declared.parameters.Name.{Name}
+use Rattle.rtsp_transport.specs.declared.parameters.Name.TheVariants.{Mode, Interleaved, Ssrc, Other}
 
 -- what semicolons part, without the blanks round each: the protocol, and then the parameters (RFC 2326, 12.39)
 abbrev pub parameters_of : List ℕ → List (List ℕ)
@@ -32,3 +34,16 @@ value_of name (parameter ∷ more) = option_or (value_in name parameter) (value_
 -- the parameter `multicast`, which has no value
 abbrev pub is_multicast : List ℕ → Bool
 is_multicast parameter = equal_fold parameter (codes "multicast")
+
+-- the name and the value, with these parts round the first `=`
+abbrev pub named_parts : List ℕ → Option (List ℕ × List ℕ) → List ℕ × Option (List ℕ)
+named_parts parameter None = (parameter, None)
+named_parts parameter (Some parts) = (parts.0, Some parts.1)
+
+-- the name and the value of a parameter
+abbrev pub name_and_value : List ℕ → List ℕ × Option (List ℕ)
+name_and_value parameter = named_parts parameter (cut_at equals_sign parameter)
+
+-- which name a text is, without ASCII case
+abbrev pub name_of : List ℕ → Name
+name_of text = if equal_fold text (codes "mode") then Mode else (if equal_fold text (codes "interleaved") then Interleaved else (if equal_fold text (codes "ssrc") then Ssrc else Other))

@@ -2,7 +2,7 @@
 ghost use Rattle.std.specs.Prelude.{◌≡◌, ◌||◌, codes, option_map};
 ghost use Rattle.std.specs.List.{list_any};
 ghost use Rattle.std.specs.Option.{option_copied, option_or};
-ghost use Rattle.rtsp_transport.specs.Parameters.{parameters_left, value_with, value_in, value_of, is_multicast};
+ghost use Rattle.rtsp_transport.specs.Parameters.{parameters_left, name_and_value, name_of, value_in, value_of, is_multicast};
 ghost use Rattle.rtsp_transport.specs.Sources.{source_in, first_source};
 
 use crate::split::first_part;
@@ -44,52 +44,69 @@ impl<'a> Parameters<'a> {
         let mut left = parameters;
         while let Some(text) = left {
             let (parameter, more) = first_part(b';', text);
-            said = said.then(trim(parameter));
+            said.add(trim(parameter));
             left = more;
         }
         said
     }
 
-    /// The same with one more parameter behind them.
-    fn then(self, parameter: &'a [u8]) -> Parameters<'a>
-        ensures multicast { result.multicast ≡ (self.entry.multicast || is_multicast parameter.now) }
-        ensures mode { option_map option_copied result.mode
-            ≡ option_or (option_map option_copied self.entry.mode) (value_in (codes "mode") parameter.now) }
-        ensures interleaved { option_map option_copied result.interleaved
-            ≡ option_or (option_map option_copied self.entry.interleaved)
+    /// Adds what one more parameter says, behind the others.
+    fn add(&mut self, parameter: &'a [u8])
+        ensures multicast { self.new.multicast ≡ (self.old.multicast || is_multicast parameter.now) }
+        ensures mode { option_map option_copied self.new.mode
+            ≡ option_or (option_map option_copied self.old.mode) (value_in (codes "mode") parameter.now) }
+        ensures interleaved { option_map option_copied self.new.interleaved
+            ≡ option_or (option_map option_copied self.old.interleaved)
             (value_in (codes "interleaved") parameter.now) }
-        ensures ssrc { result.ssrc ≡ option_or self.entry.ssrc (source_in parameter.now) }
+        ensures ssrc { self.new.ssrc ≡ option_or self.old.ssrc (source_in parameter.now) }
     {
-        let parts = split_once(b'=', parameter);
-        Parameters {
-            multicast: self.multicast || eq_fold(parameter, b"multicast"),
-            mode: self.mode.or(value_with(b"mode", parameter, parts)),
-            interleaved: self
-                .interleaved
-                .or(value_with(b"interleaved", parameter, parts)),
-            ssrc: self
-                .ssrc
-                .or(source_named(value_with(b"ssrc", parameter, parts))),
+        self.multicast = self.multicast || eq_fold(parameter, b"multicast");
+        let (name, value) = name_and_value(parameter);
+        match name_of(name) {
+            Name::Mode => self.mode = self.mode.or(Some(value)),
+            Name::Interleaved => self.interleaved = self.interleaved.or(Some(value)),
+            Name::Ssrc => self.ssrc = self.ssrc.or(source_named(Some(value))),
+            Name::Other => {}
         }
     }
 }
 
-/// The value of a parameter with these parts round its first `=`, where it has this name, without
-/// ASCII case. The value is `None` where there is no `=`.
-fn value_with<'a>(
-    name: &[u8],
-    parameter: &[u8],
-    parts: Option<(&[u8], &'a [u8])>,
-) -> Option<Option<&'a [u8]>>
-    ensures { option_map option_copied result
-        ≡ value_with name.now parameter.now (option_map (λ parts. (parts.0.now, parts.1.now)) parts.entry) }
+/// The names of the parameters whose values count.
+#[derive(Clone, Copy, Debug, PartialEq, Eq)]
+enum Name {
+    /// `mode`.
+    Mode,
+    /// `interleaved`.
+    Interleaved,
+    /// `ssrc`.
+    Ssrc,
+    /// Any other.
+    Other,
+}
+
+/// Which name a text is, without ASCII case.
+fn name_of(text: &[u8]) -> Name
+    ensures { result ≡ name_of text.now }
 {
-    let (own_name, value) = match parts {
-        Some((front, value)) => (front, Some(value)),
-        None => (parameter, None),
-    };
-    if !eq_fold(own_name, name) {
-        return None;
+    if eq_fold(text, b"mode") {
+        Name::Mode
+    } else if eq_fold(text, b"interleaved") {
+        Name::Interleaved
+    } else if eq_fold(text, b"ssrc") {
+        Name::Ssrc
+    } else {
+        Name::Other
     }
-    Some(value)
+}
+
+/// What stands before and behind the first `=` of a parameter. The value is `None` where there is
+/// no `=`.
+fn name_and_value(parameter: &[u8]) -> (&[u8], Option<&[u8]>)
+    ensures name { result.0.now ≡ (name_and_value parameter.now).0 }
+    ensures value { option_copied result.1 ≡ (name_and_value parameter.now).1 }
+{
+    match split_once(b'=', parameter) {
+        Some((name, value)) => (name, Some(value)),
+        None => (parameter, None),
+    }
 }

@@ -3,7 +3,8 @@ ghost use Rattle.std.specs.Prelude.{◌≡◌, ◌<◌, ◌∷◌, false, length
 ghost use Rattle.std.specs.Option.{option_copied};
 ghost use Rattle.rtsp_transport.specs.Splits.{quoted_after, has_open_quote, is_readable, place_outside, unquoted_parts, unquoted_left};
 
-use gate_bytes::{after, before};
+use gate_bytes::{after, before, find};
+use memchr::memchr2;
 
 /// Whether a value can be split: it is not empty, and each double quote in it is closed.
 pub(crate) fn is_readable(value: &[u8]) -> bool
@@ -16,7 +17,7 @@ pub(crate) fn is_readable(value: &[u8]) -> bool
 fn has_open_quote(value: &[u8]) -> bool
     ensures { result ≡ has_open_quote value.now }
 {
-    value.iter().filter(|byte| **byte == b'"').count() % 2 == 1
+    find(b'"', value).is_some() && value.iter().filter(|byte| **byte == b'"').count() % 2 == 1
 }
 
 /// The first part of a text that a byte splits outside double quotes, and what follows that byte;
@@ -32,8 +33,21 @@ pub(crate) fn first_part(byte: u8, text: &[u8]) -> (&[u8], Option<&[u8]>)
     }
 }
 
-/// The first place of a byte outside double quotes.
+/// The first place of a byte outside double quotes. Few values have quotes, so the place is mostly
+/// the first of the byte or a quote.
 fn find_outside(byte: u8, text: &[u8]) -> Option<usize>
+    ensures place { result ≡ place_outside byte false text.now }
+    ensures within { IfSome result (λ at. at < length text.now) }
+{
+    let at = memchr2(byte, b'"', text)?;
+    if text[at] == byte {
+        return Some(at);
+    }
+    find_past_quotes(byte, text)
+}
+
+/// The same, where there are quotes.
+fn find_past_quotes(byte: u8, text: &[u8]) -> Option<usize>
     ensures place { result ≡ place_outside byte false text.now }
     ensures within { IfSome result (λ at. at < length text.now) }
 {
