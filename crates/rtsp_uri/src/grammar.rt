@@ -70,7 +70,8 @@ fn has_scheme(uri: &[u8]) -> bool
     ensures scheme { result ≡ has_scheme uri.now }
     ensures within { result ≡ true → SCHEME_BYTES ≤ length uri.now }
 {
-    uri.len() >= SCHEME_BYTES && eq_fold(before(uri, SCHEME_BYTES), SCHEME)
+    uri.starts_with(SCHEME)
+        || uri.len() >= SCHEME_BYTES && eq_fold(before(uri, SCHEME_BYTES), SCHEME)
 }
 
 /// The bytes of the host at the front of a text, where there is one.
@@ -163,11 +164,16 @@ fn is_rest(text: &[u8]) -> bool
     }
 }
 
-/// Whether each byte of a text may stand in a rest.
+/// Whether each byte of a text may stand in a rest. It looks at all of them and stops at none, so that
+/// many are looked at at once.
 fn has_rest_bytes_alone(text: &[u8]) -> bool
     ensures { result ≡ list_all is_rest_byte text.now }
 {
-    text.iter().all(|byte| is_rest_byte(*byte))
+    let mut alone = true;
+    for byte in text {
+        alone &= is_rest_byte(*byte);
+    }
+    alone
 }
 
 /// Whether a byte may stand in a rest.
@@ -181,7 +187,9 @@ fn is_rest_byte(byte: u8) -> bool
 fn is_name_byte(byte: u8) -> bool
     ensures { result ≡ is_name_byte byte }
 {
-    byte.is_ascii_alphanumeric() || matches!(byte, b'.' | b'-' | b'_' | b'~')
+    byte.is_ascii_lowercase()
+        || byte.is_ascii_alphanumeric()
+        || matches!(byte, b'.' | b'-' | b'_' | b'~')
 }
 
 /// Whether a byte may stand in an address in brackets.
