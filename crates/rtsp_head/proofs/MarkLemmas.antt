@@ -25,7 +25,7 @@ use Rattle.rtsp_head.specs.LastHeader.{apart}
 use Rattle.rtsp_head.specs.Items.{begins_with_lf, head_from, head_len}
 use Rattle.rtsp_head.specs.Headers.{header_limit, headers_of, headers_in, More, Begins, goes_on, header_from, further_of, with_further, with_line, after_lines, no_headers, field_of}
 use Rattle.rtsp_head.specs.MarkedHeads.{is_short_of, AreMarks, IsStartMark, AreHeadMarks, AreFrontMarks, IsLineMarked}
-use Rattle.rtsp_head.specs.Marks.{header_marked, headers_marked, marked_len, has_marked, start_marked, mark_of, IsStartPut}
+use Rattle.rtsp_head.specs.Marks.{header_marked, headers_marked, marked_len, has_marked, start_marked, mark_of, IsStartPut, IsBegun}
 use Rattle.rtsp_head.proofs.LastLemmas.{begun, tidy_last}
 use Rattle.rtsp_head.proofs.TrimLemmas.{trimmed_twice}
 use Rattle.rtsp_head.proofs.LineLemmas.{lines_apart}
@@ -207,17 +207,30 @@ start_marks bytes line rest mark start apart says is ends =
       there = omega (arith, ends, len);
     })
 
+-- A head begins without headers.
+pub put_none : (marks : Option (List HeaderMark)) (mark : StartMark) (len taken : ℕ) (start : Start) → IfSome marks (λ known. IsStartPut known mark len taken start) → IfSome marks (λ known. known ≡ [])
+put_none None mark len taken start put = tt
+put_none (Some marks) mark len taken start put = put.none
+
+-- A line more leaves the mark of the first.
+pub begun_more : (first old now : Option (List HeaderMark)) (mark before after : StartMark) (line : List ℕ) (taken : ℕ) → IsBegun first mark old before
+    → IfSome now (λ known. IsLineMarked old known line taken) → IfSome now (λ known. after ≡ before) → IsBegun first mark now after
+begun_more first old None mark before after line taken begun marked same = tt
+begun_more first old (Some now) mark before after line taken begun marked same =
+    let so = subst (λ (o : Option (List HeaderMark)). IsBegun first mark o before) marked.put.was begun in (so.0, same ∙ so.1)
+
 -- The front of a head is marked where its first line and those behind it are.
-pub known_behind : (bytes line rest : List ℕ) (old now : Option (List HeaderMark)) (mark : StartMark) (start : Start) → ◌≡◌ {A = List ℕ × List ℕ} (line, rest) (first_line bytes) → start_of line ≡ Ok start
-    → IfSome old (AreMarks rest) → IfSome old (λ known. is_short_of (head_len rest) (marked_len known) ≡ true)
-    → IfSome now (λ known. IsStartPut old known mark (length line) (length bytes - length rest) start) → IfSome now (AreFrontMarks bytes mark)
-known_behind bytes line rest old None mark start first says known short put = tt
-known_behind bytes line rest old (Some marks) mark start first says known short put = record {
-  start = start_marks bytes line rest mark start first says put.is put.ends;
-  lines = subst (λ (parts : List ℕ × List ℕ). AreMarks parts.1 marks) first (subst (λ (o : Option (List HeaderMark)). IfSome o (AreMarks rest)) put.was known);
-  short = ap (λ (parts : List ℕ × List ℕ). is_short_of (head_len parts.1) (marked_len marks)) (sym first)
-      ∙ subst (λ (o : Option (List HeaderMark)). IfSome o (λ known. is_short_of (head_len rest) (marked_len known) ≡ true)) put.was short;
-}
+pub known_behind : (bytes line rest : List ℕ) (first now : Option (List HeaderMark)) (len : ℕ) (mark after : StartMark) (start : Start) → ◌≡◌ {A = List ℕ × List ℕ} (line, rest) (first_line bytes) → start_of line ≡ Ok start
+    → len ≡ length line → IfSome first (λ known. IsStartPut known mark len (length bytes - length rest) start) → IsBegun first mark now after
+    → IfSome now (AreMarks rest) → IfSome now (λ known. is_short_of (head_len rest) (marked_len known) ≡ true) → IfSome now (AreFrontMarks bytes after)
+known_behind bytes line rest first None len mark after start apart says len_is put begun known short = tt
+known_behind bytes line rest first (Some marks) len mark after start apart says len_is put begun known short =
+    let was = subst (λ (o : Option (List HeaderMark)). IfSome o (λ known. IsStartPut known mark len (length bytes - length rest) start)) begun.0 put in
+    record {
+      start = start_marks bytes line rest after start apart says (begun.1 ∙ was.is ∙ ap (λ n. mark_of n start) len_is) (was.ends ∙ ap (λ n. n + 2) len_is);
+      lines = subst (λ (parts : List ℕ × List ℕ). AreMarks parts.1 marks) apart known;
+      short = ap (λ (parts : List ℕ × List ℕ). is_short_of (head_len parts.1) (marked_len marks)) (sym apart) ∙ short;
+    }
 
 -- The first of the marked lines is there, and the others behind it.
 pub record IsThere (lines : List ℕ) (mark : HeaderMark) (marks : List HeaderMark) : Type 0 where

@@ -1,5 +1,5 @@
 -- Where the first line of a head stands, and its headers, each on a line of its own (this project's own).
-use Rattle.std.specs.Prelude.{◌≡◌, ℕ, ◌+◌, ◌-◌, ◌<◌, ◌&&◌, nat_le, nat_lt, Bool, if◌then◌else◌, List, [], ◌∷◌, ◌++◌, length, take, drop, Option, Some, None}
+use Rattle.std.specs.Prelude.{◌≡◌, ℕ, ◌+◌, ◌-◌, ◌<◌, ◌&&◌, nat_le, nat_lt, Bool, if◌then◌else◌, List, [], ◌∷◌, ◌++◌, length, take, drop, Option, Some, None, IfSome}
 use Rattle.std.specs.List.{list_all}
 use Rattle.gate_bytes.specs.Tokens.{trimmed}
 use Rattle.rtsp_head.specs.declared.header.Header.{Header}
@@ -58,8 +58,12 @@ abbrev pub has_ends : ℕ → Start → Bool
 has_ends line (Request method uri version) = nat_le (length method) line && nat_le (length version) line
 has_ends line (Status version code reason) = nat_le (length version) line && nat_le (length reason) line
 
--- The mark of the first line is put to those of all headers: the line has so many bytes, and takes so many with its end.
-pub record IsStartPut (old : Option (List HeaderMark)) (now : List HeaderMark) (mark : StartMark) (line taken : ℕ) (start : Start) : Type 0 where
-  pub was : old ≡ Some now
+-- A head begins without headers, whose first line is marked: it has so many bytes, and takes so many with its end.
+pub record IsStartPut (now : List HeaderMark) (mark : StartMark) (line taken : ℕ) (start : Start) : Type 0 where
+  pub none : now ≡ []
   pub is : mark ≡ mark_of line start
   pub ends : taken ≡ line + 2
+
+-- Where marks are known now, none were before, and the first line's is the same.
+abbrev pub IsBegun : Option (List HeaderMark) → StartMark → Option (List HeaderMark) → StartMark → Type 0
+IsBegun old was now is = IfSome now (λ known. (old ≡ Some []) × (is ≡ was))

@@ -1,10 +1,10 @@
 //! What a framer needs of a head.
-ghost use Rattle.std.specs.Prelude.{◌≡◌, ◌≢◌, ◌<◌, ◌≤◌, ◌+◌, ◌*◌, true, length, Err, IfSome, IfNone, option_map};
+ghost use Rattle.std.specs.Prelude.{◌≡◌, ◌≢◌, ◌<◌, ◌≤◌, ◌+◌, ◌*◌, true, [], length, Err, IfSome, IfNone, option_map};
 ghost use Rattle.rtsp_head.specs.Lines.{result_map, head_lines, lines_with, first_line};
 ghost use Rattle.rtsp_head.specs.Headers.{header_limit, headers_of};
 ghost use Rattle.rtsp_head.specs.Heads.{facts_of, length_in_headers};
 ghost use Rattle.rtsp_head.specs.LineWalk.{IsPassed};
-ghost use Rattle.rtsp_head.specs.Marks.{marks_known, marked_len};
+ghost use Rattle.rtsp_head.specs.Marks.{marks_known, marked_len, IsBegun};
 ghost use Rattle.rtsp_head.specs.MarkedHeads.{is_short_of, AreMarks, AreFrontMarks};
 ghost use Rattle.rtsp_head.specs.Items.{head_len};
 
@@ -103,8 +103,8 @@ pub fn check_front_counted<'a, L: Ledger>(
     match start_line(line) {
         Ok(start) => {
             let request = start.is_request();
+            marks.begin(start, len, taken);
             let (length, rest) = check_headers(rest, steps, marks);
-            marks.put_start(start, len, taken);
             CheckedFront {
                 facts: length.map(|length| Facts { request, length }),
                 rest,
@@ -124,15 +124,16 @@ fn check_headers<'a, L: Ledger>(
     steps: &mut Steps<L>,
     marks: &mut HeadMarks,
 ) -> (Result<Length, HeadFault>, &'a [u8])
+    requires { IfSome (marks_known marks.old) (λ known. known ≡ []) }
     ensures length { result.0 ≡ result_map length_in_headers (headers_of header_limit (head_lines bytes.now)) }
     ensures passed { IsPassed bytes.now result.1.now }
     ensures marks { IfSome (marks_known marks.new) (AreMarks bytes.now) }
+    ensures begun { IsBegun (marks_known marks.old) marks.old.start (marks_known marks.new) marks.new.start }
     ensures short { IfSome (marks_known marks.new) (λ known.
         is_short_of (head_len bytes.now) (marked_len known) ≡ true) }
     ensures steps { steps.new + 2 * length result.1.now ≤ steps.old + 4 * length bytes.now }
     ensures few { steps.new + 4 * length result.1.now ≤ steps.old + 4 * length bytes.now + 4 }
 {
-    marks.begin();
     let mut tally = Tally::new();
     let mut rest = bytes;
     while let Some((line, after)) = counted_line(rest, steps) {

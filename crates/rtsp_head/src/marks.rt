@@ -38,37 +38,6 @@ pub struct StartMark {
 }
 
 impl StartMark {
-    /// The mark of a first line of so many bytes.
-    #[inline(always)]
-    fn of(start: StartLine<'_>, line: usize) -> StartMark
-        requires short { line ≤ LONGEST_MARKED }
-        requires ends { has_ends line (start_seen start) ≡ true }
-        ensures { result ≡ mark_of line (start_seen start.entry) }
-    {
-        match start {
-            StartLine::Request {
-                method,
-                version,
-                ..
-            } => StartMark {
-                line: line as u8,
-                first: method.len() as u8,
-                last: (line - version.len()) as u8,
-                code: None,
-            },
-            StartLine::Status {
-                version,
-                code,
-                reason,
-            } => StartMark {
-                line: line as u8,
-                first: version.len() as u8,
-                last: (line - reason.len()) as u8,
-                code: Some(code),
-            },
-        }
-    }
-
     /// What the line says whose mark it is: nothing is searched for.
     #[inline(always)]
     pub(crate) fn start(self, line: &[u8]) -> StartLine<'_>
@@ -126,19 +95,48 @@ impl HeadMarks {
         self.count = UNKNOWN;
     }
 
-    /// A head begins, of which no header was seen.
+    /// A head begins, of which no header was seen: its first line has so many bytes, and takes so many with its end.
     #[inline(always)]
-    pub(crate) fn begin(&mut self)
-        ensures { marks_known self.new ≡ Some [] }
+    pub(crate) fn begin(&mut self, start: StartLine<'_>, line: usize, taken: usize)
+        requires { has_ends line (start_seen start) ≡ true }
+        ensures { IfSome (marks_known self.new) (λ now.
+            IsStartPut now self.new.start line taken (start_seen start.entry)) }
     {
+        if line > LONGEST_MARKED || taken != line + 2 {
+            self.count = UNKNOWN;
+            return;
+        }
+        // Field by field: a whole mark would be packed into a word first.
         self.count = 0;
+        self.start.line = line as u8;
+        match start {
+            StartLine::Request {
+                method,
+                version,
+                ..
+            } => {
+                self.start.first = method.len() as u8;
+                self.start.last = (line - version.len()) as u8;
+                self.start.code = None;
+            }
+            StartLine::Status {
+                version,
+                code,
+                reason,
+            } => {
+                self.start.first = version.len() as u8;
+                self.start.last = (line - reason.len()) as u8;
+                self.start.code = Some(code);
+            }
+        }
     }
 
     /// One header more, with a name of so many bytes, on a line of so many that takes so many with its end.
     #[inline(always)]
     pub(crate) fn push(&mut self, line: usize, taken: usize, name: usize)
         requires { name < line }
-        ensures { IfSome (marks_known self.new) (λ now. IsMarkPut (marks_known self.old) now line taken name) }
+        ensures mark { IfSome (marks_known self.new) (λ now. IsMarkPut (marks_known self.old) now line taken name) }
+        ensures start { self.new.start ≡ self.old.start }
     {
         let count = usize::from(self.count);
         if count < MOST_MARKS && line <= LONGEST_MARKED && taken == line + 2 {
@@ -147,21 +145,6 @@ impl HeadMarks {
                 name: name as u8,
             };
             self.count += 1;
-        } else {
-            self.count = UNKNOWN;
-        }
-    }
-
-    /// The first line of a head whose headers were seen: it has so many bytes, and takes so many with its end. It is put last,
-    /// so that the walk over the headers need not say what it leaves.
-    #[inline(always)]
-    pub(crate) fn put_start(&mut self, start: StartLine<'_>, line: usize, taken: usize)
-        requires { has_ends line (start_seen start) ≡ true }
-        ensures { IfSome (marks_known self.new) (λ now.
-            IsStartPut (marks_known self.old) now self.new.start line taken (start_seen start.entry)) }
-    {
-        if line <= LONGEST_MARKED && taken == line + 2 {
-            self.start = StartMark::of(start, line);
         } else {
             self.count = UNKNOWN;
         }

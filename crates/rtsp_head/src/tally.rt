@@ -143,6 +143,8 @@ impl Tally {
         ensures tally { result ≡ tally_line self line.entry }
         ensures marks { IfOk result (λ tally.
             IfSome (marks_known marks.new) (λ now. IsLineMarked (marks_known marks.old) now line.entry taken)) }
+        ensures start { IfOk result (λ tally.
+            IfSome (marks_known marks.new) (λ now. marks.new.start ≡ marks.old.start)) }
     {
         let len = line.len();
         match further_line(line)? {
