@@ -1,20 +1,28 @@
 -- Replies to players (RFC 2326, 7): how they are written, and what reply some bytes are.
-use Rattle.std.specs.Prelude.{◌≡◌, ℕ, ◌<◌, ◌^◌, true, not, List, [], length, Option, Some, None, IfSome, unwrap_or, if◌then◌else◌}
+use Rattle.std.specs.Prelude.{◌≡◌, ℕ, ◌<◌, ◌^◌, true, not, List, [], ◌++◌, length, Option, Some, None, IfSome, unwrap_or, if◌then◌else◌}
 use Rattle.std.specs.Option.{option_and_then}
-use Rattle.std.specs.List.{list_all}
+use Rattle.std.specs.List.{list_all, flat_map}
 use Rattle.std.specs.Str.{bytes_eq}
 use Rattle.rtsp_head.specs.declared.header.Header.{Header}
 use Rattle.rtsp_head.specs.HeadParts.{Start, Request, Status}
-use Rattle.rtsp_head.specs.Messages.{message_headers, is_added, own_fields, message_text, Message, message, message_of}
-use Rattle.rtsp_head.specs.HeadText.{CanBeWritten}
+use Rattle.rtsp_head.specs.Messages.{number_headers, message_headers, is_added, own_fields, message_text, Message, message, message_of}
+use Rattle.rtsp_head.specs.HeadText.{ended, start_text, header_text, CanBeWritten}
 use Rattle.rtsp_status.specs.Reasons.{reason_of}
 use Rattle.head_one.specs.declared.reply.Reply1.{Reply1}
 use Rattle.rtsp_small.specs.declared.cseq.TheConstants.{CSEQ_ONE_DIGITS}
 use Rattle.head_one.specs.Refusals.{version_one, client_cseq}
 
--- the status line of a reply (RFC 2326, 7.1)
+-- the status line with a code (RFC 2326, 7.1)
+abbrev pub start_with : ℕ → Start
+start_with code = Status version_one code (unwrap_or (reason_of code) [])
+
+-- the status line of a reply
 abbrev pub reply_start : Reply1 → Start
-reply_start reply = Status version_one reply.code (unwrap_or (reason_of reply.code) [])
+reply_start reply = start_with reply.code
+
+-- what stands before the headers of a reply: the status line, and the number where there is one
+abbrev pub reply_front : ℕ → Option ℕ → List ℕ
+reply_front code cseq = ended (start_text (start_with code)) ++ flat_map (λ header. ended (header_text header)) (number_headers cseq)
 
 -- The status line, the number where there is one, the headers in their order, the length of the body where that has a
 -- byte, an empty line, and the body.

@@ -10,5 +10,5 @@ mod rule;
 
 pub use law::{replies_in_a_row, written_replies};
 pub use refusal::{Refusal, RequestFault};
-pub use reply::{Reply1, write_reply};
+pub use reply::{Reply1, begin_reply, write_reply};
 pub use request::{Request1, read_request};

@@ -1,10 +1,11 @@
 //! Replies to players.
 ghost use Rattle.std.specs.Prelude.{◌≡◌, true, IfOk};
 ghost use Rattle.rtsp_status.specs.Reasons.{has_reason};
-ghost use Rattle.head_one.specs.Replies.{reply_text};
+ghost use Rattle.rtsp_head.specs.HeadText.{ended, start_text};
+ghost use Rattle.head_one.specs.Replies.{start_with, reply_text, reply_front};
 
 use gate_bytes::{Memory, Text, push_decimal};
-use rtsp_head::{Headers, push_message};
+use rtsp_head::{Headers, push_message, push_number};
 use rtsp_status::reason;
 use std::alloc::Global;
 use std::marker::Model;
@@ -39,12 +40,32 @@ pub fn write_reply(alloc: Global, reply: &Reply1<'_>) -> Result<Text, Memory>
     requires { has_reason reply.now.code ≡ true }
     ensures { IfOk result (λ text. text ≡ reply_text reply.now) }
 {
-    let mut text = Text::with_room(alloc, reply.body.len().saturating_add(HEAD_ROOM))?;
-    text.push_slice(b"RTSP/1.0 ")?;
-    push_decimal(&mut text, u64::from(reply.code))?;
-    text.push_slice(b" ")?;
-    text.push_slice(reason(reply.code).as_bytes())?;
-    text.push_slice(b"\r\n")?;
+    let mut text = status_line(alloc, reply.code, reply.body.len())?;
     push_message(&mut text, reply.cseq, &reply.headers, reply.body)?;
+    Ok(text)
+}
+
+/// The front of a reply that is written line by line: the status line, and `CSeq` where there is a number. There is room for a
+/// body of so many bytes.
+pub fn begin_reply(alloc: Global, code: u16, cseq: Option<u64>, body: usize) -> Result<Text, Memory>
+    requires { has_reason code ≡ true }
+    ensures { IfOk result (λ text. text ≡ reply_front code cseq) }
+{
+    let mut text = status_line(alloc, code, body)?;
+    push_number(&mut text, cseq)?;
+    Ok(text)
+}
+
+/// The status line of a reply, with room for what follows it and for a body of so many bytes.
+fn status_line(alloc: Global, code: u16, body: usize) -> Result<Text, Memory>
+    requires { has_reason code ≡ true }
+    ensures { IfOk result (λ text. text ≡ ended (start_text (start_with code))) }
+{
+    let mut text = Text::with_room(alloc, body.saturating_add(HEAD_ROOM))?;
+    text.push_slice(b"RTSP/1.0 ")?;
+    push_decimal(&mut text, u64::from(code))?;
+    text.push_slice(b" ")?;
+    text.push_slice(reason(code).as_bytes())?;
+    text.push_slice(b"\r\n")?;
     Ok(text)
 }

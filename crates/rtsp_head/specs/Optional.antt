@@ -1,8 +1,10 @@
 -- Headers that are written where there is something to say (this project's own).
 use Rattle.std.specs.Prelude.{ℕ, Bool, List, [], ◌∷◌, ◌++◌, Option, Some, None, if◌then◌else◌}
 use Rattle.std.specs.Option.{option_or}
+use Rattle.std.specs.List.{flat_map}
 use Rattle.gate_bytes.specs.Tokens.{equal_fold}
 use Rattle.rtsp_head.specs.declared.header.Header.{Header}
+use Rattle.rtsp_head.specs.HeadText.{ended, header_text}
 
 -- a header with this value, where there is one
 abbrev pub header_with : List ℕ → Option (List ℕ) → List Header
@@ -26,6 +28,14 @@ then_headers headers (field ∷ fields) = then_headers (headers ++ header_with f
 -- the headers of fields
 abbrev pub field_headers : List Field → List Header
 field_headers fields = then_headers [] fields
+
+-- the line of a field, where it has a value
+abbrev pub field_line : Field → List ℕ
+field_line field = flat_map (λ header. ended (header_text header)) (header_with field.name field.value)
+
+-- the lines of fields, in their order
+abbrev pub field_lines : List Field → List ℕ
+field_lines fields = flat_map field_line fields
 
 -- the value of the first field of a name that has one, without ASCII case
 abbrev pub told_value : List ℕ → List Field → Option (List ℕ)

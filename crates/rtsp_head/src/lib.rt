@@ -28,5 +28,5 @@ pub use header::Header;
 pub use headers::{Headers, MOST_HEADERS, said_where};
 pub use item::{BadKind, Extent, Item, ItemKind, MOST_BODY, MOST_HEAD, Span};
 pub use marks::HeadMarks;
-pub use message::{push_message, written_messages};
+pub use message::{push_end, push_header, push_message, push_number, written_messages};
 pub use start::{GREATEST_CODE, LEAST_CODE, StartLine};

@@ -53,6 +53,20 @@ fn push_parts(
 {
     push_number(text, number)?;
     push_headers(text, headers.as_slice())?;
+    push_end(text, body)
+}
+
+/// Appends what follows a message's own headers: the length of the body where that has a byte, an empty line, and the
+/// body. Where memory is wanting the text has a part of it at its end.
+#[tactic(auto, using(gate_bytes::proofs::FrontLemmas::front_kept))]
+pub fn push_end(text: &mut Text, body: &[u8]) -> Result<(), Memory>
+    ensures ok { OnOk result
+        (text.new
+        ≡ text.old
+        ++ flat_map (λ header. ended (header_text header)) (length_headers body.now)
+        ++ ended [] ++ body.now) }
+    ensures err { OnErr result (take (length text.old) text.new ≡ text.old) }
+{
     push_length(text, body)?;
     text.push_slice(b"\r\n")?;
     text.push_slice(body)
@@ -66,25 +80,28 @@ fn push_headers(text: &mut Text, headers: &[Header<'_>]) -> Result<(), Memory>
     ensures err { OnErr result (take (length text.old) text.new ≡ text.old) }
 {
     for header in headers {
-        push_header(text, header)?;
+        push_header(text, header.name, header.value.as_bytes())?;
     }
     Ok(())
 }
 
-/// Appends a header's line.
+/// Appends a header's line: that of a message which is written line by line. Where memory is wanting the text has a part
+/// of it at its end.
 #[tactic(auto, using(gate_bytes::proofs::FrontLemmas::front_kept))]
-fn push_header(text: &mut Text, header: &Header<'_>) -> Result<(), Memory>
-    ensures ok { OnOk result (text.new ≡ text.old ++ ended (header_text header.now)) }
+pub fn push_header(text: &mut Text, name: &[u8], value: &[u8]) -> Result<(), Memory>
+    ensures ok { OnOk result
+        (text.new ≡ text.old ++ ended (header_text (record { name = name.now; value = value.now }))) }
     ensures err { OnErr result (take (length text.old) text.new ≡ text.old) }
 {
-    text.push_slice(header.name)?;
+    text.push_slice(name)?;
     text.push_slice(b": ")?;
-    text.push_slice(header.value.as_bytes())?;
+    text.push_slice(value)?;
     text.push_slice(b"\r\n")
 }
 
-/// Appends the header with a message's number, where it has one (RFC 2326, 12.17; RFC 7826, 18.20).
-fn push_number(text: &mut Text, number: Option<u64>) -> Result<(), Memory>
+/// Appends the header with a message's number, where it has one (RFC 2326, 12.17; RFC 7826, 18.20). Where memory is
+/// wanting the text has a part of it at its end.
+pub fn push_number(text: &mut Text, number: Option<u64>) -> Result<(), Memory>
     ensures ok { OnOk result
         (text.new ≡ text.old ++ flat_map (λ header. ended (header_text header)) (number_headers number)) }
     ensures err { OnErr result (take (length text.old) text.new ≡ text.old) }

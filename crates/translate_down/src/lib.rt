@@ -6,6 +6,7 @@ mod content;
 mod context;
 mod info;
 mod law;
+mod line;
 mod play;
 mod reply;
 mod session;

@@ -1,7 +1,7 @@
 //! The server's replies as players get them.
-ghost use Rattle.std.specs.Prelude.{◌≡◌, IfOk, OnOk};
+ghost use Rattle.std.specs.Prelude.{◌≡◌, ◌++◌, IfOk, OnOk};
 ghost use Rattle.std.specs.Option.{option_copied};
-ghost use Rattle.rtsp_head.specs.Optional.{then_headers, field_headers};
+ghost use Rattle.rtsp_head.specs.Optional.{field_lines};
 ghost use Rattle.head_one.specs.Replies.{reply_text};
 ghost use Rattle.translate_down.specs.Contents.{type_value, encoding_value};
 ghost use Rattle.translate_down.specs.Settings.{setting_of, CanBeTold};
@@ -9,12 +9,13 @@ ghost use Rattle.translate_down.specs.Replies.{unsupported_value, refusal_of, pu
 
 use crate::Context;
 use crate::content::{BodyFields, base, body};
+use crate::line::{push_lent, push_text, push_value};
 use crate::play::{info, range, scale};
 use crate::session::{session, transport};
 use gate_bytes::{Memory, Text};
-use head_one::{Reply1, write_reply};
+use head_one::{Reply1, begin_reply, write_reply};
 use head_two::Reply2;
-use rtsp_head::Headers;
+use rtsp_head::{Headers, push_end};
 use rtsp_small::{Method, push_methods};
 use rtsp_status::to_one;
 use session_one::{Asked, is_success};
@@ -66,7 +67,7 @@ fn unsupported<'a>(reply: &'a Reply2<'_>) -> Option<&'a [u8]>
     reply.head.field_where(is_told, b"Unsupported")
 }
 
-/// The text of a success.
+/// The text of a success. It is written line by line, so that no list of its headers takes memory.
 fn success(
     alloc: Global,
     context: &Context<'_>,
@@ -78,71 +79,72 @@ fn success(
         text ≡ reply_text (success_of (setting_of context.now) asked.now (told_whole reply.now))) }
 {
     let fields = BodyFields::read(asked.method, reply);
-    let headers = success_headers(alloc, context, asked, reply, fields)?;
     let body = body(alloc, context, asked.method, reply, fields)?;
-    let success = Reply1 {
-        code: 200,
-        cseq: Some(asked.cseq),
-        headers,
-        body: body.as_bytes(),
-    };
-    write_reply(alloc, &success)
+    let bytes = body.as_bytes();
+    let mut text = begin_reply(alloc, 200, Some(asked.cseq), bytes.len())?;
+    push_fields(alloc, &mut text, context, asked, reply, fields)?;
+    push_end(&mut text, bytes)?;
+    Ok(text)
 }
 
-/// The headers of a success.
-fn success_headers<'a>(
+/// Appends the lines of a success.
+fn push_fields(
     alloc: Global,
+    text: &mut Text,
     context: &Context<'_>,
     asked: &Asked,
-    reply: &'a Reply2<'_>,
-    fields: BodyFields<'a>,
-) -> Result<Headers<'a>, Memory>
+    reply: &Reply2<'_>,
+    fields: BodyFields<'_>,
+) -> Result<(), Memory>
     requires told { CanBeTold (setting_of context.now) }
     requires kind { option_copied fields.kind
         ≡ type_value asked.now.method reply.now.head.headers reply.now.body }
     requires encoding { option_copied fields.encoding
         ≡ encoding_value asked.now.method reply.now.head.headers reply.now.body }
-    ensures { IfOk result (λ headers.
-        headers ≡ field_headers (success_fields (setting_of context.now) asked.now (told_whole reply.now))) }
+    ensures { OnOk result
+        (text.new
+        ≡ text.old ++ field_lines (success_fields (setting_of context.now) asked.now (told_whole reply.now))) }
 {
-    let mut headers = Headers::new(alloc);
-    push_session(alloc, &mut headers, context, asked)?;
-    push_play(alloc, &mut headers, context, asked.method, reply)?;
-    headers.push_text(b"Public", public(alloc, asked.method)?)?;
-    push_content(alloc, &mut headers, context, asked.method, reply, fields)?;
-    Ok(headers)
+    push_session(alloc, text, context, asked)?;
+    push_play(alloc, text, context, asked.method, reply)?;
+    push_text(text, b"Public", public(alloc, asked.method)?)?;
+    push_content(alloc, text, context, asked.method, reply, fields)
 }
 
 /// Appends what is told of the session.
 fn push_session(
     alloc: Global,
-    headers: &mut Headers<'_>,
+    text: &mut Text,
     context: &Context<'_>,
     asked: &Asked,
 ) -> Result<(), Memory>
     requires { CanBeTold (setting_of context.now) }
     ensures { OnOk result
-        (headers.new ≡ then_headers headers.old (session_fields (setting_of context.now) asked.now)) }
+        (text.new ≡ text.old ++ field_lines (session_fields (setting_of context.now) asked.now)) }
 {
-    headers.push_text(b"Session", session(alloc, context, asked)?)?;
-    headers.push_text(b"Transport", transport(alloc, context, asked.method)?)
+    push_value(text, b"Session", session(alloc, context, asked)?)?;
+    push_text(text, b"Transport", transport(alloc, context, asked.method)?)
 }
 
 /// Appends what is told of playing.
-fn push_play<'a>(
+fn push_play(
     alloc: Global,
-    headers: &mut Headers<'a>,
+    text: &mut Text,
     context: &Context<'_>,
     method: Method,
-    reply: &'a Reply2<'_>,
+    reply: &Reply2<'_>,
 ) -> Result<(), Memory>
     ensures { OnOk result
-        (headers.new
-        ≡ then_headers headers.old (play_fields (setting_of context.now) method reply.now.head.headers)) }
+        (text.new
+        ≡ text.old ++ field_lines (play_fields (setting_of context.now) method reply.now.head.headers)) }
 {
-    headers.push_text(b"Range", range(alloc, method, &reply.head)?)?;
-    headers.push_lent(b"Scale", scale(method, &reply.head))?;
-    headers.push_text(b"RTP-Info", info(alloc, context, method, &reply.head)?)
+    push_text(text, b"Range", range(alloc, method, &reply.head)?)?;
+    push_lent(text, b"Scale", scale(method, &reply.head))?;
+    push_text(
+        text,
+        b"RTP-Info",
+        info(alloc, context, method, &reply.head)?,
+    )
 }
 
 /// The value of Public, with OPTIONS.
@@ -159,23 +161,24 @@ fn public(alloc: Global, method: Method) -> Result<Option<Text>, Memory>
 }
 
 /// Appends what is told of the body.
-fn push_content<'a>(
+fn push_content(
     alloc: Global,
-    headers: &mut Headers<'a>,
+    text: &mut Text,
     context: &Context<'_>,
     method: Method,
-    reply: &'a Reply2<'_>,
-    fields: BodyFields<'a>,
+    reply: &Reply2<'_>,
+    fields: BodyFields<'_>,
 ) -> Result<(), Memory>
     requires kind { option_copied fields.kind ≡ type_value method reply.now.head.headers reply.now.body }
     requires encoding { option_copied fields.encoding
         ≡ encoding_value method reply.now.head.headers reply.now.body }
     ensures { OnOk result
-        (headers.new
-        ≡ then_headers headers.old
+        (text.new
+        ≡ text.old
+        ++ field_lines
         (content_fields (setting_of context.now) method reply.now.head.headers reply.now.body)) }
 {
-    headers.push_text(b"Content-Base", base(alloc, context, method, reply)?)?;
-    headers.push_lent(b"Content-Type", fields.kind)?;
-    headers.push_lent(b"Content-Encoding", fields.encoding)
+    push_text(text, b"Content-Base", base(alloc, context, method, reply)?)?;
+    push_lent(text, b"Content-Type", fields.kind)?;
+    push_lent(text, b"Content-Encoding", fields.encoding)
 }

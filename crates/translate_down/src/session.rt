@@ -1,30 +1,45 @@
 //! What a reply tells of the player's session.
-ghost use Rattle.std.specs.Prelude.{◌≡◌, IfOk};
+ghost use Rattle.std.specs.Prelude.{◌≡◌, ◌<◌, ◌^◌, true, IfOk, IfSome};
+ghost use Rattle.rtsp_small.specs.declared.session.TheConstants.{TIMEOUT_DIGITS};
+ghost use Rattle.rtsp_small.specs.Sessions.{is_session_id, session_text};
 ghost use Rattle.translate_down.specs.Settings.{setting_of, CanBeTold};
 ghost use Rattle.translate_down.specs.Sessions.{tells_session, told_timeout, session_value, transport_value};
 
 use crate::Context;
 use gate_bytes::{Memory, Text};
+use rtsp_head::FieldValue;
 use rtsp_small::{Method, write_session};
 use rtsp_transport::write_one;
 use session_one::Asked;
 use std::alloc::Global;
 
 /// The value of Session: the id, and with SETUP the timeout where there is one.
-pub(crate) fn session(
+pub(crate) fn session<'a>(
     alloc: Global,
-    context: &Context<'_>,
+    context: &Context<'a>,
     asked: &Asked,
-) -> Result<Option<Text>, Memory>
+) -> Result<Option<FieldValue<'a>>, Memory>
     requires { CanBeTold (setting_of context.now) }
     ensures { IfOk result (λ value. value ≡ session_value (setting_of context.now) asked.now) }
 {
     match context.session {
         Some(id) if tells_session(asked) => {
             let timeout = told_timeout(asked.method, context.timeout);
-            Ok(Some(write_session(alloc, id, timeout)?))
+            Ok(Some(session_field(alloc, id, timeout)?))
         }
         _ => Ok(None),
+    }
+}
+
+/// A Session field with this id, which is lent where there is no timeout.
+fn session_field(alloc: Global, id: &[u8], timeout: Option<u64>) -> Result<FieldValue<'_>, Memory>
+    requires id { is_session_id id.now ≡ true }
+    requires timeout { IfSome timeout (λ seconds. seconds < 10 ^ TIMEOUT_DIGITS) }
+    ensures { IfOk result (λ value. value ≡ session_text (record { id = id.now; timeout = timeout })) }
+{
+    match timeout {
+        Some(_) => Ok(FieldValue::owned(write_session(alloc, id, timeout)?)),
+        None => Ok(FieldValue::new(id)),
     }
 }
 
