@@ -1,12 +1,14 @@
 -- Sessions: the parameters one after another, and reading what was written.
-use Rattle.std.proofs.Common.{◌≡◌, ℕ, ◌^◌, ◌<◌, ◌≤◌, true, false, not, ◌==◌, ◌&&◌, nat_le, cond, List, [], ◌∷◌, ◌++◌, length, Option, None, Some, refl, sym, ◌∙◌, ap, rules, arith}
+use Rattle.std.proofs.Common.{◌≡◌, ℕ, suc, ◌+◌, ◌^◌, ◌<◌, ◌≤◌, Bool, true, false, not, ◌==◌, ◌&&◌, nat_le, cond, List, [], ◌∷◌, ◌++◌, length, take, drop, get_or, take_all, Option, None, Some, refl, sym, ◌∙◌, ap, rules, arith}
 use Rattle.std.specs.Prelude.{codes, decimal, is_some, IfSome}
 use Rattle.std.specs.Option.{option_or}
-use Rattle.std.specs.List.{list_all}
+use Rattle.std.specs.List.{list_all, position, position_or_len, onto_first}
 use Rattle.std.specs.Char.{is_ascii_digit}
 use Rattle.std.specs.Str.Parse.{digits_value}
 use Rattle.std.proofs.lemmas.Bool.{and_parts}
 use Rattle.std.proofs.lemmas.List.{append-nil}
+use Rattle.std.proofs.lemmas.List.Quantifiers.{position-Some}
+use Rattle.std.proofs.lemmas.List.Sums.{split_at_first}
 use Rattle.std.proofs.lemmas.Fmt.{digits_decimal, digits_value-decimal, length-decimal-le, decimal_nonempty}
 use Rattle.std.proofs.lemmas.Str.Parse.{IsNumeralModel, numerals_by_value}
 use Rattle.gate_bytes.specs.Ascii.{semicolon}
@@ -56,15 +58,6 @@ pub timeout_last : (rest : List ℕ) (timeout : Option ℕ) → ◌≡◌ {A = O
     timeout ≡ timeout_in (trimmed rest) → timeout ≡ first_timeout (parts_at semicolon rest)
 timeout_last rest timeout h says = says ∙ or_none (timeout_in (trimmed rest)) ∙ sym (ap first_timeout (parts_by_cut semicolon rest None h))
 
--- a session with parameters
-pub session_cut : (value id parameters : List ℕ) (timeout : Option ℕ) → ◌≡◌ {A = Option (List ℕ × List ℕ)} (Some (id, parameters)) (cut_at semicolon value) →
-    timeout ≡ first_timeout (parts_at semicolon parameters) → session_with id timeout ≡ session_of value
-session_cut value id parameters timeout h says = ap (session_with id) says ∙ sym (ap session_in (parts_by_cut semicolon value (Some (id, parameters)) h))
-
--- a session without
-pub session_whole : (value : List ℕ) → ◌≡◌ {A = Option (List ℕ × List ℕ)} None (cut_at semicolon value) → session_with value None ≡ session_of value
-session_whole value h = sym (ap session_in (parts_by_cut semicolon value None h))
-
 -- a session id has no semicolon
 id_uncut : (id : List ℕ) → list_all is_session_byte id ≡ true → lacks semicolon id ≡ true
 id_uncut [] h = refl
@@ -72,6 +65,75 @@ id_uncut (b ∷ id) h =
     let parts = and_parts (is_session_byte b) (list_all is_session_byte id) h in
     let rest : lacks semicolon id ≡ true = id_uncut id parts.1 in
     grind arith
+
+-- a byte that no id has
+abbrev other : ℕ → Bool
+other b = not (is_session_byte b)
+
+-- up to its first other byte a text has bytes of an id alone
+front_step : (b n : ℕ) (text : List ℕ) (of_id : Bool) → is_session_byte b ≡ of_id → list_all is_session_byte (take n text) ≡ true → list_all is_session_byte (take (cond (not (not of_id)) (1 + n) 0) (b ∷ text)) ≡ true
+front_step b n text true is rest = let next : 1 + n ≡ suc n = omega arith in rw next (ap (λ t. t && list_all is_session_byte (take n text)) is ∙ rest)
+front_step b n text false is rest = refl
+
+front_by : (text : List ℕ) → list_all is_session_byte (take (position_or_len other text) text) ≡ true
+front_by [] = refl
+front_by (b ∷ text) = front_step b (position_or_len other text) text (is_session_byte b) refl (front_by text)
+
+place_by : (text : List ℕ) (at : ℕ) → position other text ≡ Some at → position_or_len other text ≡ at
+place_by text at h = grind (arith, h)
+
+pub id_front : (text : List ℕ) (at : ℕ) → position other text ≡ Some at → list_all is_session_byte (take at text) ≡ true
+id_front text at h = rw (← place_by text at h) (front_by text)
+
+pub id_alone : (text : List ℕ) → position other text ≡ None → list_all is_session_byte text ≡ true
+id_alone text h =
+    let end : length text ≤ position_or_len other text = grind (arith, h) in
+    ap (list_all is_session_byte) (sym (take_all (position_or_len other text) text end)) ∙ front_by text
+
+-- a text is its front, that byte and the rest
+split_by : (text : List ℕ) (at d : ℕ) → position other text ≡ Some at → text ≡ take at text ++ (get_or text at d ∷ drop (at + 1) text)
+split_by text at d h =
+    let place : position_or_len other text ≡ at = place_by text at h in
+    let within = (position-Some other text at d h).0 in
+    let parts = split_at_first other text d (rw place within) in
+    rw place at parts
+
+-- a session without parameters
+pub session_whole : (value : List ℕ) → list_all is_session_byte value ≡ true → session_with value None ≡ session_of value
+session_whole value h = sym (ap session_in (parts_nowhere semicolon value (id_uncut value h)))
+
+-- a session with parameters
+pub session_cut : (value : List ℕ) (at d : ℕ) → position other value ≡ Some at → get_or value at d ≡ semicolon →
+    session_with (take at value) (first_timeout (parts_at semicolon (drop (at + 1) value))) ≡ session_of value
+session_cut value at d h is =
+    sym (ap session_in (parts_at_seam semicolon (take at value) (drop (at + 1) value) (id_uncut (take at value) (id_front value at h))))
+    ∙ ap (λ b. session_of (take at value ++ (b ∷ drop (at + 1) value))) (sym is) ∙ ap session_of (sym (split_by value at d h))
+
+-- no session, since the first part has a byte that no id has
+abbrev is_first_id : List (List ℕ) → Bool
+is_first_id [] = true
+is_first_id (id ∷ parameters) = list_all is_session_byte id
+
+onto_by : (b : ℕ) (parts : List (List ℕ)) → (is_session_byte b && is_first_id parts) ≡ false → is_first_id (onto_first b parts) ≡ false
+onto_by b [] e = grind (arith, e)
+onto_by b (part ∷ parts) e = e
+
+first_refused : (id : List ℕ) (b : ℕ) (more : List ℕ) → list_all is_session_byte id ≡ true → is_session_byte b ≡ false → (b == semicolon) ≡ false → is_first_id (parts_at semicolon (id ++ (b ∷ more))) ≡ false
+first_refused [] b more h foreign apart = rw apart (onto_by b (parts_at semicolon more) (ap (λ t. t && is_first_id (parts_at semicolon more)) foreign))
+first_refused (c ∷ id) b more h foreign apart =
+    let parts = and_parts (is_session_byte c) (list_all is_session_byte id) h in
+    let rest : is_first_id (parts_at semicolon (id ++ (b ∷ more))) ≡ false = first_refused id b more parts.1 foreign apart in
+    let whole : (c == semicolon) ≡ false = grind (arith, parts) in
+    rw whole (onto_by c (parts_at semicolon (id ++ (b ∷ more))) (grind (arith, rest)))
+
+refused_by : (parts : List (List ℕ)) → is_first_id parts ≡ false → session_in parts ≡ None
+refused_by [] e = cc
+refused_by (id ∷ parameters) e = grind (arith, e)
+
+pub session_refused : (value : List ℕ) (at d : ℕ) → position other value ≡ Some at → (get_or value at d == semicolon) ≡ false → session_of value ≡ None
+session_refused value at d h apart =
+    let foreign : is_session_byte (get_or value at d) ≡ false = let is = (position-Some other value at d h).1 in grind (arith, is) in
+    ap session_of (split_by value at d h) ∙ refused_by (parts_at semicolon (take at value ++ (get_or value at d ∷ drop (at + 1) value))) (first_refused (take at value) (get_or value at d) (drop (at + 1) value) (id_front value at h) foreign apart)
 
 -- digits have no blank at their end
 digits_kept : (text : List ℕ) → list_all is_ascii_digit text ≡ true → without_end text ≡ text

@@ -1,5 +1,5 @@
 //! The field Session: an id, and how long the server keeps the session.
-ghost use Rattle.std.specs.Prelude.{◌≡◌, ◌<◌, ◌^◌, true, Some, ◌++◌, IfSome, IfOk, OnOk, option_map};
+ghost use Rattle.std.specs.Prelude.{◌≡◌, ◌<◌, ◌^◌, true, not, Some, ◌++◌, length, position, IfSome, IfOk, OnOk, option_map};
 ghost use Rattle.std.specs.List.{list_all};
 ghost use Rattle.gate_bytes.specs.Ascii.{semicolon};
 ghost use Rattle.gate_bytes.specs.Places.{parts_at};
@@ -7,7 +7,7 @@ ghost use Rattle.rtsp_small.specs.declared.session.TheConstants.{TIMEOUT_DIGITS}
 ghost use Rattle.rtsp_small.specs.Sessions.{is_session_byte, is_session_id, timeout_in, first_timeout, session_with, session_of, timeout_text, session_text};
 ghost use Rattle.rtsp_small.specs.Views.{session_seen};
 
-use gate_bytes::{Memory, Text, push_decimal, read_decimal, split_once, trim};
+use gate_bytes::{Memory, Text, after, before, push_decimal, read_decimal, split_once, trim};
 use std::alloc::Global;
 
 /// The most bytes of a session's id (RFC 7826, 20.2).
@@ -31,34 +31,33 @@ pub struct SessionField<'a> {
 pub fn read_session(value: &[u8]) -> Option<SessionField<'_>>
     ensures { option_map session_seen result ≡ session_of value.now }
 {
-    match split_once(b';', value) {
-        Some((id, parameters)) => session(id, first_timeout(parameters)),
-        None => session(value, None),
+    let Some(end) = foreign_byte(value) else {
+        return session(value, None);
+    };
+    if value[end] != b';' {
+        return None;
     }
+    session(before(value, end), first_timeout(after(value, end + 1)))
 }
 
-/// A session with this id, where it is one.
+/// The place of the first byte that no session id has. Values are short, so this one walk takes less
+/// than a search for the semicolon and a walk of the id before it.
+fn foreign_byte(text: &[u8]) -> Option<usize>
+    ensures place { result ≡ position (λ b. not (is_session_byte b)) text.now }
+    ensures within { IfSome result (λ at. at < length text.now) }
+{
+    text.iter().position(|byte| !is_session_byte(*byte))
+}
+
+/// A session with an id of bytes that may stand in one, where it has as many as an id may have.
 fn session(id: &[u8], timeout: Option<u64>) -> Option<SessionField<'_>>
+    requires { list_all is_session_byte id.now ≡ true }
     ensures { option_map session_seen result ≡ session_with id.now timeout }
 {
-    if !is_session_id(id) {
+    if id.is_empty() || id.len() > LONGEST_SESSION_ID {
         return None;
     }
     Some(SessionField { id, timeout })
-}
-
-/// Whether a text is a session id.
-fn is_session_id(text: &[u8]) -> bool
-    ensures { result ≡ is_session_id text.now }
-{
-    !text.is_empty() && text.len() <= LONGEST_SESSION_ID && has_session_bytes_alone(text)
-}
-
-/// Whether each byte of a text may stand in a session id.
-fn has_session_bytes_alone(text: &[u8]) -> bool
-    ensures { result ≡ list_all is_session_byte text.now }
-{
-    text.iter().all(|byte| is_session_byte(*byte))
 }
 
 /// Whether a byte may stand in a session id.
@@ -87,10 +86,7 @@ fn first_timeout(parameters: &[u8]) -> Option<u64>
 fn read_timeout(parameter: &[u8]) -> Option<u64>
     ensures { result ≡ timeout_in parameter.now }
 {
-    let (name, seconds) = split_once(b'=', parameter)?;
-    if name != b"timeout".as_slice() {
-        return None;
-    }
+    let seconds = parameter.strip_prefix(b"timeout=".as_slice())?;
     read_decimal(seconds, TIMEOUT_DIGITS)
 }
 

@@ -2,7 +2,7 @@
 ghost use Rattle.std.specs.Prelude.{◌≡◌, ◌+◌, ◌<◌, ℕ, List, None, Some, Ok, Err, is_some, position, OnOk, OnErr, IfErr, if◌then◌else◌};
 ghost use Rattle.std.specs.Str.{bytes_eq};
 ghost use Rattle.up_books.specs.Entries.{IsGapFor};
-ghost use Rattle.up_books.specs.Ids.{id_order};
+ghost use Rattle.up_books.specs.Ids.{id_end, id_order};
 
 use crate::entry::BookEntry;
 use gate_bytes::{Memory, Text};
@@ -120,9 +120,24 @@ impl SessionBook {
     }
 }
 
-/// The order of a key to an id, by their bytes.
+/// The order of a key to an id: by their ends, and then by all of their bytes. Two ids of one server
+/// may begin alike and seldom end alike, and their ends are compared at once.
 fn compare(key: &Text, id: &[u8]) -> Ordering
     ensures { result ≡ id_order key.now id.now }
 {
-    key.as_bytes().cmp(id)
+    let key = key.as_bytes();
+    match id_end(key).cmp(&id_end(id)) {
+        Ordering::Equal => key.cmp(id),
+        order => order,
+    }
+}
+
+/// The last eight bytes of an id as one number; 0 where it has fewer.
+fn id_end(id: &[u8]) -> u64
+    ensures { result ≡ id_end id.now }
+{
+    match id.last_chunk::<8>() {
+        Some(end) => u64::from_le_bytes(*end),
+        None => 0,
+    }
 }
