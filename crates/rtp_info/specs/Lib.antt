@@ -1,3 +1,4 @@
+pub mod Streams
 pub mod Groups
 pub mod Infos
 pub mod Parameters

@@ -1,6 +1,4 @@
 -- What the private types of this crate say, without where it lies in memory.
-use Rattle.rtp_info.specs.declared.entry.InfoEntry.{InfoEntry}
-use Rattle.rtp_info.specs.declared.spec.Spec.{Spec}
 use Rattle.rtp_info.specs.declared.parameter.Noted.{Noted}
 use Rattle.rtp_info.specs.declared.parameter.Parameter.{Parameter}
 use Rattle.rtp_info.specs.declared.parameter.Parameter.TheVariants as parameters
@@ -15,7 +13,3 @@ parameter_seen parameters.Other = Other
 -- what was noted, without where it lies in memory
 abbrev pub noted_seen : Noted → Notes
 noted_seen noted = record { seq = noted.seq; rtptime = noted.rtptime }
-
--- what a spec says whose URI is borrowed
-abbrev pub spec_seen : Spec → InfoEntry
-spec_seen spec = record { url = spec.url.now; seq = spec.seq; rtptime = spec.rtptime }

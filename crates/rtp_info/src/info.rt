@@ -8,12 +8,12 @@ use std::marker::Model;
 
 /// An owned list of at least one entry. Contracts see it as that list.
 #[derive(Drop)]
-pub struct Info {
-    entries: OwnedList<InfoEntry>,
+pub struct Info<'a> {
+    entries: OwnedList<InfoEntry<'a>>,
     ghost some: { 0 < length entries },
 }
 
-impl Model for Info {
+impl<'a> Model for Info<'a> {
     ghost use Rattle.std.specs.Prelude.{List};
     ghost use Rattle.rtp_info.specs.declared.entry.InfoEntry.{InfoEntry};
 
@@ -22,11 +22,11 @@ impl Model for Info {
     ghost view = { λ i. i.entries };
 }
 
-impl Info {
+impl<'a> Info<'a> {
     /// The list of this one entry. Where memory is wanting the entry comes back.
-    pub fn of(alloc: Global, first: InfoEntry) -> Result<Info, (InfoEntry, Memory)>
-        ensures ok { IfOk result (λ info. info ≡ first ∷ []) }
-        ensures err { IfErr result (λ refused. refused.0 ≡ first) }
+    pub fn of(alloc: Global, first: InfoEntry<'a>) -> Result<Info<'a>, (InfoEntry<'a>, Memory)>
+        ensures ok { IfOk result (λ info. info ≡ first.entry ∷ []) }
+        ensures err { IfErr result (λ refused. refused.0 ≡ first.entry) }
     {
         let mut entries = OwnedList::new(alloc);
         entries.push(first)?;
@@ -42,7 +42,7 @@ impl Info {
     }
 
     /// The entry at a place.
-    pub fn at(&self, place: usize) -> &InfoEntry
+    pub fn at(&self, place: usize) -> &InfoEntry<'a>
         requires { place < length self.now }
         ensures { slice_get self.now place ≡ Some result.now }
     {
@@ -50,16 +50,16 @@ impl Info {
     }
 
     /// Appends an entry. Where memory is wanting the entry comes back.
-    pub fn push(&mut self, item: InfoEntry) -> Result<(), (InfoEntry, Memory)>
-        ensures ok { OnOk result (self.new ≡ self.old ++ item ∷ []) }
-        ensures err { IfErr result (λ refused. refused.0 ≡ item) }
+    pub fn push(&mut self, item: InfoEntry<'a>) -> Result<(), (InfoEntry<'a>, Memory)>
+        ensures ok { OnOk result (self.new ≡ self.old ++ item.entry ∷ []) }
+        ensures err { IfErr result (λ refused. refused.0 ≡ item.entry) }
         ensures same { OnErr result (self.new ≡ self.old) }
     {
         self.entries.push(item)
     }
 
     /// The entries, in their order.
-    pub(crate) fn as_slice(&self) -> &[InfoEntry]
+    pub(crate) fn as_slice(&self) -> &[InfoEntry<'a>]
         ensures value { result.now ≡ self.now }
         ensures some { 0 < length result.now }
     {

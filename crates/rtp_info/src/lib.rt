@@ -18,4 +18,4 @@ pub use group::LABEL_DIGITS;
 pub use info::Info;
 pub use parameter::{LAST_RTPTIME, LAST_SEQ, RTPTIME_DIGITS, SEQ_DIGITS};
 pub use read::read_two;
-pub use write::write_one;
+pub use write::{USUAL_FIELD, push_entry, write_one};

@@ -1,5 +1,5 @@
 //! Reading an RTP-Info field of RTSP 2.0.
-ghost use Rattle.std.specs.Prelude.{[], ◌∷◌, option_map};
+ghost use Rattle.std.specs.Prelude.{◌≡◌, [], ◌∷◌, option_map};
 ghost use Rattle.std.specs.Option.{ok_or};
 ghost use Rattle.gate_bytes.specs.Outcomes.{UnlessMemory};
 ghost use Rattle.rtp_info.specs.Specs.{spec_of};
@@ -8,12 +8,12 @@ ghost use Rattle.rtp_info.specs.Infos.{info_of, info_refusal};
 use crate::part::first_part;
 use crate::spec::read_spec;
 use crate::{Info, InfoEntry, InfoFault};
-use gate_bytes::{Text, trim};
+use gate_bytes::trim;
 use std::alloc::Global;
 
 /// What an RTP-Info field says of each stream, in its order: specs with commas between them. Of each
 /// spec the first group counts, and in it the first `seq` and the first `rtptime` (RFC 7826, 18.45).
-pub fn read_two(alloc: Global, value: &[u8]) -> Result<Info, InfoFault>
+pub fn read_two(alloc: Global, value: &[u8]) -> Result<Info<'_>, InfoFault>
     ensures { UnlessMemory info_refusal result (ok_or (info_of value.now) InfoFault.Grammar) }
 {
     let (first, more) = first_part(b',', value);
@@ -24,7 +24,7 @@ pub fn read_two(alloc: Global, value: &[u8]) -> Result<Info, InfoFault>
     let mut left = more;
     while let Some(rest) = left {
         let (spec, more) = first_part(b',', rest);
-        let entry = match read_entry(alloc, trim(spec)) {
+        let entry = match read_entry(trim(spec)) {
             Ok(entry) => entry,
             Err(fault) => return Err(fault),
         };
@@ -37,26 +37,22 @@ pub fn read_two(alloc: Global, value: &[u8]) -> Result<Info, InfoFault>
 }
 
 /// The list of the one entry that a spec says.
-fn read_first(alloc: Global, spec: &[u8]) -> Result<Info, InfoFault>
+fn read_first(alloc: Global, spec: &[u8]) -> Result<Info<'_>, InfoFault>
     ensures { UnlessMemory info_refusal result
         (ok_or (option_map (λ entry. entry ∷ []) (spec_of spec.now)) InfoFault.Grammar) }
 {
-    match Info::of(alloc, read_entry(alloc, spec)?) {
+    match Info::of(alloc, read_entry(spec)?) {
         Ok(info) => Ok(info),
         Err(_) => Err(InfoFault::Memory),
     }
 }
 
 /// The entry that a spec says.
-fn read_entry(alloc: Global, spec: &[u8]) -> Result<InfoEntry, InfoFault>
-    ensures { UnlessMemory info_refusal result (ok_or (spec_of spec.now) InfoFault.Grammar) }
+fn read_entry(spec: &[u8]) -> Result<InfoEntry<'_>, InfoFault>
+    ensures { result ≡ ok_or (spec_of spec.now) InfoFault.Grammar }
 {
     match read_spec(spec) {
-        Some(spec) => Ok(InfoEntry {
-            url: Text::copy(alloc, spec.url)?,
-            seq: spec.seq,
-            rtptime: spec.rtptime,
-        }),
+        Some(entry) => Ok(entry),
         None => Err(InfoFault::Grammar),
     }
 }

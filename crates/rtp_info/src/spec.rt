@@ -1,23 +1,15 @@
 //! A spec: how an RTP-Info field of RTSP 2.0 spells one entry.
-ghost use Rattle.std.specs.Prelude.{◌≡◌, option_map};
+ghost use Rattle.std.specs.Prelude.{◌≡◌};
 ghost use Rattle.std.specs.List.{list_all};
 ghost use Rattle.rtp_info.specs.Specs.{is_url_byte, is_url, spec_of};
-ghost use Rattle.rtp_info.specs.Views.{spec_seen};
 
+use crate::InfoEntry;
 use crate::group::read_groups;
 use gate_bytes::split_once;
 
-/// What a spec says, with its URI where it stands in it.
-#[derive(Clone, Copy)]
-pub(crate) struct Spec<'a> {
-    pub(crate) url: &'a [u8],
-    pub(crate) seq: Option<u16>,
-    pub(crate) rtptime: Option<u32>,
-}
-
 /// What a spec says: `url=`, a URI in double quotes, and groups.
-pub(crate) fn read_spec(text: &[u8]) -> Option<Spec<'_>>
-    ensures { option_map spec_seen result ≡ spec_of text.now }
+pub(crate) fn read_spec(text: &[u8]) -> Option<InfoEntry<'_>>
+    ensures { result ≡ spec_of text.now }
 {
     let (name, quoted) = split_once(b'"', text)?;
     if name != b"url=".as_slice() {
@@ -28,7 +20,7 @@ pub(crate) fn read_spec(text: &[u8]) -> Option<Spec<'_>>
         return None;
     }
     let noted = read_groups(groups)?;
-    Some(Spec {
+    Some(InfoEntry {
         url,
         seq: noted.seq,
         rtptime: noted.rtptime,
@@ -42,11 +34,16 @@ fn is_url(text: &[u8]) -> bool
     !text.is_empty() && has_url_bytes_alone(text)
 }
 
-/// Whether each byte of a text may stand in a URI.
+/// Whether each byte of a text may stand in a URI. It looks at all of them and stops at none, so that many are looked at at
+/// once.
 fn has_url_bytes_alone(text: &[u8]) -> bool
     ensures { result ≡ list_all is_url_byte text.now }
 {
-    text.iter().all(|byte| is_url_byte(*byte))
+    let mut alone = true;
+    for byte in text {
+        alone &= is_url_byte(*byte);
+    }
+    alone
 }
 
 /// Whether a byte may stand in a URI: it is printed, and is no double quote, comma or semicolon.

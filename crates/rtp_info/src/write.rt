@@ -7,12 +7,12 @@ use crate::{Info, InfoEntry};
 use gate_bytes::{Memory, Text, push_decimal};
 use std::alloc::Global;
 
-/// For how many bytes a text has room at once (this project's own): more than one stream mostly takes.
-const USUAL_FIELD: usize = 96;
+/// For how many bytes the text of a field has room at once (this project's own): more than one stream mostly takes.
+pub const USUAL_FIELD: usize = 96;
 
 /// The text of an RTP-Info field (RFC 2326, 12.33): for each stream `url=`, and then `;seq=` and
 /// `;rtptime=` where they are known; a comma between two streams.
-pub fn write_one(alloc: Global, info: &Info) -> Result<Text, Memory>
+pub fn write_one(alloc: Global, info: &Info<'_>) -> Result<Text, Memory>
     ensures { IfOk result (λ text. text ≡ info_text info.now) }
 {
     let entries = info.as_slice();
@@ -23,7 +23,7 @@ pub fn write_one(alloc: Global, info: &Info) -> Result<Text, Memory>
 }
 
 /// Appends further entries, each behind a comma.
-fn push_further(text: &mut Text, entries: &[InfoEntry]) -> Result<(), Memory>
+fn push_further(text: &mut Text, entries: &[InfoEntry<'_>]) -> Result<(), Memory>
     ensures { OnOk result (text.new ≡ text.old ++ flat_map further_text entries.now) }
 {
     for entry in entries {
@@ -33,12 +33,12 @@ fn push_further(text: &mut Text, entries: &[InfoEntry]) -> Result<(), Memory>
     Ok(())
 }
 
-/// Appends an entry.
-fn push_entry(text: &mut Text, entry: &InfoEntry) -> Result<(), Memory>
+/// Appends an entry (RFC 2326, 12.33). A comma stands between two, which is not written here.
+pub fn push_entry(text: &mut Text, entry: &InfoEntry<'_>) -> Result<(), Memory>
     ensures { OnOk result (text.new ≡ text.old ++ entry_text entry.now) }
 {
     text.push_slice(b"url=")?;
-    text.push_slice(entry.url.as_bytes())?;
+    text.push_slice(entry.url)?;
     push_seq(text, entry.seq)?;
     push_time(text, entry.rtptime)
 }

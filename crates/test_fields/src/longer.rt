@@ -84,13 +84,14 @@ fn push_pair(answer: &mut CaseAnswer, pair: &Pair) {
 
 /// A list of two entries that is made of words: two URLs, and the sequence number of the second.
 fn tell_made(mut words: Words<'_>, answer: &mut CaseAnswer) {
+    let (first, second) = (words.next(answer), words.next(answer));
     let first = InfoEntry {
-        url: words.next(answer),
+        url: first.as_bytes(),
         seq: None,
         rtptime: None,
     };
     let second = InfoEntry {
-        url: words.next(answer),
+        url: second.as_bytes(),
         seq: Some(words.small(answer)),
         rtptime: None,
     };
@@ -101,7 +102,11 @@ fn tell_made(mut words: Words<'_>, answer: &mut CaseAnswer) {
 }
 
 /// The list of two entries.
-fn info_of(alloc: Global, first: InfoEntry, second: InfoEntry) -> Result<Info, Memory> {
+fn info_of<'a>(
+    alloc: Global,
+    first: InfoEntry<'a>,
+    second: InfoEntry<'a>,
+) -> Result<Info<'a>, Memory> {
     match Info::of(alloc, first) {
         Ok(mut info) => match info.push(second) {
             Ok(()) => Ok(info),
@@ -112,7 +117,7 @@ fn info_of(alloc: Global, first: InfoEntry, second: InfoEntry) -> Result<Info, M
 }
 
 /// The entries of a list in their order, and how it is written.
-fn tell_info(alloc: Global, info: &Info, answer: &mut CaseAnswer) {
+fn tell_info(alloc: Global, info: &Info<'_>, answer: &mut CaseAnswer) {
     for place in 0..info.len() {
         push_entry(answer, info.at(place));
     }
@@ -121,8 +126,8 @@ fn tell_info(alloc: Global, info: &Info, answer: &mut CaseAnswer) {
 }
 
 /// Tells an entry.
-fn push_entry(answer: &mut CaseAnswer, entry: &InfoEntry) {
-    push_bytes(answer, entry.url.as_bytes());
+fn push_entry(answer: &mut CaseAnswer, entry: &InfoEntry<'_>) {
+    push_bytes(answer, entry.url);
     push_named(answer, b" seq ", entry.seq.map(u64::from));
     push_named(answer, b" rtptime ", entry.rtptime.map(u64::from));
     answer.push(b", ");

@@ -1,9 +1,11 @@
 -- What is told of streams is a value that stands in one line.
-use Rattle.std.proofs.Common.{◌≡◌, ℕ, ◌<◌, ◌≤◌, ◌^◌, Bool, true, false, cond, not, ◌==◌, ◌&&◌, nat_le, List, [], ◌∷◌, ◌++◌, length, Option, None, Some, IfSome, flat_map, refl, arith}
+use Rattle.std.proofs.Common.{◌≡◌, ℕ, ◌<◌, ◌≤◌, ◌^◌, Bool, true, false, cond, not, ◌==◌, ◌&&◌, nat_le, List, [], ◌∷◌, ◌++◌, length, Option, None, Some, IfSome, flat_map, refl, sym, ◌∙◌, ap, append_assoc, arith}
 use Rattle.std.specs.Prelude.{codes, decimal, option_map, option_and_then}
 use Rattle.std.specs.List.{list_all}
 use Rattle.std.specs.Str.{bytes_eq}
 use Rattle.std.proofs.lemmas.Bool.{and_parts}
+use Rattle.std.proofs.lemmas.List.{append-nil}
+use Rattle.std.proofs.lemmas.List.Concat.{flat_map-append}
 use Rattle.gate_bytes.specs.Tokens.{is_token, trimmed}
 use Rattle.gate_bytes.specs.Places.{cut_at, parts_at}
 use Rattle.gate_bytes.specs.Numbers.{number_in}
@@ -175,3 +177,10 @@ told_with from to (Some entries) base h = entries_visible from to entries base h
 pub info_visible : (from to value : List ℕ) → is_visible to ≡ true →
     IfSome (option_map (λ entries. info_text (swapped_entries from to entries)) (info_of value)) (λ text. is_visible text ≡ true)
 info_visible from to value base = told_with from to (info_of value) base (info_seen value)
+
+-- An entry more stands behind a comma.
+pub info_more : (entries : List InfoEntry) (entry : InfoEntry) → 0 < length entries → info_text (entries ++ entry ∷ []) ≡ info_text entries ++ further_text entry
+info_more [] entry some = absurd (omega (arith, some))
+info_more (first ∷ more) entry some =
+    ap (λ (l : List ℕ). entry_text first ++ l) (flat_map-append further_text more (entry ∷ []) ∙ ap (λ (l : List ℕ). flat_map further_text more ++ l) (append-nil (further_text entry)))
+    ∙ sym (append_assoc (entry_text first) (flat_map further_text more) (further_text entry))

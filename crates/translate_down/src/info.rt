@@ -1,9 +1,10 @@
 //! The field RTP-Info for a player.
-ghost use Rattle.std.specs.Prelude.{◌≡◌, [], ◌∷◌, IfOk};
+ghost use Rattle.std.specs.Prelude.{◌≡◌, ◌++◌, IfOk, OnOk};
+ghost use Rattle.rtp_info.specs.InfoText.{entry_text, info_text};
 ghost use Rattle.translate_down.specs.Infos.{swapped_entry, swapped_entries, info_told};
 
 use gate_bytes::{Memory, Text};
-use rtp_info::{Info, InfoEntry, InfoFault, read_two, write_one};
+use rtp_info::{Info, InfoEntry, InfoFault, USUAL_FIELD, push_entry, read_two};
 use rtsp_uri::{Bases, swap_authority};
 use std::alloc::Global;
 
@@ -13,48 +14,43 @@ pub(crate) fn info_told(alloc: Global, bases: &Bases, value: &[u8]) -> Result<Op
     ensures { IfOk result (λ told. told ≡ info_told bases.now.up.text bases.now.front.text value.now) }
 {
     match read_two(alloc, value) {
-        Ok(info) => {
-            let told = swapped(alloc, bases, &info)?;
-            Ok(Some(write_one(alloc, &told)?))
-        }
+        Ok(info) => Ok(Some(swapped(alloc, bases, &info)?)),
         Err(InfoFault::Grammar) => Ok(None),
         Err(InfoFault::Memory) => Err(Memory),
     }
 }
 
-/// What is said of each stream, under the player's address.
-fn swapped(alloc: Global, bases: &Bases, info: &Info) -> Result<Info, Memory>
-    ensures { IfOk result (λ told. told ≡ swapped_entries bases.now.up.text bases.now.front.text info.now) }
+/// The text of what is said of each stream, under the player's address.
+fn swapped(alloc: Global, bases: &Bases, info: &Info<'_>) -> Result<Text, Memory>
+    ensures { IfOk result (λ text.
+        text ≡ info_text (swapped_entries bases.now.up.text bases.now.front.text info.now)) }
 {
     let count = info.len();
-    let mut told = first(alloc, swapped_entry(alloc, bases, info.at(0))?)?;
+    let mut text = Text::with_room(alloc, USUAL_FIELD)?;
+    push_swapped(alloc, &mut text, bases, info.at(0))?;
     for place in 1..count {
-        let entry = swapped_entry(alloc, bases, info.at(place))?;
-        match told.push(entry) {
-            Ok(()) => {}
-            Err((_, memory)) => return Err(memory),
-        }
+        text.push_slice(b",")?;
+        push_swapped(alloc, &mut text, bases, info.at(place))?;
     }
-    Ok(told)
+    Ok(text)
 }
 
-/// The list of one entry.
-fn first(alloc: Global, entry: InfoEntry) -> Result<Info, Memory>
-    ensures { IfOk result (λ info. info ≡ entry ∷ []) }
+/// Appends what is said of a stream, under the player's address.
+fn push_swapped(
+    alloc: Global,
+    text: &mut Text,
+    bases: &Bases,
+    entry: &InfoEntry<'_>,
+) -> Result<(), Memory>
+    ensures { OnOk result
+        (text.new
+        ≡ text.old ++ entry_text (swapped_entry bases.now.up.text bases.now.front.text entry.now)) }
 {
-    match Info::of(alloc, entry) {
-        Ok(info) => Ok(info),
-        Err((_, memory)) => Err(memory),
-    }
-}
-
-/// What is said of a stream, under the player's address.
-fn swapped_entry(alloc: Global, bases: &Bases, entry: &InfoEntry) -> Result<InfoEntry, Memory>
-    ensures { IfOk result (λ told. told ≡ swapped_entry bases.now.up.text bases.now.front.text entry.now) }
-{
-    Ok(InfoEntry {
-        url: swap_authority(alloc, &bases.up, &bases.front, entry.url.as_bytes())?,
+    let url = swap_authority(alloc, &bases.up, &bases.front, entry.url)?;
+    let told = InfoEntry {
+        url: url.as_bytes(),
         seq: entry.seq,
         rtptime: entry.rtptime,
-    })
+    };
+    push_entry(text, &told)
 }
