@@ -32,13 +32,17 @@ impl<'a> MarkedLines<'a> {
         ensures { option_map (λ value. value.now) result
             ≡ field_of (headers_marked self.entry.now.lines.now self.entry.now.marks.now) name.now }
     {
-        let mut rest = self.lines;
+        let mut at = 0;
         for mark in self.marks {
             let (line, named) = (usize::from(mark.line), usize::from(mark.name));
-            if eq_fold(before(rest, named), name) {
-                return Some(trim(after(before(rest, line), named + 1)));
+            // Only where a name is as long is the line looked at.
+            if named == name.len() {
+                let rest = after(self.lines, at);
+                if eq_fold(before(rest, named), name) {
+                    return Some(trim(after(before(rest, line), named + 1)));
+                }
             }
-            rest = after(rest, line + 2);
+            at += line + 2;
         }
         None
     }
