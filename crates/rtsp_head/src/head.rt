@@ -56,6 +56,7 @@ impl<'a> Head<'a> {
     }
 
     /// The value of the first header of a name, without ASCII case (RFC 7826, 5.2).
+    #[inline(always)]
     pub fn field(&self, name: &[u8]) -> Option<&[u8]>
         ensures value { option_map (λ value. value.now) result ≡ field_of self.now.headers name.now }
         ensures writable { CanBeWritten self.now.start self.now.headers
@@ -65,6 +66,7 @@ impl<'a> Head<'a> {
     }
 
     /// The same where a condition holds. Nothing is looked up where it doesn't.
+    #[inline(always)]
     pub fn field_where(&self, holds: bool, name: &[u8]) -> Option<&[u8]>
         ensures { option_map (λ value. value.now) result
             ≡ said_where holds (field_of self.now.headers name.now) }
@@ -74,6 +76,7 @@ impl<'a> Head<'a> {
 
     /// The same as a value that lives as long as the head's bytes: lent by them, and a copy where it goes
     /// on over several lines.
+    #[inline(always)]
     pub fn value_where(
         &self,
         alloc: Global,

@@ -28,6 +28,7 @@ pub(crate) enum HeadFields<'a> {
 
 impl<'a> MarkedLines<'a> {
     /// The value of the first header of a name, without ASCII case (RFC 7826, 5.2).
+    #[inline(never)]
     fn field(&self, name: &[u8]) -> Option<&'a [u8]>
         ensures { option_map (λ value. value.now) result
             ≡ field_of (headers_marked self.entry.now.lines.now self.entry.now.marks.now) name.now }
@@ -52,6 +53,7 @@ impl<'a> HeadFields<'a> {
     ghost use Rattle.rtsp_head.specs.Views.{fields_seen};
 
     /// The value of the first header of a name, without ASCII case (RFC 7826, 5.2).
+    #[inline(always)]
     pub(crate) fn field(&self, name: &[u8]) -> Option<&[u8]>
         ensures { option_map (λ value. value.now) result ≡ field_of (fields_seen self.now) name.now }
     {

@@ -163,7 +163,8 @@ impl<'a> Headers<'a> {
         None
     }
 
-    /// Its bytes.
+    /// Its bytes. It is not inlined, since few heads that are looked into are listed.
+    #[inline(never)]
     pub(crate) fn field(&self, name: &[u8]) -> Option<&[u8]>
         ensures { option_map (λ value. value.now) result ≡ field_of self.now name.now }
     {

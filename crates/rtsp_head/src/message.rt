@@ -107,7 +107,7 @@ pub fn push_number(text: &mut Text, number: Option<u64>) -> Result<(), Memory>
     ensures err { OnErr result (take (length text.old) text.new ≡ text.old) }
 {
     match number {
-        Some(number) => push_numeric(text, b"CSeq", number),
+        Some(number) => push_numeric(text, b"CSeq: ", number),
         None => Ok(()),
     }
 }
@@ -122,18 +122,16 @@ fn push_length(text: &mut Text, body: &[u8]) -> Result<(), Memory>
     if body.is_empty() {
         return Ok(());
     }
-    push_numeric(text, b"Content-Length", body.len() as u64)
+    push_numeric(text, b"Content-Length: ", body.len() as u64)
 }
 
-/// Appends a header whose value is a number.
+/// Appends a line with this front and a number.
 #[tactic(auto, using(gate_bytes::proofs::FrontLemmas::front_kept))]
-fn push_numeric(text: &mut Text, name: &[u8], number: u64) -> Result<(), Memory>
-    ensures ok { OnOk result
-        (text.new ≡ text.old ++ ended (header_text (record { name = name.now; value = decimal number }))) }
+fn push_numeric(text: &mut Text, front: &[u8], number: u64) -> Result<(), Memory>
+    ensures ok { OnOk result (text.new ≡ text.old ++ ended (front.now ++ decimal number)) }
     ensures err { OnErr result (take (length text.old) text.new ≡ text.old) }
 {
-    text.push_slice(name)?;
-    text.push_slice(b": ")?;
+    text.push_slice(front)?;
     push_decimal(text, number)?;
     text.push_slice(b"\r\n")
 }
