@@ -52,7 +52,7 @@ impl PlannedStep {
         &mut self,
         alloc: Global,
         sessions: &mut [Option<SessionView<'a, 'v>>],
-        course: Course<'v>,
+        course: Course<'a>,
         item: &'a Item,
     ) -> Result<(), Memory>
         requires few { length sessions.old ≤ MOST_SESSIONS }
@@ -118,7 +118,7 @@ impl PlannedStep {
 fn judge<'a, 'v>(
     alloc: Global,
     sessions: &'v [Option<SessionView<'a, 'v>>],
-    course: Course<'v>,
+    course: Course<'a>,
     full: bool,
     item: &'a Item,
 ) -> Result<Decision<'a>, Memory>
@@ -169,7 +169,7 @@ fn count_play(sessions: &mut [Option<SessionView<'_, '_>>], place: Option<u8>)
 pub(crate) fn treat_waiting<'a, 'v>(
     alloc: Global,
     sessions: &mut [Option<SessionView<'a, 'v>>],
-    course: Course<'v>,
+    course: Course<'a>,
     slot: &'a Slot,
     plan: &mut PlannedStep,
 ) -> Result<(), Memory>

@@ -6,6 +6,7 @@ use crate::track::{DrillTrack, ID_BASE};
 use gate_bytes::{Memory, Text, after, push_decimal};
 use head_two::{Request2, write_request};
 use rtsp_head::{Headers, push_message};
+use rtsp_uri::UriParts;
 use std::alloc::Global;
 
 /// One field.
@@ -74,7 +75,7 @@ fn status_value(alloc: Global, number: u32) -> Result<Text, Memory>
 /// The request that tells the end of the PLAY with this number.
 fn end_request<'a>(
     alloc: Global,
-    uri: &[u8],
+    uri: &'a [u8],
     id: &'a [u8],
     number: u32,
 ) -> Result<Request2<'a>, Memory>
@@ -85,7 +86,7 @@ fn end_request<'a>(
     headers.push_text(b"Request-Status", Some(status_value(alloc, number)?))?;
     Ok(Request2 {
         method: b"PLAY_NOTIFY",
-        uri: Text::copy(alloc, uri)?,
+        uri: UriParts::whole(uri),
         headers,
         body: b"",
     })

@@ -11,6 +11,7 @@ mod cut_uri;
 mod description;
 mod grammar;
 mod laws;
+mod parts;
 mod swap;
 mod word;
 
@@ -22,5 +23,6 @@ pub use laws::{
     other_descriptions_stay, other_texts_stay, plain_words_are_accepted, swapped_uris_come_back,
     swapped_uris_have_the_authority, uris_are_spelled,
 };
+pub use parts::UriParts;
 pub use swap::{DEFAULT_PORT, swap_authority, swap_in_uri};
 pub use word::{BaseFault, LONGEST_BASE, LONGEST_BASE_TEXT, read_base};

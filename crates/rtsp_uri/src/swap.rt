@@ -7,6 +7,7 @@ ghost use Rattle.rtsp_uri.specs.Uris.{scheme};
 use crate::base::Base;
 use crate::cut_uri::CutUri;
 use crate::grammar::{SCHEME, SCHEME_BYTES};
+use crate::parts::UriParts;
 use gate_bytes::{Memory, Text, after, before, eq_fold};
 use std::alloc::Global;
 
@@ -21,24 +22,21 @@ pub const DEFAULT_PORT: u16 = 554;
 pub fn swap_authority(alloc: Global, from: &Base, to: &Base, uri: &[u8]) -> Result<Text, Memory>
     ensures { IfOk result (λ text. text ≡ swapped from.now.text to.now.text uri.now) }
 {
-    swap_in_uri(alloc, from, to, &CutUri::new(uri))
+    swap_in_uri(from, to, &CutUri::new(uri)).to_text(alloc)
 }
 
-/// The same of a text that was cut before.
-pub fn swap_in_uri(alloc: Global, from: &Base, to: &Base, uri: &CutUri<'_>) -> Result<Text, Memory>
-    ensures { IfOk result (λ text. text ≡ swapped from.now.text to.now.text uri.now) }
+/// The same of a text that was cut before, in its parts.
+pub fn swap_in_uri<'a>(from: &Base, to: &'a Base, uri: &CutUri<'a>) -> UriParts<'a>
+    ensures { result ≡ swapped from.now.text to.entry.now.text uri.entry.now }
 {
-    let Some(rest) = rest_behind(from, uri) else {
-        return Text::copy(alloc, uri.text());
-    };
-    let room = SCHEME_BYTES
-        .saturating_add(to.text.len())
-        .saturating_add(rest.len());
-    let mut text = Text::with_room(alloc, room)?;
-    text.push_slice(SCHEME)?;
-    text.push_slice(to.text.as_bytes())?;
-    text.push_slice(rest)?;
-    Ok(text)
+    match rest_behind(from, uri) {
+        Some(rest) => UriParts {
+            scheme: SCHEME,
+            authority: to.text.as_bytes(),
+            rest,
+        },
+        None => UriParts::whole(uri.text()),
+    }
 }
 
 /// What follows the authority of a URI, where that is the authority of the base.

@@ -6,6 +6,7 @@ use crate::content::{content_of, item_of};
 use crate::one::push_body;
 use crate::words::{Words, some_of};
 use head_two::{Reply2, Request2, read_ask, read_reply, write_answer, write_request};
+use rtsp_uri::UriParts;
 use test_text::CaseAnswer;
 
 /// The reply that a stream begins with, or its fault.
@@ -49,7 +50,7 @@ pub fn tell_request(mut words: Words<'_>, answer: &mut CaseAnswer) {
     let content = content_of(words.alloc, lines.as_bytes(), answer);
     let request = Request2 {
         method: method.as_bytes(),
-        uri,
+        uri: UriParts::whole(uri.as_bytes()),
         headers: content.headers,
         body: content.body,
     };

@@ -10,7 +10,7 @@ use crate::decision::Decision;
 use crate::field::{SaidFields, scale_of, session_said};
 use crate::rule::Admission;
 use crate::subject::Subject;
-use crate::upward::{asked_of, request_up};
+use crate::upward::{UriUp, asked_of, request_up};
 use gate_bytes::{Memory, Text};
 use head_one::Request1;
 use rtsp_range::{Range, write};
@@ -23,17 +23,17 @@ pub(crate) fn serve<'a>(
     subject: &Subject<'_, 'a, '_>,
     request: &Request1<'a>,
     said: &SaidFields<'_>,
-    uri: Text,
+    uri: UriUp<'a>,
     admission: Admission,
 ) -> Result<Decision<'a>, Memory>
     requires { AdmitsWritable admission }
     ensures { IfOk result (λ decision.
-        decision ≡ serve (judged_seen subject.now) request.now (said_seen said.now) uri admission) }
+        decision ≡ serve (judged_seen subject.now) request.now (said_seen said.now) uri.entry admission) }
 {
     match admission {
         Admission::SetUp(pair) => {
-            let asked = asked_of(alloc, subject, request, said, uri.as_bytes())?;
-            let up = request_up(alloc, subject, request, said, uri, None)?;
+            let asked = asked_of(subject, request, said, uri.text);
+            let up = request_up(alloc, subject, request, said, uri.parts, None)?;
             Ok(Decision::Setup(up, asked, pair))
         }
         Admission::Played(range) => play(alloc, subject, request, said, uri, range),
@@ -47,13 +47,13 @@ fn play<'a>(
     subject: &Subject<'_, 'a, '_>,
     request: &Request1<'a>,
     said: &SaidFields<'_>,
-    uri: Text,
+    uri: UriUp<'a>,
     range: Option<Range>,
 ) -> Result<Decision<'a>, Memory>
     requires { IfSome range (λ one. IsTrue (can_be_written one)) }
     ensures { IfOk result (λ decision.
         decision
-        ≡ play_in (judged_seen subject.now).state (judged_seen subject.now) request.now (said_seen said.now) uri range) }
+        ≡ play_in (judged_seen subject.now).state (judged_seen subject.now) request.now (said_seen said.now) uri.entry range) }
 {
     match subject.state {
         State::Playing => play_on(alloc, subject, request, said, uri, range),
@@ -67,15 +67,15 @@ fn forward<'a>(
     subject: &Subject<'_, 'a, '_>,
     request: &Request1<'a>,
     said: &SaidFields<'_>,
-    uri: Text,
+    uri: UriUp<'a>,
     range: Option<Range>,
 ) -> Result<Decision<'a>, Memory>
     requires { IfSome range (λ one. IsTrue (can_be_written one)) }
     ensures { IfOk result (λ decision.
-        decision ≡ forward (judged_seen subject.now) request.now (said_seen said.now) uri range) }
+        decision ≡ forward (judged_seen subject.now) request.now (said_seen said.now) uri.entry range) }
 {
-    let asked = asked_of(alloc, subject, request, said, uri.as_bytes())?;
-    let up = request_up(alloc, subject, request, said, uri, range)?;
+    let asked = asked_of(subject, request, said, uri.text);
+    let up = request_up(alloc, subject, request, said, uri.parts, range)?;
     Ok(Decision::Forward(up, asked))
 }
 
@@ -86,12 +86,12 @@ fn play_on<'a>(
     subject: &Subject<'_, 'a, '_>,
     request: &Request1<'a>,
     said: &SaidFields<'_>,
-    uri: Text,
+    uri: UriUp<'a>,
     range: Option<Range>,
 ) -> Result<Decision<'a>, Memory>
     requires { IfSome range (λ one. IsTrue (can_be_written one)) }
     ensures { IfOk result (λ decision.
-        decision ≡ play_on (judged_seen subject.now) request.now (said_seen said.now) uri range) }
+        decision ≡ play_on (judged_seen subject.now) request.now (said_seen said.now) uri.entry range) }
 {
     let session = session_said(subject, said);
     let Some(range) = range else {
@@ -102,7 +102,7 @@ fn play_on<'a>(
     let text = play_text(alloc, request.cseq, session, Some(written))?;
     let scale = Text::copied(alloc, scale_of(request))?;
     let play = Play {
-        uri,
+        uri: uri.text,
         range,
         scale,
         place: subject.place,

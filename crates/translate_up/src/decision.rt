@@ -91,7 +91,7 @@ fn decide_for_server<'a>(
     let said = SaidFields::read(view.sessions, request);
     let subject = Subject::named(view, said.session);
     let uri = uri_up(alloc, &subject, &request.uri)?;
-    match check_rules(&subject, request.method, &said, uri.as_bytes()) {
+    match check_rules(&subject, request.method, &said, uri.text.as_bytes()) {
         Ok(admission) => serve(alloc, &subject, request, &said, uri, admission),
         Err(code) => Ok(Decision::Answer(answer(alloc, code, Some(request.cseq))?)),
     }

@@ -4,11 +4,12 @@ ghost use Rattle.std.specs.Option.{option_copied};
 ghost use Rattle.rtsp_head.specs.Optional.{field_headers};
 ghost use Rattle.translate_up.specs.QueuedPlay.{play_fields_up, play_up};
 
-use gate_bytes::{Memory, Text};
+use gate_bytes::Memory;
 use head_two::Request2;
 use rtsp_head::Headers;
 use rtsp_range::write;
 use rtsp_small::Method;
+use rtsp_uri::UriParts;
 use session_one::Play;
 use std::alloc::Global;
 
@@ -22,7 +23,7 @@ pub fn play_up<'a>(
 {
     Ok(Request2 {
         method: Method::Play.name(),
-        uri: Text::copy(alloc, play.uri.as_bytes())?,
+        uri: UriParts::whole(play.uri.as_bytes()),
         headers: play_headers(alloc, session, play)?,
         body: b"",
     })

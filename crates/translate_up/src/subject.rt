@@ -26,7 +26,7 @@ pub(crate) struct Subject<'v, 's, 'a> {
     /// How many PLAYs wait.
     pub(crate) queued: usize,
     /// What it is about, or else what was described, where one of them is known.
-    pub(crate) control: Option<&'v [u8]>,
+    pub(crate) control: Option<&'s [u8]>,
     /// The connection.
     pub(crate) view: &'v View<'s, 'a>,
 }

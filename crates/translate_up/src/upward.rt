@@ -18,32 +18,57 @@ use head_two::Request2;
 use rtsp_head::{FieldValue, Headers, said_where};
 use rtsp_range::{Range, write};
 use rtsp_small::{Method, is_scale};
-use rtsp_uri::{CutUri, swap_in_uri};
+use rtsp_uri::{CutUri, UriParts, swap_in_uri};
 use session_one::Asked;
 use std::alloc::Global;
+use std::marker::Model;
 
 /// The formats of times that players read (RFC 7826, 18.5).
 const UNITS: &[u8] = b"npt, smpte, smpte-30-drop, smpte-25, clock";
 
+/// The URI with which a request goes up. Contracts see it.
+#[derive(Drop)]
+pub(crate) struct UriUp<'a> {
+    /// In its parts, of which the request is written.
+    pub(crate) parts: UriParts<'a>,
+    /// As one text, which is kept.
+    pub(crate) text: Text,
+}
+
+impl<'a> Model for UriUp<'a> {
+    ghost use Rattle.std.specs.Prelude.{◌≡◌, ℕ, List};
+
+    ghost Value = { List ℕ };
+
+    ghost view = { λ uri. uri.text };
+
+    ghost invariant = { λ uri. uri.parts ≡ uri.text };
+}
+
 /// The URI with the server's authority in the place of the gateway's. What is asked of the server
 /// itself is asked of what the session is about, or else of what was described, where one of them is
 /// known.
-pub(crate) fn uri_up(
+pub(crate) fn uri_up<'a>(
     alloc: Global,
-    subject: &Subject<'_, '_, '_>,
-    uri: &CutUri<'_>,
-) -> Result<Text, Memory>
-    ensures { IfOk result (λ text. text ≡ uri_up (judged_seen subject.now) uri.now) }
+    subject: &Subject<'_, 'a, '_>,
+    uri: &CutUri<'a>,
+) -> Result<UriUp<'a>, Memory>
+    ensures { IfOk result (λ up. up ≡ uri_up (judged_seen subject.now) uri.now) }
+{
+    let parts = parts_up(subject, uri);
+    let text = parts.to_text(alloc)?;
+    Ok(UriUp { parts, text })
+}
+
+/// The same in its parts.
+fn parts_up<'a>(subject: &Subject<'_, 'a, '_>, uri: &CutUri<'a>) -> UriParts<'a>
+    ensures { result ≡ uri_up (judged_seen subject.now) uri.now }
 {
     if uri.text() == b"*".as_slice() {
-        Text::copy(alloc, subject.control.unwrap_or(b"*"))
+        UriParts::whole(subject.control.unwrap_or(b"*"))
     } else {
-        swap_in_uri(
-            alloc,
-            &subject.view.bases.front,
-            &subject.view.bases.up,
-            uri,
-        )
+        let bases = subject.view.bases;
+        swap_in_uri(&bases.front, &bases.up, uri)
     }
 }
 
@@ -54,12 +79,12 @@ pub(crate) fn request_up<'a>(
     subject: &Subject<'_, 'a, '_>,
     request: &Request1<'a>,
     said: &SaidFields<'_>,
-    uri: Text,
+    uri: UriParts<'a>,
     range: Option<Range>,
 ) -> Result<Request2<'a>, Memory>
     requires { IfSome range (λ one. IsTrue (can_be_written one)) }
     ensures { IfOk result (λ up.
-        up ≡ request_up (judged_seen subject.now) request.now (said_seen said.now) uri range) }
+        up ≡ request_up (judged_seen subject.now) request.now (said_seen said.now) uri.entry range) }
 {
     Ok(Request2 {
         method: method_up(request.method).name(),
@@ -71,21 +96,20 @@ pub(crate) fn request_up<'a>(
 
 /// What is kept of a request that goes up with this URI.
 pub(crate) fn asked_of(
-    alloc: Global,
     subject: &Subject<'_, '_, '_>,
     request: &Request1<'_>,
     said: &SaidFields<'_>,
-    uri: &[u8],
-) -> Result<Asked, Memory>
-    ensures { IfOk result (λ asked. asked ≡ asked_of (judged_seen subject.now) request.now (said_seen said.now) uri.now) }
+    uri: Text,
+) -> Asked
+    ensures { result ≡ asked_of (judged_seen subject.now) request.now (said_seen said.now) uri }
 {
-    Ok(Asked {
+    Asked {
         method: request.method,
         cseq: request.cseq,
         named: said.is_named(),
-        uri: Text::copy(alloc, uri)?,
+        uri,
         place: subject.place,
-    })
+    }
 }
 
 /// The method with which a request goes up. OPTIONS is then a SET_PARAMETER that sets nothing, which

@@ -25,7 +25,7 @@ returns-in-Ok c =
     let method : c.request.inside.method ≡ request.method = ap (λ (r : ClientRequest). r.method) c.request.view_is in
     IfOk-weaker c.serve.result _ _
     (λ decision serves. served_decides judged request (said_seen c.read-said.result) c.in_ok-uri.uri c.in-Ok.admission decision is_said uri
-    (c.in-Ok.ensures.checked ∙ ap (λ m. rules_checked judged m (said_seen c.read-said.result) c.as_bytes.result.now) method ∙ ap (λ u. rules_checked judged request.method (said_seen c.read-said.result) u) c.as_bytes.ensures)
+    (c.in-Ok.ensures.checked ∙ ap (λ m. rules_checked judged m (said_seen c.read-said.result) c.as_bytes.result.now) method ∙ ap (λ u. rules_checked judged request.method (said_seen c.read-said.result) u) (c.as_bytes.ensures ∙ c.uri.view_is))
     (ap (is_for_gateway request.method) c.read-said.ensures.said ∙ c.requires) serves ∙ ap (λ one. decide_request one request) same)
     c.serve.ensures
 
@@ -40,5 +40,5 @@ returns c =
     let method : c.request.inside.method ≡ request.method = ap (λ (r : ClientRequest). r.method) c.request.view_is in
     ap Answer (c.in_ok-answer-in-Err.ensures ∙ ap (λ (r : ClientRequest). own_answer c.in-Err.code (Some r.cseq) []) c.request.view_is)
     ∙ refused_decides judged request (said_seen c.read-said.result) c.in_ok-uri.uri c.in-Err.code is_said uri
-    (c.in-Err.ensures.checked ∙ ap (λ m. rules_checked judged m (said_seen c.read-said.result) c.as_bytes.result.now) method ∙ ap (λ u. rules_checked judged request.method (said_seen c.read-said.result) u) c.as_bytes.ensures)
+    (c.in-Err.ensures.checked ∙ ap (λ m. rules_checked judged m (said_seen c.read-said.result) c.as_bytes.result.now) method ∙ ap (λ u. rules_checked judged request.method (said_seen c.read-said.result) u) (c.as_bytes.ensures ∙ c.uri.view_is))
     ∙ ap (λ one. decide_request one request) same
