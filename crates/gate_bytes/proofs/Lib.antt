@@ -1,5 +1,6 @@
 pub mod DigitLemmas
 pub mod EndLemmas
+pub mod FoldLemmas
 pub mod FrontLemmas
 pub mod Measures
 pub mod PartLemmas

@@ -1,12 +1,30 @@
 //! Tokens, blanks and comparison without case.
-ghost use Rattle.std.specs.Prelude.{◌≡◌};
+ghost use Rattle.std.specs.Prelude.{◌≡◌, length};
 ghost use Rattle.gate_bytes.specs.Tokens.{is_token, is_blank, without_front, without_end, trimmed, equal_fold};
+
+use crate::{after, before};
 
 /// Whether two texts are equal without ASCII case.
 pub fn eq_fold(a: &[u8], b: &[u8]) -> bool
     ensures { result ≡ equal_fold a.now b.now }
 {
-    a.len() == b.len() && (a == b || a.eq_ignore_ascii_case(b))
+    a.len() == b.len() && (a == b || eq_fold_halves(a, b))
+}
+
+/// The same, where both have one length. The later half is looked at first: the names of headers rather share a front.
+fn eq_fold_halves(a: &[u8], b: &[u8]) -> bool
+    requires { length a.now ≡ length b.now }
+    ensures { result ≡ equal_fold a.now b.now }
+{
+    let half = a.len() / 2;
+    eq_fold_whole(after(a, half), after(b, half)) && eq_fold_whole(before(a, half), before(b, half))
+}
+
+/// The same by one walk from the front.
+fn eq_fold_whole(a: &[u8], b: &[u8]) -> bool
+    ensures { result ≡ equal_fold a.now b.now }
+{
+    a.eq_ignore_ascii_case(b)
 }
 
 /// Whether a text is a token: one or more letters, digits or bytes of ``!#$%&'*+-.^_`|~``
