@@ -1,7 +1,8 @@
 //! Where the headers of a head are looked up.
-ghost use Rattle.std.specs.Prelude.{◌≡◌, true, option_map, IfOk};
+ghost use Rattle.std.specs.Prelude.{◌≡◌, ◌≤◌, ◌<◌, true, length, option_map, IfOk, Some, None, if◌then◌else◌};
+ghost use Rattle.gate_bytes.specs.Tokens.{equal_fold};
 ghost use Rattle.rtsp_head.specs.Headers.{field_of};
-ghost use Rattle.rtsp_head.specs.Marks.{headers_marked, has_marked};
+ghost use Rattle.rtsp_head.specs.Marks.{header_marked, headers_marked, has_marked};
 
 use crate::marks::HeaderMark;
 use crate::{FieldValue, Headers};
@@ -28,25 +29,39 @@ pub(crate) enum HeadFields<'a> {
 
 impl<'a> MarkedLines<'a> {
     /// The value of the first header of a name, without ASCII case (RFC 7826, 5.2).
-    #[inline(never)]
+    #[inline(always)]
     fn field(&self, name: &[u8]) -> Option<&'a [u8]>
         ensures { option_map (λ value. value.now) result
             ≡ field_of (headers_marked self.entry.now.lines.now self.entry.now.marks.now) name.now }
     {
         let mut at = 0;
         for mark in self.marks {
-            let (line, named) = (usize::from(mark.line), usize::from(mark.name));
             // Only where a name is as long is the line looked at.
-            if named == name.len() {
-                let rest = after(self.lines, at);
-                if eq_fold(before(rest, named), name) {
-                    return Some(trim(after(before(rest, line), named + 1)));
-                }
+            if usize::from(mark.name) == name.len()
+                && let Some(value) = value_named(after(self.lines, at), *mark, name)
+            {
+                return Some(value);
             }
-            at += line + 2;
+            at += usize::from(mark.line) + 2;
         }
         None
     }
+}
+
+/// The value of the header whose line stands first, where it has this name, without ASCII case (RFC 7826, 5.2). It is a call
+/// of its own, so that the walk to it is short enough to be inlined.
+#[inline(never)]
+fn value_named<'a>(lines: &'a [u8], mark: HeaderMark, name: &[u8]) -> Option<&'a [u8]>
+    requires within { mark.line ≤ length lines.now }
+    requires inside { mark.name < mark.line }
+    ensures { option_map (λ value. value.now) result
+        ≡ (if equal_fold (header_marked lines.now mark).name name.now then Some (header_marked lines.now mark).value else None) }
+{
+    let named = usize::from(mark.name);
+    if eq_fold(before(lines, named), name) {
+        return Some(trim(after(before(lines, usize::from(mark.line)), named + 1)));
+    }
+    None
 }
 
 impl<'a> HeadFields<'a> {
