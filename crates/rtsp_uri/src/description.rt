@@ -1,11 +1,12 @@
 //! Session descriptions, and the addresses of streams in them.
 ghost use Rattle.std.specs.Prelude.{◌≡◌, [], ◌∷◌, ◌++◌, IfOk, OnOk};
+ghost use Rattle.std.specs.Str.Lines.{strip_carriage_return};
 ghost use Rattle.gate_bytes.specs.Ascii.{lf};
 ghost use Rattle.rtsp_uri.specs.Descriptions.{swapped_control, swapped_ended, rewritten};
 
 use crate::base::Base;
 use crate::swap::swap_authority;
-use gate_bytes::{Memory, Text, after, split_once};
+use gate_bytes::{Memory, Text, after, before, split_once};
 use std::alloc::Global;
 
 /// What a line with the address of a stream begins with (RFC 2326, C.1.1).
@@ -23,33 +24,48 @@ pub fn rewrite_sdp(alloc: Global, from: &Base, to: &Base, body: &[u8]) -> Result
     let mut text = Text::with_room(alloc, body.len())?;
     let mut rest = body;
     while let Some((line, left)) = split_once(b'\n', rest) {
-        push_ended(alloc, from, to, line, &mut text)?;
+        push_ended(
+            alloc,
+            from,
+            to,
+            line,
+            before(rest, line.len() + 1),
+            &mut text,
+        )?;
         rest = left;
     }
     push_line(alloc, from, to, rest, &mut text)?;
     Ok(text)
 }
 
-/// Appends a line whose LF is gone, and the LF.
+/// Appends a line that stands here without its LF and with it. Most lines have no address, and go whole.
 fn push_ended(
     alloc: Global,
     from: &Base,
     to: &Base,
     line: &[u8],
+    ended: &[u8],
     text: &mut Text,
 ) -> Result<(), Memory>
+    requires { ended.now ≡ line.now ++ (lf ∷ []) }
     ensures { OnOk result
         (text.new ≡ text.old ++ (swapped_ended from.now.text to.now.text line.now ++ (lf ∷ []))) }
 {
+    let plain = without_return(line);
+    if !plain.starts_with(&CONTROL) {
+        return text.push_slice(ended);
+    }
+    push_line(alloc, from, to, plain, text)?;
+    text.push_slice(after(ended, plain.len()))
+}
+
+/// The line without the CR at its end, if it has one.
+fn without_return(line: &[u8]) -> &[u8]
+    ensures { result.now ≡ strip_carriage_return line.now }
+{
     match line {
-        [line @ .., b'\r'] => {
-            push_line(alloc, from, to, line, text)?;
-            text.push_slice(b"\r\n")
-        }
-        _ => {
-            push_line(alloc, from, to, line, text)?;
-            text.push_slice(b"\n")
-        }
+        [front @ .., b'\r'] => front,
+        _ => line,
     }
 }
 

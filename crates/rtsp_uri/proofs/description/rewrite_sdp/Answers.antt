@@ -1,6 +1,14 @@
+use Rattle.std.proofs.Common.{◌∙◌}
 use Rattle.rtsp_uri.specs.Descriptions.{rewritten}
-use Rattle.rtsp_uri.proofs.LineLemmas.{line_written, last_written}
+use Rattle.rtsp_uri.proofs.LineLemmas.{line_written, last_written, line_ended}
 use Rattle.rtsp_uri.proofs.description.rewrite_sdp.Goals as goal
+
+pub before-requires : goal.before-requires
+before-requires c = (line_ended c.loop-line.rest.now c.in-Some.line.now c.in-Some.left.now c.in-Some.ensures.parts).0
+
+pub push_ended-requires : goal.push_ended-requires
+push_ended-requires c =
+    c.before-in-Some.ensures ∙ (line_ended c.loop-line.rest.now c.in-Some.line.now c.in-Some.left.now c.in-Some.ensures.parts).1
 
 pub loop-line-preserved : goal.loop-line-preserved
 loop-line-preserved c =
