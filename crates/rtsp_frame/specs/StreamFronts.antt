@@ -52,7 +52,7 @@ abbrev pub span_cost : ℕ → Result Span ItemFront → ℕ
 span_cost come (Ok span) = 6 * span.len
 span_cost come (Err front) = 6 * come - 4 * head_held front come
 
--- where the headers of a whole item stand
+-- where the first line and the headers of a whole item stand
 abbrev pub IsMarkedFront : List ℕ → StreamFront → HeadMarks → Type 0
 IsMarkedFront stream (Whole extent) marks = IsMarkedHead (take extent.span.head (drop extent.skipped stream)) marks
 IsMarkedFront stream (Begun skipped front) marks = Unit {0}

@@ -12,7 +12,7 @@ use gate_bytes::{Steps, after, look};
 use rtsp_head::{Extent, HeadMarks, ItemKind, Span};
 use std::sync::ledger::Ledger;
 
-/// What stands first in a stream, in eight steps a byte. Where the headers of a whole item stand is marked.
+/// What stands first in a stream, in eight steps a byte. Where the first line and the headers of a whole item stand is marked.
 pub fn stream_front<L: Ledger>(
     stream: &[u8],
     steps: &mut Steps<L>,

@@ -29,8 +29,8 @@ struct WholeHead {
     facts: Result<Facts, HeadFault>,
 }
 
-/// The message at the front, a line of which begins at one place and was searched up to another. Where its headers stand is
-/// marked.
+/// The message at the front, a line of which begins at one place and was searched up to another. Where its first line and
+/// its headers stand is marked.
 #[inline(always)]
 pub fn message_span<L: Ledger>(
     bytes: &[u8],

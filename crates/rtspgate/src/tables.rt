@@ -15,13 +15,14 @@ use rtsp_head::{MOST_BODY, MOST_HEAD, MOST_HEADERS};
 use rtsp_small::LAST_CSEQ_TWO;
 use run_status::Status;
 use serve_world_tcp::QUEUE_BYTES;
-use session_one::MOST_TRACKS;
+use session_one::{MOST_SESSIONS, MOST_TRACKS};
 use std::alloc::{AllocError, Global};
 
 /// What is counted, and the most of it.
-const LIMITS: [(&str, u64); 16] = [
+const LIMITS: [(&str, u64); 17] = [
     ("players at once", MOST_STATIONS as u64),
     ("players of one run", MOST_CONNECTIONS as u64),
+    ("sessions of a player", MOST_SESSIONS as u64),
     ("tracks of a session", MOST_TRACKS as u64),
     ("PLAYs of a session that wait", MOST_PLAYS as u64),
     (
