@@ -5,13 +5,16 @@ ghost use Rattle.gate_bytes.specs.Tokens.{is_token, is_blank, without_front, wit
 use crate::{after, before};
 
 /// Whether two texts are equal without ASCII case.
+#[inline(always)]
 pub fn eq_fold(a: &[u8], b: &[u8]) -> bool
     ensures { result ≡ equal_fold a.now b.now }
 {
     a.len() == b.len() && (a == b || eq_fold_halves(a, b))
 }
 
-/// The same, where both have one length. The later half is looked at first: the names of headers rather share a front.
+/// The same, where both have one length. The later half is looked at first: the names of headers rather share a front. It is
+/// not inlined, since few texts differ in case.
+#[inline(never)]
 fn eq_fold_halves(a: &[u8], b: &[u8]) -> bool
     requires { length a.now ≡ length b.now }
     ensures { result ≡ equal_fold a.now b.now }

@@ -13,6 +13,12 @@ use std::marker::Model;
 /// The room for the text of a reply without its body. Most need no more.
 const HEAD_ROOM: usize = 256;
 
+/// The code of most replies.
+const SUCCESS: u16 = 200;
+
+/// Their status line, which is written in one piece.
+const SUCCESS_LINE: &[u8] = b"RTSP/1.0 200 OK\r\n";
+
 /// A reply to a player (RFC 2326, 7). What it is written of lends the texts. Contracts see what it says.
 #[derive(Drop)]
 pub struct Reply1<'a> {
@@ -62,6 +68,10 @@ fn status_line(alloc: Global, code: u16, body: usize) -> Result<Text, Memory>
     ensures { IfOk result (λ text. text ≡ ended (start_text (start_with code))) }
 {
     let mut text = Text::with_room(alloc, body.saturating_add(HEAD_ROOM))?;
+    if code == SUCCESS {
+        text.push_slice(SUCCESS_LINE)?;
+        return Ok(text);
+    }
     text.push_slice(b"RTSP/1.0 ")?;
     push_decimal(&mut text, u64::from(code))?;
     text.push_slice(b" ")?;
